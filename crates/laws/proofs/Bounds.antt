@@ -1,0 +1,46 @@
+-- Numbers within bounds, and a test that antt computes at every number below a bound.
+-- Assumes nothing.
+use Prim.Native.Nat.{ℕ, zero, suc, _≤_, _<_}
+use mathlib.Core.Bool.{Bool, true, false}
+use mathlib.Core.Path.{_≡_, refl, sym, subst}
+use mathlib.Core.Logic.{_⊎_, inl, inr, ⊎-elim}
+use native.Mathlib.Nat.{not-suc-le-zero, le-of-suc-le-suc, eq-or-lt-of-le}
+use native.Mathlib.Omega.{arith}
+use borrow.Author.Tests.{leb-true, le-leb, lt-leb, ltb-true, ltb-false}
+use lib.Dec.{T, leb, ltb}
+use Rattle.laws.specs.Tests.{within, everyBelow}
+use Rattle.laws.proofs.Bools.{and-false, both-true, both-passed}
+
+-- a number within bounds, both ways
+pub within-true : (low high n : ℕ) → within low high n ≡ true → (low ≤ n) × (n ≤ high)
+within-true low high n e =
+    let p = both-true (leb low n) (leb n high) e in
+    (leb-true low n (p .0), leb-true n high (p .1))
+
+pub true-within : (low high n : ℕ) → low ≤ n → n ≤ high → within low high n ≡ true
+true-within low high n p q = rw (le-leb low n p, le-leb n high q)
+
+pub below-within : (low high n : ℕ) → n < low → within low high n ≡ false
+below-within low high n h = rw (lt-leb low n h)
+
+pub above-within : (low high n : ℕ) → high < n → within low high n ≡ false
+above-within low high n h = rw (lt-leb n high h) (and-false (leb low n))
+
+-- which of two numbers is less, if one is
+pub sides : (a b : ℕ) → (a < b) ⊎ ((a ≡ b) ⊎ (b < a))
+sides a b = go (ltb a b) (ltb b a) refl refl
+  where
+    go : (p q : Bool) → ltb a b ≡ p → ltb b a ≡ q → (a < b) ⊎ ((a ≡ b) ⊎ (b < a))
+    go true q e f = inl (ltb-true a b e)
+    go false true e f = inr (inr (ltb-true b a f))
+    go false false e f = inr (inl (omega (arith, ltb-false a b e, ltb-false b a f)))
+
+-- a test computed at every number below n passes at any one of them
+pub below : (n : ℕ) (test : ℕ → Bool) → T (everyBelow n test) → (k : ℕ) → k < n → T (test k)
+below zero test t k h = absurd (not-suc-le-zero h)
+below (suc n) test t k h =
+    let parts = both-passed (test n) (everyBelow n test) t in
+    ⊎-elim
+    (λ (e : k ≡ n). subst (λ (m : ℕ). T (test m)) (sym e) (parts .0))
+    (λ (l : k < n). below n test (parts .1) k l)
+    (eq-or-lt-of-le (le-of-suc-le-suc h))

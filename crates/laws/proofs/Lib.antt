@@ -1,0 +1,5 @@
+pub mod Bools
+pub mod Bounds
+pub mod Lists
+pub mod Lent
+pub mod Determined
