@@ -44,3 +44,16 @@ below (suc n) test t k h =
     (λ (e : k ≡ n). subst (λ (m : ℕ). T (test m)) (sym e) (parts .0))
     (λ (l : k < n). below n test (parts .1) k l)
     (eq-or-lt-of-le (le-of-suc-le-suc h))
+
+-- no arm of a match on 0, 1, 2, .., k - 1 was taken
+abbrev pub Missed : ℕ → ℕ → Type 0
+Missed zero n = Unit
+Missed (suc k) n = Missed k n × (n ≡ k → ⊥)
+
+-- so the number is k or more
+pub missed : (k n : ℕ) → Missed k n → k ≤ n
+missed zero n m = omega arith
+missed (suc k) n m = past (missed k n (m .0)) (m .1)
+  where
+    past : k ≤ n → (n ≡ k → ⊥) → suc k ≤ n
+    past h d = omega arith

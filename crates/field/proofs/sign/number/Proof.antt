@@ -1,0 +1,33 @@
+-- `field::sign::number` meets its contract: above the largest it is out of bounds, else it has its sign and magnitude.
+-- Assumes nothing.
+use borrow.Author.Needs.{needs}
+use Rattle.field.proofs.Signs.{number-above, minus-fits, number-told, minus-is, plain-is}
+use Rattle.field.proofs.sign.number.Statement.{statement}
+use Rattle.field.proofs.sign.number.Tie as tie
+
+returns : tie.Need-returns
+returns c = number-above _ _ (c .if1 .taken)
+
+cast-t5 : tie.Need-cast-t5
+cast-t5 c = search needs
+
+sub-t6 : tie.Need-sub-t6
+sub-t6 c = minus-fits (c .before .before .args .negative) (c .before .before .args .magnitude) (c .before .if1 .left)
+
+cast-t7 : tie.Need-cast-t7
+cast-t7 c = search needs
+
+returns-2 : tie.Need-returns-2
+returns-2 c =
+    let a = c .before .before .args in
+    let h = c .before .if1 .left in
+    number-told (a .negative) (a .magnitude) h _ (minus-is (a .negative) (a .magnitude) h (c .if2 .taken))
+
+returns-3 : tie.Need-returns-3
+returns-3 c =
+    let a = c .before .before .args in
+    let h = c .before .if1 .left in
+    number-told (a .negative) (a .magnitude) h _ (plain-is (a .negative) (a .magnitude) h (c .if2 .left))
+
+pub number-spec : {M : Type 1} → statement M
+number-spec = tie.close (tie.spec returns cast-t5 sub-t6 cast-t7 returns-2 returns-3)

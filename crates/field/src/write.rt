@@ -1,0 +1,176 @@
+// Writing a field: the number at the right, in its canonical form, with blanks before it.
+ghost use mathlib.Core.Path.{_≡_};
+ghost use mathlib.Core.List.{_++_};
+ghost use mathlib.Core.Bool.{true};
+ghost use Prim.Native.Nat.{_-_, _/_, _^_};
+ghost use lib.ListN.{length, take};
+ghost use Rattle.field.specs.Show.{lastDigit, digitsIn, fixedDigits, signWidth, frontText, showInteger, shownNegative, fitsInteger, fitsWhole, putWhole, fitsSigned, putSigned, fitsExponent, putExponent, fitsDecimal, putDecimal};
+use crate::Exponent;
+use crate::WIDEST;
+use crate::scale::ten_to;
+
+// The byte of the last digit.
+fn last_digit(v: u64) -> u8
+    ensures { λ r. ⌜ r ≡ lastDigit v ⌝ }
+{
+    b'0' + (v % 10) as u8
+}
+
+// The lowest digits of v in every column, zeros too; says what is left of v above them.
+fn put_fixed(out: &mut [u8], v: u64) -> u64
+    ensures { λ r. ⌜ r ≡ v / 10 ^ length (now (out .entry)) ⌝ }
+    ensures { λ _. ⌜ now (out .exit) ≡ fixedDigits (length (now (out .entry))) v ⌝ }
+{
+    let mut rest = v;
+    let mut i = out.len();
+    while i > 0 {
+        i -= 1;
+        out[i] = last_digit(rest);
+        rest = rest / 10;
+    }
+    rest
+}
+
+// The digits of v at the right; says the column where they begin.
+fn put_digits(out: &mut [u8], v: u64) -> usize
+    ensures { λ r. ⌜ r ≡ length (now (out .entry)) - length (digitsIn (length (now (out .entry))) v) ⌝ }
+    ensures { λ r. ⌜ now (out .exit) ≡ take r (now (out .entry)) ++ digitsIn (length (now (out .entry))) v ⌝ }
+{
+    let mut rest = v;
+    let mut i = out.len();
+    while i > 0 {
+        i -= 1;
+        out[i] = last_digit(rest);
+        if rest < 10 {
+            return i;
+        }
+        rest = rest / 10;
+    }
+    i
+}
+
+// Blanks in every column, with the minus, if there is one, in the last.
+fn put_front(out: &mut [u8], negative: bool)
+    ensures { λ _. ⌜ now (out .exit) ≡ frontText (length (now (out .entry))) negative ⌝ }
+{
+    laws::fill_blanks(out);
+    let width = out.len();
+    if negative {
+        if width > 0 {
+            out[width - 1] = b'-';
+        }
+    }
+}
+
+// An integer that fits its columns, right-justified.
+fn put_integer(out: &mut [u8], negative: bool, v: u64)
+    requires { ⌜ fitsInteger (length (now out)) negative v ≡ true ⌝ }
+    ensures { λ _. ⌜ now (out .exit) ≡ showInteger (length (now (out .entry))) negative v ⌝ }
+{
+    let start = put_digits(out, v);
+    put_front(&mut out[..start], negative);
+}
+
+// The columns that a minus takes.
+fn sign_width(negative: bool) -> usize
+    ensures { λ r. ⌜ r ≡ signWidth negative ⌝ }
+{
+    if negative { 1 } else { 0 }
+}
+
+// A minus is shown where the number is negative and not zero.
+fn shown_negative(negative: bool, magnitude: u64) -> bool
+    ensures { λ r. ⌜ r ≡ shownNegative negative magnitude ⌝ }
+{
+    if negative { 0 < magnitude } else { false }
+}
+
+// Whether an integer has the columns that it needs.
+fn fits_integer(width: usize, negative: bool, v: u64) -> bool
+    ensures { λ r. ⌜ r ≡ fitsInteger width negative v ⌝ }
+{
+    if width > WIDEST {
+        return false;
+    }
+    let sign = sign_width(negative);
+    if width <= sign {
+        return false;
+    }
+    v < ten_to(width - sign)
+}
+
+// Whether a decimal has the columns that it needs: as a whole number without its point it has one column less.
+fn fits_decimal(width: usize, places: usize, negative: bool, magnitude: u64) -> bool
+    ensures { λ r. ⌜ r ≡ fitsDecimal width places negative magnitude ⌝ }
+{
+    if width > WIDEST {
+        return false;
+    }
+    if places >= width {
+        return false;
+    }
+    let sign = sign_width(shown_negative(negative, magnitude));
+    if width - places - 1 <= sign {
+        return false;
+    }
+    magnitude < ten_to(width - 1 - sign)
+}
+
+// An integer field. Where the number does not fit, false, and nothing is written.
+pub fn put_whole(out: &mut [u8], v: u64) -> bool
+    ensures result { λ r. ⌜ r ≡ fitsWhole (length (now (out .entry))) v ⌝ }
+    ensures lent { λ _. ⌜ now (out .exit) ≡ putWhole v (now (out .entry)) ⌝ }
+{
+    if !fits_integer(out.len(), false, v) {
+        return false;
+    }
+    put_integer(out, false, v);
+    true
+}
+
+// A signed integer field. Where the number does not fit, false, and nothing is written.
+pub fn put_signed_whole(out: &mut [u8], negative: bool, magnitude: u64) -> bool
+    ensures result { λ r. ⌜ r ≡ fitsSigned (length (now (out .entry))) negative magnitude ⌝ }
+    ensures lent { λ _. ⌜ now (out .exit) ≡ putSigned negative magnitude (now (out .entry)) ⌝ }
+{
+    let minus = shown_negative(negative, magnitude);
+    if !fits_integer(out.len(), minus, magnitude) {
+        return false;
+    }
+    put_integer(out, minus, magnitude);
+    true
+}
+
+// An exponent field: blank where it is unknown. Where it does not fit or is malformed, false, and nothing is written.
+pub fn put_exponent(out: &mut [u8], exponent: Exponent) -> bool
+    ensures result { λ r. ⌜ r ≡ fitsExponent (length (now (out .entry))) exponent ⌝ }
+    ensures lent { λ _. ⌜ now (out .exit) ≡ putExponent exponent (now (out .entry)) ⌝ }
+{
+    if out.len() > WIDEST {
+        return false;
+    }
+    match exponent {
+        Exponent::Value(value) => put_whole(out, value),
+        Exponent::Unknown => {
+            laws::fill_blanks(out);
+            true
+        }
+        Exponent::Malformed => false,
+    }
+}
+
+// A decimal field. Where the number does not fit, false, and nothing is written.
+pub fn put_decimal(out: &mut [u8], places: usize, negative: bool, magnitude: u64) -> bool
+    ensures result { λ r. ⌜ r ≡ fitsDecimal (length (now (out .entry))) places negative magnitude ⌝ }
+    ensures lent { λ _. ⌜ now (out .exit) ≡ putDecimal places negative magnitude (now (out .entry)) ⌝ }
+{
+    let width = out.len();
+    if !fits_decimal(width, places, negative, magnitude) {
+        return false;
+    }
+    let point = width - places - 1;
+    let high = put_fixed(&mut out[point + 1..], magnitude);
+    out[point] = b'.';
+    put_integer(&mut out[..point], shown_negative(negative, magnitude), high);
+    true
+}
