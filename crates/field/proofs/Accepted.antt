@@ -1,6 +1,6 @@
 -- What a field that was read has in it: each reader's answer taken apart again.
 -- Assumes nothing.
-use mathlib.Core.Path.{_≡_, refl, sym, _∙_}
+use mathlib.Core.Path.{_≡_, refl, sym, _∙_, ap}
 use mathlib.Core.List.{List, []}
 use mathlib.Core.Bool.{Bool, true, false, cond, _&&_}
 use Prim.Native.Nat.{ℕ, _+_, _<_, _≤_}
@@ -10,7 +10,7 @@ use lib.Dec.{leb, ltb, eqb}
 use lib.ListN.{length, getD, take, drop}
 use Rattle.laws.proofs.Bools.{and-left, and-right}
 use Rattle.field.specs.Digits.{blanksOf, trim, allDigits, valueFrom, pointOf}
-use Rattle.field.specs.Read.{digitsFrom, numberOf, wholeOf, asExponent, exponentOf, minusFirst, withSign, signedOf, integerOf, carried, signedWholeOf, decimalOf}
+use Rattle.field.specs.Read.{digitsFrom, numberOf, wholeOf, asExponent, exponentOf, minusFirst, withSign, signedOf, integerOf, settled, carried, signedWholeOf, decimalOf}
 use Rattle.field.specs.Show.{signWidth}
 use Rattle.field.specs.declared.Whole.{Whole}
 use Rattle.field.specs.declared.Whole.the-variants as whole
@@ -117,6 +117,21 @@ carried-taken signed before after n m = go (integerOf signed before) refl
         let sign : (k && ltb 0 (valueFrom high after)) ≡ n = cc in
         record { minus = k; high = high; integer = q; digits = t .0; value = value; sign = rw (sym value) sign }
     go amount.Malformed q e = no-amount n m e
+
+-- what the reader of digits found decides how an integer is carried on
+module _ (negative : Bool) (high : ℕ) (s : List ℕ) where
+  pub carried-none : digitsFrom high s ≡ whole.Malformed → amount.Malformed ≡ carried (amount.Value negative high) s
+  unfolding digitsFrom
+  carried-none e = none (allDigits s) e
+    where
+      none : (t : Bool) → cond t (whole.Value (valueFrom high s)) whole.Malformed ≡ whole.Malformed → amount.Malformed ≡ cond t (settled negative (valueFrom high s)) amount.Malformed
+      none true e = cc
+      none false e = refl
+
+  pub carried-some : (m : ℕ) → digitsFrom high s ≡ whole.Value m → settled negative m ≡ carried (amount.Value negative high) s
+  carried-some m e =
+      let t = digits-taken s m high e in
+      rw (t .0) (ap (settled negative) (sym (t .1)))
 
 -- a decimal field that was read
 pub record Taken (s : List ℕ) (p : ℕ) (signed n : Bool) (m : ℕ) : Type 0 where

@@ -1,6 +1,6 @@
 -- Whether a number fits its columns: one law for each way that the code takes.
 -- Assumes nothing.
-use mathlib.Core.Path.{_≡_, sym, _∙_, ap}
+use mathlib.Core.Path.{_≡_, refl, sym, _∙_, ap}
 use mathlib.Core.Bool.{Bool, true, false}
 use Prim.Native.Nat.{ℕ, _+_, _-_, _*_, _/_, _^_, _<_, _≤_}
 use native.Mathlib.Nat.{div-lt-iff-lt-mul}
@@ -9,8 +9,10 @@ use borrow.Author.Tests.{leb-true, ltb-true, le-leb, lt-leb, lt-ltb, le-ltb}
 use lib.Dec.{leb, ltb}
 use lib.Pow.{pow-add}
 use Rattle.laws.proofs.Bools.{and-left, and-right, same-truth}
-use Rattle.field.specs.Show.{signWidth, fitsInteger, shownNegative, fitsDecimal}
+use Rattle.field.specs.Show.{signWidth, fitsInteger, fitsExponent, shownNegative, fitsDecimal}
 use Rattle.field.specs.Digits.{pointOf}
+use Rattle.field.specs.declared.Exponent.{Exponent}
+use Rattle.field.specs.declared.Exponent.the-variants as exponent
 use Rattle.field.proofs.Powers.{ten-pos}
 
 module _ (w : ℕ) (negative : Bool) (v : ℕ) where
@@ -28,6 +30,11 @@ module _ (w : ℕ) (negative : Bool) (v : ℕ) where
 
   pub fits-true : w ≤ 18 → signWidth negative < w → v < 10 ^ (w - signWidth negative) → fitsInteger w negative v ≡ true
   fits-true h n l = sym (fits-test h n) ∙ lt-ltb v (10 ^ (w - signWidth negative)) l
+
+pub exponent-wide : (w : ℕ) (e : Exponent) → 18 < w → fitsExponent w e ≡ false
+exponent-wide w (exponent.Value v) h = sym (fits-wide w false v h)
+exponent-wide w exponent.Unknown h = lt-leb w 18 h
+exponent-wide w exponent.Malformed h = refl
 
 -- a number's part above its places has n digits at most where the number has so many more
 pub whole-part-test : (m n places : ℕ) → ltb m (10 ^ (n + places)) ≡ ltb (m / 10 ^ places) (10 ^ n)

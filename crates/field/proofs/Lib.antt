@@ -14,4 +14,4 @@ pub mod Shown
 pub mod Fits
 pub mod Again
 pub mod Told
--- pub mod Determined
+pub mod Determined

@@ -6,13 +6,13 @@ use mathlib.Core.Bool.{Bool, true, false}
 use Prim.Native.Nat.{ℕ, zero, suc, _+_, _-_, _/_, _^_, _<_, _≤_}
 use native.Mathlib.Omega.{arith}
 use borrow.Rule.Slice.PartMut.{putMid}
-use lib.ListN.{length, take, drop, set, length-set, length-append, length-replicate}
-use lib.Seq.{length-take-le, drop-at, set-out, getD-set-same, drop-set-lt}
+use lib.ListN.{length, take, drop, set, length-append, length-replicate}
+use lib.Seq.{length-take-le, drop-at, set-out}
 use Rattle.laws.specs.Texts.{blanks}
-use Rattle.laws.proofs.Lists.{one-less, rest-step}
+use Rattle.laws.proofs.Lists.{one-less}
 use Rattle.laws.proofs.Lent.{rest-back}
 use Rattle.field.specs.Digits.{pointOf}
-use Rattle.field.specs.Show.{digitsIn, fixedDigits, minusText, signWidth, frontText, showInteger, fitsInteger, shownNegative, showDecimal}
+use Rattle.field.specs.Show.{digitsIn, fixedDigits, minusText, signWidth, frontText, pointText, showInteger, fitsInteger, shownNegative, showDecimal}
 use Rattle.field.proofs.Fitting.{fits-facts}
 use Rattle.field.proofs.Texts.{digits-length}
 
@@ -56,29 +56,19 @@ integer-text out negative v r fits e =
     ∙ append-assoc (blanks (r - signWidth negative)) (minusText negative) (digitsIn (length out) v)
     ∙ ap (λ (k : ℕ). blanks k ++ (minusText negative ++ digitsIn (length out) v)) same
 
--- the point before a part that was lent and has come back
-module _ (out part : List ℕ) (p : ℕ) (h : p < length out) where
-  abbrev lent : List ℕ
-  lent = putMid (p + 1) (length out - (p + 1)) out part
+-- the point, and the digits in the columns after it
+pub point-text : (out part : List ℕ) (v : ℕ) → 0 < length out → part ≡ fixedDigits (length out - 1) v
+    → putMid 1 (length (set out 0 46) - 1) (set out 0 46) part ≡ pointText (length out - 1) v
+point-text [] part v some e = absurd (omega arith)
+point-text (b ∷ out) part v some e = rest-back 1 (46 ∷ out) part (omega arith) ∙ ap (λ (t : List ℕ). 46 ∷ t) e
 
-  lent-is : lent ≡ take (p + 1) out ++ part
-  lent-is = rest-back (p + 1) out part (omega arith)
-
-  pub point-before : drop p (set (putMid (p + 1) (length out - (p + 1)) out part) p 46) ≡ 46 ∷ part
-  point-before =
-      let long : length (take (p + 1) out) ≡ p + 1 = length-take-le (p + 1) out (omega arith) in
-      let room : p < length lent = rw lent-is (omega (arith, length-append (take (p + 1) out) part)) in
-      rest-step (set lent p 46) p (rw (length-set lent p 46) room)
-      ∙ ap₂ (λ (b : ℕ) (t : List ℕ). b ∷ t)
-      (getD-set-same lent p 46 0 room)
-      (drop-set-lt (p + 1) lent p 46 (omega arith) ∙ ap (drop (p + 1)) lent-is ∙ drop-at (take (p + 1) out) part (p + 1) long)
-
--- the parts before and after the point, each in its own columns
-pub decimal-text : (w places : ℕ) (negative : Bool) (m k high : ℕ) (minus : Bool) (before after : List ℕ)
-    → k ≡ pointOf places w → minus ≡ shownNegative negative m → high ≡ m / 10 ^ places
-    → before ≡ showInteger k minus high → after ≡ fixedDigits places m
-    → before ++ (46 ∷ after) ≡ showDecimal w places negative m
+-- the parts before the point and from it on, each in its own columns
+pub decimal-text : (w places : ℕ) (negative : Bool) (m k n high : ℕ) (minus : Bool) (before after : List ℕ)
+    → k ≡ pointOf places w → n ≡ places → minus ≡ shownNegative negative m → high ≡ m / 10 ^ places
+    → before ≡ showInteger k minus high → after ≡ pointText n m
+    → before ++ after ≡ showDecimal w places negative m
 unfolding showDecimal
-decimal-text w places negative m k high minus before after ek em eh eb ea =
+decimal-text w places negative m k n high minus before after ek en em eh eb ea =
     let shown : before ≡ showInteger (pointOf places w) (shownNegative negative m) (m / 10 ^ places) = rw (← ek, ← em, ← eh) eb in
-    ap₂ (λ (a b : List ℕ). a ++ (46 ∷ b)) shown ea
+    let point : after ≡ pointText places m = rw (← en) ea in
+    ap₂ (λ (a b : List ℕ). a ++ b) shown point

@@ -89,10 +89,13 @@ fitsExponent w exponent.Malformed = false
 abbrev pub putExponent : Exponent → List ℕ → List ℕ
 putExponent e out = written (fitsExponent (length out) e) (showExponent (length out) e) out
 
--- a decimal field: the number's whole part before the point (46), and so many digits after it
+-- the point (46), and so many digits after it
+abbrev pub pointText : ℕ → ℕ → List ℕ
+pointText places m = 46 ∷ fixedDigits places m
+
+-- a decimal field: the number's whole part before the point, and its places after it
 unfoldable pub showDecimal : ℕ → ℕ → Bool → ℕ → List ℕ
-showDecimal w places negative m =
-    showInteger (pointOf places w) (shownNegative negative m) (m / 10 ^ places) ++ (46 ∷ fixedDigits places m)
+showDecimal w places negative m = showInteger (pointOf places w) (shownNegative negative m) (m / 10 ^ places) ++ pointText places m
 
 unfoldable pub fitsDecimal : ℕ → ℕ → Bool → ℕ → Bool
 fitsDecimal w places negative m =

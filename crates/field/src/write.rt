@@ -2,9 +2,9 @@
 ghost use mathlib.Core.Path.{_≡_};
 ghost use mathlib.Core.List.{_++_};
 ghost use mathlib.Core.Bool.{true};
-ghost use Prim.Native.Nat.{_-_, _/_, _^_};
+ghost use Prim.Native.Nat.{_-_, _/_, _^_, _<_};
 ghost use lib.ListN.{length, take};
-ghost use Rattle.field.specs.Show.{lastDigit, digitsIn, fixedDigits, signWidth, frontText, showInteger, shownNegative, fitsInteger, fitsWhole, putWhole, fitsSigned, putSigned, fitsExponent, putExponent, fitsDecimal, putDecimal};
+ghost use Rattle.field.specs.Show.{lastDigit, digitsIn, fixedDigits, signWidth, frontText, pointText, showInteger, shownNegative, fitsInteger, fitsWhole, putWhole, fitsSigned, putSigned, fitsExponent, putExponent, fitsDecimal, putDecimal};
 use crate::Exponent;
 use crate::WIDEST;
 use crate::scale::ten_to;
@@ -29,6 +29,16 @@ fn put_fixed(out: &mut [u8], v: u64) -> u64
         rest = rest / 10;
     }
     rest
+}
+
+// The point, and the lowest digits of v in the columns after it; says what is left of v above them.
+fn put_point(out: &mut [u8], v: u64) -> u64
+    requires { ⌜ 0 < length (now out) ⌝ }
+    ensures { λ r. ⌜ r ≡ v / 10 ^ (length (now (out .entry)) - 1) ⌝ }
+    ensures { λ _. ⌜ now (out .exit) ≡ pointText (length (now (out .entry)) - 1) v ⌝ }
+{
+    out[0] = b'.';
+    put_fixed(&mut out[1..], v)
 }
 
 // The digits of v at the right; says the column where they begin.
@@ -169,8 +179,7 @@ pub fn put_decimal(out: &mut [u8], places: usize, negative: bool, magnitude: u64
         return false;
     }
     let point = width - places - 1;
-    let high = put_fixed(&mut out[point + 1..], magnitude);
-    out[point] = b'.';
+    let high = put_point(&mut out[point..], magnitude);
     put_integer(&mut out[..point], shown_negative(negative, magnitude), high);
     true
 }

@@ -5,8 +5,8 @@ use mathlib.Core.List.{List, [], _∷_, _++_, append-assoc, append-nil}
 use Prim.Native.Nat.{ℕ, zero, suc, _+_, _-_, _<_, _≤_}
 use native.Mathlib.Omega.{arith}
 use borrow.Rule.Slice.PartMut.{putMid, post-is}
-use lib.ListN.{length, take, drop, set, length-set, length-drop, take-append-drop}
-use lib.Seq.{drop-length, getD-set-same, drop-set-lt, take-set-le, take-take}
+use lib.ListN.{length, take, drop, set, length-append, length-set, length-drop, take-append-drop}
+use lib.Seq.{drop-length, drop-at, length-take-le, getD-set-same, drop-set-lt, take-set-le, take-take}
 use Rattle.laws.proofs.Lists.{rest-step}
 
 -- the part `&mut s[a..]`: what it holds now follows what stands before it
@@ -14,6 +14,17 @@ pub rest-back : (a : ℕ) (s part : List ℕ) → a ≤ length s → putMid a (l
 rest-back a s part h =
     ap (λ (t : List ℕ). take a s ++ (part ++ t)) (post-is a (length s) s h ∙ drop-length s)
     ∙ ap (λ (t : List ℕ). take a s ++ t) (append-nil part)
+
+-- that part alone, and the length of the whole
+module _ (a : ℕ) (s part : List ℕ) (h : a ≤ length s) where
+  before-back : length (take a s) ≡ a
+  before-back = length-take-le a s h
+
+  pub rest-dropped : drop a (putMid a (length s - a) s part) ≡ part
+  rest-dropped = ap (drop a) (rest-back a s part h) ∙ drop-at (take a s) part a before-back
+
+  pub rest-length : length (putMid a (length s - a) s part) ≡ a + length part
+  rest-length = ap length (rest-back a s part h) ∙ length-append (take a s) part ∙ ap (λ (k : ℕ). k + length part) before-back
 
 -- From the right: what is still to be written stands before what is written.
 

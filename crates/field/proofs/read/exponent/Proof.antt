@@ -1,67 +1,53 @@
+-- `field::read::exponent` meets its contract: what stands past the blanks decides, where anything does.
+-- Assumes nothing.
+use mathlib.Core.Path.{_≡_, _∙_, ap, sym}
+use native.Mathlib.Omega.{arith}
 use borrow.Author.Needs.{needs}
+use Rattle.field.specs.Read.{numberOf, asExponent, exponentOf, toldExponent}
+use Rattle.field.proofs.Blanks.{blanks-within, part-trim}
+use Rattle.field.proofs.Reading.{whole-read, exponent-long, exponent-blank, exponent-read}
 use Rattle.field.proofs.read.exponent.Statement.{statement}
 use Rattle.field.proofs.read.exponent.Tie as tie
-use Rattle.field.proofs.read.exponent.Reads as reads
-use Rattle.field.proofs.read.exponent.Lts as lts
-use Rattle.field.proofs.read.blanks.Reads as blanks-reads
-use Rattle.field.proofs.read.number.Reads as number-reads
 
--- src/read.rt:81:9
 returns : tie.Need-returns
-returns c = ?
+returns c = ap toldExponent (exponent-long _ (c .if1 .taken))
 
--- src/read.rt:83:9
-blanks-requires : tie.Need-blanks-requires
-blanks-requires c κs = search needs
-
--- src/read.rt:85:9
 returns-2 : tie.Need-returns-2
-returns-2 c = ?
+returns-2 c = ap toldExponent (exponent-blank _ (c .before .before .if1 .left) (sym (c .before .blanks .ensures) ∙ c .if2 .taken))
 
--- src/read.rt:87:18
 sub-number : tie.Need-sub-number
-sub-number c = ?
+sub-number c = omega (arith, blanks-within (c .before .before .before .before .args .s .now))
 
--- src/read.rt:87:18
 part-number-start : tie.Need-part-number-start
-part-number-start c = ?
+part-number-start c = omega (arith, blanks-within (c .before .before .before .before .args .s .now))
 
--- src/read.rt:87:18
-part-number-end : tie.Need-part-number-end
-part-number-end c = search needs
+-- what the reader of numbers found decides
+answer : (c : tie.After-number) → asExponent (c .number .result) ≡ exponentOf (c .before .before .before .before .before .before .args .s .now)
+answer c =
+    let blank = c .before .before .before in
+    let s = blank .before .before .before .args .s .now in
+    let narrow = blank .before .if1 .left in
+    ap asExponent (c .number .ensures ∙ ap numberOf (part-trim s _ (blank .blanks .ensures)) ∙ whole-read s narrow)
+    ∙ exponent-read s narrow (λ e. c .before .before .if2 .left (blank .blanks .ensures ∙ e))
 
--- src/read.rt:87:11
-number-requires : tie.Need-number-requires
-number-requires c κs = search needs
-
--- src/read.rt:88:22
-enum-known-value : tie.Need-enum-known-value
-enum-known-value c = search needs
-
--- src/read.rt:89:29
-enum-told : tie.Need-enum-told
-enum-told c = search needs
-
--- src/read.rt:77:1
 returns-3 : tie.Need-returns-3
-returns-3 c = ?
+returns-3 c = ap toldExponent (ap asExponent (sym (c .before .value .given .1)) ∙ answer (c .before .before .before))
 
--- src/read.rt:77:1
 returns-4 : tie.Need-returns-4
-returns-4 c = ?
+returns-4 c = ap toldExponent (ap asExponent (sym (c .enum-told .given .1)) ∙ answer (c .before .before))
 
 pub exponent-spec : {M : Type 1} → statement M
 exponent-spec =
     tie.close
     (tie.spec
     returns
-    blanks-requires
+    (λ c κs. search needs)
     returns-2
     sub-number
     part-number-start
-    part-number-end
-    number-requires
-    enum-known-value
-    enum-told
+    (λ c. search needs)
+    (λ c κs. search needs)
+    (λ c. search needs)
+    (λ c. search needs)
     returns-3
     returns-4)

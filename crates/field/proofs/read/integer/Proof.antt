@@ -1,42 +1,32 @@
+-- `field::read::integer` meets its contract: the number stands past the blanks.
+-- Assumes nothing.
+use mathlib.Core.Path.{_∙_, ap}
+use native.Mathlib.Omega.{arith}
 use borrow.Author.Needs.{needs}
+use Rattle.field.specs.Read.{signedOf, integerOf}
+use Rattle.field.proofs.Blanks.{blanks-within, part-trim}
 use Rattle.field.proofs.read.integer.Statement.{statement}
 use Rattle.field.proofs.read.integer.Tie as tie
-use Rattle.field.proofs.read.integer.Reads as reads
-use Rattle.field.proofs.read.integer.Lts as lts
-use Rattle.field.proofs.read.blanks.Reads as blanks-reads
-use Rattle.field.proofs.read.signed_number.Reads as signed-number-reads
 
--- src/read.rt:133:9
-blanks-requires : tie.Need-blanks-requires
-blanks-requires c κs = search needs
-
--- src/read.rt:134:19
 sub-signed-number : tie.Need-sub-signed-number
-sub-signed-number c = ?
+sub-signed-number c = omega (arith, blanks-within (c .before .before .args .s .now))
 
--- src/read.rt:134:19
 part-signed-number-start : tie.Need-part-signed-number-start
-part-signed-number-start c = ?
+part-signed-number-start c = omega (arith, blanks-within (c .before .before .args .s .now))
 
--- src/read.rt:134:19
-part-signed-number-end : tie.Need-part-signed-number-end
-part-signed-number-end c = search needs
-
--- src/read.rt:134:5
-signed-number-requires : tie.Need-signed-number-requires
-signed-number-requires c κs = search needs
-
--- src/read.rt:129:1
 returns : tie.Need-returns
-returns c = ?
+unfolding integerOf
+returns c =
+    let a = c .before .before .before .before .args in
+    c .signed-number .ensures ∙ ap (signedOf (a .signed)) (part-trim (a .s .now) _ (c .before .before .blanks .ensures))
 
 pub integer-spec : {M : Type 1} → statement M
 integer-spec =
     tie.close
     (tie.spec
-    blanks-requires
+    (λ c κs. search needs)
     sub-signed-number
     part-signed-number-start
-    part-signed-number-end
-    signed-number-requires
+    (λ c. search needs)
+    (λ c κs. search needs)
     returns)

@@ -1,20 +1,28 @@
+-- `field::read::number` meets its contract.
+-- Assumes nothing.
+use mathlib.Core.Path.{_∙_}
+use Prim.Native.Nat.{_-_}
+use lib.ListN.{length}
+use Rattle.field.proofs.Powers.{ten-pos}
+use Rattle.field.proofs.Reading.{number-none, number-some}
 use Rattle.field.proofs.read.number.Statement.{statement}
 use Rattle.field.proofs.read.number.Tie as tie
-use Rattle.field.proofs.read.number.Reads as reads
-use Rattle.field.proofs.read.number.Lts as lts
-use Rattle.field.proofs.read.digits_from.Reads as digits-from-reads
 
--- src/read.rt:60:9
 returns : tie.Need-returns
-returns c = ?
+returns c = number-none _ (c .if1 .taken)
 
--- src/read.rt:62:5
 digits-from-requires : tie.Need-digits-from-requires
-digits-from-requires c κs = ?
+digits-from-requires c κs =
+    let a = c .before .before in
+    (a .pre, ten-pos (18 - length (a .args .s .now)))
 
--- src/read.rt:55:1
 returns-2 : tie.Need-returns-2
-returns-2 c = ?
+returns-2 c = c .digits-from .ensures ∙ number-some _ (c .before .if1 .left)
 
 pub number-spec : {M : Type 1} → statement M
-number-spec = tie.close (tie.spec returns digits-from-requires returns-2)
+number-spec =
+    tie.close
+    (tie.spec
+    returns
+    digits-from-requires
+    returns-2)

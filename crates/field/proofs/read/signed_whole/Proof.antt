@@ -1,47 +1,36 @@
+-- `field::read::signed_whole` meets its contract.
+-- Assumes nothing.
+use mathlib.Core.Path.{_≡_, _∙_, ap, sym}
+use mathlib.Core.List.{[]}
 use borrow.Author.Needs.{needs}
+use Rattle.field.specs.Read.{carried, signedWholeOf, toldAmount}
+use Rattle.field.proofs.Reading.{signed-long, signed-read}
 use Rattle.field.proofs.read.signed_whole.Statement.{statement}
 use Rattle.field.proofs.read.signed_whole.Tie as tie
-use Rattle.field.proofs.read.signed_whole.Reads as reads
-use Rattle.field.proofs.read.signed_whole.Lts as lts
-use Rattle.field.proofs.read.integer.Reads as integer-reads
-use Rattle.field.proofs.read.settle.Reads as settle-reads
 
--- src/read.rt:158:9
 returns : tie.Need-returns
-returns c = ?
+returns c = ap toldAmount (signed-long _ (c .if1 .taken))
 
--- src/read.rt:160:11
-integer-requires : tie.Need-integer-requires
-integer-requires c κs = search needs
+-- what the reader of integers found decides
+answer : (c : tie.After-integer) → carried (c .integer .result) [] ≡ signedWholeOf (c .before .before .before .args .s .now)
+answer c = ap (λ r. carried r []) (c .integer .ensures) ∙ signed-read _ (c .before .if1 .left)
 
--- src/read.rt:162:13
-enum-known-negative : tie.Need-enum-known-negative
-enum-known-negative c = search needs
-
--- src/read.rt:164:14
-settle-requires : tie.Need-settle-requires
-settle-requires c κs = search needs
-
--- src/read.rt:165:30
-enum-told : tie.Need-enum-told
-enum-told c = search needs
-
--- src/read.rt:154:1
 returns-2 : tie.Need-returns-2
-returns-2 c = ?
+returns-2 c =
+    let n = c .before .before in
+    ap toldAmount (c .settle .ensures ∙ ap (λ r. carried r []) (sym (n .negative .given .1)) ∙ answer (n .before .before))
 
--- src/read.rt:154:1
 returns-3 : tie.Need-returns-3
-returns-3 c = ?
+returns-3 c = ap toldAmount (ap (λ r. carried r []) (sym (c .enum-told .given .1)) ∙ answer (c .before .before))
 
 pub signed-whole-spec : {M : Type 1} → statement M
 signed-whole-spec =
     tie.close
     (tie.spec
     returns
-    integer-requires
-    enum-known-negative
-    settle-requires
-    enum-told
+    (λ c κs. search needs)
+    (λ c. search needs)
+    (λ c κs. search needs)
+    (λ c. search needs)
     returns-2
     returns-3)

@@ -1,47 +1,37 @@
+-- `field::read::whole` meets its contract: the number stands past the blanks.
+-- Assumes nothing.
+use mathlib.Core.Path.{_∙_, ap}
+use native.Mathlib.Omega.{arith}
 use borrow.Author.Needs.{needs}
+use Rattle.field.specs.Read.{numberOf, toldWhole}
+use Rattle.field.proofs.Blanks.{blanks-within, part-trim}
+use Rattle.field.proofs.Reading.{whole-long, whole-read}
 use Rattle.field.proofs.read.whole.Statement.{statement}
 use Rattle.field.proofs.read.whole.Tie as tie
-use Rattle.field.proofs.read.whole.Reads as reads
-use Rattle.field.proofs.read.whole.Lts as lts
-use Rattle.field.proofs.read.blanks.Reads as blanks-reads
-use Rattle.field.proofs.read.number.Reads as number-reads
 
--- src/read.rt:70:9
 returns : tie.Need-returns
-returns c = ?
+returns c = ap toldWhole (whole-long _ (c .if1 .taken))
 
--- src/read.rt:72:9
-blanks-requires : tie.Need-blanks-requires
-blanks-requires c κs = search needs
-
--- src/read.rt:73:12
 sub-number : tie.Need-sub-number
-sub-number c = ?
+sub-number c = omega (arith, blanks-within (c .before .before .before .args .s .now))
 
--- src/read.rt:73:12
 part-number-start : tie.Need-part-number-start
-part-number-start c = ?
+part-number-start c = omega (arith, blanks-within (c .before .before .before .args .s .now))
 
--- src/read.rt:73:12
-part-number-end : tie.Need-part-number-end
-part-number-end c = search needs
-
--- src/read.rt:73:5
-number-requires : tie.Need-number-requires
-number-requires c κs = search needs
-
--- src/read.rt:66:1
 returns-2 : tie.Need-returns-2
-returns-2 c = ?
+returns-2 c =
+    let s = c .before .before .before .before .before .args .s .now in
+    ap toldWhole
+    (c .number .ensures ∙ ap numberOf (part-trim s _ (c .before .before .blanks .ensures)) ∙ whole-read s (c .before .before .before .if1 .left))
 
 pub whole-spec : {M : Type 1} → statement M
 whole-spec =
     tie.close
     (tie.spec
     returns
-    blanks-requires
+    (λ c κs. search needs)
     sub-number
     part-number-start
-    part-number-end
-    number-requires
+    (λ c. search needs)
+    (λ c κs. search needs)
     returns-2)

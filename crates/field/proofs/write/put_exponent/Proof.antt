@@ -1,52 +1,29 @@
+-- `field::write::put_exponent` meets its contract.
+-- Assumes nothing.
+use mathlib.Core.Path.{refl}
 use borrow.Author.Needs.{needs}
+use borrow.Author.Tests.{le-leb}
+use lib.ListN.{length}
+use Rattle.field.proofs.Fitting.{exponent-wide}
 use Rattle.field.proofs.write.put_exponent.Statement.{statement}
 use Rattle.field.proofs.write.put_exponent.Tie as tie
-use Rattle.field.proofs.write.put_exponent.Reads as reads
-use Rattle.field.proofs.write.put_exponent.Lts as lts
-use Rattle.field.proofs.write.put_whole.Reads as put-whole-reads
-use Rattle.laws.proofs.fill_blanks.Reads as fill-blanks-reads
 
--- src/write.rt:150:9
 returns : tie.Need-returns
-returns c = ?
+returns c =
+    let a = c .before .before .args in
+    rw (exponent-wide (length (a .out .now)) (a .exponent) (c .if1 .taken)) (refl, refl)
 
--- src/write.rt:153:25
-enum-known-exponent : tie.Need-enum-known-exponent
-enum-known-exponent c = search needs
-
--- src/write.rt:153:35
-put-whole-requires : tie.Need-put-whole-requires
-put-whole-requires c κs = search needs
-
--- src/write.rt:155:31
-enum-told : tie.Need-enum-told
-enum-told c = search needs
-
--- src/write.rt:155:13
-fill-blanks-requires : tie.Need-fill-blanks-requires
-fill-blanks-requires c κs = search needs
-
--- src/write.rt:158:32
-enum-told-2 : tie.Need-enum-told-2
-enum-told-2 c = search needs
-
--- src/write.rt:145:1
-same-length : tie.Need-same-length
-same-length c = search needs
-
--- src/write.rt:145:1
 returns-2 : tie.Need-returns-2
-returns-2 c = ?
+returns-2 c = rw (c .before .before .before .before .before .exponent .given .1) (c .before .before .put-whole .ensures)
 
--- src/write.rt:145:1
-same-length-2 : tie.Need-same-length-2
-same-length-2 c = search needs
-
--- src/write.rt:145:1
 returns-3 : tie.Need-returns-3
-returns-3 c = ?
+returns-3 c =
+    let fill = c .before .before in
+    let told = fill .before .before in
+    let narrow = told .before .before in
+    let out = narrow .before .before .args .out .now in
+    rw (told .enum-told .given .1, le-leb (length out) 18 (narrow .if1 .left)) (refl, fill .fill-blanks .ensures)
 
--- src/write.rt:145:1
 returns-4 : tie.Need-returns-4
 returns-4 c = search needs
 
@@ -55,13 +32,13 @@ put-exponent-spec =
     tie.close
     (tie.spec
     returns
-    enum-known-exponent
-    put-whole-requires
-    enum-told
-    fill-blanks-requires
-    enum-told-2
-    same-length
+    (λ c. search needs)
+    (λ c κs. search needs)
+    (λ c. search needs)
+    (λ c κs. search needs)
+    (λ c. search needs)
+    (λ c. search needs)
     returns-2
-    same-length-2
+    (λ c. search needs)
     returns-3
     returns-4)
