@@ -1,15 +1,16 @@
 -- The fraction of day: the test on the parts of F and S is the test on F and S, and what is written agrees.
 -- Assumes nothing.
 use Prim.Native.Nat.{ℕ, _+_, _*_, _/_, _%_, _≤_, _<_}
-use mathlib.Core.Bool.{Bool, true, false, cond}
+use mathlib.Core.Bool.{true, false}
 use mathlib.Core.List.{[], _∷_}
-use mathlib.Core.Path.{_≡_, refl}
+use mathlib.Core.Path.{_≡_}
 use native.Mathlib.Omega.{arith}
 use borrow.Author.Tests.{lt-ltb, le-ltb, ltb-true}
 use lib.Dec.{ltb}
 use Rattle.laws.proofs.Bools.{not-both, same-truth, and-both}
 use Rattle.calendar.specs.Clock.{dayUnits}
 use Rattle.calendar.specs.Fraction.{agrees, fractionAnswer}
+use Rattle.calendar.proofs.Told.{accepted}
 
 -- in different strides of 13,500 they are far apart
 pub strides-apart : (f s : ℕ) → (f / 125 ≡ s / 108 → ⊥) → agrees f s ≡ false
@@ -44,12 +45,9 @@ no-fraction s h = simp (le-ltb s dayUnits h)
 -- a fraction that is given is the rounded one of a time of day
 fraction-told : (s f : ℕ) → fractionAnswer s ≡ 0 ∷ f ∷ [] → (s < dayUnits) × (f ≡ (125 * s + 54) / 108)
 unfolding fractionAnswer
-fraction-told s f = go (ltb s dayUnits) refl
-  where
-    go : (b : Bool) → ltb s dayUnits ≡ b → cond b (0 ∷ (125 * s + 54) / 108 ∷ []) (7 ∷ []) ≡ 0 ∷ f ∷ [] →
-        (s < dayUnits) × (f ≡ (125 * s + 54) / 108)
-    go true e q = (ltb-true s dayUnits e, cc)
-    go false e q = let z : _≡_ {A = ℕ} 0 1 = cc in absurd (omega arith)
+fraction-told s f q =
+    let a = accepted (ltb s dayUnits) ((125 * s + 54) / 108 ∷ []) (f ∷ []) q in
+    (ltb-true s dayUnits (a .0), cc)
 
 -- what is written agrees, and is below one day
 module _ (s f : ℕ) (given : fractionAnswer s ≡ 0 ∷ f ∷ []) where
@@ -60,6 +58,10 @@ module _ (s f : ℕ) (given : fractionAnswer s ≡ 0 ∷ f ∷ []) where
       and-both (ltb (108 * f) (125 * s + 108)) (ltb (125 * s) (108 * f + 108))
       (lt-ltb (108 * f) (125 * s + 108) (omega arith))
       (lt-ltb (125 * s) (108 * f + 108) (omega arith))
+
+  -- it is the nearest, and of two equally near the upper one
+  pub written-nearest : (108 * f ≤ 125 * s + 54) × (125 * s < 108 * f + 54)
+  written-nearest = let p = fraction-told s f given in omega arith
 
   pub written-below : f < 10_000_000_000_000
   written-below = let p = fraction-told s f given in omega arith

@@ -1,55 +1,16 @@
--- An instant from its date and time, and the date and time from the instant.
+-- An instant from its date and time, what an instant says of them, and the date and time from the instant.
 -- Assumes nothing.
-use Prim.Native.Nat.{ℕ, _+_, _-_, _*_, _/_, _%_, _≤_, _<_}
-use mathlib.Core.Bool.{Bool, true, false, cond}
+use Prim.Native.Nat.{ℕ, _+_, _*_, _/_, _%_, _<_}
+use mathlib.Core.Bool.{true, false, _&&_}
 use mathlib.Core.List.{[], _∷_}
-use mathlib.Core.Path.{_≡_, refl}
+use mathlib.Core.Path.{_≡_}
 use native.Mathlib.Omega.{arith}
-use borrow.Author.Tests.{ltb-true, leb-true}
-use lib.Dec.{ltb, leb}
+use borrow.Author.Tests.{ltb-true}
+use lib.Dec.{ltb}
 use Rattle.laws.proofs.Bools.{both-true, three-true}
-use Rattle.calendar.specs.Gregorian.{isDay, isDate, mjdOf, dayAnswer, dateAnswer}
+use Rattle.calendar.specs.Gregorian.{isDate, mjdOf}
 use Rattle.calendar.specs.Clock.{minuteUnits, hourUnits, dayUnits, isTime, timeOf, instantAnswer, clockOf}
-use Rattle.calendar.proofs.Days.{day-is, mjd-most}
-
--- what a day handed back by `date` says
-pub record Told (y m d j w s : ℕ) : Type 0 where
-  pub is : isDate y m d ≡ true
-  pub mjd : j ≡ mjdOf y m d
-  pub least : 44244 ≤ j
-  pub most : j ≤ 88068
-  pub week : w ≡ (j - 44244) / 7
-  pub seconds : s ≡ 86400 * ((j - 44244) % 7)
-
-pub date-told : (y m d j w s : ℕ) → dateAnswer y m d ≡ 0 ∷ j ∷ w ∷ s ∷ [] → Told y m d j w s
-unfolding dateAnswer dayAnswer isDate
-date-told y m d j w s = go (isDate y m d) refl
-  where
-    go : (b : Bool) → isDate y m d ≡ b → cond b (dayAnswer (mjdOf y m d)) (7 ∷ []) ≡ 0 ∷ j ∷ w ∷ s ∷ [] → Told y m d j w s
-    go true e q =
-        let r : j ≡ mjdOf y m d = cc in
-        let p = both-true (isDay y m d) (leb 44244 (mjdOf y m d)) e in
-        let v = day-is y m d (p .0) in
-        let a : w ≡ (mjdOf y m d - 44244) / 7 = cc in
-        let b : s ≡ 86400 * ((mjdOf y m d - 44244) % 7) = cc in
-        record {
-          is = e;
-          mjd = r;
-          least = omega (arith, leb-true 44244 (mjdOf y m d) (p .1));
-          most = omega (arith, mjd-most (v .0) (v .1));
-          week = omega arith;
-          seconds = omega arith;
-        }
-    go false e q = let z : _≡_ {A = ℕ} 0 1 = cc in absurd (omega arith)
-
--- what a refusal says
-pub date-refused : (y m d : ℕ) → dateAnswer y m d ≡ 7 ∷ [] → isDate y m d ≡ false
-unfolding dateAnswer dayAnswer
-date-refused y m d = go (isDate y m d)
-  where
-    go : (b : Bool) → cond b (dayAnswer (mjdOf y m d)) (7 ∷ []) ≡ 7 ∷ [] → b ≡ false
-    go true q = cc
-    go false q = refl
+use Rattle.calendar.proofs.Told.{accepted}
 
 -- a time of day as facts
 pub record Timed (h m s : ℕ) : Type 0 where
@@ -77,6 +38,19 @@ module _ (y m d h n s : ℕ) where
       instantAnswer y m d h n s ≡ 0 ∷ (mjdOf y m d * dayUnits + timeOf h n s) ∷ []
   unfolding instantAnswer
   instant-at t e = simp (t, e)
+
+-- what an instant that is given says
+pub record InstantTold (y m d h n s at : ℕ) : Type 0 where
+  pub date : isDate y m d ≡ true
+  pub time : Timed h n s
+  pub sum : at ≡ mjdOf y m d * dayUnits + timeOf h n s
+
+pub instant-told : (y m d h n s at : ℕ) → instantAnswer y m d h n s ≡ 0 ∷ at ∷ [] → InstantTold y m d h n s at
+unfolding instantAnswer
+instant-told y m d h n s at q =
+    let a = accepted (isTime h n s && isDate y m d) ((mjdOf y m d * dayUnits + timeOf h n s) ∷ []) (at ∷ []) q in
+    let p = both-true (isTime h n s) (isDate y m d) (a .0) in
+    record { date = p .1; time = time-is h n s (p .0); sum = cc }
 
 -- the clock gives the fields back
 pub clock-back : (j h n s : ℕ) → Timed h n s →

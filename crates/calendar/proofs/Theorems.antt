@@ -1,26 +1,24 @@
 -- What holds of the calendar as a whole: dates and MJDs are each other's inverse and in the same order, instants and times too.
 -- Assumes nothing.
-use Prim.Native.Nat.{ℕ, _+_, _-_, _*_, _/_, _%_, _≤_, _<_}
-use mathlib.Core.Bool.{Bool, true, false, _&&_, cond}
+use Prim.Native.Nat.{ℕ, _-_, _/_, _%_, _≤_, _<_}
+use mathlib.Core.Bool.{true}
 use mathlib.Core.List.{[], _∷_}
 use mathlib.Core.Logic.{_⊎_, inl, inr, ⊎-elim}
-use mathlib.Core.Path.{_≡_, refl, sym, ap, _∙_}
+use mathlib.Core.Path.{_≡_, refl, ap, _∙_}
 use native.Mathlib.Omega.{arith}
-use borrow.Author.Tests.{le-leb, lt-ltb, leb-true}
+use borrow.Author.Tests.{le-leb, lt-ltb}
 use lib.Dec.{leb}
-use Rattle.laws.specs.Tests.{within}
 use Rattle.laws.proofs.Bools.{both-true}
-use Rattle.laws.proofs.Bounds.{within-true, true-within, sides}
+use Rattle.laws.proofs.Bounds.{true-within, sides}
 use Rattle.calendar.specs.declared.types.Civil.{Civil}
 use Rattle.calendar.specs.Gregorian.{daysOfYears, mjdOf, isDay, isDate, dayAnswer, dateAnswer, ymd, dateOf, civilAnswer}
 use Rattle.calendar.specs.Facts.{Valid}
 use Rattle.calendar.specs.Clock.{minuteUnits, hourUnits, dayUnits, isTime, timeOf, instantAnswer, clockOf}
-use Rattle.calendar.proofs.Told.{one-date}
 use Rattle.calendar.proofs.Closed.{years-closed}
 use Rattle.calendar.proofs.Order.{years-climb, later-year, later-month, later-day}
 use Rattle.calendar.proofs.After.{of-numbered, date-numbered}
-use Rattle.calendar.proofs.Days.{day-is, mjd-most, in-bounds, inside}
-use Rattle.calendar.proofs.Instants.{time-is, instant-at, clock-back}
+use Rattle.calendar.proofs.Days.{day-is, date-within, in-bounds, inside, civil-told}
+use Rattle.calendar.proofs.Instants.{instant-told, instant-at, clock-back}
 
 -- a day of the calendar with an MJD up to 88068 is none past 2099
 year-most : {y m d : ℕ} → Valid y m d → mjdOf y m d ≤ 88068 → y ≤ 2099
@@ -39,23 +37,6 @@ valid-is-day v h =
       true-within _ _ _ (v .january) (v .december),
       true-within _ _ _ (v .first) (v .last),
     )
-
--- what a date handed back by `civil` says
-pub record Called (mjd y m d : ℕ) : Type 0 where
-  pub least : 44244 ≤ mjd
-  pub most : mjd ≤ 88068
-  pub is : dateOf mjd ≡ ymd y m d
-
-pub civil-told : (mjd y m d : ℕ) → civilAnswer mjd ≡ 0 ∷ y ∷ m ∷ d ∷ [] → Called mjd y m d
-unfolding civilAnswer
-civil-told mjd y m d = go (within 44244 88068 mjd) refl
-  where
-    go : (b : Bool) → within 44244 88068 mjd ≡ b →
-        cond b (0 ∷ dateOf mjd .year ∷ dateOf mjd .month ∷ dateOf mjd .day ∷ []) (7 ∷ []) ≡ 0 ∷ y ∷ m ∷ d ∷ [] → Called mjd y m d
-    go true e q =
-        let p = within-true 44244 88068 mjd e in
-        record { least = p .0; most = p .1; is = one-date (dateOf mjd) (ymd y m d) (cc) (cc) (cc) }
-    go false e q = let z : _≡_ {A = ℕ} 0 1 = cc in absurd (omega arith)
 
 -- the date of an MJD is a date, and has that MJD, its week and its seconds of week
 module _ (mjd : ℕ) (least : 44244 ≤ mjd) (most : mjd ≤ 88068) where
@@ -82,15 +63,12 @@ module _ (y m d : ℕ) (is : isDate y m d ≡ true) where
   unfolding isDate
   date-of-mjd =
       let p = both-true (isDay y m d) (leb 44244 (mjdOf y m d)) is in
-      date-numbered y m d (mjdOf y m d) (day-is y m d (p .0) .0) refl (leb-true 44244 (mjdOf y m d) (p .1))
+      date-numbered y m d (mjdOf y m d) (day-is y m d (p .0) .0) refl (date-within y m d is .0)
 
   pub civil-of-date : civilAnswer (mjdOf y m d) ≡ 0 ∷ y ∷ m ∷ d ∷ []
-  unfolding isDate
   civil-of-date =
-      let p = both-true (isDay y m d) (leb 44244 (mjdOf y m d)) is in
-      let v = day-is y m d (p .0) in
-      let least = leb-true 44244 (mjdOf y m d) (p .1) in
-      inside (mjdOf y m d) (ymd y m d) (true-within 44244 88068 (mjdOf y m d) least (mjd-most (v .0) (v .1))) date-of-mjd
+      let b = date-within y m d is in
+      inside (mjdOf y m d) (ymd y m d) (true-within 44244 88068 (mjdOf y m d) (b .0) (b .1)) date-of-mjd
 
 -- one date is earlier than another: by the year, or in one year by the month, or in one month by the day
 abbrev pub Earlier : Civil → Civil → Type 0
@@ -132,18 +110,9 @@ module _ (a b : Civil) (v : Valid (a .year) (a .month) (a .day)) (w : Valid (b .
 pub instant-back : (y m d h n s at : ℕ) → instantAnswer y m d h n s ≡ 0 ∷ at ∷ [] →
     (clockOf at ≡ record { day = mjdOf y m d; hour = h; minute = n; second8 = s })
     × (civilAnswer (mjdOf y m d) ≡ 0 ∷ y ∷ m ∷ d ∷ [])
-unfolding instantAnswer
-instant-back y m d h n s at = go (isTime h n s && isDate y m d) refl
-  where
-    go : (b : Bool) → isTime h n s && isDate y m d ≡ b →
-        cond b (0 ∷ (mjdOf y m d * dayUnits + timeOf h n s) ∷ []) (7 ∷ []) ≡ 0 ∷ at ∷ [] →
-        (clockOf at ≡ record { day = mjdOf y m d; hour = h; minute = n; second8 = s })
-        × (civilAnswer (mjdOf y m d) ≡ 0 ∷ y ∷ m ∷ d ∷ [])
-    go true e q =
-        let p = both-true (isTime h n s) (isDate y m d) e in
-        let t : at ≡ mjdOf y m d * dayUnits + timeOf h n s = cc in
-        (ap clockOf t ∙ clock-back (mjdOf y m d) h n s (time-is h n s (p .0)), civil-of-date y m d (p .1))
-    go false e q = let z : _≡_ {A = ℕ} 0 1 = cc in absurd (omega arith)
+instant-back y m d h n s at q =
+    let p = instant-told y m d h n s at q in
+    (ap clockOf (p .sum) ∙ clock-back (mjdOf y m d) h n s (p .time), civil-of-date y m d (p .date))
 
 -- the time of an instant is a time of day
 time-of-clock : (at : ℕ) → isTime (clockOf at .hour) (clockOf at .minute) (clockOf at .second8) ≡ true

@@ -41,7 +41,7 @@ unfoldable pub daysBefore : Bool → ℕ → ℕ
 daysBefore isLeap zero = 0
 daysBefore isLeap (suc month) = daysBefore isLeap month + monthLength isLeap month
 
--- the MJD of a date from 1980 on; 1980-01-01 is 44239
+-- the MJD of a date from 1980 on: the days of the years and of the months before it, and of its own month; 1980-01-01 is 44239
 unfoldable pub mjdOf : ℕ → ℕ → ℕ → ℕ
 mjdOf year month day = 44239 + daysOfYears (year - 1980) + daysBefore (leap year) month + (day - 1)
 

@@ -10,7 +10,6 @@ ghost use Rattle.calendar.specs.Fraction.{agrees, toldFraction, fraction
 mod types;
 
 use laws::within;
-
 pub use types::Civil;
 pub use types::Clock;
 pub use types::Dated;

@@ -9,7 +9,8 @@ use borrow.Author.Needs.{needs}
 use borrow.Author.Tests.{not-true, not-false}
 use Rattle.calendar.specs.Clock.{isTime, timeOf, toldInstant}
 use Rattle.calendar.specs.Gregorian.{toldDate}
-use Rattle.calendar.proofs.Instants.{Told, Timed, date-told, date-refused, time-is, no-time, no-date, instant-at}
+use Rattle.calendar.proofs.Days.{DayTold, date-told, date-refused}
+use Rattle.calendar.proofs.Instants.{Timed, time-is, no-time, no-date, instant-at}
 use Rattle.calendar.proofs.instant.Statement.{statement}
 use Rattle.calendar.proofs.instant.Tie as tie
 
@@ -38,7 +39,7 @@ timed : (c : tie.After-date) →
 timed c = time-is _ _ _ (passed (c .before))
 
 day-told : (c : tie.After-mjd) →
-    Told (c .before .before .before .before .before .args .year) (c .before .before .before .before .before .args .month)
+    DayTold (c .before .before .before .before .before .args .year) (c .before .before .before .before .before .args .month)
     (c .before .before .before .before .before .args .day) (c .mjd .given .0 .0) (c .mjd .given .0 .1 .0) (c .mjd .given .0 .1 .1 .0)
 unfolding toldDate
 day-told c = date-told _ _ _ _ _ _ (sym (c .before .before .date .ensures) ∙ ap toldDate (c .mjd .given .1))
