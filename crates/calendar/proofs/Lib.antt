@@ -1,0 +1,10 @@
+pub mod Told
+pub mod Closed
+pub mod Order
+pub mod After
+pub mod Days
+pub mod Fractions
+pub mod Instants
+pub mod Weeks
+pub mod Theorems
+pub mod Determined

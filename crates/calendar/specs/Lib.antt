@@ -1,0 +1,4 @@
+pub mod Gregorian
+pub mod Facts
+pub mod Clock
+pub mod Fraction
