@@ -6,14 +6,15 @@ use mathlib.Core.List.{[], _∷_}
 use mathlib.Core.Path.{_≡_, ap, _∙_}
 use native.Mathlib.Omega.{arith}
 use borrow.Author.Tests.{le-leb, lt-leb, leb-true}
-use lib.Dec.{leb}
+use lib.Dec.{lit≤, leb}
+use Rattle.laws.proofs.Answers.{accepted, refused}
 use Rattle.laws.specs.Tests.{within}
 use Rattle.laws.proofs.Bools.{both-true, three-true}
 use Rattle.laws.proofs.Bounds.{within-true}
 use Rattle.calendar.specs.Gregorian.{divides, leap, yearLength, monthLength, daysOfYears, daysBefore, mjdOf, isDay, isDate, dayAnswer, dateAnswer, ymd, dateOf, civilAnswer}
 use Rattle.calendar.specs.declared.types.Civil.{Civil}
 use Rattle.calendar.specs.Facts.{Valid, InMonth}
-use Rattle.calendar.proofs.Told.{one-date, accepted, refused}
+use Rattle.calendar.proofs.Told.{one-date}
 use Rattle.calendar.proofs.Order.{next-year, next-month, before-next-year, years-climb}
 use Rattle.calendar.proofs.Closed.{leap-after, years-closed}
 use Rattle.calendar.proofs.After.{date-numbered}
@@ -75,7 +76,7 @@ pub date-told : (y m d j w s : ℕ) → dateAnswer y m d ≡ 0 ∷ j ∷ w ∷ s
 unfolding dateAnswer dayAnswer
 date-told y m d j w s q =
     let n = mjdOf y m d in
-    let a = accepted (isDate y m d) (n ∷ (n - 44244) / 7 ∷ 86400 * ((n - 44244) % 7) ∷ []) (j ∷ w ∷ s ∷ []) q in
+    let a = accepted 7 (lit≤ tt) (isDate y m d) (n ∷ (n - 44244) / 7 ∷ 86400 * ((n - 44244) % 7) ∷ []) (j ∷ w ∷ s ∷ []) q in
     let e : j ≡ n = cc in
     let f : w ≡ (n - 44244) / 7 = cc in
     let g : s ≡ 86400 * ((n - 44244) % 7) = cc in
@@ -85,7 +86,7 @@ date-told y m d j w s q =
 -- what a refusal of `date` says
 pub date-refused : (y m d : ℕ) → dateAnswer y m d ≡ 7 ∷ [] → isDate y m d ≡ false
 unfolding dateAnswer dayAnswer
-date-refused y m d q = refused (isDate y m d) _ q
+date-refused y m d q = refused 7 (lit≤ tt) (isDate y m d) _ q
 
 -- the day n after 1980-01-01, and the years k before its own
 module _ (n k : ℕ) (e : k ≡ 4 * n / 1461) (h : n < 43830) where
@@ -137,6 +138,6 @@ pub civil-told : (mjd y m d : ℕ) → civilAnswer mjd ≡ 0 ∷ y ∷ m ∷ d �
 unfolding civilAnswer
 civil-told mjd y m d q =
     let c = dateOf mjd in
-    let a = accepted (within 44244 88068 mjd) (c .year ∷ c .month ∷ c .day ∷ []) (y ∷ m ∷ d ∷ []) q in
+    let a = accepted 7 (lit≤ tt) (within 44244 88068 mjd) (c .year ∷ c .month ∷ c .day ∷ []) (y ∷ m ∷ d ∷ []) q in
     let p = within-true 44244 88068 mjd (a .0) in
     record { least = p .0; most = p .1; is = one-date c (ymd y m d) (cc) (cc) (cc) }

@@ -6,11 +6,11 @@ use mathlib.Core.List.{[], _∷_}
 use mathlib.Core.Path.{_≡_}
 use native.Mathlib.Omega.{arith}
 use borrow.Author.Tests.{lt-ltb, le-ltb, ltb-true}
-use lib.Dec.{ltb}
+use lib.Dec.{lit≤, ltb}
+use Rattle.laws.proofs.Answers.{accepted}
 use Rattle.laws.proofs.Bools.{not-both, same-truth, and-both}
 use Rattle.calendar.specs.Clock.{dayUnits}
 use Rattle.calendar.specs.Fraction.{agrees, fractionAnswer}
-use Rattle.calendar.proofs.Told.{accepted}
 
 -- in different strides of 13,500 they are far apart
 pub strides-apart : (f s : ℕ) → (f / 125 ≡ s / 108 → ⊥) → agrees f s ≡ false
@@ -46,7 +46,7 @@ no-fraction s h = simp (le-ltb s dayUnits h)
 fraction-told : (s f : ℕ) → fractionAnswer s ≡ 0 ∷ f ∷ [] → (s < dayUnits) × (f ≡ (125 * s + 54) / 108)
 unfolding fractionAnswer
 fraction-told s f q =
-    let a = accepted (ltb s dayUnits) ((125 * s + 54) / 108 ∷ []) (f ∷ []) q in
+    let a = accepted 7 (lit≤ tt) (ltb s dayUnits) ((125 * s + 54) / 108 ∷ []) (f ∷ []) q in
     (ltb-true s dayUnits (a .0), cc)
 
 -- what is written agrees, and is below one day

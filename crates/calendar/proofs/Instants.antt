@@ -6,11 +6,11 @@ use mathlib.Core.List.{[], _∷_}
 use mathlib.Core.Path.{_≡_}
 use native.Mathlib.Omega.{arith}
 use borrow.Author.Tests.{ltb-true}
-use lib.Dec.{ltb}
+use lib.Dec.{lit≤, ltb}
+use Rattle.laws.proofs.Answers.{accepted}
 use Rattle.laws.proofs.Bools.{both-true, three-true}
 use Rattle.calendar.specs.Gregorian.{isDate, mjdOf}
 use Rattle.calendar.specs.Clock.{minuteUnits, hourUnits, dayUnits, isTime, timeOf, instantAnswer, clockOf}
-use Rattle.calendar.proofs.Told.{accepted}
 
 -- a time of day as facts
 pub record Timed (h m s : ℕ) : Type 0 where
@@ -48,7 +48,7 @@ pub record InstantTold (y m d h n s at : ℕ) : Type 0 where
 pub instant-told : (y m d h n s at : ℕ) → instantAnswer y m d h n s ≡ 0 ∷ at ∷ [] → InstantTold y m d h n s at
 unfolding instantAnswer
 instant-told y m d h n s at q =
-    let a = accepted (isTime h n s && isDate y m d) ((mjdOf y m d * dayUnits + timeOf h n s) ∷ []) (at ∷ []) q in
+    let a = accepted 7 (lit≤ tt) (isTime h n s && isDate y m d) ((mjdOf y m d * dayUnits + timeOf h n s) ∷ []) (at ∷ []) q in
     let p = both-true (isTime h n s) (isDate y m d) (a .0) in
     record { date = p .1; time = time-is h n s (p .0); sum = cc }
 

@@ -3,15 +3,10 @@
 use Prim.Native.Nat.{ℕ, suc, _+_, _-_, _≤_, _<_}
 use mathlib.Core.Bool.{Bool, true, false}
 use mathlib.Core.Path.{_≡_, refl, sym, ap, _∙_, subst}
-use native.Mathlib.Nat.{le-refl, le-trans}
-use native.Mathlib.Decide.{le-ind}
 use native.Mathlib.Omega.{arith}
+use Rattle.laws.proofs.Bounds.{level, climbs}
 use Rattle.calendar.specs.Gregorian.{leap, yearLength, monthLength, daysOfYears, daysBefore, mjdOf, ymd}
 use Rattle.calendar.specs.Facts.{Valid}
-
--- what climbs at each step climbs
-climbs : (f : ℕ → ℕ) → ((k : ℕ) → f k ≤ f (suc k)) → (a b : ℕ) → a ≤ b → f a ≤ f b
-climbs f up a b h = le-ind (λ (n : ℕ). f a ≤ f n) (le-refl (f a)) (λ m _ p. le-trans p (up m)) b h
 
 -- one year more, one month more
 pub next-year : (k : ℕ) → daysOfYears (suc k) ≡ daysOfYears k + yearLength (leap (1980 + k))
@@ -65,10 +60,6 @@ module _ {year month day : ℕ} (v : Valid year month day) where
   pub later-day : (day' : ℕ) → day < day' → mjdOf year month day < mjdOf year month day'
   unfolding mjdOf
   later-day day' h = omega arith
-
--- neither is later, so they are the same
-level : (a b : ℕ) → (a < b → ⊥) → (b < a → ⊥) → a ≡ b
-level a b p q = omega arith
 
 -- in one year
 same-day : (y m d m' d' : ℕ) → Valid y m d → Valid y m' d' → mjdOf y m d ≡ mjdOf y m' d' → ymd y m d ≡ ymd y m' d'

@@ -1,5 +1,4 @@
--- Answers as a number and values: two that have them in common are the same, so that a promise over numbers and values leaves one outcome;
--- and what follows of the test behind an answer that was accepted or refused.
+-- Each answer is known by its number and values: two that are told alike are one.
 -- Assumes nothing.
 use Prim.Native.Nat.{ℕ}
 use mathlib.Core.Bool.{Bool, true, false, cond}
@@ -20,16 +19,6 @@ use Rattle.calendar.specs.declared.types.Fraction.the-variants as F
 use Rattle.calendar.specs.Gregorian.{toldDate, toldNamed}
 use Rattle.calendar.specs.Clock.{toldInstant, toldWeek}
 use Rattle.calendar.specs.Fraction.{toldFraction}
-
--- accepted: the test passed, and the values are those of its answer
-pub accepted : (test : Bool) (values given : List ℕ) → cond test (0 ∷ values) (7 ∷ []) ≡ 0 ∷ given → (test ≡ true) × (values ≡ given)
-accepted true values given e = (refl, cc)
-accepted false values given e = let z : _≡_ {A = ℕ} 0 1 = cc in absurd (omega arith)
-
--- refused: the test failed
-pub refused : (test : Bool) (values : List ℕ) → cond test (0 ∷ values) (7 ∷ []) ≡ 7 ∷ [] → test ≡ false
-refused true values e = cc
-refused false values e = refl
 
 pub toldDate-one : (a b : Dated) → toldDate a ≡ toldDate b → a ≡ b
 unfolding toldDate

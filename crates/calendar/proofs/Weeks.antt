@@ -5,11 +5,12 @@ use mathlib.Core.Bool.{true, false}
 use mathlib.Core.List.{[], _∷_}
 use mathlib.Core.Path.{_≡_, ap₂, _∙_}
 use native.Mathlib.Omega.{arith}
+use lib.Dec.{lit≤}
+use Rattle.laws.proofs.Answers.{accepted}
 use Rattle.laws.specs.Tests.{within}
 use Rattle.laws.proofs.Bounds.{within-true, true-within}
 use Rattle.calendar.specs.Gregorian.{dateAnswer}
 use Rattle.calendar.specs.Clock.{secondUnits, dayUnits, weekAnswer}
-use Rattle.calendar.proofs.Told.{accepted}
 use Rattle.calendar.proofs.Days.{date-told}
 
 -- the two answers of `week_of`
@@ -29,7 +30,7 @@ unfolding weekAnswer
 week-forth at week second8 q =
     let d = at / dayUnits in
     let a =
-    accepted (within 44244 88068 d) ((d - 44244) / 7 ∷ ((d - 44244) % 7 * dayUnits + at % dayUnits) ∷ []) (week ∷ second8 ∷ []) q in
+    accepted 7 (lit≤ tt) (within 44244 88068 d) ((d - 44244) / 7 ∷ ((d - 44244) % 7 * dayUnits + at % dayUnits) ∷ []) (week ∷ second8 ∷ []) q in
     let p = within-true 44244 88068 d (a .0) in
     let w : week ≡ (d - 44244) / 7 = cc in
     let s : second8 ≡ (d - 44244) % 7 * dayUnits + at % dayUnits = cc in

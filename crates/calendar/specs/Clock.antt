@@ -7,7 +7,7 @@ use mathlib.Core.Bool.{Bool, _&&_, cond}
 use mathlib.Core.List.{List, [], _∷_}
 use lib.Dec.{ltb}
 use Rattle.laws.specs.Tests.{within}
-use Rattle.calendar.specs.Gregorian.{isDate, mjdOf}
+use Rattle.calendar.specs.Gregorian.{firstMjd, lastMjd, isDate, mjdOf}
 use Rattle.calendar.specs.declared.types.Instant.{Instant}
 use Rattle.calendar.specs.declared.types.Instant.the-variants as I
 use Rattle.calendar.specs.declared.types.Clock.{Clock}
@@ -56,7 +56,7 @@ clockOf at =
 unfoldable pub weekAnswer : ℕ → List ℕ
 weekAnswer at =
     let d = at / dayUnits in
-    cond (within 44244 88068 d) (0 ∷ (d - 44244) / 7 ∷ ((d - 44244) % 7 * dayUnits + at % dayUnits) ∷ []) (7 ∷ [])
+    cond (within firstMjd lastMjd d) (0 ∷ (d - firstMjd) / 7 ∷ ((d - firstMjd) % 7 * dayUnits + at % dayUnits) ∷ []) (7 ∷ [])
 
 -- the number and the values of a week
 unfoldable pub toldWeek : Week → List ℕ

@@ -14,6 +14,13 @@ use Rattle.calendar.specs.declared.types.Civil.{Civil}
 use Rattle.calendar.specs.declared.types.Named.{Named}
 use Rattle.calendar.specs.declared.types.Named.the-variants as N
 
+-- the bounds: 1980-01-06, the first day of GPS week 0, and 2099-12-31
+abbrev pub firstMjd : ℕ
+firstMjd = 44244
+
+abbrev pub lastMjd : ℕ
+lastMjd = 88068
+
 -- k divides n
 abbrev pub divides : ℕ → ℕ → Bool
 divides k n = eqb (n % k) 0
@@ -49,13 +56,13 @@ mjdOf year month day = 44239 + daysOfYears (year - 1980) + daysBefore (leap year
 unfoldable pub isDay : ℕ → ℕ → ℕ → Bool
 isDay year month day = within 1980 2099 year && within 1 12 month && within 1 (monthLength (leap year) month) day
 
--- a date 1980-01-06 to 2099-12-31: such a day from MJD 44244 on, which is 1980-01-06
+-- a date of the bounds: such a day from 1980-01-06 on
 unfoldable pub isDate : ℕ → ℕ → ℕ → Bool
-isDate year month day = isDay year month day && leb 44244 (mjdOf year month day)
+isDate year month day = isDay year month day && leb firstMjd (mjdOf year month day)
 
 -- the answer for a day D of the bounds: accepted, MJD, week, seconds of week in s
 unfoldable pub dayAnswer : ℕ → List ℕ
-dayAnswer mjd = 0 ∷ mjd ∷ (mjd - 44244) / 7 ∷ 86400 * ((mjd - 44244) % 7) ∷ []
+dayAnswer mjd = 0 ∷ mjd ∷ (mjd - firstMjd) / 7 ∷ 86400 * ((mjd - firstMjd) % 7) ∷ []
 
 -- a date (year, month, day) gives MJD, week and seconds of week, or 7
 unfoldable pub dateAnswer : ℕ → ℕ → ℕ → List ℕ
@@ -81,14 +88,14 @@ unfoldable pub dateAfter : ℕ → Civil
 dateAfter zero = ymd 1980 1 6
 dateAfter (suc days) = tomorrow (dateAfter days)
 
--- the date of an MJD from 44244 on
+-- the date of an MJD from 1980-01-06 on
 unfoldable pub dateOf : ℕ → Civil
-dateOf mjd = dateAfter (mjd - 44244)
+dateOf mjd = dateAfter (mjd - firstMjd)
 
 -- an MJD of the bounds gives year, month and day; any other gives 7
 unfoldable pub civilAnswer : ℕ → List ℕ
 civilAnswer mjd =
-    cond (within 44244 88068 mjd) (0 ∷ dateOf mjd .year ∷ dateOf mjd .month ∷ dateOf mjd .day ∷ []) (7 ∷ [])
+    cond (within firstMjd lastMjd mjd) (0 ∷ dateOf mjd .year ∷ dateOf mjd .month ∷ dateOf mjd .day ∷ []) (7 ∷ [])
 
 -- the number and the values of what an MJD names
 unfoldable pub toldNamed : Named → List ℕ

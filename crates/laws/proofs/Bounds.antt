@@ -4,7 +4,8 @@ use Prim.Native.Nat.{ℕ, zero, suc, _≤_, _<_}
 use mathlib.Core.Bool.{Bool, true, false}
 use mathlib.Core.Path.{_≡_, refl, sym, subst}
 use mathlib.Core.Logic.{_⊎_, inl, inr, ⊎-elim}
-use native.Mathlib.Nat.{not-suc-le-zero, le-of-suc-le-suc, eq-or-lt-of-le}
+use native.Mathlib.Nat.{le-refl, le-trans, not-suc-le-zero, le-of-suc-le-suc, eq-or-lt-of-le}
+use native.Mathlib.Decide.{le-ind}
 use native.Mathlib.Omega.{arith}
 use borrow.Author.Tests.{leb-true, le-leb, lt-leb, ltb-true, ltb-false}
 use lib.Dec.{T, leb, ltb}
@@ -34,6 +35,14 @@ sides a b = go (ltb a b) (ltb b a) refl refl
     go true q e f = inl (ltb-true a b e)
     go false true e f = inr (inr (ltb-true b a f))
     go false false e f = inr (inl (omega (arith, ltb-false a b e, ltb-false b a f)))
+
+-- neither of two numbers is less, so they are the same
+pub level : (a b : ℕ) → (a < b → ⊥) → (b < a → ⊥) → a ≡ b
+level a b p q = omega arith
+
+-- what climbs at each step climbs
+pub climbs : (f : ℕ → ℕ) → ((k : ℕ) → f k ≤ f (suc k)) → (a b : ℕ) → a ≤ b → f a ≤ f b
+climbs f up a b h = le-ind (λ (n : ℕ). f a ≤ f n) (le-refl (f a)) (λ m _ p. le-trans p (up m)) b h
 
 -- a test computed at every number below n passes at any one of them
 pub below : (n : ℕ) (test : ℕ → Bool) → T (everyBelow n test) → (k : ℕ) → k < n → T (test k)
