@@ -56,7 +56,8 @@ fn number(s: &[u8]) -> Whole
     requires { ⌜ length (now s) ≤ 18 ⌝ }
     ensures { λ r. ⌜ r ≡ numberOf (now (s .entry)) ⌝ }
 {
-    if s.len() == 0 {
+    let digits = s.len();
+    if digits == 0 {
         return Whole::Malformed;
     }
     digits_from(0, s)
