@@ -1,12 +1,11 @@
 -- Each answer is known by its number and values: two that are told alike are one.
 -- Assumes nothing.
-use mathlib.Core.Path.{_≡_, refl}
+use mathlib.Core.Path.{_≡_, refl, sym, _∙_}
 use mathlib.Core.Bool.{Bool, true, false}
-use Prim.Native.Nat.{ℕ, suc}
-use native.Mathlib.Omega.{arith}
+use Prim.Native.Nat.{ℕ, _≤_}
 use lib.IntN.{ℤ, pos, negsuc, natAbs}
 use Rattle.field.specs.Read.{signNumber, toldWhole, toldAmount, toldExponent}
-use Rattle.field.specs.Sign.{isNegative, toldNumber}
+use Rattle.field.specs.Sign.{largest, signedInt, isNegative, toldNumber, numberAnswer}
 use Rattle.field.specs.declared.Whole.{Whole}
 use Rattle.field.specs.declared.Whole.the-variants as whole
 use Rattle.field.specs.declared.Amount.{Amount}
@@ -15,6 +14,7 @@ use Rattle.field.specs.declared.Exponent.{Exponent}
 use Rattle.field.specs.declared.Exponent.the-variants as exponent
 use Rattle.field.specs.declared.Number.{Number}
 use Rattle.field.specs.declared.Number.the-variants as number
+use Rattle.field.proofs.Signs.{number-told}
 
 pub toldWhole-one : (a b : Whole) → toldWhole a ≡ toldWhole b → a ≡ b
 toldWhole-one (whole.Value v) (whole.Value u) e = cc
@@ -64,3 +64,8 @@ toldNumber-one (number.Value v) (number.Value u) e =
 toldNumber-one (number.Value v) number.OutOfBounds e = cc
 toldNumber-one number.OutOfBounds (number.Value u) e = cc
 toldNumber-one number.OutOfBounds number.OutOfBounds e = refl
+
+-- so a sign and a magnitude that is in bounds make one number
+pub number-is : (negative : Bool) (m : ℕ) → m ≤ largest → (r : Number) → toldNumber r ≡ numberAnswer negative m → r ≡ number.Value (signedInt negative m)
+number-is negative m h r e =
+    toldNumber-one r (number.Value (signedInt negative m)) (e ∙ sym (number-told negative m h (signedInt negative m) refl))

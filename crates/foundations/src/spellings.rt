@@ -8,6 +8,9 @@ use field::Exponent;
 use field::Whole;
 use libc::STDIN_FILENO;
 
+// The most columns that are shown: two more than a field has.
+const MOST: usize = 20;
+
 // The place of the next LF from `at` on, or the end.
 fn line_end(bytes: &[u8], at: usize) -> usize
     requires { ⌜ at ≤ length (now bytes) ⌝ }
@@ -37,7 +40,7 @@ fn put_whole(columns: &mut [u8], v: u64) {
 
 fn written_whole(width: usize, v: u64) {
     let mut columns = [35u8; 20];
-    if width <= 20 {
+    if width <= MOST {
         put_whole(&mut columns[0..width], v);
     }
 }
@@ -49,7 +52,7 @@ fn put_signed(columns: &mut [u8], negative: bool, magnitude: u64) {
 
 fn written_signed(width: usize, negative: bool, magnitude: u64) {
     let mut columns = [35u8; 20];
-    if width <= 20 {
+    if width <= MOST {
         put_signed(&mut columns[0..width], negative, magnitude);
     }
 }
@@ -61,7 +64,7 @@ fn put_exponent(columns: &mut [u8], exponent: Exponent) {
 
 fn written_exponent(width: usize, exponent: Exponent) {
     let mut columns = [35u8; 20];
-    if width <= 20 {
+    if width <= MOST {
         put_exponent(&mut columns[0..width], exponent);
     }
 }
@@ -73,7 +76,7 @@ fn put_decimal(columns: &mut [u8], places: usize, negative: bool, magnitude: u64
 
 fn written_decimal(width: usize, places: usize, negative: bool, magnitude: u64) {
     let mut columns = [35u8; 20];
-    if width <= 20 {
+    if width <= MOST {
         put_decimal(&mut columns[0..width], places, negative, magnitude);
     }
 }
