@@ -11,6 +11,7 @@ use Rattle.laws.proofs.Lists.{one-less}
 use Rattle.laws.proofs.Lent.{snoc-turn}
 use Rattle.field.specs.Show.{lastDigit, digitsIn, fixedDigits}
 use Rattle.field.proofs.Powers.{tenth-first}
+use Rattle.field.proofs.Texts.{tenth-below}
 
 module _ (v : ℕ) where
   fixed-step : (i : ℕ) → 0 < i → fixedDigits i v ≡ fixedDigits (i - 1) (v / 10) ++ (lastDigit v ∷ [])
@@ -49,11 +50,18 @@ module _ (text out : List ℕ) (i v d : ℕ) (pos : 0 < i) (h : i ≤ length out
   pub digits-done : v < 10 → text ≡ digitsIn i v ++ drop i out → text ≡ drop (i - 1) (set out (i - 1) d)
   digits-done last = turn [] (digitsIn i v) (digits-last v i pos last)
 
+-- a number of two digits or more leaves a column before its last
+pub column-before : (i v : ℕ) → 10 ≤ v → v < 10 ^ i → 1 < i
+column-before zero v more h = absurd (omega arith)
+column-before (suc zero) v more h = absurd (omega arith)
+column-before (suc (suc i)) v more h = omega arith
+
+-- and fits the columns before it without its last
+pub shorter-fits : (i v : ℕ) → 0 < i → v < 10 ^ i → v / 10 < 10 ^ (i - 1)
+shorter-fits zero v pos h = absurd (omega arith)
+shorter-fits (suc n) v pos h = rw (one-less n) (tenth-below n v h)
+
 -- nothing is left to write at the left edge
 pub fixed-edge : (i v : ℕ) (out : List ℕ) → i ≤ 0 → fixedDigits i v ++ drop i out ≡ out
 fixed-edge zero v out h = refl
 fixed-edge (suc i) v out h = absurd (omega arith)
-
-pub digits-edge : (i v : ℕ) (out : List ℕ) → i ≤ 0 → digitsIn i v ++ drop i out ≡ drop i out
-digits-edge zero v out h = refl
-digits-edge (suc i) v out h = absurd (omega arith)

@@ -41,21 +41,21 @@ fn put_point(out: &mut [u8], v: u64) -> u64
     put_fixed(&mut out[1..], v)
 }
 
-// The digits of v at the right; says the column where they begin.
+// The digits of a number that has no more than the columns, at the right; says the column where they begin.
 fn put_digits(out: &mut [u8], v: u64) -> usize
+    requires { ⌜ (0 < length (now out)) × (v < 10 ^ length (now out)) ⌝ }
     ensures { λ r. ⌜ r ≡ length (now (out .entry)) - length (digitsIn (length (now (out .entry))) v) ⌝ }
     ensures { λ r. ⌜ now (out .exit) ≡ take r (now (out .entry)) ++ digitsIn (length (now (out .entry))) v ⌝ }
 {
     let mut rest = v;
     let mut i = out.len();
-    while i > 0 {
+    while rest >= 10 {
         i -= 1;
         out[i] = last_digit(rest);
-        if rest < 10 {
-            return i;
-        }
         rest = rest / 10;
     }
+    i -= 1;
+    out[i] = last_digit(rest);
     i
 }
 

@@ -86,7 +86,17 @@ fn with_day(sum: u64, mjd: u64) -> u64 {
         Named::Date(c) => {
             let named = mixed(mixed(mixed(mixed(sum, 0), c.year), c.month), c.day);
             let asked = with_date(named, calendar::date(c.year, c.month, c.day));
-            with_instant(asked, calendar::instant(c.year, c.month, c.day, mjd % 24, mjd % 60, 59 * SECOND + mjd % SECOND))
+            with_instant(
+                asked,
+                calendar::instant(
+                    c.year,
+                    c.month,
+                    c.day,
+                    mjd % 24,
+                    mjd % 60,
+                    59 * SECOND + mjd % SECOND,
+                ),
+            )
         }
         Named::OutOfBounds => mixed(sum, 7),
     }
@@ -132,7 +142,10 @@ fn with_fraction(sum: u64, s: u64) -> u64 {
 
 fn with_clock(sum: u64, at: u64) -> u64 {
     let clock = calendar::clock_of(at);
-    mixed(mixed(mixed(mixed(sum, clock.day), clock.hour), clock.minute), clock.second8)
+    mixed(
+        mixed(mixed(mixed(sum, clock.day), clock.hour), clock.minute),
+        clock.second8,
+    )
 }
 
 // Every second of a day and one past it, each a little later than the one before.

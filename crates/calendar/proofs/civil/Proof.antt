@@ -13,9 +13,6 @@ use Rattle.calendar.proofs.Days.{year-day, date-closed, outside, inside
 use Rattle.calendar.proofs.civil.Statement.{statement}
 use Rattle.calendar.proofs.civil.Tie as tie
 
-within-requires : tie.Need-within-requires
-within-requires c κs = search needs
-
 returns : tie.Need-returns
 unfolding toldNamed
 returns c = sym (outside _ (sym (c .before .within .ensures) ∙ not-true _ (c .if1 .taken)))
@@ -39,23 +36,8 @@ mul-year-day c = omega (arith, bounds c)
 add-year-day : tie.Need-add-year-day
 add-year-day c = omega (arith, bounds c)
 
-sub-year-day : tie.Need-sub-year-day
-sub-year-day c = search needs
-
 month-at-requires : tie.Need-month-at-requires
 month-at-requires c κs = year-day (c .before .before .args .mjd - 44239) _ refl (omega (arith, bounds c))
-
-add-t11 : tie.Need-add-t11
-add-t11 c = search needs
-
-days-before-requires : tie.Need-days-before-requires
-days-before-requires c κs = search needs
-
-sub-t10 : tie.Need-sub-t10
-sub-t10 c = search needs
-
-add-t12 : tie.Need-add-t12
-add-t12 c = search needs
 
 returns-2 : tie.Need-returns-2
 unfolding toldNamed
@@ -73,16 +55,16 @@ pub civil-spec : {M : Type 1} → statement M
 civil-spec =
     tie.close
     (tie.spec
-    within-requires
+    (λ c κs. search needs)
     returns
     sub-since
     mul-years
     mul-year-day
     add-year-day
-    sub-year-day
+    (λ c. search needs)
     month-at-requires
-    add-t11
-    days-before-requires
-    sub-t10
-    add-t12
+    (λ c. search needs)
+    (λ c κs. search needs)
+    (λ c. search needs)
+    (λ c. search needs)
     returns-2)

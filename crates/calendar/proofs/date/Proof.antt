@@ -10,9 +10,6 @@ use Rattle.calendar.proofs.Days.{day-is, no-day, too-early, in-bounds}
 use Rattle.calendar.proofs.date.Statement.{statement}
 use Rattle.calendar.proofs.date.Tie as tie
 
-is-day-requires : tie.Need-is-day-requires
-is-day-requires c κs = search needs
-
 returns : tie.Need-returns
 unfolding toldDate
 returns c = sym (no-day _ _ _ (sym (c .before .is-day .ensures) ∙ not-true _ (c .if1 .taken)))
@@ -28,9 +25,6 @@ returns-2 : tie.Need-returns-2
 unfolding toldDate
 returns-2 c = sym (too-early _ _ _ (passed (c .before .before)) (omega (arith, c .before .mjd-of .ensures)))
 
-day-of-requires : tie.Need-day-of-requires
-day-of-requires c κs = search needs
-
 returns-3 : tie.Need-returns-3
 returns-3 c =
     let m = c .before .before in
@@ -39,4 +33,4 @@ returns-3 c =
     ∙ sym (in-bounds _ _ _ (passed (m .before)) (omega (arith, m .mjd-of .ensures)))
 
 pub date-spec : {M : Type 1} → statement M
-date-spec = tie.close (tie.spec is-day-requires returns mjd-of-requires returns-2 day-of-requires returns-3)
+date-spec = tie.close (tie.spec (λ c κs. search needs) returns mjd-of-requires returns-2 (λ c κs. search needs) returns-3)

@@ -7,12 +7,6 @@ use Rattle.calendar.proofs.Fractions.{fraction-at, no-fraction}
 use Rattle.calendar.proofs.fraction_of.Statement.{statement}
 use Rattle.calendar.proofs.fraction_of.Tie as tie
 
-mul-t3 : tie.Need-mul-t3
-mul-t3 c = search needs
-
-add-t4 : tie.Need-add-t4
-add-t4 c = search needs
-
 returns : tie.Need-returns
 unfolding toldFraction
 returns c = sym (fraction-at (c .before .args .s) (c .if1 .taken))
@@ -22,4 +16,4 @@ unfolding toldFraction
 returns-2 c = sym (no-fraction (c .before .args .s) (c .if1 .left))
 
 pub fraction-of-spec : {M : Type 1} → statement M
-fraction-of-spec = tie.close (tie.spec mul-t3 add-t4 returns returns-2)
+fraction-of-spec = tie.close (tie.spec (λ c. search needs) (λ c. search needs) returns returns-2)

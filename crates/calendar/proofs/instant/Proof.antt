@@ -14,18 +14,9 @@ use Rattle.calendar.proofs.Instants.{Timed, time-is, no-time, no-date, 
 use Rattle.calendar.proofs.instant.Statement.{statement}
 use Rattle.calendar.proofs.instant.Tie as tie
 
-is-time-requires : tie.Need-is-time-requires
-is-time-requires c κs = search needs
-
 returns : tie.Need-returns
 unfolding toldInstant
 returns c = sym (no-time _ _ _ _ _ _ (sym (c .before .is-time .ensures) ∙ not-true _ (c .if1 .taken)))
-
-date-requires : tie.Need-date-requires
-date-requires c κs = search needs
-
-enum-known-mjd : tie.Need-enum-known-mjd
-enum-known-mjd c = search needs
 
 -- past the first test it is a time of day
 passed : (c : tie.Else1) →
@@ -81,10 +72,10 @@ pub instant-spec : {M : Type 1} → statement M
 instant-spec =
     tie.close
     (tie.spec
-    is-time-requires
+    (λ c κs. search needs)
     returns
-    date-requires
-    enum-known-mjd
+    (λ c κs. search needs)
+    (λ c. search needs)
     mul-t12
     mul-t13
     add-t14

@@ -10,15 +10,9 @@ use Rattle.calendar.specs.Gregorian.{monthLength, isDay}
 use Rattle.calendar.proofs.is_day.Statement.{statement}
 use Rattle.calendar.proofs.is_day.Tie as tie
 
-within-requires : tie.Need-within-requires
-within-requires c κs = search needs
-
 returns : tie.Need-returns
 unfolding isDay
 returns c = simp (sym (c .before .within .ensures) ∙ not-true _ (c .if1 .taken))
-
-within-requires-2 : tie.Need-within-requires-2
-within-requires-2 c κs = search needs
 
 -- the year and the month passed their tests
 year-in : (c : tie.Else2) → within 1980 2099 (c .before .before .before .before .args .year) ≡ true
@@ -41,9 +35,6 @@ is-leap-requires c κs = within-true _ _ _ (year-in c)
 month-length-requires : tie.Need-month-length-requires
 month-length-requires c κs = within-true _ _ _ (month-in (c .before))
 
-within-requires-3 : tie.Need-within-requires-3
-within-requires-3 c κs = search needs
-
 returns-3 : tie.Need-returns-3
 unfolding isDay
 returns-3 c =
@@ -58,11 +49,11 @@ pub is-day-spec : {M : Type 1} → statement M
 is-day-spec =
     tie.close
     (tie.spec
-    within-requires
+    (λ c κs. search needs)
     returns
-    within-requires-2
+    (λ c κs. search needs)
     returns-2
     is-leap-requires
     month-length-requires
-    within-requires-3
+    (λ c κs. search needs)
     returns-3)

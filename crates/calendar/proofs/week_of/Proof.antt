@@ -13,9 +13,6 @@ use Rattle.calendar.proofs.Weeks.{no-week, week-at}
 use Rattle.calendar.proofs.week_of.Statement.{statement}
 use Rattle.calendar.proofs.week_of.Tie as tie
 
-within-requires : tie.Need-within-requires
-within-requires c κs = search needs
-
 returns : tie.Need-returns
 unfolding toldWeek
 returns c = sym (no-week _ (sym (c .before .within .ensures) ∙ not-true _ (c .if1 .taken)))
@@ -27,15 +24,9 @@ passed c = sym (c .before .within .ensures) ∙ not-false _ (c .if1 .left)
 sub-since : tie.Need-sub-since
 sub-since c = omega (arith, within-true 44244 88068 (c .before .before .args .at / dayUnits) (passed c))
 
-mul-t8 : tie.Need-mul-t8
-mul-t8 c = search needs
-
-add-t10 : tie.Need-add-t10
-add-t10 c = search needs
-
 returns-2 : tie.Need-returns-2
 unfolding toldWeek
 returns-2 c = sym (week-at _ (passed c))
 
 pub week-of-spec : {M : Type 1} → statement M
-week-of-spec = tie.close (tie.spec within-requires returns sub-since mul-t8 add-t10 returns-2)
+week-of-spec = tie.close (tie.spec (λ c κs. search needs) returns sub-since (λ c. search needs) (λ c. search needs) returns-2)

@@ -28,12 +28,6 @@ loop-holds c =
     let full : 18 - length (a .s .now) + 0 ≡ 18 - length (a .s .now) = omega arith in
     (omega arith, c .before .pre .0, rw full (c .before .pre .1), refl, refl)
 
-shared-slice-read-wide : tie.Need-shared-slice-read-wide Inv-loop μ-loop
-shared-slice-read-wide c = omega arith
-
-wide-requires : tie.Need-wide-requires Inv-loop μ-loop
-wide-requires c κs = search needs
-
 -- the byte at the place, as the test saw it
 byte-is : (c : tie.After-wide Inv-loop μ-loop) → c .wide .result ≡ getD (c .before .before .before .before .before .args .s .now) (c .before .before .before .loop .i) 0
 byte-is c = c .wide .ensures
@@ -66,12 +60,6 @@ mul-value c = omega (arith, small c)
 add-value : tie.Need-add-value Inv-loop μ-loop
 add-value c = omega (arith, small c)
 
-add-i : tie.Need-add-i Inv-loop μ-loop
-add-i c = omega arith
-
-loop-less : tie.Need-loop-less Inv-loop μ-loop
-loop-less c = omega arith
-
 loop-again : tie.Need-loop-again Inv-loop μ-loop
 loop-again c =
     let w = c .before .before in
@@ -101,13 +89,13 @@ digits-from-spec =
     Inv-loop
     μ-loop
     loop-holds
-    shared-slice-read-wide
-    wide-requires
+    (λ c. omega arith)
+    (λ c κs. search needs)
     returns
     returns-2
     mul-value
     add-value
-    add-i
-    loop-less
+    (λ c. omega arith)
+    (λ c. omega arith)
     loop-again
     returns-3)

@@ -8,14 +8,8 @@ use Rattle.field.proofs.sign.number.Tie as tie
 returns : tie.Need-returns
 returns c = number-above _ _ (c .if1 .taken)
 
-cast-t5 : tie.Need-cast-t5
-cast-t5 c = search needs
-
 sub-t6 : tie.Need-sub-t6
 sub-t6 c = minus-fits (c .before .before .args .negative) (c .before .before .args .magnitude) (c .before .if1 .left)
-
-cast-t7 : tie.Need-cast-t7
-cast-t7 c = search needs
 
 returns-2 : tie.Need-returns-2
 returns-2 c =
@@ -30,4 +24,4 @@ returns-3 c =
     number-told (a .negative) (a .magnitude) h _ (plain-is (a .negative) (a .magnitude) h (c .if2 .left))
 
 pub number-spec : {M : Type 1} → statement M
-number-spec = tie.close (tie.spec returns cast-t5 sub-t6 cast-t7 returns-2 returns-3)
+number-spec = tie.close (tie.spec returns (λ c. search needs) sub-t6 (λ c. search needs) returns-2 returns-3)

@@ -24,9 +24,6 @@ returns-3 c =
     let out = narrow .before .before .args .out .now in
     rw (told .enum-told .given .1, le-leb (length out) 18 (narrow .if1 .left)) (refl, fill .fill-blanks .ensures)
 
-returns-4 : tie.Need-returns-4
-returns-4 c = search needs
-
 pub put-exponent-spec : {M : Type 1} → statement M
 put-exponent-spec =
     tie.close
@@ -41,4 +38,4 @@ put-exponent-spec =
     returns-2
     (λ c. search needs)
     returns-3
-    returns-4)
+    (λ c. search needs))

@@ -24,18 +24,6 @@ abbrev μ-loop : tie.MeasureT-loop
 loop-holds : tie.Need-loop-holds Inv-loop μ-loop
 loop-holds c = (omega arith, refl, right-edge _ (c .before .args .out .now), refl)
 
-sub-i : tie.Need-sub-i Inv-loop μ-loop
-sub-i c = omega arith
-
-last-digit-requires : tie.Need-last-digit-requires Inv-loop μ-loop
-last-digit-requires c κs = search needs
-
-slice-write-out : tie.Need-slice-write-out Inv-loop μ-loop
-slice-write-out c = omega arith
-
-loop-less : tie.Need-loop-less Inv-loop μ-loop
-loop-less c = omega arith
-
 loop-again : tie.Need-loop-again Inv-loop μ-loop
 loop-again c =
     let l = c .before .before .loop in
@@ -51,8 +39,7 @@ same-length c = c .before .loop .inv .1
 
 returns : tie.Need-returns Inv-loop μ-loop
 returns c =
-    let l = c .before .loop in
-    (
+    let l = c .before .loop in (
       sym (l .inv .3 ∙ left-edge (l .rest) (l .i) (c .loop-test .left)),
       sym (l .inv .2 ∙ fixed-edge (l .i) (l .rest) (l .out) (c .loop-test .left)),
     )
@@ -64,10 +51,10 @@ put-fixed-spec =
     Inv-loop
     μ-loop
     loop-holds
-    sub-i
-    last-digit-requires
-    slice-write-out
-    loop-less
+    (λ c. omega arith)
+    (λ c κs. search needs)
+    (λ c. omega arith)
+    (λ c. omega arith)
     loop-again
     same-length
     returns)

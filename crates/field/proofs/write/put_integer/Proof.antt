@@ -8,9 +8,17 @@ use borrow.Author.Needs.{needs}
 use lib.ListN.{drop}
 use lib.Seq.{length-take-le}
 use Rattle.field.specs.Show.{frontText}
+use Rattle.field.proofs.Bounds.{wider}
+use Rattle.field.proofs.Fitting.{fits-facts}
 use Rattle.field.proofs.Written.{integer-text}
 use Rattle.field.proofs.write.put_integer.Statement.{statement}
 use Rattle.field.proofs.write.put_integer.Tie as tie
+
+put-digits-requires : tie.Need-put-digits-requires
+put-digits-requires c κs =
+    let start = c .before .before in
+    let facts = fits-facts _ (start .args .negative) (start .args .v) (start .pre) in
+    (omega arith, wider (omega arith) (facts .2))
 
 slice-aggregate-put-front : tie.Need-slice-aggregate-put-front
 slice-aggregate-put-front c =
@@ -32,7 +40,7 @@ pub put-integer-spec : {M : Type 1} → statement M
 put-integer-spec =
     tie.close
     (tie.spec
-    (λ c κs. search needs)
+    put-digits-requires
     (λ c. search needs)
     slice-aggregate-put-front
     (λ c κs. search needs)
