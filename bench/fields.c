@@ -25,12 +25,16 @@ __attribute__((noinline)) uint64_t c_read(const uint8_t *s, size_t n) {
     return negative && v ? v + 1 : v;
 }
 
+// from the right: six places, the point, the digits, the minus, blanks
 __attribute__((noinline)) bool c_write(uint8_t *s, size_t n, bool negative, uint64_t m) {
-    char text[64];
-    int k = snprintf(text, sizeof text, "%s%llu.%06llu", negative && m ? "-" : "", (unsigned long long)(m / 1000000), (unsigned long long)(m % 1000000));
-    if ((size_t)k > n) return false;
-    memset(s, ' ', n - k);
-    memcpy(s + n - k, text, k);
+    size_t i = n;
+    if (n != 14 || m >= (negative && m ? 1000000000000u : 10000000000000u)) return false;
+    negative = negative && m;
+    for (int k = 0; k < 6; k++, m /= 10) s[--i] = '0' + m % 10;
+    s[--i] = '.';
+    do { s[--i] = '0' + m % 10; m /= 10; } while (m);
+    if (negative) s[--i] = '-';
+    while (i) s[--i] = ' ';
     return true;
 }
 

@@ -1,19 +1,19 @@
 -- The date so many days after 1980-01-06 has the MJD 44244 and so many: each tomorrow is one more. So the date of an MJD has that MJD,
 -- and is the one day of the calendar that has it.
 -- Assumes nothing.
-use Prim.Native.Nat.{ℕ, zero, suc, _+_, _-_, _≤_, _<_}
 use mathlib.Core.Bool.{Bool, true, false, cond}
 use mathlib.Core.Path.{_≡_, refl, sym, ap, _∙_, subst}
+use Prim.Native.Nat.{ℕ, zero, suc, _+_, _-_, _≤_, _<_}
 use native.Mathlib.Nat.{add-suc}
 use native.Mathlib.Numerals.{add-one}
 use native.Mathlib.Omega.{arith}
 use borrow.Author.Tests.{ltb-true, ltb-false}
 use lib.Dec.{T, leb, leb→le, ltb, lit≤}
 use Rattle.laws.specs.Tests.{everyBelow}
-use Rattle.laws.proofs.Bounds.{below}
 use Rattle.calendar.specs.Gregorian.{leap, yearLength, monthLength, daysOfYears, daysBefore, mjdOf, ymd, tomorrow, dateAfter, dateOf}
 use Rattle.calendar.specs.Facts.{Valid}
 use Rattle.calendar.specs.declared.types.Civil.{Civil}
+use Rattle.laws.proofs.Bounds.{below}
 use Rattle.calendar.proofs.Order.{next-year, next-month, whole-year, same-date}
 
 -- a day of the calendar with its number

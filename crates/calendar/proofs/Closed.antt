@@ -1,16 +1,16 @@
 -- Between 1980 and 2099 the calendar's rules in closed form.
 -- Assumes nothing.
-use Prim.Native.Nat.{ℕ, suc, _+_, _-_, _*_, _/_, _%_, _≤_, _<_}
 use mathlib.Core.Bool.{Bool, true, false, _&&_, cond, Bool·beq}
 use mathlib.Core.Path.{_≡_, sym, ap, _∙_}
+use Prim.Native.Nat.{ℕ, suc, _+_, _-_, _*_, _/_, _%_, _≤_, _<_}
 use native.Mathlib.Omega.{arith}
 use borrow.Author.Tests.{lt-ltb, le-ltb}
 use lib.Dec.{T, lit≤, eqb, eqb→eq, leb, leb→le, ltb, ltb→lt}
 use Rattle.laws.specs.Tests.{everyBelow}
-use Rattle.laws.proofs.Bools.{both-passed, same-bool}
-use Rattle.laws.proofs.Bounds.{below}
 use Rattle.calendar.specs.Gregorian.{divides, leap, yearLength, monthLength, daysOfYears, daysBefore}
 use Rattle.calendar.specs.Facts.{InMonth}
+use Rattle.laws.proofs.Bools.{both-passed, same-bool}
+use Rattle.laws.proofs.Bounds.{below}
 
 -- every fourth year is a leap year, 2000 too
 fourth : ℕ → Bool

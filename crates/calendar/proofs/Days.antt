@@ -1,19 +1,19 @@
 -- What the test `isDay` and the answers of `date` and `civil` say, and the closed forms that hold for days of the bounds.
 -- Assumes nothing.
-use Prim.Native.Nat.{ℕ, suc, _+_, _-_, _*_, _/_, _%_, _≤_, _<_}
 use mathlib.Core.Bool.{Bool, true, false}
 use mathlib.Core.List.{[], _∷_}
 use mathlib.Core.Path.{_≡_, ap, _∙_}
+use Prim.Native.Nat.{ℕ, suc, _+_, _-_, _*_, _/_, _%_, _≤_, _<_}
 use native.Mathlib.Omega.{arith}
 use borrow.Author.Tests.{le-leb, lt-leb, leb-true}
 use lib.Dec.{lit≤, leb}
-use Rattle.laws.proofs.Answers.{accepted, refused}
 use Rattle.laws.specs.Tests.{within}
+use Rattle.calendar.specs.Gregorian.{divides, leap, yearLength, monthLength, daysOfYears, daysBefore, mjdOf, isDay, isDate, dayAnswer, dateAnswer, ymd, dateOf, civilAnswer}
+use Rattle.calendar.specs.Facts.{Valid, InMonth}
+use Rattle.calendar.specs.declared.types.Civil.{Civil}
+use Rattle.laws.proofs.Answers.{accepted, refused}
 use Rattle.laws.proofs.Bools.{both-true, three-true}
 use Rattle.laws.proofs.Bounds.{within-true}
-use Rattle.calendar.specs.Gregorian.{divides, leap, yearLength, monthLength, daysOfYears, daysBefore, mjdOf, isDay, isDate, dayAnswer, dateAnswer, ymd, dateOf, civilAnswer}
-use Rattle.calendar.specs.declared.types.Civil.{Civil}
-use Rattle.calendar.specs.Facts.{Valid, InMonth}
 use Rattle.calendar.proofs.Told.{one-date}
 use Rattle.calendar.proofs.Order.{next-year, next-month, before-next-year, years-climb}
 use Rattle.calendar.proofs.Closed.{leap-after, years-closed}

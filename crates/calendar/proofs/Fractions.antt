@@ -1,16 +1,16 @@
 -- The fraction of day: the test on the parts of F and S is the test on F and S, and what is written agrees.
 -- Assumes nothing.
-use Prim.Native.Nat.{ℕ, _+_, _*_, _/_, _%_, _≤_, _<_}
 use mathlib.Core.Bool.{true, false}
 use mathlib.Core.List.{[], _∷_}
 use mathlib.Core.Path.{_≡_}
+use Prim.Native.Nat.{ℕ, _+_, _*_, _/_, _%_, _≤_, _<_}
 use native.Mathlib.Omega.{arith}
 use borrow.Author.Tests.{lt-ltb, le-ltb, ltb-true}
 use lib.Dec.{lit≤, ltb}
-use Rattle.laws.proofs.Answers.{accepted}
-use Rattle.laws.proofs.Bools.{not-both, same-truth, and-both}
 use Rattle.calendar.specs.Clock.{dayUnits}
 use Rattle.calendar.specs.Fraction.{agrees, fractionAnswer}
+use Rattle.laws.proofs.Answers.{accepted}
+use Rattle.laws.proofs.Bools.{not-both, same-truth, and-both}
 
 -- in different strides of 13,500 they are far apart
 pub strides-apart : (f s : ℕ) → (f / 125 ≡ s / 108 → ⊥) → agrees f s ≡ false

@@ -1,16 +1,16 @@
 -- An instant from its date and time, what an instant says of them, and the date and time from the instant.
 -- Assumes nothing.
-use Prim.Native.Nat.{ℕ, _+_, _*_, _/_, _%_, _<_}
 use mathlib.Core.Bool.{true, false, _&&_}
 use mathlib.Core.List.{[], _∷_}
 use mathlib.Core.Path.{_≡_}
+use Prim.Native.Nat.{ℕ, _+_, _*_, _/_, _%_, _<_}
 use native.Mathlib.Omega.{arith}
 use borrow.Author.Tests.{ltb-true}
 use lib.Dec.{lit≤, ltb}
-use Rattle.laws.proofs.Answers.{accepted}
-use Rattle.laws.proofs.Bools.{both-true, three-true}
 use Rattle.calendar.specs.Gregorian.{isDate, mjdOf}
 use Rattle.calendar.specs.Clock.{minuteUnits, hourUnits, dayUnits, isTime, timeOf, instantAnswer, clockOf}
+use Rattle.laws.proofs.Answers.{accepted}
+use Rattle.laws.proofs.Bools.{both-true, three-true}
 
 -- a time of day as facts
 pub record Timed (h m s : ℕ) : Type 0 where

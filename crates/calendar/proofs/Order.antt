@@ -1,12 +1,12 @@
 -- The order of dates is the order of their MJDs, so that no two dates share one.
 -- Assumes nothing.
-use Prim.Native.Nat.{ℕ, suc, _+_, _-_, _≤_, _<_}
 use mathlib.Core.Bool.{Bool, true, false}
 use mathlib.Core.Path.{_≡_, refl, sym, ap, _∙_, subst}
+use Prim.Native.Nat.{ℕ, suc, _+_, _-_, _≤_, _<_}
 use native.Mathlib.Omega.{arith}
-use Rattle.laws.proofs.Bounds.{level, climbs}
 use Rattle.calendar.specs.Gregorian.{leap, yearLength, monthLength, daysOfYears, daysBefore, mjdOf, ymd}
 use Rattle.calendar.specs.Facts.{Valid}
+use Rattle.laws.proofs.Bounds.{level, climbs}
 
 -- one year more, one month more
 pub next-year : (k : ℕ) → daysOfYears (suc k) ≡ daysOfYears k + yearLength (leap (1980 + k))

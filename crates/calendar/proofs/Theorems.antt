@@ -1,19 +1,19 @@
 -- What holds of the calendar as a whole: dates and MJDs are each other's inverse and in the same order, instants and times too.
 -- Assumes nothing.
-use Prim.Native.Nat.{ℕ, _-_, _/_, _%_, _≤_, _<_}
 use mathlib.Core.Bool.{true}
 use mathlib.Core.List.{[], _∷_}
 use mathlib.Core.Logic.{_⊎_, inl, inr, ⊎-elim}
 use mathlib.Core.Path.{_≡_, refl, ap, _∙_}
+use Prim.Native.Nat.{ℕ, _-_, _/_, _%_, _≤_, _<_}
 use native.Mathlib.Omega.{arith}
 use borrow.Author.Tests.{le-leb, lt-ltb}
 use lib.Dec.{leb}
-use Rattle.laws.proofs.Bools.{both-true}
-use Rattle.laws.proofs.Bounds.{true-within, sides}
-use Rattle.calendar.specs.declared.types.Civil.{Civil}
 use Rattle.calendar.specs.Gregorian.{daysOfYears, mjdOf, isDay, isDate, dayAnswer, dateAnswer, ymd, dateOf, civilAnswer}
 use Rattle.calendar.specs.Facts.{Valid}
 use Rattle.calendar.specs.Clock.{minuteUnits, hourUnits, dayUnits, isTime, timeOf, instantAnswer, clockOf}
+use Rattle.calendar.specs.declared.types.Civil.{Civil}
+use Rattle.laws.proofs.Bools.{both-true}
+use Rattle.laws.proofs.Bounds.{true-within, sides}
 use Rattle.calendar.proofs.Closed.{years-closed}
 use Rattle.calendar.proofs.Order.{years-climb, later-year, later-month, later-day}
 use Rattle.calendar.proofs.After.{of-numbered, date-numbered}

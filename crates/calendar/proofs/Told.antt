@@ -1,10 +1,9 @@
 -- Each answer is known by its number and values: two that are told alike are one.
 -- Assumes nothing.
-use Prim.Native.Nat.{ℕ}
-use mathlib.Core.Bool.{Bool, true, false, cond}
-use mathlib.Core.List.{List, [], _∷_}
 use mathlib.Core.Path.{_≡_, refl, ap}
-use native.Mathlib.Omega.{arith}
+use Rattle.calendar.specs.Gregorian.{toldDate, toldNamed}
+use Rattle.calendar.specs.Clock.{toldInstant, toldWeek}
+use Rattle.calendar.specs.Fraction.{toldFraction}
 use Rattle.calendar.specs.declared.types.Civil.{Civil}
 use Rattle.calendar.specs.declared.types.Dated.{Dated}
 use Rattle.calendar.specs.declared.types.Dated.the-variants as D
@@ -16,9 +15,6 @@ use Rattle.calendar.specs.declared.types.Week.{Week}
 use Rattle.calendar.specs.declared.types.Week.the-variants as W
 use Rattle.calendar.specs.declared.types.Fraction.{Fraction}
 use Rattle.calendar.specs.declared.types.Fraction.the-variants as F
-use Rattle.calendar.specs.Gregorian.{toldDate, toldNamed}
-use Rattle.calendar.specs.Clock.{toldInstant, toldWeek}
-use Rattle.calendar.specs.Fraction.{toldFraction}
 
 pub toldDate-one : (a b : Dated) → toldDate a ≡ toldDate b → a ≡ b
 unfolding toldDate

@@ -1,16 +1,16 @@
 -- The GPS week and the seconds of week of an instant: they give the instant back, and they are those of its date.
 -- Assumes nothing.
-use Prim.Native.Nat.{ℕ, _+_, _-_, _*_, _/_, _%_, _<_}
 use mathlib.Core.Bool.{true, false}
 use mathlib.Core.List.{[], _∷_}
 use mathlib.Core.Path.{_≡_, ap₂, _∙_}
+use Prim.Native.Nat.{ℕ, _+_, _-_, _*_, _/_, _%_, _<_}
 use native.Mathlib.Omega.{arith}
 use lib.Dec.{lit≤}
-use Rattle.laws.proofs.Answers.{accepted}
 use Rattle.laws.specs.Tests.{within}
-use Rattle.laws.proofs.Bounds.{within-true, true-within}
 use Rattle.calendar.specs.Gregorian.{dateAnswer}
 use Rattle.calendar.specs.Clock.{secondUnits, dayUnits, weekAnswer}
+use Rattle.laws.proofs.Answers.{accepted}
+use Rattle.laws.proofs.Bounds.{within-true, true-within}
 use Rattle.calendar.proofs.Days.{date-told}
 
 -- the two answers of `week_of`

@@ -2,9 +2,9 @@
 -- 01, "Records in order", record 2: "With D = MJD of the start date and S = its time of day in 10^-8 s: week = (D − 44244) / 7 rounded down;
 -- seconds of week = 86,400 times the remainder, plus the time of day."
 -- Instants are counted in 10^-8 s since MJD 0. In an answer 0 says accepted and is followed by the values.
-use Prim.Native.Nat.{ℕ, _+_, _-_, _*_, _/_, _%_}
 use mathlib.Core.Bool.{Bool, _&&_, cond}
 use mathlib.Core.List.{List, [], _∷_}
+use Prim.Native.Nat.{ℕ, _+_, _-_, _*_, _/_, _%_}
 use lib.Dec.{ltb}
 use Rattle.laws.specs.Tests.{within}
 use Rattle.calendar.specs.Gregorian.{firstMjd, lastMjd, isDate, mjdOf}

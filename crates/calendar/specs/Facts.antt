@@ -1,6 +1,6 @@
 -- Facts about dates, as the functions within the crate ask for them and hand them on. No answer is defined by them.
-use Prim.Native.Nat.{ℕ, suc, _≤_, _<_}
 use mathlib.Core.Bool.{Bool}
+use Prim.Native.Nat.{ℕ, suc, _≤_, _<_}
 use Rattle.calendar.specs.Gregorian.{leap, monthLength, daysBefore}
 
 -- a day of the calendar from 1980 on, with no last year

@@ -1,9 +1,9 @@
 -- 01, "Records in order", record 2: "For the fraction F in 10^-13 day, 108·F and 125·S differ by less than 108", S being the time of day in 10^-8 s.
 -- 01, "The canonical form": "F as 125·S / 108 rounded to the nearest with halves upward".
 -- In an answer 0 says accepted and is followed by the value.
-use Prim.Native.Nat.{ℕ, _+_, _*_, _/_}
 use mathlib.Core.Bool.{Bool, _&&_, cond}
 use mathlib.Core.List.{List, [], _∷_}
+use Prim.Native.Nat.{ℕ, _+_, _*_, _/_}
 use lib.Dec.{ltb}
 use Rattle.calendar.specs.Clock.{dayUnits}
 use Rattle.calendar.specs.declared.types.Fraction.{Fraction}

@@ -2,9 +2,9 @@
 -- 01, "Records in order": "A date (year, month, day) gives MJD, week and seconds of week, or 7." And from record 2, with D the MJD of the
 -- date: "week = (D − 44244) / 7 rounded down; seconds of week = 86,400 times the remainder".
 -- Which days there are, their numbers, and the date of a number. In an answer 0 says accepted and is followed by the values.
-use Prim.Native.Nat.{ℕ, zero, suc, _+_, _-_, _*_, _/_, _%_}
 use mathlib.Core.Bool.{Bool, not, _&&_, _||_, cond}
 use mathlib.Core.List.{List, [], _∷_}
+use Prim.Native.Nat.{ℕ, zero, suc, _+_, _-_, _*_, _/_, _%_}
 use lib.Dec.{leb, ltb, eqb}
 use lib.ListN.{getD}
 use Rattle.laws.specs.Tests.{within}

@@ -8,7 +8,6 @@ use native.Mathlib.Omega.{arith}
 use borrow.Author.Tests.{leb-true, ltb-true, eqb-true, eqb-false}
 use lib.Dec.{leb, ltb, eqb}
 use lib.ListN.{length, getD, take, drop}
-use Rattle.laws.proofs.Bools.{and-left, and-right}
 use Rattle.field.specs.Digits.{blanksOf, trim, allDigits, valueFrom, pointOf}
 use Rattle.field.specs.Read.{digitsFrom, numberOf, wholeOf, asExponent, exponentOf, minusFirst, withSign, signedOf, integerOf, settled, carried, signedWholeOf, decimalOf}
 use Rattle.field.specs.Show.{signWidth}
@@ -16,8 +15,8 @@ use Rattle.field.specs.declared.Whole.{Whole}
 use Rattle.field.specs.declared.Whole.the-variants as whole
 use Rattle.field.specs.declared.Amount.{Amount}
 use Rattle.field.specs.declared.Amount.the-variants as amount
-use Rattle.field.specs.declared.Exponent.{Exponent}
 use Rattle.field.specs.declared.Exponent.the-variants as exponent
+use Rattle.laws.proofs.Bools.{and-left, and-right}
 
 -- a refusal is no value
 no-whole : (v : ℕ) {A : Type 0} → whole.Malformed ≡ whole.Value v → A

@@ -1,24 +1,22 @@
 -- What was read fits its own field again, and its canonical form reads the same.
 -- Assumes nothing.
 use mathlib.Core.Path.{_≡_, refl, sym, _∙_, ap}
-use mathlib.Core.List.{List, []}
+use mathlib.Core.List.{List}
 use mathlib.Core.Bool.{Bool, true, false, cond, _&&_}
 use Prim.Native.Nat.{ℕ, _+_, _/_, _^_, _≤_}
 use native.Mathlib.Omega.{arith}
-use borrow.Author.Tests.{le-leb, leb-true}
-use lib.Dec.{leb, ltb, eqb}
-use lib.ListN.{length, take, drop, length-drop}
-use Rattle.laws.proofs.Bools.{and-left}
+use lib.Dec.{leb, ltb}
+use lib.ListN.{length, drop, length-drop}
 use Rattle.field.specs.Digits.{blanksOf, trim, valueFrom, pointOf}
-use Rattle.field.specs.Read.{wholeOf, asExponent, exponentOf, settled, signedWholeOf, decimalOf}
+use Rattle.field.specs.Read.{wholeOf, exponentOf, settled, signedWholeOf, decimalOf}
 use Rattle.field.specs.Show.{signWidth, shownNegative, showWhole, fitsWhole, showSigned, fitsSigned, showExponent, fitsExponent, showDecimal, fitsDecimal}
-use Rattle.field.specs.declared.Whole.{Whole}
 use Rattle.field.specs.declared.Whole.the-variants as whole
 use Rattle.field.specs.declared.Amount.the-variants as amount
 use Rattle.field.specs.declared.Exponent.{Exponent}
 use Rattle.field.specs.declared.Exponent.the-variants as exponent
+use Rattle.laws.proofs.Bools.{and-left}
 use Rattle.field.proofs.Reading.{minus-allowed}
-use Rattle.field.proofs.Accepted.{Carried, Taken, whole-taken, number-taken, exponent-taken, integer-minus, signed-whole-taken, decimal-taken}
+use Rattle.field.proofs.Accepted.{Carried, whole-taken, number-taken, exponent-taken, integer-minus, signed-whole-taken, decimal-taken}
 use Rattle.field.proofs.Bounds.{wider, whole-bound, integer-room, high-below, places-after}
 use Rattle.field.proofs.Fitting.{fits-true, decimal-test}
 use Rattle.field.proofs.Texts.{carried-from}

@@ -7,10 +7,10 @@ use Prim.Native.Nat.{ℕ, zero, suc, _+_, _-_, _/_, _^_, _<_, _≤_}
 use native.Mathlib.Omega.{arith}
 use borrow.Author.Tests.{leb-true}
 use lib.Dec.{ltb}
-use lib.ListN.{length, take, drop, length-append, length-replicate}
+use lib.ListN.{length, drop, length-append, length-replicate}
 use lib.Seq.{drop-length, take-at, drop-at, getD-at}
 use Rattle.laws.specs.Texts.{blanks}
-use Rattle.field.specs.Digits.{blanksOf, trim, valueFrom, pointOf}
+use Rattle.field.specs.Digits.{blanksOf, trim, pointOf}
 use Rattle.field.specs.Read.{numberOf, wholeOf, asExponent, exponentOf, minusFirst, withSign, signedOf, integerOf, settled, carried, signedWholeOf, decimalOf}
 use Rattle.field.specs.Show.{digitsIn, fixedDigits, minusText, signWidth, shownNegative, showInteger, fitsInteger, showWhole, fitsWhole, showSigned, fitsSigned, showExponent, fitsExponent, showDecimal, fitsDecimal}
 use Rattle.field.specs.declared.Whole.the-variants as whole

@@ -2,14 +2,14 @@
 -- Assumes nothing.
 use mathlib.Core.Path.{_≡_, refl, sym, _∙_, ap}
 use mathlib.Core.List.{List, [], _∷_, _++_}
-use Prim.Native.Nat.{ℕ, zero, suc, _-_, _/_, _^_, _<_, _≤_}
+use Prim.Native.Nat.{ℕ, zero, suc, _+_, _-_, _/_, _%_, _^_, _<_, _≤_}
 use native.Mathlib.Omega.{arith}
 use native.Mathlib.Nat.{div-one}
 use borrow.Author.Tests.{lt-ltb, le-ltb}
-use lib.ListN.{length, drop, set}
+use lib.ListN.{length, drop, set, length-set}
+use Rattle.field.specs.Show.{lastDigit, digitsIn, fixedDigits}
 use Rattle.laws.proofs.Lists.{one-less}
 use Rattle.laws.proofs.Lent.{snoc-turn}
-use Rattle.field.specs.Show.{lastDigit, digitsIn, fixedDigits}
 use Rattle.field.proofs.Powers.{tenth-first}
 use Rattle.field.proofs.Texts.{tenth-below}
 
@@ -49,6 +49,24 @@ module _ (text out : List ℕ) (i v d : ℕ) (pos : 0 < i) (h : i ≤ length out
 
   pub digits-done : v < 10 → text ≡ digitsIn i v ++ drop i out → text ≡ drop (i - 1) (set out (i - 1) d)
   digits-done last = turn [] (digitsIn i v) (digits-last v i pos last)
+
+-- two digits of the number, the last one first
+two-less : (i : ℕ) → 1 < i → i - 1 - 1 ≡ i - 2
+two-less i pos = omega arith
+
+hundredth : (v : ℕ) → v / 10 / 10 ≡ v / 100
+hundredth v = omega arith
+
+pub pair-turn : (text out : List ℕ) (i v d e : ℕ) → 1 < i → i ≤ length out → d ≡ lastDigit (v % 100) → e ≡ 48 + v % 100 / 10
+    → text ≡ fixedDigits i v ++ drop i out → text ≡ fixedDigits (i - 2) (v / 100) ++ drop (i - 2) (set (set out (i - 1) d) (i - 2) e)
+pair-turn text out i v d e pos h last first q =
+    let once = fixed-turn text out i v d (omega arith) h (omega arith) q in
+    let long : i - 1 ≤ length (set out (i - 1) d) = rw (length-set out (i - 1) d) (omega arith) in
+    rw (two-less i pos, hundredth v) at (fixed-turn text (set out (i - 1) d) (i - 1) (v / 10) e (omega arith) long (omega arith) once)
+
+pub pair-left : (i v : ℕ) → 1 < i → v / 10 ^ i ≡ v / 100 / 10 ^ (i - 2)
+pair-left i v pos =
+    rw (two-less i pos, hundredth v) at (left-step v i (omega arith) ∙ left-step (v / 10) (i - 1) (omega arith))
 
 -- a number of two digits or more leaves a column before its last
 pub column-before : (i v : ℕ) → 10 ≤ v → v < 10 ^ i → 1 < i

@@ -9,13 +9,13 @@ use native.Mathlib.Omega.{arith}
 use lib.Pow.{pow-add}
 use lib.ListN.{length, take, drop, length-drop}
 use lib.Seq.{length-take-le}
-use Rattle.laws.proofs.Bools.{and-left, and-right}
 use Rattle.field.specs.Digits.{blanksOf, trim, isDigit, allDigits, valueFrom, pointOf}
 use Rattle.field.specs.Read.{digitsFrom, wholeOf, exponentOf, integerOf, signedWholeOf, decimalOf}
+use Rattle.field.specs.Show.{signWidth}
 use Rattle.field.specs.declared.Whole.the-variants as whole
 use Rattle.field.specs.declared.Amount.the-variants as amount
 use Rattle.field.specs.declared.Exponent.the-variants as exponent
-use Rattle.field.specs.Show.{signWidth}
+use Rattle.laws.proofs.Bools.{and-left, and-right}
 use Rattle.field.proofs.Accepted.{digits-taken, number-taken, whole-taken, exponent-taken, signed-taken, signed-whole-taken, decimal-taken}
 use Rattle.field.proofs.Powers.{ten-suc, ten-mono}
 use Rattle.field.proofs.Texts.{digit-small}

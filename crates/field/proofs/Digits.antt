@@ -5,11 +5,11 @@ use mathlib.Core.List.{List}
 use mathlib.Core.Bool.{Bool, true, false, _&&_}
 use Prim.Native.Nat.{ℕ, _+_, _-_, _*_, _<_, _≤_}
 use lib.ListN.{length, getD, drop}
-use Rattle.laws.proofs.Bounds.{true-within, below-within, above-within}
-use Rattle.laws.proofs.Lists.{rest-step}
 use Rattle.field.specs.Digits.{isDigit, allDigits, valueFrom}
 use Rattle.field.specs.Read.{digitsFrom}
 use Rattle.field.specs.declared.Whole.the-variants.{Value, Malformed}
+use Rattle.laws.proofs.Bounds.{true-within, below-within, above-within}
+use Rattle.laws.proofs.Lists.{rest-step}
 
 pub digit-is : (b : ℕ) → 48 ≤ b → b ≤ 57 → isDigit b ≡ true
 digit-is b lo hi = true-within 48 57 b lo hi

@@ -8,11 +8,11 @@ use native.Mathlib.Omega.{arith}
 use borrow.Author.Tests.{leb-true, ltb-true, le-leb, lt-leb, lt-ltb, le-ltb}
 use lib.Dec.{leb, ltb}
 use lib.Pow.{pow-add}
-use Rattle.laws.proofs.Bools.{and-left, and-right, same-truth}
 use Rattle.field.specs.Show.{signWidth, fitsInteger, fitsExponent, shownNegative, fitsDecimal}
 use Rattle.field.specs.Digits.{pointOf}
 use Rattle.field.specs.declared.Exponent.{Exponent}
 use Rattle.field.specs.declared.Exponent.the-variants as exponent
+use Rattle.laws.proofs.Bools.{and-left, and-right, same-truth}
 use Rattle.field.proofs.Powers.{ten-pos}
 
 module _ (w : ℕ) (negative : Bool) (v : ℕ) where

@@ -8,12 +8,12 @@ use native.Mathlib.Omega.{arith}
 use borrow.Author.Tests.{le-leb, lt-leb, lt-ltb, le-ltb, eq-eqb, ne-eqb}
 use lib.Dec.{eqb}
 use lib.ListN.{length, getD, take, drop}
-use Rattle.laws.proofs.Bools.{and-left, and-right, and-false, and-true}
 use Rattle.field.specs.Digits.{blanksOf, trim, pointOf}
 use Rattle.field.specs.Read.{digitsFrom, numberOf, wholeOf, asExponent, exponentOf, minusFirst, withSign, signedOf, integerOf, settled, carried, signedWholeOf, decimalOf}
 use Rattle.field.specs.declared.Whole.the-variants as whole
 use Rattle.field.specs.declared.Amount.the-variants as amount
 use Rattle.field.specs.declared.Exponent.the-variants as exponent
+use Rattle.laws.proofs.Bools.{and-left, and-right, and-false, and-true}
 
 module _ (s : List ℕ) where
   pub number-none : length s ≡ 0 → whole.Malformed ≡ numberOf s

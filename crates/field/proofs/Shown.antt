@@ -6,11 +6,11 @@ use mathlib.Core.Bool.{Bool, true, false}
 use Prim.Native.Nat.{ℕ, _-_, _/_, _^_}
 use lib.ListN.{length, length-replicate}
 use Rattle.laws.specs.Texts.{every, isPrintable, blanks}
-use Rattle.laws.proofs.Lists.{every-append, every-replicate, every-weaken}
 use Rattle.field.specs.Digits.{isDigit, allDigits, pointOf}
 use Rattle.field.specs.Show.{digitsIn, fixedDigits, minusText, shownNegative, showInteger, showExponent, fitsExponent, showDecimal}
 use Rattle.field.specs.declared.Exponent.{Exponent}
 use Rattle.field.specs.declared.Exponent.the-variants as exponent
+use Rattle.laws.proofs.Lists.{every-append, every-replicate, every-weaken}
 use Rattle.field.proofs.Texts.{digits-all, fixed-all, digit-printable}
 use Rattle.field.proofs.Back.{integer-length}
 

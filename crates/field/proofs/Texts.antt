@@ -10,11 +10,11 @@ use borrow.Author.Tests.{ltb-false, ltb-true, ne-eqb}
 use lib.Dec.{ltb}
 use lib.ListN.{length, getD}
 use Rattle.laws.specs.Texts.{isPrintable, blanks}
+use Rattle.field.specs.Digits.{trim, isDigit, allDigits, valueFrom, valueOf}
+use Rattle.field.specs.Show.{lastDigit, digitsIn, fixedDigits}
 use Rattle.laws.proofs.Bools.{and-left, and-right}
 use Rattle.laws.proofs.Bounds.{within-true, true-within}
 use Rattle.laws.proofs.Lists.{snoc-length, every-append}
-use Rattle.field.specs.Digits.{trim, isDigit, allDigits, valueFrom, valueOf}
-use Rattle.field.specs.Show.{lastDigit, digitsIn, fixedDigits}
 use Rattle.field.proofs.Powers.{ten-suc, ten-pos, tenth-first, tenth-last}
 use Rattle.field.proofs.Digits.{digit-is}
 

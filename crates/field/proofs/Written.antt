@@ -3,16 +3,16 @@
 use mathlib.Core.Path.{_≡_, refl, sym, _∙_, ap, ap₂}
 use mathlib.Core.List.{List, [], _∷_, _++_, append-assoc, append-nil}
 use mathlib.Core.Bool.{Bool, true, false}
-use Prim.Native.Nat.{ℕ, zero, suc, _+_, _-_, _/_, _^_, _<_, _≤_}
+use Prim.Native.Nat.{ℕ, zero, suc, _-_, _/_, _^_, _<_, _≤_}
 use native.Mathlib.Omega.{arith}
 use borrow.Rule.Slice.PartMut.{putMid}
 use lib.ListN.{length, take, drop, set, length-append, length-replicate}
 use lib.Seq.{length-take-le, drop-at, set-out}
 use Rattle.laws.specs.Texts.{blanks}
-use Rattle.laws.proofs.Lists.{one-less}
-use Rattle.laws.proofs.Lent.{rest-back}
 use Rattle.field.specs.Digits.{pointOf}
 use Rattle.field.specs.Show.{digitsIn, fixedDigits, minusText, signWidth, frontText, pointText, showInteger, fitsInteger, shownNegative, showDecimal}
+use Rattle.laws.proofs.Lists.{one-less}
+use Rattle.laws.proofs.Lent.{rest-back}
 use Rattle.field.proofs.Fitting.{fits-facts}
 use Rattle.field.proofs.Texts.{digits-length}
 

@@ -2,7 +2,7 @@
 ghost use mathlib.Core.Path.{_≡_};
 ghost use mathlib.Core.List.{_++_};
 ghost use mathlib.Core.Bool.{true};
-ghost use Prim.Native.Nat.{_-_, _/_, _^_, _<_};
+ghost use Prim.Native.Nat.{_+_, _-_, _/_, _^_, _<_};
 ghost use lib.ListN.{length, take};
 ghost use Rattle.field.specs.Show.{lastDigit, digitsIn, fixedDigits, signWidth, frontText, pointText, showInteger, shownNegative, fitsInteger, fitsWhole, putWhole, fitsSigned, putSigned, fitsExponent, putExponent, fitsDecimal, putDecimal};
 use crate::Exponent;
@@ -16,19 +16,33 @@ fn last_digit(v: u64) -> u8
     b'0' + (v % 10) as u8
 }
 
-// The lowest digits of v in every column, zeros too; says what is left of v above them.
+// The byte of the first of two digits.
+fn first_digit(pair: u64) -> u8
+    requires { ⌜ pair < 100 ⌝ }
+    ensures { λ r. ⌜ r ≡ 48 + pair / 10 ⌝ }
+{
+    b'0' + (pair / 10) as u8
+}
+
+// The lowest digits of v in every column, zeros too, two at a time; says what is left of v above them.
 fn put_fixed(out: &mut [u8], v: u64) -> u64
     ensures { λ r. ⌜ r ≡ v / 10 ^ length (now (out .entry)) ⌝ }
     ensures { λ _. ⌜ now (out .exit) ≡ fixedDigits (length (now (out .entry))) v ⌝ }
 {
     let mut rest = v;
     let mut i = out.len();
-    while i > 0 {
-        i -= 1;
-        out[i] = last_digit(rest);
-        rest = rest / 10;
+    while i > 1 {
+        let pair = rest % 100;
+        out[i - 1] = last_digit(pair);
+        out[i - 2] = first_digit(pair);
+        rest = rest / 100;
+        i -= 2;
     }
-    rest
+    if i == 0 {
+        return rest;
+    }
+    out[0] = last_digit(rest);
+    rest / 10
 }
 
 // The point, and the lowest digits of v in the columns after it; says what is left of v above them.

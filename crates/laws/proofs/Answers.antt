@@ -1,9 +1,9 @@
 -- Answers as a number and values: what follows of the test behind one that was accepted (0) or refused with its number.
 -- Assumes nothing.
-use Prim.Native.Nat.{ℕ, _<_}
 use mathlib.Core.Bool.{Bool, true, false, cond}
 use mathlib.Core.List.{List, [], _∷_}
 use mathlib.Core.Path.{_≡_, refl}
+use Prim.Native.Nat.{ℕ, _<_}
 use native.Mathlib.Omega.{arith}
 
 module _ (number : ℕ) (some : 0 < number) where

@@ -1,14 +1,14 @@
 -- `calendar::civil` meets its contract: the closed form is a day of the calendar with this MJD, and there is one such day.
 -- Assumes nothing.
-use Prim.Native.Nat.{_-_, _≤_}
 use mathlib.Core.Bool.{true}
 use mathlib.Core.Path.{_≡_, refl, sym, _∙_}
+use Prim.Native.Nat.{_-_, _≤_}
 use native.Mathlib.Omega.{arith}
 use borrow.Author.Needs.{needs}
 use borrow.Author.Tests.{not-true, not-false}
 use Rattle.laws.specs.Tests.{within}
-use Rattle.laws.proofs.Bounds.{within-true}
 use Rattle.calendar.specs.Gregorian.{toldNamed}
+use Rattle.laws.proofs.Bounds.{within-true}
 use Rattle.calendar.proofs.Days.{year-day, date-closed, outside, inside}
 use Rattle.calendar.proofs.civil.Statement.{statement}
 use Rattle.calendar.proofs.civil.Tie as tie

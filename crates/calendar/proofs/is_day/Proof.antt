@@ -5,8 +5,8 @@ use mathlib.Core.Path.{_≡_, sym, ap, _∙_}
 use borrow.Author.Needs.{needs}
 use borrow.Author.Tests.{not-true, not-false}
 use Rattle.laws.specs.Tests.{within}
-use Rattle.laws.proofs.Bounds.{within-true}
 use Rattle.calendar.specs.Gregorian.{monthLength, isDay}
+use Rattle.laws.proofs.Bounds.{within-true}
 use Rattle.calendar.proofs.is_day.Statement.{statement}
 use Rattle.calendar.proofs.is_day.Tie as tie
 

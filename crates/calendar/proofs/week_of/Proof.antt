@@ -1,14 +1,14 @@
 -- `calendar::week_of` meets its contract: a day outside the bounds, or the week and the seconds of week.
 -- Assumes nothing.
-use Prim.Native.Nat.{_/_}
 use mathlib.Core.Bool.{true}
 use mathlib.Core.Path.{_≡_, sym, _∙_}
+use Prim.Native.Nat.{_/_}
 use native.Mathlib.Omega.{arith}
 use borrow.Author.Needs.{needs}
 use borrow.Author.Tests.{not-true, not-false}
 use Rattle.laws.specs.Tests.{within}
-use Rattle.laws.proofs.Bounds.{within-true}
 use Rattle.calendar.specs.Clock.{dayUnits, toldWeek}
+use Rattle.laws.proofs.Bounds.{within-true}
 use Rattle.calendar.proofs.Weeks.{no-week, week-at}
 use Rattle.calendar.proofs.week_of.Statement.{statement}
 use Rattle.calendar.proofs.week_of.Tie as tie

@@ -1,16 +1,15 @@
 -- `field::read::decimal` meets its contract: the digits after the point carry on the integer before it.
 -- Assumes nothing.
 use mathlib.Core.Path.{_≡_, _∙_, ap, sym}
-use mathlib.Core.List.{List}
-use Prim.Native.Nat.{_+_, _-_, _^_, _<_, _≤_}
+use Prim.Native.Nat.{_+_}
 use native.Mathlib.Omega.{arith}
 use borrow.Author.Needs.{needs}
-use lib.ListN.{length, take, drop}
+use lib.ListN.{length, drop}
 use lib.Seq.{length-take-le}
-use Rattle.laws.proofs.Lists.{rest-part}
-use Rattle.field.specs.Digits.{allDigits, valueFrom, pointOf}
+use Rattle.field.specs.Digits.{pointOf}
 use Rattle.field.specs.Read.{digitsFrom, carried, decimalOf, toldAmount}
 use Rattle.field.specs.declared.Amount.the-variants as amount
+use Rattle.laws.proofs.Lists.{rest-part}
 use Rattle.field.proofs.Accepted.{carried-none, carried-some}
 use Rattle.field.proofs.Bounds.{wider, high-below, places-after}
 use Rattle.field.proofs.Reading.{decimal-long, decimal-short, decimal-pointless, decimal-read}

@@ -7,9 +7,9 @@ use native.Mathlib.Omega.{arith}
 use native.Mathlib.Nat.{lt-of-lt-of-le}
 use borrow.Author.Needs.{needs}
 use lib.ListN.{length, getD, drop}
-use Rattle.laws.proofs.Lists.{rest-none}
 use Rattle.field.specs.Digits.{allDigits, valueFrom}
 use Rattle.field.specs.declared.Whole.the-variants.{Value}
+use Rattle.laws.proofs.Lists.{rest-none}
 use Rattle.field.proofs.Powers.{ten-mono, digit-more}
 use Rattle.field.proofs.Digits.{digit-is, digit-below, digit-above, digits-step, digits-stop, value-step, digits-none, digits-good}
 use Rattle.field.proofs.read.digits_from.Statement.{statement}

@@ -4,8 +4,8 @@ use mathlib.Core.Path.{_∙_, ap, sym}
 use mathlib.Core.Bool.{true, false}
 use native.Mathlib.Omega.{arith}
 use borrow.Author.Needs.{needs}
-use Rattle.laws.proofs.Lists.{rest-part}
 use Rattle.field.specs.Read.{numberOf, withSign}
+use Rattle.laws.proofs.Lists.{rest-part}
 use Rattle.field.proofs.Reading.{minus-long, signed-minus, signed-plain}
 use Rattle.field.proofs.read.signed_number.Statement.{statement}
 use Rattle.field.proofs.read.signed_number.Tie as tie

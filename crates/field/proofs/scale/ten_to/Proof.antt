@@ -3,8 +3,8 @@
 use mathlib.Core.Path.{_≡_, sym, _∙_, ap}
 use Prim.Native.Nat.{ℕ, _^_, _≤_}
 use lib.Dec.{lit≤}
-use Rattle.laws.proofs.Bounds.{missed}
 use Rattle.field.specs.Scale.{tenTo}
+use Rattle.laws.proofs.Bounds.{missed}
 use Rattle.field.proofs.Powers.{ten-to-is, ten-to-above}
 use Rattle.field.proofs.scale.ten_to.Statement.{statement}
 use Rattle.field.proofs.scale.ten_to.Tie as tie

@@ -4,17 +4,17 @@
 use mathlib.Core.Path.{_≡_, refl, sym, _∙_, ap}
 use mathlib.Core.List.{List}
 use mathlib.Core.Bool.{true}
-use Prim.Native.Nat.{ℕ, _+_, _-_, _/_, _^_, _<_, _≤_}
+use Prim.Native.Nat.{ℕ, _+_, _-_, _/_, _^_, _<_}
 use native.Mathlib.Omega.{arith}
 use borrow.Rule.Slice.PartMut.{putMid}
 use borrow.Author.Tests.{not-true, not-false}
 use borrow.Author.Needs.{needs}
 use lib.ListN.{length, take, drop, length-drop}
 use lib.Seq.{length-take-le}
+use Rattle.field.specs.Digits.{pointOf}
+use Rattle.field.specs.Show.{fitsDecimal}
 use Rattle.laws.proofs.Lists.{rest-part}
 use Rattle.laws.proofs.Lent.{rest-dropped, rest-length}
-use Rattle.field.specs.Digits.{pointOf}
-use Rattle.field.specs.Show.{fitsDecimal, fitsInteger, shownNegative}
 use Rattle.field.proofs.Fitting.{decimal-facts}
 use Rattle.field.proofs.Written.{decimal-text}
 use Rattle.field.proofs.write.put_decimal.Statement.{statement}
