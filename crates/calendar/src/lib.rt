@@ -101,7 +101,8 @@ fn day_of(mjd: u64) -> Dated
     }
 }
 
-// What a year, a month and a day name. Any three numbers may be asked.
+// What a year, a month and a day name: 2013-04-03 is MJD 56385, week 1734, 259,200 s. Any three numbers may be asked; 2001-02-29 and
+// 1980-01-05 are out of bounds (7).
 pub fn date(year: u64, month: u64, day: u64) -> Dated
     ensures result { λ r. ⌜ toldDate r ≡ dateAnswer year month day ⌝ }
 {
@@ -130,7 +131,7 @@ fn month_at(leap_year: bool, year_day: u64) -> u64
     }
 }
 
-// The date of an MJD, if it lies within the bounds.
+// The date of an MJD: 56385 is 2013-04-03. Below 44244 and above 88068 it is out of bounds (7).
 pub fn civil(mjd: u64) -> Named
     ensures result { λ r. ⌜ toldNamed r ≡ civilAnswer mjd ⌝ }
 {
@@ -162,7 +163,7 @@ fn is_time(hour: u64, minute: u64, second8: u64) -> bool
     second8 < MINUTE
 }
 
-// The instant of a date and a time of day, if both are.
+// The instant of a date and a time of day, the second in 10^-8 s. Hour 24, minute 60, second 60 and no date are out of bounds (7).
 pub fn instant(year: u64, month: u64, day: u64, hour: u64, minute: u64, second8: u64) -> Instant
     ensures result { λ r. ⌜ toldInstant r ≡ instantAnswer year month day hour minute second8 ⌝ }
 {
@@ -179,7 +180,7 @@ pub fn instant(year: u64, month: u64, day: u64, hour: u64, minute: u64, second8:
     }
 }
 
-// The day and the time of day of an instant.
+// The day (MJD) and the time of day of an instant in 10^-8 s since MJD 0.
 pub fn clock_of(at: u64) -> Clock
     ensures result { λ r. ⌜ r ≡ clockOf at ⌝ }
 {
@@ -191,7 +192,8 @@ pub fn clock_of(at: u64) -> Clock
     }
 }
 
-// The GPS week and the seconds of week of an instant, if its day lies within the bounds.
+// The GPS week and the seconds of week, in 10^-8 s, of an instant; out of bounds (7) where its day is before 1980-01-06 or after
+// 2099-12-31.
 pub fn week_of(at: u64) -> Week
     ensures result { λ r. ⌜ toldWeek r ≡ weekAnswer at ⌝ }
 {
@@ -206,8 +208,9 @@ pub fn week_of(at: u64) -> Week
     }
 }
 
-// Whether 108 F and 125 S differ by less than 108. With F = 125 p + g and S = 108 q + r they are 13,500 p + 108 g and
-// 13,500 q + 125 r, which can be so near only if p is q; nothing overflows.
+// Whether 108 F and 125 S differ by less than 108, F in 10^-13 day and S in 10^-8 s: 115740741 agrees with one second, 115740742 does
+// not. With F = 125 p + g and S = 108 q + r the two are 13,500 p + 108 g and 13,500 q + 125 r, which can be so near only if p is q; so
+// nothing overflows.
 pub fn fraction_agrees(f: u64, s: u64) -> bool
     ensures result { λ r. ⌜ r ≡ agrees f s ⌝ }
 {
@@ -222,7 +225,8 @@ pub fn fraction_agrees(f: u64, s: u64) -> bool
     b < a + 108
 }
 
-// The fraction of day of a time of day in 10^-8 s, to the nearest, halves upward.
+// The fraction of day, in 10^-13 day, of a time of day in 10^-8 s, to the nearest, halves upward: one second is 115740741. A day or more
+// is out of bounds (7).
 pub fn fraction_of(s: u64) -> Fraction
     ensures result { λ r. ⌜ toldFraction r ≡ fractionAnswer s ⌝ }
 {

@@ -2,7 +2,7 @@
 ghost use mathlib.Core.Path.{_≡_};
 ghost use Prim.Native.Nat.{_-_, _^_, _≤_, _<_};
 ghost use lib.ListN.{length};
-ghost use Rattle.field.specs.Digits.{blanksOf};
+ghost use Rattle.field.specs.Digits.{widest, blanksOf};
 ghost use Rattle.field.specs.Read.{digitsFrom, numberOf, minusFirst, withSign, signedOf, integerOf, settled, toldWhole, wholeAnswer, toldExponent, exponentAnswer, toldAmount, signedAnswer, decimalAnswer};
 use crate::Amount;
 use crate::Exponent;
@@ -32,7 +32,7 @@ fn wide(b: u8) -> u64
 
 // Digits read on from the value of those before them; 18 in all at most.
 fn digits_from(high: u64, s: &[u8]) -> Whole
-    requires { ⌜ (length (now s) ≤ 18) × (high < 10 ^ (18 - length (now s))) ⌝ }
+    requires { ⌜ (length (now s) ≤ widest) × (high < 10 ^ (widest - length (now s))) ⌝ }
     ensures { λ r. ⌜ r ≡ digitsFrom high (now (s .entry)) ⌝ }
 {
     let mut value = high;
@@ -53,7 +53,7 @@ fn digits_from(high: u64, s: &[u8]) -> Whole
 
 // At least one digit.
 fn number(s: &[u8]) -> Whole
-    requires { ⌜ length (now s) ≤ 18 ⌝ }
+    requires { ⌜ length (now s) ≤ widest ⌝ }
     ensures { λ r. ⌜ r ≡ numberOf (now (s .entry)) ⌝ }
 {
     let digits = s.len();
@@ -63,7 +63,7 @@ fn number(s: &[u8]) -> Whole
     digits_from(0, s)
 }
 
-// An integer field: blanks, then at least one digit, filling the field.
+// An integer field: blanks, then at least one digit, filling the field. ` 042` is 42; `4 2`, `+42`, `42 ` and blanks are malformed.
 pub fn whole(s: &[u8]) -> Whole
     ensures result { λ r. ⌜ toldWhole r ≡ wholeAnswer (now (s .entry)) ⌝ }
 {
@@ -74,7 +74,7 @@ pub fn whole(s: &[u8]) -> Whole
     number(&s[start..])
 }
 
-// An exponent field: an integer field, or blank.
+// An exponent field: an integer field, or blank, which is unknown and not 0. ` 7` is 7; `7 ` is malformed.
 pub fn exponent(s: &[u8]) -> Exponent
     ensures result { λ r. ⌜ toldExponent r ≡ exponentAnswer (now (s .entry)) ⌝ }
 {
@@ -116,7 +116,7 @@ fn with_sign(negative: bool, number: Whole) -> Amount
 
 // A minus where one is allowed, then at least one digit.
 fn signed_number(s: &[u8], signed: bool) -> Amount
-    requires { ⌜ length (now s) ≤ 18 ⌝ }
+    requires { ⌜ length (now s) ≤ widest ⌝ }
     ensures { λ r. ⌜ r ≡ signedOf signed (now (s .entry)) ⌝ }
 {
     if minus_first(s, signed) {
@@ -128,7 +128,7 @@ fn signed_number(s: &[u8], signed: bool) -> Amount
 
 // Blanks, a minus where one is allowed, at least one digit.
 fn integer(s: &[u8], signed: bool) -> Amount
-    requires { ⌜ length (now s) ≤ 18 ⌝ }
+    requires { ⌜ length (now s) ≤ widest ⌝ }
     ensures { λ r. ⌜ r ≡ integerOf signed (now (s .entry)) ⌝ }
 {
     let start = blanks(s);
@@ -151,7 +151,7 @@ fn settle(negative: bool, magnitude: u64) -> Amount
     }
 }
 
-// A signed integer field: an integer field that may have a minus before its first digit.
+// A signed integer field: an integer field that may have a minus before its first digit. ` -42` is -42, `-0` is 0; `- 42` is malformed.
 pub fn signed_whole(s: &[u8]) -> Amount
     ensures result { λ r. ⌜ toldAmount r ≡ signedAnswer (now (s .entry)) ⌝ }
 {
@@ -167,7 +167,8 @@ pub fn signed_whole(s: &[u8]) -> Amount
     }
 }
 
-// A decimal field: blanks, a minus where one is allowed, at least one digit, the point, and exactly so many digits.
+// A decimal field: blanks, a minus where one is allowed (`signed`), at least one digit, the point, and exactly so many digits. Its value
+// counts the last place: with six places ` -0.500000` is -500,000; ` .500000` and `-0.50000` are malformed.
 pub fn decimal(s: &[u8], places: usize, signed: bool) -> Amount
     ensures result { λ r. ⌜ toldAmount r ≡ decimalAnswer (now (s .entry)) places signed ⌝ }
 {

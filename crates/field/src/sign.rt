@@ -7,7 +7,7 @@ use crate::Number;
 // The largest magnitude that a number of the table has.
 pub const LARGEST: u64 = 999_999_999_999;
 
-// The number with its sign; out of bounds where its magnitude is above the largest.
+// The number with its sign; out of bounds (7) where its magnitude is above the largest, as 1,000,000,000,000 is. Minus zero is zero.
 pub fn number(negative: bool, magnitude: u64) -> Number
     ensures result { λ r. ⌜ toldNumber r ≡ numberAnswer negative magnitude ⌝ }
 {
@@ -21,7 +21,7 @@ pub fn number(negative: bool, magnitude: u64) -> Number
     }
 }
 
-// Whether a signed number is below zero.
+// Whether a signed number is below zero: -1 is, 0 is not.
 pub fn is_negative(v: i64) -> bool
     ensures result { λ r. ⌜ r ≡ isNegative v ⌝ }
 {

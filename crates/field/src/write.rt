@@ -140,7 +140,8 @@ fn fits_decimal(width: usize, places: usize, negative: bool, magnitude: u64) -> 
     magnitude < ten_to(width - 1 - sign)
 }
 
-// An integer field. Where the number does not fit, false, and nothing is written.
+// An integer field in the columns that are lent: 42 in four is `  42`. Where the number does not fit (100 in two), false, and nothing
+// is written.
 pub fn put_whole(out: &mut [u8], v: u64) -> bool
     ensures result { λ r. ⌜ r ≡ fitsWhole (length (now (out .entry))) v ⌝ }
     ensures lent { λ _. ⌜ now (out .exit) ≡ putWhole v (now (out .entry)) ⌝ }
@@ -152,7 +153,8 @@ pub fn put_whole(out: &mut [u8], v: u64) -> bool
     true
 }
 
-// A signed integer field. Where the number does not fit, false, and nothing is written.
+// A signed integer field: -42 in four columns is ` -42`, minus zero `   0`. Where the number does not fit (-42 in two), false, and
+// nothing is written.
 pub fn put_signed_whole(out: &mut [u8], negative: bool, magnitude: u64) -> bool
     ensures result { λ r. ⌜ r ≡ fitsSigned (length (now (out .entry))) negative magnitude ⌝ }
     ensures lent { λ _. ⌜ now (out .exit) ≡ putSigned negative magnitude (now (out .entry)) ⌝ }
@@ -165,7 +167,8 @@ pub fn put_signed_whole(out: &mut [u8], negative: bool, magnitude: u64) -> bool
     true
 }
 
-// An exponent field: blank where it is unknown. Where it does not fit or is malformed, false, and nothing is written.
+// An exponent field: 7 in two columns is ` 7`, unknown is blank. Where it does not fit (100 in two) or is malformed, false, and nothing
+// is written.
 pub fn put_exponent(out: &mut [u8], exponent: Exponent) -> bool
     ensures result { λ r. ⌜ r ≡ fitsExponent (length (now (out .entry))) exponent ⌝ }
     ensures lent { λ _. ⌜ now (out .exit) ≡ putExponent exponent (now (out .entry)) ⌝ }
@@ -183,7 +186,8 @@ pub fn put_exponent(out: &mut [u8], exponent: Exponent) -> bool
     }
 }
 
-// A decimal field. Where the number does not fit, false, and nothing is written.
+// A decimal field, of a number that counts the last place: -500,000 with six places in ten columns is ` -0.500000`. Where the number
+// does not fit (that one in eight), false, and nothing is written.
 pub fn put_decimal(out: &mut [u8], places: usize, negative: bool, magnitude: u64) -> bool
     ensures result { λ r. ⌜ r ≡ fitsDecimal (length (now (out .entry))) places negative magnitude ⌝ }
     ensures lent { λ _. ⌜ now (out .exit) ≡ putDecimal places negative magnitude (now (out .entry)) ⌝ }

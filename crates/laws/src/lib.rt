@@ -4,7 +4,7 @@ ghost use lib.ListN.{length};
 ghost use Rattle.laws.specs.Tests;
 ghost use Rattle.laws.specs.Texts.{blanks};
 
-// Whether a number lies between two others, both counted in.
+// Whether a number lies between two others, both counted in: 12 within 1 to 12 does, 13 does not.
 pub fn within(low: u64, high: u64, n: u64) -> bool
     ensures result { λ r. ⌜ r ≡ Tests.within low high n ⌝ }
 {
