@@ -25,6 +25,7 @@ trim s = drop (blanksOf s) s
 abbrev pub isDigit : ℕ → Bool
 isDigit b = within 48 57 b
 
+-- digits alone, or nothing at all
 abbrev pub allDigits : List ℕ → Bool
 allDigits s = every isDigit s
 
@@ -33,6 +34,7 @@ abbrev pub valueFrom : ℕ → List ℕ → ℕ
 valueFrom a [] = a
 valueFrom a (b ∷ s) = valueFrom (a * 10 + (b - 48)) s
 
+-- the value of a run of digits
 abbrev pub valueOf : List ℕ → ℕ
 valueOf s = valueFrom 0 s
 

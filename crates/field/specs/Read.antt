@@ -18,6 +18,7 @@ use Rattle.field.specs.declared.Exponent.the-variants as exponent
 
 -- The paper's number of each answer, and the values beside it: 0 accepted, 6 malformed.
 
+-- an integer field: its value
 abbrev pub toldWhole : Whole → List ℕ
 toldWhole (whole.Value v) = 0 ∷ v ∷ []
 toldWhole whole.Malformed = 6 ∷ []
@@ -27,12 +28,12 @@ abbrev pub signNumber : Bool → ℕ
 signNumber true = 1
 signNumber false = 0
 
--- the sign, then the magnitude
+-- a signed integer or decimal field: the sign, then the magnitude
 abbrev pub toldAmount : Amount → List ℕ
 toldAmount (amount.Value negative m) = 0 ∷ signNumber negative ∷ m ∷ []
 toldAmount amount.Malformed = 6 ∷ []
 
--- unknown is accepted, with no value: it is apart from 0
+-- an exponent field: its value; unknown is accepted, with no value, and so apart from 0
 abbrev pub toldExponent : Exponent → List ℕ
 toldExponent (exponent.Value v) = 0 ∷ v ∷ []
 toldExponent exponent.Unknown = 0 ∷ []
@@ -50,9 +51,11 @@ numberOf s = cond (eqb (length s) 0) whole.Malformed (digitsFrom 0 s)
 unfoldable pub wholeOf : List ℕ → Whole
 wholeOf s = cond (leb (length s) widest) (numberOf (trim s)) whole.Malformed
 
+-- the same as number and value
 abbrev pub wholeAnswer : List ℕ → List ℕ
 wholeAnswer s = toldWhole (wholeOf s)
 
+-- what an integer field that is not blank says of an exponent
 abbrev pub asExponent : Whole → Exponent
 asExponent (whole.Value v) = exponent.Value v
 asExponent whole.Malformed = exponent.Malformed
@@ -62,6 +65,7 @@ unfoldable pub exponentOf : List ℕ → Exponent
 exponentOf s =
     cond (leb (length s) widest) (cond (eqb (blanksOf s) (length s)) exponent.Unknown (asExponent (wholeOf s))) exponent.Malformed
 
+-- the same as number and value
 abbrev pub exponentAnswer : List ℕ → List ℕ
 exponentAnswer s = toldExponent (exponentOf s)
 
@@ -69,6 +73,7 @@ exponentAnswer s = toldExponent (exponentOf s)
 unfoldable pub minusFirst : Bool → List ℕ → Bool
 minusFirst signed s = signed && eqb (getD s 0 0) 45
 
+-- a number behind its sign
 abbrev pub withSign : Bool → Whole → Amount
 withSign negative (whole.Value v) = amount.Value negative v
 withSign negative whole.Malformed = amount.Malformed
@@ -85,7 +90,7 @@ integerOf signed s = signedOf signed (trim s)
 abbrev pub settled : Bool → ℕ → Amount
 settled negative m = amount.Value (negative && ltb 0 m) m
 
--- the digits after the point carry the number before it on
+-- the digits after the point carry on the number before it
 abbrev pub carried : Amount → List ℕ → Amount
 carried (amount.Value negative high) s = cond (allDigits s) (settled negative (valueFrom high s)) amount.Malformed
 carried amount.Malformed s = amount.Malformed
@@ -94,6 +99,7 @@ carried amount.Malformed s = amount.Malformed
 unfoldable pub signedWholeOf : List ℕ → Amount
 signedWholeOf s = cond (leb (length s) widest) (carried (integerOf true s) []) amount.Malformed
 
+-- the same as number, sign and magnitude
 abbrev pub signedAnswer : List ℕ → List ℕ
 signedAnswer s = toldAmount (signedWholeOf s)
 
@@ -104,5 +110,6 @@ decimalOf s places signed =
     (carried (integerOf signed (take (pointOf places (length s)) s)) (drop (pointOf places (length s) + 1) s))
     amount.Malformed
 
+-- the same as number, sign and magnitude
 abbrev pub decimalAnswer : List ℕ → ℕ → Bool → List ℕ
 decimalAnswer s places signed = toldAmount (decimalOf s places signed)

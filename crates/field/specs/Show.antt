@@ -1,5 +1,5 @@
--- The canonical text of a number in a field: blanks, a minus, the digits "without leading zeros but one digit before a point".
--- 01, "The canonical form". What does not fit its columns is not written, and the lent columns stay as they were.
+-- The canonical text of a number in a field: blanks, a minus, the digits. 01, "The canonical form": "no leading zeros but one digit before
+-- a point". What does not fit its columns is not written, and the lent columns stay as they were.
 use mathlib.Core.List.{List, [], _∷_, _++_}
 use mathlib.Core.Bool.{Bool, true, false, cond, _&&_}
 use Prim.Native.Nat.{ℕ, zero, suc, _+_, _-_, _/_, _%_, _^_}
@@ -32,10 +32,12 @@ fixedDigits (suc n) v = fixedDigits n (v / 10) ++ (lastDigit v ∷ [])
 abbrev pub justified : ℕ → List ℕ → List ℕ
 justified w text = blanks (w - length text) ++ text
 
+-- the minus (45), or nothing
 abbrev pub minusText : Bool → List ℕ
 minusText true = 45 ∷ []
 minusText false = []
 
+-- the columns that it takes
 abbrev pub signWidth : Bool → ℕ
 signWidth negative = length (minusText negative)
 
@@ -55,7 +57,7 @@ showInteger w negative v = justified w (minusText negative ++ digitsIn w v)
 unfoldable pub fitsInteger : ℕ → Bool → ℕ → Bool
 fitsInteger w negative v = leb w widest && (ltb (signWidth negative) w && ltb v (10 ^ (w - signWidth negative)))
 
--- an integer field
+-- an integer field: its text, whether it fits, and what is written
 abbrev pub showWhole : ℕ → ℕ → List ℕ
 showWhole w v = showInteger w false v
 
@@ -65,7 +67,7 @@ fitsWhole w v = fitsInteger w false v
 abbrev pub putWhole : ℕ → List ℕ → List ℕ
 putWhole v out = written (fitsWhole (length out) v) (showWhole (length out) v) out
 
--- a signed integer field
+-- a signed integer field: the same
 abbrev pub showSigned : ℕ → Bool → ℕ → List ℕ
 showSigned w negative m = showInteger w (shownNegative negative m) m
 
@@ -75,7 +77,7 @@ fitsSigned w negative m = fitsInteger w (shownNegative negative m) m
 abbrev pub putSigned : Bool → ℕ → List ℕ → List ℕ
 putSigned negative m out = written (fitsSigned (length out) negative m) (showSigned (length out) negative m) out
 
--- an exponent field: unknown is blank, and malformed is nothing that can be shown
+-- an exponent field: the same; unknown is blank, and malformed is nothing that can be shown
 abbrev pub showExponent : ℕ → Exponent → List ℕ
 showExponent w (exponent.Value v) = showWhole w v
 showExponent w exponent.Unknown = blanks w
@@ -97,10 +99,12 @@ pointText places m = 46 ∷ fixedDigits places m
 unfoldable pub showDecimal : ℕ → ℕ → Bool → ℕ → List ℕ
 showDecimal w places negative m = showInteger (pointOf places w) (shownNegative negative m) (m / 10 ^ places) ++ pointText places m
 
+-- it fits where the places and the point have their columns and its whole part fits before them
 unfoldable pub fitsDecimal : ℕ → ℕ → Bool → ℕ → Bool
 fitsDecimal w places negative m =
     leb w widest && (ltb places w && fitsInteger (pointOf places w) (shownNegative negative m) (m / 10 ^ places))
 
+-- what is written of it
 abbrev pub putDecimal : ℕ → Bool → ℕ → List ℕ → List ℕ
 putDecimal places negative m out =
     written (fitsDecimal (length out) places negative m) (showDecimal (length out) places negative m) out

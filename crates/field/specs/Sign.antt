@@ -12,11 +12,12 @@ use Rattle.field.specs.declared.Number.the-variants as number
 abbrev pub largest : ℕ
 largest = 999_999_999_999
 
+-- below zero: the library writes -1, -2, .. as negsuc 0, negsuc 1, ..
 abbrev pub isNegative : ℤ → Bool
 isNegative (pos n) = false
 isNegative (negsuc n) = true
 
--- the number with its sign
+-- the number that a sign and a magnitude make
 unfoldable pub signedInt : Bool → ℕ → ℤ
 signedInt negative m = cond negative (negℤ (pos m)) (pos m)
 
