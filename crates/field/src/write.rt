@@ -140,19 +140,6 @@ fn fits_decimal(width: usize, places: usize, negative: bool, magnitude: u64) -> 
     magnitude < ten_to(width - 1 - sign)
 }
 
-// An integer field in the columns that are lent: 42 in four is `  42`. Where the number does not fit (100 in two), false, and nothing
-// is written.
-pub fn put_whole(out: &mut [u8], v: u64) -> bool
-    ensures result { λ r. ⌜ r ≡ fitsWhole (length (now (out .entry))) v ⌝ }
-    ensures lent { λ _. ⌜ now (out .exit) ≡ putWhole v (now (out .entry)) ⌝ }
-{
-    if !fits_integer(out.len(), false, v) {
-        return false;
-    }
-    put_integer(out, false, v);
-    true
-}
-
 // A signed integer field: -42 in four columns is ` -42`, minus zero `   0`. Where the number does not fit (-42 in two), false, and
 // nothing is written.
 pub fn put_signed_whole(out: &mut [u8], negative: bool, magnitude: u64) -> bool
@@ -165,6 +152,15 @@ pub fn put_signed_whole(out: &mut [u8], negative: bool, magnitude: u64) -> bool
     }
     put_integer(out, minus, magnitude);
     true
+}
+
+// An integer field in the columns that are lent: 42 in four is `  42`. Where the number does not fit (100 in two), false, and nothing
+// is written.
+pub fn put_whole(out: &mut [u8], v: u64) -> bool
+    ensures result { λ r. ⌜ r ≡ fitsWhole (length (now (out .entry))) v ⌝ }
+    ensures lent { λ _. ⌜ now (out .exit) ≡ putWhole v (now (out .entry)) ⌝ }
+{
+    put_signed_whole(out, false, v)
 }
 
 // An exponent field: 7 in two columns is ` 7`, unknown is blank. Where it does not fit (100 in two) or is malformed, false, and nothing
