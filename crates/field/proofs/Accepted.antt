@@ -16,29 +16,20 @@ use Rattle.field.specs.declared.Whole.the-variants as whole
 use Rattle.field.specs.declared.Amount.{Amount}
 use Rattle.field.specs.declared.Amount.the-variants as amount
 use Rattle.field.specs.declared.Exponent.the-variants as exponent
-use Rattle.laws.proofs.Bools.{and-left, and-right}
+use Rattle.laws.proofs.Bools.{and-left, and-right, tested}
 
 -- a refusal is no value
-no-whole : (v : ℕ) {A : Type 0} → whole.Malformed ≡ whole.Value v → A
-no-whole v e = let z : _≡_ {A = ℕ} 0 1 = cc in absurd (omega arith)
+no-whole : (v : ℕ) → whole.Malformed ≡ whole.Value v → ⊥
+no-whole v e = let z : _≡_ {A = ℕ} 0 1 = cc in omega arith
 
-no-amount : (n : Bool) (v : ℕ) {A : Type 0} → amount.Malformed ≡ amount.Value n v → A
-no-amount n v e = let z : _≡_ {A = ℕ} 0 1 = cc in absurd (omega arith)
-
--- what stands behind a test that passed
-whole-tested : (t : Bool) (r : Whole) (v : ℕ) → cond t r whole.Malformed ≡ whole.Value v → (t ≡ true) × (r ≡ whole.Value v)
-whole-tested true r v e = (refl, e)
-whole-tested false r v e = no-whole v e
-
-amount-tested : (t : Bool) (r : Amount) (n : Bool) (v : ℕ) → cond t r amount.Malformed ≡ amount.Value n v → (t ≡ true) × (r ≡ amount.Value n v)
-amount-tested true r n v e = (refl, e)
-amount-tested false r n v e = no-amount n v e
+no-amount : (n : Bool) (v : ℕ) → amount.Malformed ≡ amount.Value n v → ⊥
+no-amount n v e = let z : _≡_ {A = ℕ} 0 1 = cc in omega arith
 
 module _ (s : List ℕ) (v : ℕ) where
   pub digits-taken : (a : ℕ) → digitsFrom a s ≡ whole.Value v → (allDigits s ≡ true) × (valueFrom a s ≡ v)
   unfolding digitsFrom
   digits-taken a e =
-      let t = whole-tested (allDigits s) (whole.Value (valueFrom a s)) v e in
+      let t = tested (allDigits s) (whole.Value (valueFrom a s)) whole.Malformed (whole.Value v) (no-whole v) e in
       let read = t .1 in
       (t .0, cc)
 
@@ -50,33 +41,37 @@ module _ (s : List ℕ) (v : ℕ) where
       some n h = omega arith
 
       taken : (t : Bool) → eqb (length s) 0 ≡ t → cond t whole.Malformed (digitsFrom 0 s) ≡ whole.Value v → (0 < length s) × (digitsFrom 0 s ≡ whole.Value v)
-      taken true q e = no-whole v e
+      taken true q e = absurd (no-whole v e)
       taken false q e = (some (length s) (eqb-false (length s) 0 q), e)
 
   pub whole-taken : wholeOf s ≡ whole.Value v → (length s ≤ 18) × (numberOf (trim s) ≡ whole.Value v)
   unfolding wholeOf
   whole-taken e =
-      let t = whole-tested (leb (length s) 18) _ v e in
+      let t = tested (leb (length s) 18) (numberOf (trim s)) whole.Malformed (whole.Value v) (no-whole v) e in
       (leb-true _ 18 (t .0), t .1)
 
   -- a value of an exponent field is one of an integer field
   pub exponent-taken : exponentOf s ≡ exponent.Value v → wholeOf s ≡ whole.Value v
   unfolding exponentOf
-  exponent-taken e = taken (leb (length s) 18) (eqb (blanksOf s) (length s)) e
+  exponent-taken e =
+      let t = tested (leb (length s) 18) (cond (eqb (blanksOf s) (length s)) exponent.Unknown (asExponent (wholeOf s))) exponent.Malformed (exponent.Value v) refusal e in
+      known (eqb (blanksOf s) (length s)) (t .1)
     where
+      refusal : exponent.Malformed ≡ exponent.Value v → ⊥
+      refusal e = let z : _≡_ {A = ℕ} 0 1 = cc in omega arith
+
       read : (r : Whole) → asExponent r ≡ exponent.Value v → r ≡ whole.Value v
       read (whole.Value u) e = cc
       read whole.Malformed e = cc
 
-      taken : (t u : Bool) → cond t (cond u exponent.Unknown (asExponent (wholeOf s))) exponent.Malformed ≡ exponent.Value v → wholeOf s ≡ whole.Value v
-      taken true true e = let z : _≡_ {A = ℕ} 0 1 = cc in absurd (omega arith)
-      taken true false e = read (wholeOf s) e
-      taken false u e = let z : _≡_ {A = ℕ} 0 1 = cc in absurd (omega arith)
+      known : (u : Bool) → cond u exponent.Unknown (asExponent (wholeOf s)) ≡ exponent.Value v → wholeOf s ≡ whole.Value v
+      known true e = cc
+      known false e = read (wholeOf s) e
 
 -- the number behind its sign
 sign-taken : (t : Bool) (r : Whole) (n : Bool) (v : ℕ) → withSign t r ≡ amount.Value n v → (t ≡ n) × (r ≡ whole.Value v)
 sign-taken t (whole.Value u) n v e = (cc, cc)
-sign-taken t whole.Malformed n v e = no-amount n v e
+sign-taken t whole.Malformed n v e = absurd (no-amount n v e)
 
 module _ (signed : Bool) (s : List ℕ) (n : Bool) (v : ℕ) where
   pub signed-taken : signedOf signed s ≡ amount.Value n v → (minusFirst signed s ≡ n) × (numberOf (drop (signWidth n) s) ≡ whole.Value v)
@@ -110,12 +105,12 @@ carried-taken signed before after n m = go (integerOf signed before) refl
   where
     go : (b : Amount) → integerOf signed before ≡ b → carried b after ≡ amount.Value n m → Carried signed before after n m
     go (amount.Value k high) q e =
-        let t = amount-tested (allDigits after) (amount.Value (k && ltb 0 (valueFrom high after)) (valueFrom high after)) n m e in
+        let t = tested (allDigits after) (settled k (valueFrom high after)) amount.Malformed (amount.Value n m) (no-amount n m) e in
         let read = t .1 in
         let value : valueFrom high after ≡ m = cc in
         let sign : (k && ltb 0 (valueFrom high after)) ≡ n = cc in
         record { minus = k; high = high; integer = q; digits = t .0; value = value; sign = rw (sym value) sign }
-    go amount.Malformed q e = no-amount n m e
+    go amount.Malformed q e = absurd (no-amount n m e)
 
 -- what the reader of digits found decides how an integer is carried on
 module _ (negative : Bool) (high : ℕ) (s : List ℕ) where
@@ -142,7 +137,8 @@ pub record Taken (s : List ℕ) (p : ℕ) (signed n : Bool) (m : ℕ) : Type 0 w
 pub decimal-taken : (s : List ℕ) (p : ℕ) (signed n : Bool) (m : ℕ) → decimalOf s p signed ≡ amount.Value n m → Taken s p signed n m
 unfolding decimalOf
 decimal-taken s p signed n m e =
-    let t = amount-tested (leb (length s) 18 && (ltb p (length s) && eqb (getD s (pointOf p (length s)) 0) 46)) _ n m e in
+    let t = tested (leb (length s) 18 && (ltb p (length s) && eqb (getD s (pointOf p (length s)) 0) 46))
+    (carried (integerOf signed (take (pointOf p (length s)) s)) (drop (pointOf p (length s) + 1) s)) amount.Malformed (amount.Value n m) (no-amount n m) e in
     let rest = and-right (leb (length s) 18) _ (t .0) in
     record {
       narrow = leb-true _ 18 (and-left (leb (length s) 18) _ (t .0));
@@ -155,5 +151,5 @@ decimal-taken s p signed n m e =
 pub signed-whole-taken : (s : List ℕ) (n : Bool) (m : ℕ) → signedWholeOf s ≡ amount.Value n m → (length s ≤ 18) × Carried true s [] n m
 unfolding signedWholeOf
 signed-whole-taken s n m e =
-    let t = amount-tested (leb (length s) 18) (carried (integerOf true s) []) n m e in
+    let t = tested (leb (length s) 18) (carried (integerOf true s) []) amount.Malformed (amount.Value n m) (no-amount n m) e in
     (leb-true _ 18 (t .0), carried-taken true s [] n m (t .1))

@@ -14,7 +14,7 @@ use Rattle.field.specs.declared.Whole.the-variants as whole
 use Rattle.field.specs.declared.Amount.the-variants as amount
 use Rattle.field.specs.declared.Exponent.{Exponent}
 use Rattle.field.specs.declared.Exponent.the-variants as exponent
-use Rattle.laws.proofs.Bools.{and-left}
+use Rattle.laws.proofs.Bools.{and-left, tested}
 use Rattle.field.proofs.Reading.{minus-allowed}
 use Rattle.field.proofs.Accepted.{Carried, whole-taken, number-taken, exponent-taken, integer-minus, signed-whole-taken, decimal-taken}
 use Rattle.field.proofs.Bounds.{wider, whole-bound, integer-room, high-below, places-after}
@@ -35,11 +35,10 @@ whole-canonical s v e = whole-back (length s) v (whole-again s v e)
 -- an unknown exponent stood in a field
 unknown-narrow : (s : List ℕ) → exponentOf s ≡ exponent.Unknown → leb (length s) 18 ≡ true
 unfolding exponentOf
-unknown-narrow s e = narrow (leb (length s) 18) _ e
+unknown-narrow s e = tested (leb (length s) 18) _ exponent.Malformed exponent.Unknown refusal e .0
   where
-    narrow : (t : Bool) (r : Exponent) → cond t r exponent.Malformed ≡ exponent.Unknown → t ≡ true
-    narrow true r e = refl
-    narrow false r e = cc
+    refusal : exponent.Malformed ≡ exponent.Unknown → ⊥
+    refusal e = let z : _≡_ {A = ℕ} 0 1 = cc in omega arith
 
 -- an exponent that was read, unknown too
 pub exponent-again : (s : List ℕ) (x : Exponent) → (x ≡ exponent.Malformed → ⊥) → exponentOf s ≡ x → fitsExponent (length s) x ≡ true

@@ -68,13 +68,7 @@ pub pair-left : (i v : ℕ) → 1 < i → v / 10 ^ i ≡ v / 100 / 10 ^ (i - 2)
 pair-left i v pos =
     rw (two-less i pos, hundredth v) at (left-step v i (omega arith) ∙ left-step (v / 10) (i - 1) (omega arith))
 
--- a number of two digits or more leaves a column before its last
-pub column-before : (i v : ℕ) → 10 ≤ v → v < 10 ^ i → 1 < i
-column-before zero v more h = absurd (omega arith)
-column-before (suc zero) v more h = absurd (omega arith)
-column-before (suc (suc i)) v more h = omega arith
-
--- and fits the columns before it without its last
+-- a number fits the columns before its last digit without it
 pub shorter-fits : (i v : ℕ) → 0 < i → v < 10 ^ i → v / 10 < 10 ^ (i - 1)
 shorter-fits zero v pos h = absurd (omega arith)
 shorter-fits (suc n) v pos h = rw (one-less n) (tenth-below n v h)

@@ -18,10 +18,11 @@ use Rattle.laws.proofs.Lists.{snoc-length, every-append}
 use Rattle.field.proofs.Powers.{ten-suc, ten-pos, tenth-first, tenth-last}
 use Rattle.field.proofs.Digits.{digit-is}
 
--- a number of two digits or more has one less without its last
-shorter : (n v : ℕ) → 10 ≤ v → v < 10 ^ suc n → 0 < n
-shorter zero v more h = omega arith
-shorter (suc n) v more h = omega arith
+-- a number of two digits or more leaves a column before its last
+pub column-before : (i v : ℕ) → 10 ≤ v → v < 10 ^ i → 1 < i
+column-before zero v more h = absurd (omega arith)
+column-before (suc zero) v more h = absurd (omega arith)
+column-before (suc (suc i)) v more h = omega arith
 
 pub tenth-below : (n v : ℕ) → v < 10 ^ suc n → v / 10 < 10 ^ n
 tenth-below n v h = div-lt-iff-lt-mul {k = 10} (omega arith) .1 (rw (ten-suc n) at h)
@@ -31,7 +32,7 @@ pub digits-length : (k n v : ℕ) → 0 < n → v < 10 ^ n → length (digitsIn 
 digits-length zero n v pos h = omega arith
 digits-length (suc k) zero v pos h = absurd (omega arith)
 digits-length (suc k) (suc n) v pos h =
-    count (ltb v 10) refl (λ more. digits-length k n (v / 10) (shorter n v more h) (tenth-below n v h))
+    count (ltb v 10) refl (λ more. digits-length k n (v / 10) (omega (arith, column-before (suc n) v more h)) (tenth-below n v h))
   where
     count : (t : Bool) → ltb v 10 ≡ t → (10 ≤ v → length (digitsIn k (v / 10)) ≤ n)
         → length (cond t (lastDigit v ∷ []) (digitsIn k (v / 10) ++ (lastDigit v ∷ []))) ≤ suc n

@@ -22,16 +22,16 @@ toldWhole-one (whole.Value v) whole.Malformed e = cc
 toldWhole-one whole.Malformed (whole.Value u) e = cc
 toldWhole-one whole.Malformed whole.Malformed e = refl
 
-sign-one : (a b : Bool) → signNumber a ≡ signNumber b → a ≡ b
-sign-one true true e = refl
-sign-one true false e = cc
-sign-one false true e = cc
-sign-one false false e = refl
+sign-apart : (a b : Bool) → signNumber a ≡ signNumber b → a ≡ b
+sign-apart true true e = refl
+sign-apart true false e = cc
+sign-apart false true e = cc
+sign-apart false false e = refl
 
 pub toldAmount-one : (a b : Amount) → toldAmount a ≡ toldAmount b → a ≡ b
 toldAmount-one (amount.Value n v) (amount.Value k u) e =
     let s : signNumber n ≡ signNumber k = cc in
-    let same : n ≡ k = sign-one n k s in
+    let same : n ≡ k = sign-apart n k s in
     cc
 toldAmount-one (amount.Value n v) amount.Malformed e = cc
 toldAmount-one amount.Malformed (amount.Value k u) e = cc
@@ -59,7 +59,7 @@ pub toldNumber-one : (a b : Number) → toldNumber a ≡ toldNumber b → a ≡ 
 toldNumber-one (number.Value v) (number.Value u) e =
     let s : signNumber (isNegative v) ≡ signNumber (isNegative u) = cc in
     let m : natAbs v ≡ natAbs u = cc in
-    let same : v ≡ u = int-one v u (sign-one (isNegative v) (isNegative u) s) m in
+    let same : v ≡ u = int-one v u (sign-apart (isNegative v) (isNegative u) s) m in
     cc
 toldNumber-one (number.Value v) number.OutOfBounds e = cc
 toldNumber-one number.OutOfBounds (number.Value u) e = cc

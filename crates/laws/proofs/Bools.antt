@@ -1,7 +1,7 @@
 -- Tests that hold together, and what follows from a test that passed.
 -- Assumes nothing.
 use mathlib.Core.Path.{_≡_, refl, sym}
-use mathlib.Core.Bool.{Bool, true, false, _&&_, Bool·beq, false≢true}
+use mathlib.Core.Bool.{Bool, true, false, cond, _&&_, Bool·beq, false≢true}
 use lib.Dec.{T}
 
 pub and-left : (t u : Bool) → (t && u) ≡ true → t ≡ true
@@ -37,6 +37,11 @@ three-true t u v e =
 pub both-passed : (t u : Bool) → T (t && u) → T t × T u
 both-passed true u p = (tt, p)
 both-passed false u p = absurd p
+
+-- behind an answer that is not the refusal stands a test that passed
+pub tested : {A : Type 0} (t : Bool) (r none v : A) → (none ≡ v → ⊥) → cond t r none ≡ v → (t ≡ true) × (r ≡ v)
+tested true r none v apart e = (refl, e)
+tested false r none v apart e = absurd (apart e)
 
 -- tests that cannot both pass
 pub not-both : (t u : Bool) → (t ≡ true → u ≡ true → ⊥) → (t && u) ≡ false

@@ -9,7 +9,8 @@ use borrow.Author.Needs.{needs}
 use lib.ListN.{length, take, drop, set, length-set}
 use Rattle.field.specs.Show.{digitsIn}
 use Rattle.laws.proofs.Lent.{right-edge, kept-turn, stands}
-use Rattle.field.proofs.Backward.{digits-turn, digits-done, column-before, shorter-fits}
+use Rattle.field.proofs.Backward.{digits-turn, digits-done, shorter-fits}
+use Rattle.field.proofs.Texts.{column-before}
 use Rattle.field.proofs.write.put_digits.Statement.{statement}
 use Rattle.field.proofs.write.put_digits.Tie as tie
 
