@@ -1,0 +1,12 @@
+pub mod Keys
+pub mod Lines
+pub mod Shown
+pub mod Names
+pub mod Fields
+pub mod Layouts
+pub mod Again
+pub mod Drawn
+pub mod Drawing
+pub mod Reading
+pub mod Repeats
+pub mod ReadBack
