@@ -1,0 +1,62 @@
+-- The kind of a line. 01, "Lines": "The kind of a line is told by columns 1 and 2; for P and V by column 1, for EOF by columns 1 to 3."
+-- The first line's second column has the letter of the version. What is no kind is `Other`.
+use mathlib.Core.Bool.{Bool, cond, _&&_}
+use mathlib.Core.List.{List}
+use Prim.Native.Nat.{ℕ}
+use lib.Dec.{eqb}
+use lib.ListN.{getD}
+use Rattle.header.specs.declared.types.Rules.{Rules}
+use Rattle.record.specs.declared.types.LineKind.{LineKind}
+use Rattle.record.specs.declared.types.LineKind.the-variants as kind
+
+-- a number for each kind, in the order of the records: `#d`, `##`, `+ `, `++`, `%c`, `%f`, `%i`, `/*`, `* `, P, V, EP, EV, EOF; 0 for no kind
+abbrev pub toldKind : LineKind → ℕ
+toldKind kind.Other = 0
+toldKind kind.First = 1
+toldKind kind.Second = 2
+toldKind kind.Satellites = 3
+toldKind kind.Accuracies = 4
+toldKind kind.Characters = 5
+toldKind kind.Floats = 6
+toldKind kind.Integers = 7
+toldKind kind.Comment = 8
+toldKind kind.Epoch = 9
+toldKind kind.Position = 10
+toldKind kind.Velocity = 11
+toldKind kind.PositionCorrelation = 12
+toldKind kind.VelocityCorrelation = 13
+toldKind kind.EndOfFile = 14
+
+-- `#`: the first line by its version's letter, or `##`
+abbrev pub hashKind : ℕ → ℕ → LineKind
+hashKind letter second = cond (eqb second 35) kind.Second (cond (eqb second letter) kind.First kind.Other)
+
+-- `+`: identifiers, or `++` accuracies
+abbrev pub plusKind : ℕ → LineKind
+plusKind second = cond (eqb second 32) kind.Satellites (cond (eqb second 43) kind.Accuracies kind.Other)
+
+-- `%`: characters, floats or integers
+abbrev pub percentKind : ℕ → LineKind
+percentKind second =
+    cond (eqb second 99) kind.Characters (cond (eqb second 102) kind.Floats (cond (eqb second 105) kind.Integers kind.Other))
+
+-- `E`: correlations, or the end of the file, which has three letters
+abbrev pub eKind : ℕ → ℕ → LineKind
+eKind second third =
+    cond (eqb second 80) kind.PositionCorrelation
+    (cond (eqb second 86) kind.VelocityCorrelation (cond (eqb second 79 && eqb third 70) kind.EndOfFile kind.Other))
+
+-- by the bytes of columns 1, 2 and 3
+abbrev pub kindBy : ℕ → ℕ → ℕ → ℕ → LineKind
+kindBy letter first second third =
+    cond (eqb first 80) kind.Position
+    (cond (eqb first 86) kind.Velocity
+    (cond (eqb first 42) (cond (eqb second 32) kind.Epoch kind.Other)
+    (cond (eqb first 69) (eKind second third)
+    (cond (eqb first 43) (plusKind second)
+    (cond (eqb first 47) (cond (eqb second 42) kind.Comment kind.Other)
+    (cond (eqb first 37) (percentKind second) (cond (eqb first 35) (hashKind letter second) kind.Other)))))))
+
+-- the kind of a line of 80 columns
+unfoldable pub kindOf : Rules → List ℕ → LineKind
+kindOf rules line = kindBy (rules .letter) (getD line 0 0) (getD line 1 0) (getD line 2 0)
