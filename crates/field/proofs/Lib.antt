@@ -5,6 +5,7 @@ pub mod Texts
 pub mod Reading
 pub mod Accepted
 pub mod Bounds
+pub mod KnownGood
 pub mod Fitting
 pub mod Backward
 pub mod Written
