@@ -1,4 +1,5 @@
 pub mod LineKinds
+pub mod Steps
 pub mod Times
 pub mod Opening
 pub mod SlotLines

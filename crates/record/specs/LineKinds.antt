@@ -35,6 +35,14 @@ hashKind letter second = cond (eqb second 35) kind.Second (cond (eqb second lett
 abbrev pub plusKind : ℕ → LineKind
 plusKind second = cond (eqb second 32) kind.Satellites (cond (eqb second 43) kind.Accuracies kind.Other)
 
+-- `* `: an epoch
+abbrev pub starKind : ℕ → LineKind
+starKind second = cond (eqb second 32) kind.Epoch kind.Other
+
+-- `/*`: a comment
+abbrev pub slashKind : ℕ → LineKind
+slashKind second = cond (eqb second 42) kind.Comment kind.Other
+
 -- `%`: characters, floats or integers
 abbrev pub percentKind : ℕ → LineKind
 percentKind second =
@@ -51,10 +59,10 @@ abbrev pub kindBy : ℕ → ℕ → ℕ → ℕ → LineKind
 kindBy letter first second third =
     cond (eqb first 80) kind.Position
     (cond (eqb first 86) kind.Velocity
-    (cond (eqb first 42) (cond (eqb second 32) kind.Epoch kind.Other)
+    (cond (eqb first 42) (starKind second)
     (cond (eqb first 69) (eKind second third)
     (cond (eqb first 43) (plusKind second)
-    (cond (eqb first 47) (cond (eqb second 42) kind.Comment kind.Other)
+    (cond (eqb first 47) (slashKind second)
     (cond (eqb first 37) (percentKind second) (cond (eqb first 35) (hashKind letter second) kind.Other)))))))
 
 -- the kind of a line of 80 columns

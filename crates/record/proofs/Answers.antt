@@ -1,0 +1,33 @@
+-- What a field's reader told, as the definition's own case: the enum by its told numbers.
+-- Assumes nothing.
+use mathlib.Core.Path.{_≡_, sym, _∙_}
+use mathlib.Core.List.{List, [], _∷_}
+use Prim.Native.Nat.{ℕ}
+use mathlib.Core.Bool.{Bool, true, false}
+use Rattle.field.specs.Read.{wholeOf, wholeAnswer, toldWhole, decimalOf, decimalAnswer, toldAmount, exponentOf, exponentAnswer, toldExponent}
+use Rattle.field.specs.declared.Whole.{Whole}
+use Rattle.field.specs.declared.Amount.{Amount}
+use Rattle.field.specs.declared.Exponent.{Exponent}
+use Rattle.field.proofs.Told.{toldWhole-one, toldAmount-one, toldExponent-one}
+use Rattle.calendar.specs.Gregorian.{dateAnswer, toldDate, isDate}
+use Rattle.calendar.specs.declared.types.Dated.{Dated}
+use Rattle.calendar.specs.declared.types.Dated.the-variants as dated
+use Rattle.calendar.proofs.Days.{date-told, date-refused, DayTold}
+
+pub whole-case : (bs : List ℕ) (r a : Whole) → toldWhole r ≡ wholeAnswer bs → r ≡ a → wholeOf bs ≡ a
+whole-case bs r a e h = sym (toldWhole-one r (wholeOf bs) e) ∙ h
+
+pub decimal-case : (bs : List ℕ) (places : ℕ) (signed : Bool) (r a : Amount) → toldAmount r ≡ decimalAnswer bs places signed → r ≡ a → decimalOf bs places signed ≡ a
+decimal-case bs places signed r a e h = sym (toldAmount-one r (decimalOf bs places signed) e) ∙ h
+
+pub exponent-case : (bs : List ℕ) (r a : Exponent) → toldExponent r ≡ exponentAnswer bs → r ≡ a → exponentOf bs ≡ a
+exponent-case bs r a e h = sym (toldExponent-one r (exponentOf bs) e) ∙ h
+
+-- a date was told, or none
+pub dated-case : (y m d : ℕ) (r : Dated) (j w s : ℕ) → toldDate r ≡ dateAnswer y m d → r ≡ dated.Day j w s → isDate y m d ≡ true
+unfolding toldDate
+dated-case y m d r j w s e h = date-told y m d j w s (rw (sym e, h)) .is
+
+pub undated-case : (y m d : ℕ) (r : Dated) → toldDate r ≡ dateAnswer y m d → r ≡ dated.OutOfBounds → isDate y m d ≡ false
+unfolding toldDate
+undated-case y m d r e h = date-refused y m d (rw (sym e, h))

@@ -1,0 +1,14 @@
+-- `record::kind::slash_kind` meets its contract.
+-- Assumes nothing.
+use borrow.Author.Tests.{eq-eqb, ne-eqb}
+use Rattle.record.proofs.kind.slash_kind.Statement.{statement}
+use Rattle.record.proofs.kind.slash_kind.Tie as tie
+
+returns : tie.Need-returns
+returns c = rw (eq-eqb _ _ (c .if1 .taken))
+
+returns-2 : tie.Need-returns-2
+returns-2 c = rw (ne-eqb _ _ (c .if1 .left))
+
+pub slash-kind-spec : {M : Type 1} → statement M
+slash-kind-spec = tie.close (tie.spec returns returns-2)

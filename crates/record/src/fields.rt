@@ -1,0 +1,295 @@
+// The fields of a line of 80 columns, by the columns as the document counts them, from 1. Each is read after others: `lowest` is the lowest
+// fault found before it, and what it gives is the lowest with its own.
+ghost use mathlib.Core.Path.{_≡_};
+ghost use mathlib.Core.Bool.{_&&_};
+ghost use Prim.Native.Nat.{ℕ, _+_, _-_, _*_, _≤_};
+ghost use lib.ListN.{length, take, drop};
+ghost use Rattle.field.specs.Digits.{isDigit};
+ghost use Rattle.laws.specs.Tests.{within};
+ghost use Rattle.layout.specs.Fault.{lower, keyed};
+ghost use Rattle.layout.specs.Kind.{unless, unusedFault, sameBytes, isLettered, isListed};
+ghost use Rattle.layout.specs.Kind.Kind.{unused, fixed, whole, decimal, signed, clock, exponent, flag, letter, listed, identifier, zeroWhole, zeroDecimal, text};
+ghost use Rattle.layout.specs.Layout.{columns, column, partAt, partOf, faultAt};
+ghost use Rattle.header.specs.Letters.{modes, fileTypes, timeSystems};
+ghost use Rattle.record.specs.Times.{dateFault};
+ghost use Rattle.record.specs.Steps.{judgedAt};
+use crate::types::Judged;
+use calendar::Dated;
+use field::Amount;
+use field::Exponent;
+use field::Whole;
+use header::Moment;
+
+// A fault of this number at this column where a test is not passed.
+pub(crate) fn fault_unless(lowest: usize, passed: bool, number: usize, at: usize) -> usize
+    requires { ⌜ (number ≤ 13) × (at ≤ 80) ⌝ }
+    ensures { λ r. ⌜ r ≡ lower lowest (unless passed number at) ⌝ }
+{
+    if passed {
+        return lowest;
+    }
+    layout::lower(lowest, number * 128 + at)
+}
+
+// Unused columns from the column `first` on.
+fn read_unused(lowest: usize, bytes: &[u8], first: usize) -> usize
+    requires { ⌜ first + length (now bytes) ≤ 81 ⌝ }
+    ensures { λ r. ⌜ r ≡ lower lowest (unusedFault first (now (bytes .entry))) ⌝ }
+{
+    let mut i = 0;
+    while i < bytes.len() {
+        if bytes[i] != b' ' {
+            return layout::lower(lowest, 5 * 128 + (first + i));
+        }
+        i += 1;
+    }
+    lowest
+}
+
+pub(crate) fn unused_in(lowest: usize, line: &[u8; 80], first: usize, last: usize) -> usize
+    requires { ⌜ (1 ≤ first) × (first ≤ last) × (last ≤ 80) ⌝ }
+    ensures { λ r. ⌜ r ≡ lower lowest (faultAt (columns first last unused) (now (line .entry))) ⌝ }
+{
+    let s = &line[..];
+    let from = first - 1;
+    read_unused(lowest, &s[from..last], first)
+}
+
+// Whether these are the same bytes, as many.
+fn same_bytes(bytes: &[u8], these: &[u8]) -> bool
+    ensures { λ r. ⌜ r ≡ sameBytes (now (bytes .entry)) (now (these .entry)) ⌝ }
+{
+    if bytes.len() != these.len() {
+        return false;
+    }
+    let mut i = 0;
+    while i < bytes.len() {
+        if bytes[i] != these[i] {
+            return false;
+        }
+        i += 1;
+    }
+    true
+}
+
+// A symbol (4, which names no column) or a placeholder (5).
+pub(crate) fn fixed_in(
+    lowest: usize,
+    line: &[u8; 80],
+    number: usize,
+    these: &[u8],
+    blamed: usize,
+    first: usize,
+    last: usize,
+) -> usize
+    requires { ⌜ (1 ≤ first) × (first ≤ last) × (last ≤ 80) × (blamed ≤ 80) × (number ≤ 13) ⌝ }
+    ensures { λ r. ⌜ r ≡ lower lowest (faultAt (partAt blamed first last (fixed number (now (these .entry)))) (now (line .entry))) ⌝ }
+{
+    let s = &line[..];
+    let from = first - 1;
+    let same = same_bytes(&s[from..last], these);
+    fault_unless(lowest, same, number, blamed)
+}
+
+// A whole number within its bounds.
+pub(crate) fn whole_in(
+    lowest: usize,
+    line: &[u8; 80],
+    low: u64,
+    high: u64,
+    blamed: usize,
+    first: usize,
+    last: usize,
+) -> Judged
+    requires { ⌜ (1 ≤ first) × (first ≤ last) × (last ≤ 80) × (blamed ≤ 80) ⌝ }
+    ensures { λ r. ⌜ r ≡ judgedAt (partAt blamed first last (whole low high)) lowest (now (line .entry)) ⌝ }
+{
+    let s = &line[..];
+    let from = first - 1;
+    let Whole::Value(n) = field::read::whole(&s[from..last]) else {
+        return Judged {
+            fault: layout::lower(lowest, 6 * 128 + blamed),
+            value: 0,
+        };
+    };
+    let bounded = laws::within(low, high, n);
+    Judged {
+        fault: fault_unless(lowest, bounded, 7, blamed),
+        value: n,
+    }
+}
+
+// A decimal without a minus within its bounds.
+pub(crate) fn decimal_in(
+    lowest: usize,
+    line: &[u8; 80],
+    places: usize,
+    low: u64,
+    high: u64,
+    first: usize,
+    last: usize,
+) -> Judged
+    requires { ⌜ (1 ≤ first) × (first ≤ last) × (last ≤ 80) ⌝ }
+    ensures { λ r. ⌜ r ≡ judgedAt (columns first last (decimal places low high)) lowest (now (line .entry)) ⌝ }
+{
+    let s = &line[..];
+    let from = first - 1;
+    let Amount::Value {
+        negative: _,
+        magnitude,
+    } = field::read::decimal(&s[from..last], places, false)
+    else {
+        return Judged {
+            fault: layout::lower(lowest, 6 * 128 + first),
+            value: 0,
+        };
+    };
+    let bounded = laws::within(low, high, magnitude);
+    Judged {
+        fault: fault_unless(lowest, bounded, 7, first),
+        value: magnitude,
+    }
+}
+
+// A placeholder of zero: an integer field, a decimal field.
+pub(crate) fn zero_whole_in(lowest: usize, line: &[u8; 80], first: usize, last: usize) -> usize
+    requires { ⌜ (1 ≤ first) × (first ≤ last) × (last ≤ 80) ⌝ }
+    ensures { λ r. ⌜ r ≡ lower lowest (faultAt (columns first last zeroWhole) (now (line .entry))) ⌝ }
+{
+    let s = &line[..];
+    let from = first - 1;
+    let Whole::Value(n) = field::read::whole(&s[from..last]) else {
+        return layout::lower(lowest, 5 * 128 + first);
+    };
+    fault_unless(lowest, n == 0, 5, first)
+}
+
+pub(crate) fn zero_decimal_in(
+    lowest: usize,
+    line: &[u8; 80],
+    places: usize,
+    first: usize,
+    last: usize,
+) -> usize
+    requires { ⌜ (1 ≤ first) × (first ≤ last) × (last ≤ 80) ⌝ }
+    ensures { λ r. ⌜ r ≡ lower lowest (faultAt (columns first last (zeroDecimal places)) (now (line .entry))) ⌝ }
+{
+    let s = &line[..];
+    let from = first - 1;
+    let Amount::Value {
+        negative: _,
+        magnitude,
+    } = field::read::decimal(&s[from..last], places, false)
+    else {
+        return layout::lower(lowest, 5 * 128 + first);
+    };
+    fault_unless(lowest, magnitude == 0, 5, first)
+}
+
+// A date that is none within the bounds, at column 4.
+pub(crate) fn dated(lowest: usize, m: Moment) -> usize
+    ensures { λ r. ⌜ r ≡ lower lowest (dateFault m) ⌝ }
+{
+    let Dated::Day {
+        mjd: _,
+        week: _,
+        seconds: _,
+    } = calendar::date(m.year, m.month, m.day)
+    else {
+        return layout::lower(lowest, 7 * 128 + 4);
+    };
+    lowest
+}
+
+// The mode in column 3: P or V.
+fn read_mode(lowest: usize, bytes: &[u8]) -> usize
+    requires { ⌜ length (now bytes) ≡ 1 ⌝ }
+    ensures { λ r. ⌜ r ≡ lower lowest (unless (isLettered (now (bytes .entry)) modes) 6 3) ⌝ }
+{
+    let listed = header::is_mode(bytes[0]);
+    fault_unless(lowest, listed, 6, 3)
+}
+
+// The file type in columns 4 and 5: a letter and a blank.
+fn read_file_type(lowest: usize, bytes: &[u8]) -> usize
+    requires { ⌜ length (now bytes) ≡ 2 ⌝ }
+    ensures { λ r. ⌜ r ≡ lower lowest (unless (isLettered (now (bytes .entry)) fileTypes) 6 4) ⌝ }
+{
+    let listed = header::is_file_type(bytes[0]) & (bytes[1] == b' ');
+    fault_unless(lowest, listed, 6, 4)
+}
+
+// The time system in columns 10 to 12: one of the words listed.
+fn read_time_system(lowest: usize, bytes: &[u8]) -> usize
+    requires { ⌜ length (now bytes) ≡ 3 ⌝ }
+    ensures { λ r. ⌜ r ≡ lower lowest (unless (isListed (now (bytes .entry)) timeSystems) 6 10) ⌝ }
+{
+    let listed = header::is_time_system(bytes[0], bytes[1], bytes[2]);
+    fault_unless(lowest, listed, 6, 10)
+}
+
+// A text of three, four or five columns, as it stands.
+pub(crate) fn text3(line: &[u8; 80], first: usize, last: usize) -> [u8; 3]
+    requires { ⌜ (1 ≤ first) × (last ≤ 80) × (last ≡ first + 2) ⌝ }
+    ensures { λ r. ⌜ r ≡ partOf (columns first last text) (now (line .entry)) ⌝ }
+{
+    let s = &line[..];
+    let from = first - 1;
+    let mut out = [b' '; 3];
+    layout::copy_front(&mut out, &s[from..last]);
+    out
+}
+
+pub(crate) fn text4(line: &[u8; 80], first: usize, last: usize) -> [u8; 4]
+    requires { ⌜ (1 ≤ first) × (last ≤ 80) × (last ≡ first + 3) ⌝ }
+    ensures { λ r. ⌜ r ≡ partOf (columns first last text) (now (line .entry)) ⌝ }
+{
+    let s = &line[..];
+    let from = first - 1;
+    let mut out = [b' '; 4];
+    layout::copy_front(&mut out, &s[from..last]);
+    out
+}
+
+pub(crate) fn text5(line: &[u8; 80], first: usize, last: usize) -> [u8; 5]
+    requires { ⌜ (1 ≤ first) × (last ≤ 80) × (last ≡ first + 4) ⌝ }
+    ensures { λ r. ⌜ r ≡ partOf (columns first last text) (now (line .entry)) ⌝ }
+{
+    let s = &line[..];
+    let from = first - 1;
+    let mut out = [b' '; 5];
+    layout::copy_front(&mut out, &s[from..last]);
+    out
+}
+
+// Whether these are an identifier's letter and digits.
+fn is_named(letter: u8, tens: u8, ones: u8) -> bool
+    ensures { λ r. ⌜ r ≡ (within 65 90 letter && (isDigit tens && isDigit ones)) ⌝ }
+{
+    ((65 <= letter) & (letter <= 90))
+        & (((48 <= tens) & (tens <= 57)) & ((48 <= ones) & (ones <= 57)))
+}
+
+// A digit's number, and 0 for all that stands below the digits.
+fn figure(b: u8) -> u64
+    ensures { λ r. ⌜ r ≡ b - 48 ⌝ }
+{
+    let d = b as u64;
+    if d < 48 { 0 } else { d - 48 }
+}
+
+// The number of two digits.
+fn two_digits(tens: u8, ones: u8) -> u64
+    ensures value { λ r. ⌜ r ≡ (tens - 48) * 10 + (ones - 48) ⌝ }
+    ensures bound { λ r. ⌜ r ≤ 2277 ⌝ }
+{
+    figure(tens) * 10 + figure(ones)
+}
+
+// A letter's byte times 100, and a number.
+fn name_code(letter: u8, number: u64) -> u64
+    requires { ⌜ number ≤ 2277 ⌝ }
+    ensures { λ r. ⌜ r ≡ letter * 100 + number ⌝ }
+{
+    letter as u64 * 100 + number
+}
