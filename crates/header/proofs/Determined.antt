@@ -1,0 +1,35 @@
+-- Any two outcomes that a contract allows agree.
+-- Assumes nothing.
+use mathlib.Core.Path.{_≡_, sym, _∙_}
+use Rattle.header.proofs.is_mode.Reads as mode
+use Rattle.header.proofs.is_file_type.Reads as file
+use Rattle.header.proofs.is_time_system.Reads as time
+use Rattle.header.proofs.slot_lines.Reads as slots
+use Rattle.header.proofs.types.Rules.d.Reads as rules
+use Rattle.header.proofs.types.Header.bounds_hold.Reads as bounds
+use Rattle.header.proofs.types.Header.none.Reads as none
+use Rattle.header.proofs.types.Header.new.Reads as new
+
+pub is-mode-determined : (κs : _) (a : _) (r r′ : _) (s s′ : _) → mode.Post κs a r s → mode.Post κs a r′ s′ → r ≡ r′
+is-mode-determined κs a r r′ s s′ p q = p ∙ sym q
+
+pub is-file-type-determined : (κs : _) (a : _) (r r′ : _) (s s′ : _) → file.Post κs a r s → file.Post κs a r′ s′ → r ≡ r′
+is-file-type-determined κs a r r′ s s′ p q = p ∙ sym q
+
+pub is-time-system-determined : (κs : _) (a : _) (r r′ : _) (s s′ : _) → time.Post κs a r s → time.Post κs a r′ s′ → r ≡ r′
+is-time-system-determined κs a r r′ s s′ p q = p ∙ sym q
+
+pub slot-lines-determined : (κs : _) (a : _) (r r′ : _) (s s′ : _) → slots.Post κs a r s → slots.Post κs a r′ s′ → r ≡ r′
+slot-lines-determined κs a r r′ s s′ p q = p ∙ sym q
+
+pub d-determined : (κs : _) (a : _) (r r′ : _) (s s′ : _) → rules.Post κs a r s → rules.Post κs a r′ s′ → r ≡ r′
+d-determined κs a r r′ s s′ p q = p ∙ sym q
+
+pub bounds-hold-determined : (κs : _) (a : _) (r r′ : _) (s s′ : _) → bounds.Post κs a r s → bounds.Post κs a r′ s′ → r ≡ r′
+bounds-hold-determined κs a r r′ s s′ p q = p .0 ∙ sym (q .0)
+
+pub none-determined : (κs : _) (a : _) (r r′ : _) (s s′ : _) → none.Post κs a r s → none.Post κs a r′ s′ → r ≡ r′
+none-determined κs a r r′ s s′ p q = p ∙ sym q
+
+pub new-determined : (κs : _) (a : _) (r r′ : _) (s s′ : _) → new.Post κs a r s → new.Post κs a r′ s′ → r ≡ r′
+new-determined κs a r r′ s s′ p q = p ∙ sym q

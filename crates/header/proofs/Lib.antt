@@ -1,0 +1,4 @@
+pub mod Tests
+pub mod Answers
+pub mod Theorems
+pub mod Determined
