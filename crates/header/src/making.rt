@@ -3,7 +3,6 @@ ghost use mathlib.Core.Path.{_≡_};
 ghost use mathlib.Core.Bool.{true};
 ghost use Rattle.header.specs.Rules.{d, maxSatellites, maxEpochs, minComments};
 ghost use Rattle.header.specs.Header.{maxInterval, maxPlaceBase, maxClockBase, textsPrintable, lettersListed, numbersBounded, noHeader, refused, headerOf};
-
 use crate::types::Bases;
 use crate::types::Header;
 use crate::types::HeaderAnswer;
@@ -50,10 +49,17 @@ fn letters_listed(mode: u8, texts: Texts, file_type: u8, time_system: [u8; 3]) -
 }
 
 // Whether every number is within its bounds.
-fn numbers_bounded(epochs: u64, interval8: u64, satellites: u64, comments: u64, bases: Bases) -> bool
+fn numbers_bounded(
+    epochs: u64,
+    interval8: u64,
+    satellites: u64,
+    comments: u64,
+    bases: Bases,
+) -> bool
     ensures result { λ r. ⌜ r ≡ numbersBounded epochs interval8 satellites comments bases ⌝ }
 {
-    let bases_fit = (bases.place <= Header::MAX_PLACE_BASE) & (bases.clock <= Header::MAX_CLOCK_BASE);
+    let bases_fit = (bases.place <= Header::MAX_PLACE_BASE)
+        & (bases.clock <= Header::MAX_CLOCK_BASE);
     within(1, Header::MAX_EPOCHS, epochs)
         & (within(1, Header::MAX_INTERVAL, interval8)
             & (within(1, Header::MAX_SATELLITES, satellites)
@@ -139,7 +145,14 @@ impl Header {
         if !letters_listed(mode, texts, file_type, time_system) {
             return refuse(6);
         }
-        let at = calendar::instant(start.year, start.month, start.day, start.hour, start.minute, start.second8);
+        let at = calendar::instant(
+            start.year,
+            start.month,
+            start.day,
+            start.hour,
+            start.minute,
+            start.second8,
+        );
         let Instant::At(start8) = at else {
             return refuse(7);
         };

@@ -1,6 +1,12 @@
 -- What a field's reader told, as the definition's own case: the enum by its told numbers.
 -- Assumes nothing.
-use mathlib.Core.Path.{_≡_, sym, _∙_}
+use mathlib.Core.Path.{_≡_, refl, sym, _∙_}
+use denote.Enum.Declared.{tagOf}
+use types.Run.{OneOf, miss}
+use Rattle.field.specs.declared.Exponent.the-variants as exponents
+use Rattle.field.proofs.Exponent.{the-type}
+use Rattle.layout.specs.Fault.{clean}
+use Rattle.layout.specs.Kind.{exponentFault}
 use mathlib.Core.List.{List, [], _∷_}
 use Prim.Native.Nat.{ℕ}
 use mathlib.Core.Bool.{Bool, true, false}
@@ -31,3 +37,9 @@ dated-case y m d r j w s e h = date-told y m d j w s (rw (sym e, h)) .is
 pub undated-case : (y m d : ℕ) (r : Dated) → toldDate r ≡ dateAnswer y m d → r ≡ dated.OutOfBounds → isDate y m d ≡ false
 unfolding toldDate
 undated-case y m d r e h = date-refused y m d (rw (sym e, h))
+
+-- an exponent that is not malformed has no fault
+pub exponent-good : (column : ℕ) (e : Exponent) → OneOf (0 ∷ 1 ∷ []) (tagOf the-type e) → exponentFault column e ≡ clean
+exponent-good column (exponents.Value v) h = refl
+exponent-good column exponents.Unknown h = refl
+exponent-good column exponents.Malformed h = absurd (miss (0 ∷ 1 ∷ []) 2 tt h)

@@ -2,9 +2,14 @@
 use mathlib.Core.List.{List}
 use Prim.Native.Nat.{ℕ}
 use Rattle.layout.specs.Fault.{lower}
-use Rattle.layout.specs.Kind.{numberIn}
-use Rattle.layout.specs.Layout.{Item, faultAt, heldAt}
+use Rattle.layout.specs.Kind.{Kind, numberIn, faultIn, heldIn}
+use Rattle.layout.specs.Layout.{Item, partOf}
 use Rattle.record.specs.declared.types.Judged.{Judged}
 
+-- by its bytes and the column that it blames
+abbrev pub judgedBy : Kind → ℕ → ℕ → List ℕ → Judged
+judgedBy kind blamed lowest bs = record { fault = lower lowest (faultIn kind blamed bs); value = numberIn (heldIn kind bs) }
+
+-- by its item
 abbrev pub judgedAt : Item → ℕ → List ℕ → Judged
-judgedAt item lowest line = record { fault = lower lowest (faultAt item line); value = numberIn (heldAt item line) }
+judgedAt item lowest line = judgedBy (item .kind) (item .blamed) lowest (partOf item line)

@@ -7,12 +7,12 @@ ghost use lib.ListN.{length, take, drop};
 ghost use Rattle.field.specs.Digits.{isDigit};
 ghost use Rattle.laws.specs.Tests.{within};
 ghost use Rattle.layout.specs.Fault.{lower, keyed};
-ghost use Rattle.layout.specs.Kind.{unless, unusedFault, sameBytes, isLettered, isListed};
+ghost use Rattle.layout.specs.Kind.{unless, unusedFault, sameBytes, isListed, faultIn, nameCode};
 ghost use Rattle.layout.specs.Kind.Kind.{unused, fixed, whole, decimal, signed, clock, exponent, flag, letter, listed, identifier, zeroWhole, zeroDecimal, text};
 ghost use Rattle.layout.specs.Layout.{columns, column, partAt, partOf, faultAt};
 ghost use Rattle.header.specs.Letters.{modes, fileTypes, timeSystems};
 ghost use Rattle.record.specs.Times.{dateFault};
-ghost use Rattle.record.specs.Steps.{judgedAt};
+ghost use Rattle.record.specs.Steps.{judgedBy, judgedAt};
 use crate::types::Judged;
 use calendar::Dated;
 use field::Amount;
@@ -201,22 +201,51 @@ pub(crate) fn dated(lowest: usize, m: Moment) -> usize
     lowest
 }
 
-// The mode in column 3: P or V.
-fn read_mode(lowest: usize, bytes: &[u8]) -> usize
-    requires { ⌜ length (now bytes) ≡ 1 ⌝ }
-    ensures { λ r. ⌜ r ≡ lower lowest (unless (isLettered (now (bytes .entry)) modes) 6 3) ⌝ }
+// A byte as a number.
+fn wide(b: u8) -> u64
+    ensures { λ r. ⌜ r ≡ b ⌝ }
 {
-    let listed = header::is_mode(bytes[0]);
-    fault_unless(lowest, listed, 6, 3)
+    b as u64
+}
+
+// The mode in column 3: P or V.
+fn read_mode(lowest: usize, bytes: &[u8]) -> Judged
+    requires { ⌜ length (now bytes) ≡ 1 ⌝ }
+    ensures { λ r. ⌜ r ≡ judgedBy (letter modes) 3 lowest (now (bytes .entry)) ⌝ }
+{
+    let letter = bytes[0];
+    let listed = header::is_mode(letter);
+    Judged {
+        fault: fault_unless(lowest, listed, 6, 3),
+        value: wide(letter),
+    }
+}
+
+pub(crate) fn mode_in(lowest: usize, line: &[u8; 80]) -> Judged
+    ensures { λ r. ⌜ r ≡ judgedAt (column 3 (letter modes)) lowest (now (line .entry)) ⌝ }
+{
+    let s = &line[..];
+    read_mode(lowest, &s[2..3])
 }
 
 // The file type in columns 4 and 5: a letter and a blank.
-fn read_file_type(lowest: usize, bytes: &[u8]) -> usize
+fn read_file_type(lowest: usize, bytes: &[u8]) -> Judged
     requires { ⌜ length (now bytes) ≡ 2 ⌝ }
-    ensures { λ r. ⌜ r ≡ lower lowest (unless (isLettered (now (bytes .entry)) fileTypes) 6 4) ⌝ }
+    ensures { λ r. ⌜ r ≡ judgedBy (letter fileTypes) 4 lowest (now (bytes .entry)) ⌝ }
 {
-    let listed = header::is_file_type(bytes[0]) & (bytes[1] == b' ');
-    fault_unless(lowest, listed, 6, 4)
+    let letter = bytes[0];
+    let listed = header::is_file_type(letter) & (bytes[1] == b' ');
+    Judged {
+        fault: fault_unless(lowest, listed, 6, 4),
+        value: wide(letter),
+    }
+}
+
+pub(crate) fn file_type_in(lowest: usize, line: &[u8; 80]) -> Judged
+    ensures { λ r. ⌜ r ≡ judgedAt (columns 4 5 (letter fileTypes)) lowest (now (line .entry)) ⌝ }
+{
+    let s = &line[..];
+    read_file_type(lowest, &s[3..5])
 }
 
 // The time system in columns 10 to 12: one of the words listed.
@@ -226,6 +255,13 @@ fn read_time_system(lowest: usize, bytes: &[u8]) -> usize
 {
     let listed = header::is_time_system(bytes[0], bytes[1], bytes[2]);
     fault_unless(lowest, listed, 6, 10)
+}
+
+pub(crate) fn time_system_in(lowest: usize, line: &[u8; 80]) -> usize
+    ensures { λ r. ⌜ r ≡ lower lowest (faultAt (columns 10 12 (listed timeSystems)) (now (line .entry))) ⌝ }
+{
+    let s = &line[..];
+    read_time_system(lowest, &s[9..12])
 }
 
 // A text of three, four or five columns, as it stands.
@@ -292,4 +328,101 @@ fn name_code(letter: u8, number: u64) -> u64
     ensures { λ r. ⌜ r ≡ letter * 100 + number ⌝ }
 {
     letter as u64 * 100 + number
+}
+
+// An identifier as one number: `G 7` is malformed, `G00` out of bounds.
+fn read_identifier(lowest: usize, bytes: &[u8], first: usize) -> Judged
+    requires { ⌜ (length (now bytes) ≡ 3) × (first ≤ 80) ⌝ }
+    ensures { λ r. ⌜ r ≡ judgedBy identifier first lowest (now (bytes .entry)) ⌝ }
+{
+    let letter = bytes[0];
+    let tens = bytes[1];
+    let ones = bytes[2];
+    if !is_named(letter, tens, ones) {
+        return Judged {
+            fault: layout::lower(lowest, 6 * 128 + first),
+            value: 0,
+        };
+    }
+    let number = two_digits(tens, ones);
+    let bounded = laws::within(1, 99, number);
+    Judged {
+        fault: fault_unless(lowest, bounded, 7, first),
+        value: name_code(letter, number),
+    }
+}
+
+pub(crate) fn identifier_in(lowest: usize, line: &[u8; 80], first: usize, last: usize) -> Judged
+    requires { ⌜ (1 ≤ first) × (last ≤ 80) × (last ≡ first + 2) ⌝ }
+    ensures { λ r. ⌜ r ≡ judgedAt (columns first last identifier) lowest (now (line .entry)) ⌝ }
+{
+    let s = &line[..];
+    let from = first - 1;
+    read_identifier(lowest, &s[from..last], first)
+}
+
+// The number of an identifier that was judged before.
+pub(crate) fn name_of(bytes: &[u8]) -> u64
+    requires { ⌜ length (now bytes) ≡ 3 ⌝ }
+    ensures { λ r. ⌜ r ≡ nameCode (now (bytes .entry)) ⌝ }
+{
+    let number = two_digits(bytes[1], bytes[2]);
+    name_code(bytes[0], number)
+}
+
+// A coordinate or velocity of 14 columns, judged and not kept: rows are read when they have been judged.
+pub(crate) fn signed_in(lowest: usize, line: &[u8; 80], first: usize, last: usize) -> usize
+    requires { ⌜ (1 ≤ first) × (first ≤ last) × (last ≤ 80) ⌝ }
+    ensures { λ r. ⌜ r ≡ lower lowest (faultAt (columns first last (signed 6)) (now (line .entry))) ⌝ }
+{
+    let s = &line[..];
+    let from = first - 1;
+    let Amount::Value {
+        negative: _,
+        magnitude,
+    } = field::read::decimal(&s[from..last], 6, true)
+    else {
+        return layout::lower(lowest, 6 * 128 + first);
+    };
+    let bounded = laws::within(0, field::sign::LARGEST, magnitude);
+    fault_unless(lowest, bounded, 7, first)
+}
+
+// A clock or its rate: such a field too.
+pub(crate) fn clock_in(lowest: usize, line: &[u8; 80], first: usize, last: usize) -> usize
+    requires { ⌜ (1 ≤ first) × (first ≤ last) × (last ≤ 80) ⌝ }
+    ensures { λ r. ⌜ r ≡ lower lowest (faultAt (columns first last (clock 6)) (now (line .entry))) ⌝ }
+{
+    signed_in(lowest, line, first, last)
+}
+
+// An exponent: a whole number or blank.
+pub(crate) fn exponent_in(lowest: usize, line: &[u8; 80], first: usize, last: usize) -> usize
+    requires { ⌜ (1 ≤ first) × (first ≤ last) × (last ≤ 80) ⌝ }
+    ensures { λ r. ⌜ r ≡ lower lowest (faultAt (columns first last exponent) (now (line .entry))) ⌝ }
+{
+    let s = &line[..];
+    let from = first - 1;
+    let Exponent::Malformed = field::read::exponent(&s[from..last]) else {
+        return lowest;
+    };
+    layout::lower(lowest, 6 * 128 + first)
+}
+
+// A flag: its letter or blank.
+fn read_flag(lowest: usize, bytes: &[u8], sign: u8, at: usize) -> usize
+    requires { ⌜ (length (now bytes) ≡ 1) × (at ≤ 80) ⌝ }
+    ensures { λ r. ⌜ r ≡ lower lowest (faultIn (flag sign) at (now (bytes .entry))) ⌝ }
+{
+    let b = bytes[0];
+    fault_unless(lowest, (b == sign) | (b == b' '), 6, at)
+}
+
+pub(crate) fn flag_in(lowest: usize, line: &[u8; 80], sign: u8, at: usize) -> usize
+    requires { ⌜ (1 ≤ at) × (at ≤ 80) ⌝ }
+    ensures { λ r. ⌜ r ≡ lower lowest (faultAt (column at (flag sign)) (now (line .entry))) ⌝ }
+{
+    let s = &line[..];
+    let from = at - 1;
+    read_flag(lowest, &s[from..at], sign, at)
 }
