@@ -67,3 +67,26 @@ made-after make items line lowest {fault} {vs} r = ap (λ (n : ℕ). make n vs) 
 pub made : {X : Type 0} (make : ℕ → Values → X) (items : List Item) (line : List ℕ) {fault : ℕ} {vs : Values}
     → Reads items line clean fault vs → make fault vs ≡ make (faultOf items line) (valuesOf items line)
 made make items line r = made-after make items line clean r
+
+-- Where nothing is kept: judging the items after a fault found before gives this fault.
+pub record Judges (items : List Item) (line : List ℕ) (lowest fault : ℕ) : Type 0 where
+  pub told : fault ≡ faultFrom lowest items line
+
+pub judged : {line : List ℕ} {lowest : ℕ} → Judges [] line lowest lowest
+judged = record { told = refl }
+
+-- one more item
+pub past : {item : Item} {items : List Item} {line : List ℕ} {lowest next fault : ℕ}
+    → next ≡ lower lowest (faultAt item line) → Judges items line next fault → Judges (item ∷ items) line lowest fault
+past {item} {items} {line} {lowest} {next} {fault} e r = record { told = subst (λ (n : ℕ). fault ≡ faultFrom n items line) e (r .told) }
+
+-- several that another function judged
+pub past-several : (items : List Item) {more : List Item} {line : List ℕ} {lowest next fault : ℕ}
+    → next ≡ faultFrom lowest items line → Judges more line next fault → Judges (items ++ more) line lowest fault
+past-several items {more} {line} {lowest} e r = record {
+  told = r .told ∙ ap (λ (n : ℕ). faultFrom n more line) e ∙ sym (fault-parts items more line lowest);
+}
+
+-- all of them
+pub judges : (items : List Item) (line : List ℕ) (lowest : ℕ) {fault : ℕ} → Judges items line lowest fault → fault ≡ faultFrom lowest items line
+judges items line lowest r = r .told

@@ -1,3 +1,5 @@
 pub mod Answers
 pub mod Same
 pub mod Letters
+pub mod Reading
+pub mod SlotKinds

@@ -6,10 +6,11 @@ use Prim.Native.Nat.{ℕ}
 use Rattle.header.specs.Rules.{maxEpochs}
 use Rattle.header.specs.Letters.{modes}
 use Rattle.header.specs.declared.types.Rules.{Rules}
+use Rattle.header.specs.declared.types.Texts.{Texts}
 use Rattle.layout.specs.Fault.{lower}
 use Rattle.layout.specs.Kind.Kind.{unused, fixed, whole, decimal, letter, text}
 use Rattle.layout.specs.Kind.Held.{one, words}
-use Rattle.layout.specs.Layout.{Item, Values, columns, column, partAt, numberAt, wordsAt, faultOf, valuesOf, showLine}
+use Rattle.layout.specs.Layout.{Item, Values, columns, column, partAt, partOf, numberAt, wordsAt, faultOf, valuesOf, showLine}
 use Rattle.layout.specs.Line.{ended}
 use Rattle.record.specs.Times.{timeItems, momentAt, momentValues, dateFault}
 use Rattle.record.specs.declared.types.First.{First}
@@ -35,6 +36,15 @@ firstItems rules =
     ∷ columns 57 60 text
     ∷ columns 61 80 unused
     ∷ []))
+
+-- the four texts of a line of 80 columns
+abbrev pub textsOf : List ℕ → Texts
+textsOf line = record {
+  «data_used» = partOf (columns 41 45 text) line;
+  coordinates = partOf (columns 47 51 text) line;
+  orbit = partOf (columns 53 55 text) line;
+  agency = partOf (columns 57 60 text) line;
+}
 
 abbrev pub firstFrom : ℕ → Values → First
 firstFrom fault vs = record {

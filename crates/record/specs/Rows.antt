@@ -104,9 +104,9 @@ unfoldable pub rowLine : Bool → Row → List ℕ
 rowLine velocity p = ended (showLine (rowItems velocity) (rowValues velocity p))
 
 -- A line is judged first and its row taken afterwards, so what a row takes is defined for every line, and for a line without fault it is
--- what the layout holds (proofs/Rows). The columns first to last of a line, a short one being padded:
+-- what the layout holds (proofs/Taking). So many columns behind others:
 abbrev pub cut : ℕ → ℕ → List ℕ → List ℕ
-cut before width line = take width (drop before (padded line))
+cut before width line = take width (drop before line)
 
 -- a field of 14 columns with 6 places
 abbrev pub signedIn : List ℕ → Signed
@@ -120,9 +120,9 @@ exponentIn bytes = exponentHeld (exponentOf bytes)
 abbrev pub flagIn : Bool → ℕ → List ℕ → Bool
 flagIn velocity sign bytes = not velocity && eqb (getD bytes 0 0) sign
 
--- the row of a line
-unfoldable pub rowOf : Bool → List ℕ → Row
-rowOf velocity line = record {
+-- the row of a line of 80 columns
+unfoldable pub rowTaken : Bool → List ℕ → Row
+rowTaken velocity line = record {
   satellite = nameCode (cut 1 3 line);
   x = signedIn (cut 4 14 line);
   y = signedIn (cut 18 14 line);
@@ -137,3 +137,7 @@ rowOf velocity line = record {
   maneuver = flagIn velocity 77 (cut 78 1 line);
   «orbit_predicted» = flagIn velocity 80 (cut 79 1 line);
 }
+
+-- the row of a line as it stands, a short one being padded
+abbrev pub rowOf : Bool → List ℕ → Row
+rowOf velocity line = rowTaken velocity (padded line)

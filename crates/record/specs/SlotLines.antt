@@ -65,6 +65,10 @@ abbrev pub slotSymbol : Bool → List ℕ
 slotSymbol true = 43 ∷ 43 ∷ []
 slotSymbol false = 43 ∷ 32 ∷ []
 
+-- the fault of a line that has another
+abbrev pub symbolFault : Bool → List ℕ → ℕ
+symbolFault accuracies line = faultOf (partAt 0 1 2 (fixed 4 (slotSymbol accuracies)) ∷ []) line
+
 -- a further `+ ` line, and every `++` line: Columns 1-2 Symbols A2, 3-9 Unused, 10-60 the slots of what is left of the satellites
 abbrev pub moreItems : Bool → ℕ → List Item
 moreItems accuracies left =

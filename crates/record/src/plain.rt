@@ -1,0 +1,31 @@
+// Comments, correlation lines and the end of the file.
+ghost use mathlib.Core.Path.{_≡_};
+ghost use Rattle.layout.specs.Layout.{faultOf};
+ghost use Rattle.record.specs.Plain.{commentItems, correlationItems, endItems};
+use crate::fields;
+
+// A comment: text in column 3 is 5 at column 3. Its text is columns 4 to 80.
+pub fn comment_fault(line: &[u8; 80]) -> usize
+    ensures result { λ r. ⌜ r ≡ faultOf commentItems (now (line .entry)) ⌝ }
+{
+    let a = fields::fixed_in(0, line, 4, b"/*", 0, 1, 2);
+    fields::unused_in(a, line, 3, 3)
+}
+
+// An EP line, or an EV line where `velocity` says so: what follows column 2 is accepted as it stands.
+pub fn correlation_fault(line: &[u8; 80], velocity: bool) -> usize
+    ensures result { λ r. ⌜ r ≡ faultOf (correlationItems velocity) (now (line .entry)) ⌝ }
+{
+    if velocity {
+        return fields::fixed_in(0, line, 4, b"EV", 0, 1, 2);
+    }
+    fields::fixed_in(0, line, 4, b"EP", 0, 1, 2)
+}
+
+// The end of the file: `EOFX` is 5 at column 4.
+pub fn end_fault(line: &[u8; 80]) -> usize
+    ensures result { λ r. ⌜ r ≡ faultOf endItems (now (line .entry)) ⌝ }
+{
+    let a = fields::fixed_in(0, line, 4, b"EOF", 0, 1, 3);
+    fields::unused_in(a, line, 4, 80)
+}

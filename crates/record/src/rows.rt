@@ -1,0 +1,58 @@
+// P and V lines: judged first, and their rows taken when they have no fault.
+ghost use mathlib.Core.Path.{_≡_};
+ghost use Prim.Native.Nat.{_+_, _≤_};
+ghost use lib.ListN.{length, take, drop};
+ghost use Rattle.layout.specs.Layout.{faultFrom};
+ghost use Rattle.record.specs.Rows.{bodyItems, flagItems, rowFault, cut, signedIn, exponentIn, flagIn, rowTaken, rowOf};
+use crate::fields;
+use crate::types::Row;
+use crate::types::Signed;
+use field::Exponent;
+
+// Stands for an unknown exponent: no exponent of three columns has it.
+pub const UNKNOWN: u64 = 1000;
+
+// Columns 2 to 73, the same in P and V.
+fn body_fault(lowest: usize, line: &[u8; 80]) -> usize
+    ensures { λ r. ⌜ r ≡ faultFrom lowest bodyItems (now (line .entry)) ⌝ }
+{
+    let name = fields::identifier_in(lowest, line, 2, 4);
+    let a = fields::signed_in(name.fault, line, 5, 18);
+    let b = fields::signed_in(a, line, 19, 32);
+    let c = fields::signed_in(b, line, 33, 46);
+    let d = fields::clock_in(c, line, 47, 60);
+    let e = fields::unused_in(d, line, 61, 61);
+    let f = fields::exponent_in(e, line, 62, 63);
+    let g = fields::unused_in(f, line, 64, 64);
+    let h = fields::exponent_in(g, line, 65, 66);
+    let i = fields::unused_in(h, line, 67, 67);
+    let j = fields::exponent_in(i, line, 68, 69);
+    let k = fields::unused_in(j, line, 70, 70);
+    fields::exponent_in(k, line, 71, 73)
+}
+
+// Columns 74 to 80 of P.
+fn flags_fault(lowest: usize, line: &[u8; 80]) -> usize
+    ensures { λ r. ⌜ r ≡ faultFrom lowest flagItems (now (line .entry)) ⌝ }
+{
+    let a = fields::unused_in(lowest, line, 74, 74);
+    let b = fields::flag_in(a, line, b'E', 75);
+    let c = fields::flag_in(b, line, b'P', 76);
+    let d = fields::unused_in(c, line, 77, 78);
+    let e = fields::flag_in(d, line, b'M', 79);
+    fields::flag_in(e, line, b'P', 80)
+}
+
+// The fault that decides a P line, or a V line where `velocity` says so: `PG07` with a blank x is 6 at column 5.
+pub fn row_fault(line: &[u8; 80], velocity: bool) -> usize
+    ensures result { λ r. ⌜ r ≡ rowFault velocity (now (line .entry)) ⌝ }
+{
+    if velocity {
+        let a = fields::fixed_in(0, line, 4, b"V", 0, 1, 1);
+        let b = body_fault(a, line);
+        return fields::unused_in(b, line, 74, 80);
+    }
+    let a = fields::fixed_in(0, line, 4, b"P", 0, 1, 1);
+    let b = body_fault(a, line);
+    flags_fault(b, line)
+}
