@@ -43,3 +43,9 @@ pub exponent-good : (column : ℕ) (e : Exponent) → OneOf (0 ∷ 1 ∷ []) (ta
 exponent-good column (exponents.Value v) h = refl
 exponent-good column exponents.Unknown h = refl
 exponent-good column exponents.Malformed h = absurd (miss (0 ∷ 1 ∷ []) 2 tt h)
+
+-- neither a value nor unknown
+pub exponent-malformed : (e : Exponent) → OneOf (1 ∷ 2 ∷ []) (tagOf the-type e) → OneOf (0 ∷ 2 ∷ []) (tagOf the-type e) → e ≡ exponents.Malformed
+exponent-malformed (exponents.Value v) h k = absurd (miss (1 ∷ 2 ∷ []) 0 tt h)
+exponent-malformed exponents.Unknown h k = absurd (miss (0 ∷ 2 ∷ []) 1 tt k)
+exponent-malformed exponents.Malformed h k = refl

@@ -9,9 +9,10 @@ use Rattle.layout.specs.Kind.{Held, silent, numberIn}
 use Rattle.layout.specs.Kind.Held.{one, words}
 use Rattle.layout.specs.Layout.{Item, Values, partOf, faultAt, heldAt, faultFrom, valuesOf}
 use Rattle.layout.proofs.Reading.{Reads, keep, several}
-use Rattle.record.specs.Steps.{judgedAt}
+use Rattle.record.specs.Steps.{judgedAt, letteredAt}
 use Rattle.record.specs.Times.{timeItems, momentAfter, momentValues}
 use Rattle.record.specs.declared.types.Judged.{Judged}
+use Rattle.record.specs.declared.types.Lettered.{Lettered}
 use Rattle.record.specs.declared.types.Epoch.{Epoch}
 
 -- a field of one number
@@ -19,6 +20,12 @@ pub number : {item : Item} {items : List Item} {line : List ℕ} {lowest fault :
     → r ≡ judgedAt item lowest line → one (numberIn (heldAt item line)) ≡ heldAt item line → silent (item .kind) ≡ false
     → Reads items line (r .fault) fault vs → Reads (item ∷ items) line lowest fault (one (r .value) ∷ vs)
 number e shape s rest = keep (ap (λ (j : Judged). j .fault) e) (ap {B = Held} (λ (j : Judged). one (j .value)) e ∙ shape) s rest
+
+-- a field of one letter
+pub lettered : {item : Item} {items : List Item} {line : List ℕ} {lowest fault : ℕ} {r : Lettered} {vs : Values}
+    → r ≡ letteredAt item lowest line → one (numberIn (heldAt item line)) ≡ heldAt item line → silent (item .kind) ≡ false
+    → Reads items line (r .fault) fault vs → Reads (item ∷ items) line lowest fault (one (r .letter) ∷ vs)
+lettered e shape s rest = keep (ap (λ (j : Lettered). j .fault) e) (ap {B = Held} (λ (j : Lettered). one (j .letter)) e ∙ shape) s rest
 
 -- a field of text, judged or not
 pub words-judged : {item : Item} {items : List Item} {line bytes : List ℕ} {lowest next fault : ℕ} {vs : Values}

@@ -3,7 +3,7 @@
 -- 000, line thirty three, and line twenty six in example 2. Numbers are whole: mm and ps in P, 10^-4 mm/s and 10^-16 s/s in V.
 use mathlib.Core.Bool.{Bool, true, false, not, _&&_}
 use mathlib.Core.List.{List, [], _∷_, _++_}
-use Prim.Native.Nat.{ℕ}
+use Prim.Native.Nat.{ℕ, _-_}
 use lib.Dec.{eqb}
 use lib.ListN.{getD, take, drop}
 use Rattle.field.specs.Read.{exponentOf}
@@ -104,9 +104,9 @@ unfoldable pub rowLine : Bool → Row → List ℕ
 rowLine velocity p = ended (showLine (rowItems velocity) (rowValues velocity p))
 
 -- A line is judged first and its row taken afterwards, so what a row takes is defined for every line, and for a line without fault it is
--- what the layout holds (proofs/Taking). So many columns behind others:
+-- what the layout holds (proofs/Taking). The columns first to last of a line:
 abbrev pub cut : ℕ → ℕ → List ℕ → List ℕ
-cut before width line = take width (drop before line)
+cut first last line = take (last - (first - 1)) (drop (first - 1) line)
 
 -- a field of 14 columns with 6 places
 abbrev pub signedIn : List ℕ → Signed
@@ -123,19 +123,19 @@ flagIn velocity sign bytes = not velocity && eqb (getD bytes 0 0) sign
 -- the row of a line of 80 columns
 unfoldable pub rowTaken : Bool → List ℕ → Row
 rowTaken velocity line = record {
-  satellite = nameCode (cut 1 3 line);
-  x = signedIn (cut 4 14 line);
-  y = signedIn (cut 18 14 line);
-  z = signedIn (cut 32 14 line);
-  clock = signedIn (cut 46 14 line);
-  «x_exponent» = exponentIn (cut 61 2 line);
-  «y_exponent» = exponentIn (cut 64 2 line);
-  «z_exponent» = exponentIn (cut 67 2 line);
-  «clock_exponent» = exponentIn (cut 70 3 line);
-  event = flagIn velocity 69 (cut 74 1 line);
-  predicted = flagIn velocity 80 (cut 75 1 line);
-  maneuver = flagIn velocity 77 (cut 78 1 line);
-  «orbit_predicted» = flagIn velocity 80 (cut 79 1 line);
+  satellite = nameCode (cut 2 4 line);
+  x = signedIn (cut 5 18 line);
+  y = signedIn (cut 19 32 line);
+  z = signedIn (cut 33 46 line);
+  clock = signedIn (cut 47 60 line);
+  «x_exponent» = exponentIn (cut 62 63 line);
+  «y_exponent» = exponentIn (cut 65 66 line);
+  «z_exponent» = exponentIn (cut 68 69 line);
+  «clock_exponent» = exponentIn (cut 71 73 line);
+  event = flagIn velocity 69 (cut 75 75 line);
+  predicted = flagIn velocity 80 (cut 76 76 line);
+  maneuver = flagIn velocity 77 (cut 79 79 line);
+  «orbit_predicted» = flagIn velocity 80 (cut 80 80 line);
 }
 
 -- the row of a line as it stands, a short one being padded

@@ -5,6 +5,7 @@ use Rattle.layout.specs.Fault.{lower}
 use Rattle.layout.specs.Kind.{Kind, numberIn, faultIn, heldIn}
 use Rattle.layout.specs.Layout.{Item, partOf}
 use Rattle.record.specs.declared.types.Judged.{Judged}
+use Rattle.record.specs.declared.types.Lettered.{Lettered}
 
 -- by its bytes and the column that it blames
 abbrev pub judgedBy : Kind → ℕ → ℕ → List ℕ → Judged
@@ -13,3 +14,10 @@ judgedBy kind blamed lowest bs = record { fault = lower lowest (faultIn kind bla
 -- by its item
 abbrev pub judgedAt : Item → ℕ → List ℕ → Judged
 judgedAt item lowest line = judgedBy (item .kind) (item .blamed) lowest (partOf item line)
+
+-- and of a letter
+abbrev pub letteredBy : Kind → ℕ → ℕ → List ℕ → Lettered
+letteredBy kind blamed lowest bs = record { fault = lower lowest (faultIn kind blamed bs); letter = numberIn (heldIn kind bs) }
+
+abbrev pub letteredAt : Item → ℕ → List ℕ → Lettered
+letteredAt item lowest line = letteredBy (item .kind) (item .blamed) lowest (partOf item line)

@@ -48,7 +48,7 @@ pub fn read_descriptor(line: &[u8; 80]) -> Descriptor
     let time_system = fields::text3(line, 10, 12);
     Descriptor {
         fault: g,
-        file_type: file_type.value,
+        file_type: file_type.letter,
         time_system,
     }
 }

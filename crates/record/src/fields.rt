@@ -12,8 +12,9 @@ ghost use Rattle.layout.specs.Kind.Kind.{unused, fixed, whole, decimal, signed,
 ghost use Rattle.layout.specs.Layout.{columns, column, partAt, partOf, faultAt};
 ghost use Rattle.header.specs.Letters.{modes, fileTypes, timeSystems};
 ghost use Rattle.record.specs.Times.{dateFault};
-ghost use Rattle.record.specs.Steps.{judgedBy, judgedAt};
+ghost use Rattle.record.specs.Steps.{judgedBy, judgedAt, letteredBy, letteredAt};
 use crate::types::Judged;
+use crate::types::Lettered;
 use calendar::Dated;
 use field::Amount;
 use field::Exponent;
@@ -201,48 +202,41 @@ pub(crate) fn dated(lowest: usize, m: Moment) -> usize
     lowest
 }
 
-// A byte as a number.
-fn wide(b: u8) -> u64
-    ensures { λ r. ⌜ r ≡ b ⌝ }
-{
-    b as u64
-}
-
 // The mode in column 3: P or V.
-fn read_mode(lowest: usize, bytes: &[u8]) -> Judged
+fn read_mode(lowest: usize, bytes: &[u8]) -> Lettered
     requires { ⌜ length (now bytes) ≡ 1 ⌝ }
-    ensures { λ r. ⌜ r ≡ judgedBy (letter modes) 3 lowest (now (bytes .entry)) ⌝ }
+    ensures { λ r. ⌜ r ≡ letteredBy (letter modes) 3 lowest (now (bytes .entry)) ⌝ }
 {
     let letter = bytes[0];
     let listed = header::is_mode(letter);
-    Judged {
+    Lettered {
         fault: fault_unless(lowest, listed, 6, 3),
-        value: wide(letter),
+        letter,
     }
 }
 
-pub(crate) fn mode_in(lowest: usize, line: &[u8; 80]) -> Judged
-    ensures { λ r. ⌜ r ≡ judgedAt (column 3 (letter modes)) lowest (now (line .entry)) ⌝ }
+pub(crate) fn mode_in(lowest: usize, line: &[u8; 80]) -> Lettered
+    ensures { λ r. ⌜ r ≡ letteredAt (column 3 (letter modes)) lowest (now (line .entry)) ⌝ }
 {
     let s = &line[..];
     read_mode(lowest, &s[2..3])
 }
 
 // The file type in columns 4 and 5: a letter and a blank.
-fn read_file_type(lowest: usize, bytes: &[u8]) -> Judged
+fn read_file_type(lowest: usize, bytes: &[u8]) -> Lettered
     requires { ⌜ length (now bytes) ≡ 2 ⌝ }
-    ensures { λ r. ⌜ r ≡ judgedBy (letter fileTypes) 4 lowest (now (bytes .entry)) ⌝ }
+    ensures { λ r. ⌜ r ≡ letteredBy (letter fileTypes) 4 lowest (now (bytes .entry)) ⌝ }
 {
     let letter = bytes[0];
     let listed = header::is_file_type(letter) & (bytes[1] == b' ');
-    Judged {
+    Lettered {
         fault: fault_unless(lowest, listed, 6, 4),
-        value: wide(letter),
+        letter,
     }
 }
 
-pub(crate) fn file_type_in(lowest: usize, line: &[u8; 80]) -> Judged
-    ensures { λ r. ⌜ r ≡ judgedAt (columns 4 5 (letter fileTypes)) lowest (now (line .entry)) ⌝ }
+pub(crate) fn file_type_in(lowest: usize, line: &[u8; 80]) -> Lettered
+    ensures { λ r. ⌜ r ≡ letteredAt (columns 4 5 (letter fileTypes)) lowest (now (line .entry)) ⌝ }
 {
     let s = &line[..];
     read_file_type(lowest, &s[3..5])

@@ -74,7 +74,7 @@ pub fn read_first(rules: Rules, line: &[u8; 80]) -> First
     let texts = texts_in(line);
     First {
         fault: fields::dated(g, moment),
-        mode: mode.value,
+        mode: mode.letter,
         start: moment,
         epochs: epochs.value,
         texts,

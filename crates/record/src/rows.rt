@@ -2,6 +2,7 @@
 ghost use mathlib.Core.Path.{_≡_};
 ghost use Prim.Native.Nat.{_+_, _≤_};
 ghost use lib.ListN.{length, take, drop};
+ghost use Rattle.layout.specs.Kind.{nameCode};
 ghost use Rattle.layout.specs.Layout.{faultFrom};
 ghost use Rattle.record.specs.Rows.{bodyItems, flagItems, rowFault, cut, signedIn, exponentIn, flagIn, rowTaken, rowOf};
 use crate::fields;
@@ -55,4 +56,101 @@ pub fn row_fault(line: &[u8; 80], velocity: bool) -> usize
     let a = fields::fixed_in(0, line, 4, b"P", 0, 1, 1);
     let b = body_fault(a, line);
     flags_fault(b, line)
+}
+
+// A number of 14 columns of a line that was judged.
+fn signed_of(line: &[u8; 80], first: usize, last: usize) -> Signed
+    requires { ⌜ (1 ≤ first) × (first ≤ last) × (last ≤ 80) ⌝ }
+    ensures { λ r. ⌜ r ≡ signedIn (cut first last (now (line .entry))) ⌝ }
+{
+    let s = &line[..];
+    let from = first - 1;
+    let bytes = &s[from..last];
+    let magnitude = field::known::magnitude(bytes, 6);
+    let negative = field::known::is_negative(bytes, 6, magnitude);
+    Signed {
+        negative,
+        magnitude,
+    }
+}
+
+// An exponent: its number, or UNKNOWN where it is blank.
+fn row_exponent(bytes: &[u8]) -> u64
+    ensures { λ r. ⌜ r ≡ exponentIn (now (bytes .entry)) ⌝ }
+{
+    let answer = field::read::exponent(bytes);
+    let Exponent::Value(n) = answer else {
+        let Exponent::Unknown = answer else {
+            return 0;
+        };
+        return UNKNOWN;
+    };
+    n
+}
+
+fn exponent_of(line: &[u8; 80], first: usize, last: usize) -> u64
+    requires { ⌜ (1 ≤ first) × (first ≤ last) × (last ≤ 80) ⌝ }
+    ensures { λ r. ⌜ r ≡ exponentIn (cut first last (now (line .entry))) ⌝ }
+{
+    let s = &line[..];
+    let from = first - 1;
+    row_exponent(&s[from..last])
+}
+
+// A flag of P: V has none.
+fn read_mark(bytes: &[u8], velocity: bool, sign: u8) -> bool
+    requires { ⌜ length (now bytes) ≡ 1 ⌝ }
+    ensures { λ r. ⌜ r ≡ flagIn velocity sign (now (bytes .entry)) ⌝ }
+{
+    (!velocity) & (bytes[0] == sign)
+}
+
+fn mark_of(line: &[u8; 80], velocity: bool, sign: u8, at: usize) -> bool
+    requires { ⌜ (1 ≤ at) × (at ≤ 80) ⌝ }
+    ensures { λ r. ⌜ r ≡ flagIn velocity sign (cut at at (now (line .entry))) ⌝ }
+{
+    let s = &line[..];
+    let from = at - 1;
+    read_mark(&s[from..at], velocity, sign)
+}
+
+// The identifier in columns 2 to 4.
+fn satellite_of(line: &[u8; 80]) -> u64
+    ensures { λ r. ⌜ r ≡ nameCode (cut 2 4 (now (line .entry))) ⌝ }
+{
+    let s = &line[..];
+    fields::name_of(&s[1..4])
+}
+
+// The row of a line of 80 columns.
+fn row_taken(line: &[u8; 80], velocity: bool) -> Row
+    ensures { λ r. ⌜ r ≡ rowTaken velocity (now (line .entry)) ⌝ }
+{
+    let x = signed_of(line, 5, 18);
+    let y = signed_of(line, 19, 32);
+    let z = signed_of(line, 33, 46);
+    let clock = signed_of(line, 47, 60);
+    Row {
+        satellite: satellite_of(line),
+        x,
+        y,
+        z,
+        clock,
+        x_exponent: exponent_of(line, 62, 63),
+        y_exponent: exponent_of(line, 65, 66),
+        z_exponent: exponent_of(line, 68, 69),
+        clock_exponent: exponent_of(line, 71, 73),
+        event: mark_of(line, velocity, b'E', 75),
+        predicted: mark_of(line, velocity, b'P', 76),
+        maneuver: mark_of(line, velocity, b'M', 79),
+        orbit_predicted: mark_of(line, velocity, b'P', 80),
+    }
+}
+
+// The row of a P line, or of a V line where `velocity` says so, which has no fault; a short line counts as padded.
+pub fn row_of(line: &[u8], velocity: bool) -> Row
+    ensures result { λ r. ⌜ r ≡ rowOf velocity (now (line .entry)) ⌝ }
+{
+    let padded = layout::pad(line);
+    row_taken(&padded, velocity)
 }

@@ -27,10 +27,16 @@ pub struct Judged {
     pub value: u64,
 }
 
-// Line 1, its mode as the letter's byte. A fault is a key: the paper's number times 128, and a column; 0 for none.
+// A letter's fault, after those before it, and the letter.
+pub struct Lettered {
+    pub fault: usize,
+    pub letter: u8,
+}
+
+// Line 1, its mode a letter. A fault is a key: the paper's number times 128, and a column; 0 for none.
 pub struct First {
     pub fault: usize,
-    pub mode: u64,
+    pub mode: u8,
     pub start: Moment,
     pub epochs: u64,
     pub texts: Texts,
@@ -66,10 +72,10 @@ pub struct Slots {
     pub values: [u64; 17],
 }
 
-// The first `%c` line: the file type as its letter's byte, the time system as it stands.
+// The first `%c` line: the file type as its letter, the time system as it stands.
 pub struct Descriptor {
     pub fault: usize,
-    pub file_type: u64,
+    pub file_type: u8,
     pub time_system: [u8; 3],
 }
 

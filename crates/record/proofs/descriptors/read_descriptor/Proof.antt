@@ -3,7 +3,7 @@
 use mathlib.Core.Path.{refl}
 use Rattle.record.specs.Descriptors.{descriptorItems, descriptorFrom}
 use Rattle.layout.proofs.Reading.{made, skip}
-use Rattle.record.proofs.Reading.{number, words-judged}
+use Rattle.record.proofs.Reading.{lettered, number, words-judged}
 use borrow.Author.Needs.{needs}
 use Rattle.record.proofs.descriptors.read_descriptor.Statement.{statement}
 use Rattle.record.proofs.descriptors.read_descriptor.Tie as tie
@@ -13,7 +13,7 @@ returns c =
     made descriptorFrom descriptorItems (c .before .before .before .before .before .before .before .before .before .before .before .args .line .now)
     (skip (c .before .before .before .before .before .before .before .before .before .fixed-in .ensures) refl
     (skip (c .before .before .before .before .before .before .before .before .unused-in .ensures) refl
-    (number (c .before .before .before .before .before .before .before .file-type-in .ensures) refl refl
+    (lettered (c .before .before .before .before .before .before .before .file-type-in .ensures) refl refl
     (skip (c .before .before .before .before .before .before .unused-in2 .ensures) refl
     (skip (c .before .before .before .before .fixed-in2 .ensures) refl
     (skip (c .before .before .before .unused-in3 .ensures) refl

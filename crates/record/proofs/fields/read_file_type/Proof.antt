@@ -10,9 +10,9 @@ use Rattle.record.proofs.fields.read_file_type.Tie as tie
 
 returns : tie.Need-returns
 returns c =
-    let bytes = c .before .before .before .before .before .before .args .bytes .now in
+    let bytes = c .before .before .before .before .before .args .bytes .now in
     let long : length bytes ≡ 2 = search needs in
-    rw (c .wide .ensures, c .before .fault-unless .ensures, c .before .before .before .is-file-type .ensures, lettered-two bytes fileTypes long)
+    rw (c .fault-unless .ensures, c .before .before .is-file-type .ensures, lettered-two bytes fileTypes long)
 
 pub read-file-type-spec : {M : Type 1} → statement M
 read-file-type-spec =
@@ -21,6 +21,5 @@ read-file-type-spec =
     (λ c. search needs)
     (λ c κs. search needs)
     (λ c. search needs)
-    (λ c κs. search needs)
     (λ c κs. search needs)
     returns)

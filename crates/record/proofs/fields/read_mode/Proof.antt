@@ -10,16 +10,15 @@ use Rattle.record.proofs.fields.read_mode.Tie as tie
 
 returns : tie.Need-returns
 returns c =
-    let bytes = c .before .before .before .before .before .args .bytes .now in
+    let bytes = c .before .before .before .before .args .bytes .now in
     let long : length bytes ≡ 1 = search needs in
-    rw (c .wide .ensures, c .before .fault-unless .ensures, c .before .before .is-mode .ensures, ← lettered-one bytes modes long)
+    rw (c .fault-unless .ensures, c .before .is-mode .ensures, ← lettered-one bytes modes long)
 
 pub read-mode-spec : {M : Type 1} → statement M
 read-mode-spec =
     tie.close
     (tie.spec
     (λ c. search needs)
-    (λ c κs. search needs)
     (λ c κs. search needs)
     (λ c κs. search needs)
     returns)

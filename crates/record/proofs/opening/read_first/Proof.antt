@@ -4,7 +4,7 @@ use mathlib.Core.Path.{refl, ap}
 use Rattle.header.specs.declared.types.Texts.{Texts}
 use Rattle.record.specs.Opening.{firstItems, firstFrom}
 use Rattle.layout.proofs.Reading.{done, made, skip}
-use Rattle.record.proofs.Reading.{moment, number, words-kept}
+use Rattle.record.proofs.Reading.{lettered, moment, number, words-kept}
 use borrow.Author.Needs.{needs}
 use Rattle.record.proofs.opening.read_first.Statement.{statement}
 use Rattle.record.proofs.opening.read_first.Tie as tie
@@ -14,7 +14,7 @@ returns c =
     rw (c .dated .ensures)
     (made firstFrom (firstItems (c .before .before .before .before .before .before .before .before .before .before .before .before .before .before .args .rules)) (c .before .before .before .before .before .before .before .before .before .before .before .before .before .before .args .line .now)
     (skip (c .before .before .before .before .before .before .before .before .before .before .before .before .fixed-in .ensures) refl
-    (number (c .before .before .before .before .before .before .before .before .before .before .before .mode-in .ensures) refl refl
+    (lettered (c .before .before .before .before .before .before .before .before .before .before .before .mode-in .ensures) refl refl
     (moment (c .before .before .before .before .before .before .before .before .before .before .moment-in .ensures)
     (skip (c .before .before .before .before .before .before .before .before .unused-in .ensures) refl
     (number (c .before .before .before .before .before .before .before .whole-in .ensures) refl refl
