@@ -1,9 +1,9 @@
 // The rules of the version, the bounds of a header, and its making out of numbers, letters and texts.
 ghost use mathlib.Core.Path.{_≡_};
 ghost use mathlib.Core.Bool.{true};
+ghost use Rattle.calendar.specs.Clock.{toldInstant, instantAnswer};
 ghost use Rattle.header.specs.Rules.{d, maxSatellites, maxEpochs, minComments};
 ghost use Rattle.header.specs.Header.{maxInterval, maxPlaceBase, maxClockBase, textsPrintable, lettersListed, numbersBounded, noHeader, refused, headerOf};
-
 use crate::types::Bases;
 use crate::types::Header;
 use crate::types::HeaderAnswer;
@@ -49,11 +49,25 @@ fn letters_listed(mode: u8, texts: Texts, file_type: u8, time_system: [u8; 3]) -
     crate::is_mode(mode) & (crate::is_file_type(file_type) & (timed & texts_printable(texts)))
 }
 
+// The instant of a start; 7 where it is no date or no time of day.
+fn instant_of(m: Moment) -> Instant
+    ensures result { λ r. ⌜ toldInstant r ≡ instantAnswer (m .year) (m .month) (m .day) (m .hour) (m .minute) (m .second8) ⌝ }
+{
+    calendar::instant(m.year, m.month, m.day, m.hour, m.minute, m.second8)
+}
+
 // Whether every number is within its bounds.
-fn numbers_bounded(epochs: u64, interval8: u64, satellites: u64, comments: u64, bases: Bases) -> bool
+fn numbers_bounded(
+    epochs: u64,
+    interval8: u64,
+    satellites: u64,
+    comments: u64,
+    bases: Bases,
+) -> bool
     ensures result { λ r. ⌜ r ≡ numbersBounded epochs interval8 satellites comments bases ⌝ }
 {
-    let bases_fit = (bases.place <= Header::MAX_PLACE_BASE) & (bases.clock <= Header::MAX_CLOCK_BASE);
+    let bases_fit = (bases.place <= Header::MAX_PLACE_BASE)
+        & (bases.clock <= Header::MAX_CLOCK_BASE);
     within(1, Header::MAX_EPOCHS, epochs)
         & (within(1, Header::MAX_INTERVAL, interval8)
             & (within(1, Header::MAX_SATELLITES, satellites)
@@ -139,8 +153,7 @@ impl Header {
         if !letters_listed(mode, texts, file_type, time_system) {
             return refuse(6);
         }
-        let at = calendar::instant(start.year, start.month, start.day, start.hour, start.minute, start.second8);
-        let Instant::At(start8) = at else {
+        let Instant::At(start8) = instant_of(start) else {
             return refuse(7);
         };
         if !numbers_bounded(epochs, interval8, satellites, comments, bases) {
