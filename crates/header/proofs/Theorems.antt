@@ -1,20 +1,21 @@
 -- What an accepted header says, what stands beside a refusal, and how many `+ ` lines there are.
 -- Assumes nothing.
-use mathlib.Core.Bool.{Bool, true, false, cond, _&&_, false≢true}
+use mathlib.Core.Bool.{Bool, true, false, cond, _&&_}
 use mathlib.Core.List.{List}
 use mathlib.Core.Logic.{_⊎_, inl, inr}
-use mathlib.Core.Path.{_≡_, refl, sym, ap, _∙_}
-use Prim.Native.Nat.{ℕ, _*_, _≤_}
+use mathlib.Core.Path.{_≡_, refl}
+use Prim.Native.Nat.{ℕ, _-_, _*_, _≤_, _<_}
 use native.Mathlib.Omega.{arith}
 use borrow.Author.Tests.{leb-true}
 use lib.Dec.{leb, eqb}
 use Rattle.laws.specs.Tests.{within}
-use Rattle.laws.proofs.Bools.{both-true}
+use Rattle.laws.proofs.Bools.{and-left, and-right, both-true}
 use Rattle.laws.proofs.Bounds.{within-true}
-use Rattle.layout.specs.Kind.{isOneOf, isListed, printable}
+use Rattle.layout.specs.Kind.{isOneOf, isListed}
 use Rattle.header.specs.Rules.{maxSatellites, maxEpochs, minComments, slotLines}
 use Rattle.header.specs.Letters.{modes, fileTypes, timeSystems}
-use Rattle.header.specs.Header.{maxInterval, maxPlaceBase, maxClockBase, textsPrintable, lettersListed, isMoment, instantOf, numbersBounded, noHeader, headerOf}
+use Rattle.header.specs.Header.{maxInterval, maxPlaceBase, maxClockBase, textsPrintable, lettersListed, isMoment, instantOf, numbersBounded, noHeader, refused, headerOf}
+use Rattle.header.proofs.Answers.{begun}
 use Rattle.header.specs.declared.types.Moment.{Moment}
 use Rattle.header.specs.declared.types.Texts.{Texts}
 use Rattle.header.specs.declared.types.Bases.{Bases}
@@ -72,3 +73,105 @@ pub record Accepted (mode : ℕ) (start : Moment) (h : Header) : Type 0 where
   pub start8-is : h .start8 ≡ instantOf start
   pub numbers : Bounded (h .epochs) (h .interval8) (h .satellites) (h .comments) (h .bases)
   pub letters : Listed mode (h .texts) (h .«file_type») (h .«time_system»)
+
+-- an answer by its two tests
+abbrev answered : Bool → Bool → Header → HeaderAnswer
+answered t u h = cond t (cond u (record { refusal = 0; header = h }) (refused 7)) (refused 6)
+
+both-passed : (t u : Bool) (h : Header) → answered t u h .refusal ≡ 0 → (t ≡ true) × (u ≡ true)
+both-passed true true h e = (refl, refl)
+both-passed true false h e = absurd (omega arith)
+both-passed false u h e = absurd (omega arith)
+
+none-beside : (t u : Bool) (h : Header) → (answered t u h .refusal ≡ 0 → ⊥) → answered t u h .header ≡ noHeader
+none-beside true true h e = absurd (e refl)
+none-beside true false h e = refl
+none-beside false u h e = refl
+
+three-answers : (t u : Bool) (h : Header) →
+    (answered t u h .refusal ≡ 0) ⊎ ((answered t u h .refusal ≡ 6) ⊎ (answered t u h .refusal ≡ 7))
+three-answers true true h = inl refl
+three-answers true false h = inr (inr refl)
+three-answers false u h = inr (inl refl)
+
+module _ (mode : ℕ) (start : Moment) (epochs interval8 : ℕ) (texts : Texts) (satellites comments fileType : ℕ) (timeSystem : List ℕ) (bases : Bases) where
+  abbrev answer : HeaderAnswer
+  answer = headerOf mode start epochs interval8 texts satellites comments fileType timeSystem bases
+
+  abbrev whole : ℕ → HeaderAnswer
+  whole = begun mode start epochs interval8 texts satellites comments fileType timeSystem bases
+
+  abbrev listed : Bool
+  listed = lettersListed mode texts fileType timeSystem
+
+  abbrev bounded : Bool
+  bounded = numbersBounded epochs interval8 satellites comments bases
+
+  tests-passed : answer .refusal ≡ 0 → (listed ≡ true) × ((isMoment start && bounded) ≡ true)
+  unfolding headerOf
+  tests-passed e = both-passed listed (isMoment start && bounded) (whole (instantOf start) .header) e
+
+  -- an accepted header has the letters, words and texts that its fields may hold
+  pub new-letters : answer .refusal ≡ 0 → Listed mode texts fileType timeSystem
+  new-letters e = letters-listed mode texts fileType timeSystem (tests-passed e .0)
+
+  -- its numbers are within their bounds, and its start is a date and a time of day
+  pub new-numbers : answer .refusal ≡ 0 → Bounded epochs interval8 satellites comments bases
+  new-numbers e = numbers-bounded epochs interval8 satellites comments bases
+      (and-right (isMoment start) bounded (tests-passed e .1))
+
+  pub new-start : answer .refusal ≡ 0 → isMoment start ≡ true
+  new-start e = and-left (isMoment start) bounded (tests-passed e .1)
+
+  -- it holds what was given
+  pub new-made : answer .refusal ≡ 0 → answer ≡ whole (instantOf start)
+  unfolding headerOf
+  new-made e = rw (tests-passed e .0, tests-passed e .1)
+
+  pub new-accepted : answer .refusal ≡ 0 → Accepted mode start (answer .header)
+  new-accepted e =
+      rw (new-made e)
+      (record {
+        velocity-is = refl;
+        start-is = new-start e;
+        start8-is = refl;
+        numbers = new-numbers e;
+        letters = new-letters e;
+      })
+
+  -- and such letters, numbers and texts are accepted
+  pub new-accepts : listed ≡ true → isMoment start ≡ true →
+      bounded ≡ true → answer .refusal ≡ 0
+  unfolding headerOf
+  new-accepts l m n = rw (l, m, n)
+
+  -- no other refusal than 6 and 7, and no header beside one
+  pub new-answers : (answer .refusal ≡ 0) ⊎ ((answer .refusal ≡ 6) ⊎ (answer .refusal ≡ 7))
+  unfolding headerOf
+  new-answers = three-answers listed (isMoment start && bounded) (whole (instantOf start) .header)
+
+  pub new-refused : (answer .refusal ≡ 0 → ⊥) → answer .header ≡ noHeader
+  unfolding headerOf
+  new-refused e = none-beside listed (isMoment start && bounded) (whole (instantOf start) .header) e
+
+-- five lines up to 85 satellites, fifteen for the most
+pub slots-85 : slotLines 85 ≡ 5
+unfolding slotLines
+slots-85 = refl
+
+pub slots-86 : slotLines 86 ≡ 6
+unfolding slotLines
+slots-86 = refl
+
+pub slots-255 : slotLines 255 ≡ 15
+unfolding slotLines
+slots-255 = refl
+
+-- the lines have a slot for each satellite, and none of them is beyond the fifth and without one
+pub slots-enough : (n : ℕ) → n ≤ slotLines n * 17
+unfolding slotLines
+slots-enough n = omega arith
+
+pub slots-needed : (n : ℕ) → 5 < slotLines n → (slotLines n - 1) * 17 < n
+unfolding slotLines
+slots-needed n h = omega arith

@@ -1,8 +1,8 @@
 -- What the header lines of a file say, as one value, and its making out of numbers, letters and texts. 01, "What the build covers": "A table
 -- holds the mode, start, number of epochs, interval, four texts, .. file type, time system, two bases". Refused: 6 where a letter, file type or
 -- time system isn't listed or a text has a byte outside 32 to 126, 7 where a number or date is outside its bounds; the lowest decides.
-use mathlib.Core.List.{List, [], _∷_}
-use mathlib.Core.Bool.{Bool, true, false, cond, _&&_}
+use mathlib.Core.List.{List}
+use mathlib.Core.Bool.{Bool, false, cond, _&&_}
 use Prim.Native.Nat.{ℕ, _+_, _*_}
 use lib.Dec.{leb, eqb}
 use lib.ListN.{replicate}

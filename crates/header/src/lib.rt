@@ -26,24 +26,30 @@ pub fn is_mode(b: u8) -> bool
 pub fn is_file_type(b: u8) -> bool
     ensures result { λ r. ⌜ r ≡ isOneOf b fileTypes ⌝ }
 {
-    let grls = (b == b'G') | ((b == b'M') | ((b == b'R') | (b == b'L')));
-    let ecj = (b == b'E') | ((b == b'C') | (b == b'J'));
-    grls | ((b == b'S') | ((b == b'I') | ecj))
+    (b == b'G')
+        | (b == b'M')
+        | (b == b'R')
+        | (b == b'L')
+        | (b == b'S')
+        | (b == b'I')
+        | (b == b'E')
+        | (b == b'C')
+        | (b == b'J')
 }
 
 // Whether three bytes are a time system: GPS, GLO, GAL, BDT, TAI, UTC, IRN or QZS; GMT is none.
 pub fn is_time_system(a: u8, b: u8, c: u8) -> bool
     ensures result { λ r. ⌜ r ≡ isListed (a ∷ b ∷ c ∷ []) timeSystems ⌝ }
 {
-    let gps = (a == b'G') & ((b == b'P') & (c == b'S'));
-    let glo = (a == b'G') & ((b == b'L') & (c == b'O'));
-    let gal = (a == b'G') & ((b == b'A') & (c == b'L'));
-    let bdt = (a == b'B') & ((b == b'D') & (c == b'T'));
-    let tai = (a == b'T') & ((b == b'A') & (c == b'I'));
-    let utc = (a == b'U') & ((b == b'T') & (c == b'C'));
-    let irn = (a == b'I') & ((b == b'R') & (c == b'N'));
-    let qzs = (a == b'Q') & ((b == b'Z') & (c == b'S'));
-    gps | (glo | (gal | (bdt | (tai | (utc | (irn | qzs))))))
+    let gps = (a == b'G') & (b == b'P') & (c == b'S');
+    let glo = (a == b'G') & (b == b'L') & (c == b'O');
+    let gal = (a == b'G') & (b == b'A') & (c == b'L');
+    let bdt = (a == b'B') & (b == b'D') & (c == b'T');
+    let tai = (a == b'T') & (b == b'A') & (c == b'I');
+    let utc = (a == b'U') & (b == b'T') & (c == b'C');
+    let irn = (a == b'I') & (b == b'R') & (c == b'N');
+    let qzs = (a == b'Q') & (b == b'Z') & (c == b'S');
+    gps | glo | gal | bdt | tai | utc | irn | qzs
 }
 
 // The `+ ` lines of n satellites, five at least: 5 for 85, 6 for 86.

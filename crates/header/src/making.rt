@@ -1,6 +1,7 @@
 // The rules of the version, the bounds of a header, and its making out of numbers, letters and texts.
 ghost use mathlib.Core.Path.{_≡_};
 ghost use mathlib.Core.Bool.{true};
+ghost use Rattle.calendar.specs.Clock.{toldInstant, instantAnswer};
 ghost use Rattle.header.specs.Rules.{d, maxSatellites, maxEpochs, minComments};
 ghost use Rattle.header.specs.Header.{maxInterval, maxPlaceBase, maxClockBase, textsPrintable, lettersListed, numbersBounded, noHeader, refused, headerOf};
 use crate::types::Bases;
@@ -46,6 +47,13 @@ fn letters_listed(mode: u8, texts: Texts, file_type: u8, time_system: [u8; 3]) -
 {
     let timed = crate::is_time_system(time_system[0], time_system[1], time_system[2]);
     crate::is_mode(mode) & (crate::is_file_type(file_type) & (timed & texts_printable(texts)))
+}
+
+// The instant of a start; 7 where it is no date or no time of day.
+fn instant_of(m: Moment) -> Instant
+    ensures result { λ r. ⌜ toldInstant r ≡ instantAnswer (m .year) (m .month) (m .day) (m .hour) (m .minute) (m .second8) ⌝ }
+{
+    calendar::instant(m.year, m.month, m.day, m.hour, m.minute, m.second8)
 }
 
 // Whether every number is within its bounds.
@@ -145,15 +153,7 @@ impl Header {
         if !letters_listed(mode, texts, file_type, time_system) {
             return refuse(6);
         }
-        let at = calendar::instant(
-            start.year,
-            start.month,
-            start.day,
-            start.hour,
-            start.minute,
-            start.second8,
-        );
-        let Instant::At(start8) = at else {
+        let Instant::At(start8) = instant_of(start) else {
             return refuse(7);
         };
         if !numbers_bounded(epochs, interval8, satellites, comments, bases) {

@@ -1,6 +1,6 @@
 -- `header::is_file_type` meets its contract: a list of tests ends in `false`, which adds nothing.
 -- Assumes nothing.
-use mathlib.Core.Bool.{or-false, or-assoc}
+use mathlib.Core.Bool.{or-assoc, or-false}
 use Rattle.header.proofs.is_file_type.Statement.{statement}
 use Rattle.header.proofs.is_file_type.Tie as tie
 

@@ -31,12 +31,12 @@ returns-2 c =
     let asked = told .before .before in
     c .refuse2 .ensures
     ∙ sym
-    (no-start _ _ _ _ _ _ _ _ _ _ (listed (asked .before)) (sym (asked .instant .ensures) ∙ ap toldInstant (told .enum-told .given .1)))
+    (no-start _ _ _ _ _ _ _ _ _ _ (listed (asked .before)) (sym (asked .instant-of .ensures) ∙ ap toldInstant (told .enum-told .given .1)))
 
 -- where the start has an instant, the calendar gave it
-given : (c : tie.After-at) → startAnswer (c .before .before .before .before .before .args .start) ≡ 0 ∷ c .at .given .0 .0 ∷ []
+given : (c : tie.After-start8) → startAnswer (c .before .before .before .before .before .args .start) ≡ 0 ∷ c .start8 .given .0 .0 ∷ []
 unfolding toldInstant
-given c = sym (c .before .before .instant .ensures) ∙ ap toldInstant (c .at .given .1)
+given c = sym (c .before .before .instant-of .ensures) ∙ ap toldInstant (c .start8 .given .1)
 
 returns-3 : tie.Need-returns-3
 returns-3 c =
