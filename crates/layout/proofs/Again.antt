@@ -5,7 +5,7 @@ use mathlib.Core.Bool.{Bool, true, false, cond, not, _&&_, _||_}
 use mathlib.Core.List.{List, [], _∷_, _++_}
 use Prim.Native.Nat.{ℕ, zero, suc, _+_, _*_, _-_, min, _<_, _≤_}
 use native.Mathlib.Omega.{arith}
-use borrow.Author.Tests.{eqb-true, eqb-false, eq-eqb}
+use borrow.Author.Tests.{eqb-true, eqb-false, eq-eqb, ltb-true}
 use lib.Dec.{leb, ltb, eqb}
 use lib.ListN.{length, getD, take, drop, length-drop}
 use lib.Seq.{length-take-le}
@@ -24,12 +24,12 @@ use Rattle.field.specs.declared.Amount.the-variants as amounts
 use Rattle.field.proofs.Accepted.{Carried, Taken, decimal-taken, integer-minus}
 use Rattle.field.proofs.Again.{whole-again, exponent-again, decimal-again}
 use Rattle.layout.specs.Fault.{clean, keyed, lower, lowerOf, lowerUnless}
-use Rattle.layout.specs.Kind.{Kind, Held, silent, unknown, isOneOf, isListed, isBlank, isLettered, isName, named, nameCode, nameNumber, canAmount, unless, boundFault, wholeFault, amountFault, exponentFault, faultIn, heldIn, heldAmount, wholeHeld, amountHeld, signHeld, exponentHeld, fitsIn, holdsIn, printable, numberWith, amountWith}
+use Rattle.layout.specs.Kind.{Kind, Held, silent, unknown, sameBytes, isOneOf, isListed, isBlank, isLettered, isName, named, nameCode, nameNumber, canAmount, unless, boundFault, wholeFault, amountFault, exponentFault, faultIn, heldIn, heldAmount, wholeHeld, amountHeld, signHeld, exponentHeld, fitsIn, holdsIn, printable, numberWith, amountWith}
 use Rattle.layout.specs.Kind.Kind.{unused, fixed, whole, decimal, signed, clock, exponent, flag, letter, listed, identifier, filler, zeroWhole, zeroDecimal, text}
 use Rattle.layout.specs.Kind.Held.{nothing}
 use Rattle.layout.specs.Layout.{hasOwn, ownOf, othersOf, Item, Values, widthOf, partOf, faultAt, heldAt, tiledFrom, tiled, faultFrom, faultOf, valuesOf, canShow, entered}
 use Rattle.layout.proofs.Names.{name-again}
-use Rattle.layout.proofs.Fields.{not-false-true}
+use Rattle.layout.proofs.Fields.{not-false-true, same-one}
 use Rattle.layout.proofs.Layouts.{Stands, stands, start-bound}
 
 -- a key has a number, so it is no fault's absence
@@ -95,23 +95,25 @@ holds-name column bs true e f = name-again bs e (bound-passed column 1 99 (nameN
 holds-name column bs false e f = absurd (no-key 6 column (omega arith) f)
 
 -- what a field without fault holds, it can hold
-pub holds-again : (kind : Kind) (column : ℕ) (bs : List ℕ) → printable bs ≡ true → faultIn kind column bs ≡ clean → holdsIn kind (length bs) (heldIn kind bs) ≡ true
-holds-again unused column bs p f = refl
-holds-again (fixed number these) column bs p f = refl
-holds-again (whole low high) column bs p f = holds-whole low high column bs (wholeOf bs) refl f
-holds-again (decimal places low high) column bs p f = holds-decimal places low high column bs (decimalOf bs places false) refl f
-holds-again (signed places) column bs p f = holds-signed places column bs (decimalOf bs places true) refl f
-holds-again (clock places) column bs p f = holds-signed places column bs (decimalOf bs places true) refl f
-holds-again exponent column bs p f = holds-exponent column bs (exponentOf bs) refl f
-holds-again (flag sign) column bs p f = refl
-holds-again (letter these) column bs p f =
+pub holds-again : (kind : Kind) (column : ℕ) (bs : List ℕ) → fitsIn kind (length bs) ≡ true → printable bs ≡ true → faultIn kind column bs ≡ clean → holdsIn kind (length bs) (heldIn kind bs) ≡ true
+holds-again unused column bs w p f = refl
+holds-again (fixed number these) column bs w p f =
+    let some = ltb-true 0 number (and-right (eqb (length these) (length bs)) (ltb 0 number) w) in
+    ap printable (sym (same-one bs these (passed (sameBytes bs these) number column some f))) ∙ p
+holds-again (whole low high) column bs w p f = holds-whole low high column bs (wholeOf bs) refl f
+holds-again (decimal places low high) column bs w p f = holds-decimal places low high column bs (decimalOf bs places false) refl f
+holds-again (signed places) column bs w p f = holds-signed places column bs (decimalOf bs places true) refl f
+holds-again (clock places) column bs w p f = holds-signed places column bs (decimalOf bs places true) refl f
+holds-again exponent column bs w p f = holds-exponent column bs (exponentOf bs) refl f
+holds-again (flag sign) column bs w p f = refl
+holds-again (letter these) column bs w p f =
     and-left (isOneOf (getD bs 0 0) these) (every isBlank (drop 1 bs)) (passed (isLettered bs these) 6 column (omega arith) f)
-holds-again (listed these) column bs p f = passed (isListed bs these) 6 column (omega arith) f
-holds-again identifier column bs p f = holds-name column bs (named bs) refl f
-holds-again filler column bs p f = refl
-holds-again zeroWhole column bs p f = refl
-holds-again (zeroDecimal places) column bs p f = refl
-holds-again text column bs p f = and-both (eqb (length bs) (length bs)) (printable bs) (eq-eqb (length bs) (length bs) refl) p
+holds-again (listed these) column bs w p f = passed (isListed bs these) 6 column (omega arith) f
+holds-again identifier column bs w p f = holds-name column bs (named bs) refl f
+holds-again filler column bs w p f = refl
+holds-again zeroWhole column bs w p f = refl
+holds-again (zeroDecimal places) column bs w p f = refl
+holds-again text column bs w p f = and-both (eqb (length bs) (length bs)) (printable bs) (eq-eqb (length bs) (length bs) refl) p
 
 -- a kind that never holds anything holds nothing
 silent-held : (kind : Kind) (bs : List ℕ) → silent kind ≡ true → heldIn kind bs ≡ nothing
@@ -188,8 +190,9 @@ module _ (line : List ℕ) (wide : length line ≡ 80) (plain : printable line �
       let here = stands at item items t in
       let part = partOf item line in
       let entry = own-entry (item .kind) part (valuesOf items line) (silent (item .kind)) refl in
-      let held = holds-again (item .kind) (item .blamed) part (every-take (widthOf item) (drop (item .first - 1) line) (every-drop (item .first - 1) line plain)) (item-clean item items line lowest e) in
-      let own : holdsIn (item .kind) (widthOf item) (heldIn (item .kind) part) ≡ true = ap (λ (w : ℕ). holdsIn (item .kind) w (heldIn (item .kind) part)) (sym (part-wide at item items p t)) ∙ held in
+      let wide-part = part-wide at item items p t in
+      let held = holds-again (item .kind) (item .blamed) part (ap (fitsIn (item .kind)) wide-part ∙ here .fits) (every-take (widthOf item) (drop (item .first - 1) line) (every-drop (item .first - 1) line plain)) (item-clean item items line lowest e) in
+      let own : holdsIn (item .kind) (widthOf item) (heldIn (item .kind) part) ≡ true = ap (λ (w : ℕ). holdsIn (item .kind) w (heldIn (item .kind) part)) (sym wide-part) ∙ held in
       rw (entry .0, entry .1, entry .2, own)
       (again-from items (suc (item .last)) (lower lowest (faultAt item line)) (omega arith) (here .later) e)
 

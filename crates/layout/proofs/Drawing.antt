@@ -51,3 +51,7 @@ pub draw-several : (items : List Item) {more : List Item} {vs : Values} {line mi
 draw-several items {more} {vs} {line} {mid} {out} e d = record {
   same = d .same ∙ ap (drawn more (leftAfter items vs)) e ∙ sym (drawn-parts items more vs line);
 }
+
+-- all that the items drew
+pub draws : (items : List Item) (vs : Values) (line : List ℕ) {out : List ℕ} → Draws items vs line out → out ≡ drawn items vs line
+draws items vs line d = d .same

@@ -30,7 +30,7 @@ not-false-true e = let z : _≡_ {A = ℕ} 0 1 = ap (λ (t : Bool). cond t 1 0) 
 -- whatever is shown in w columns fills them
 pub wide : (kind : Kind) (w : ℕ) (v : Held) → fitsIn kind w ≡ true → length (shownIn kind w v) ≡ w
 wide unused w v f = blanks-length w
-wide (fixed number these) w v f = eqb-true (length these) w (and-left (eqb (length these) w) (printable these) f)
+wide (fixed number these) w v f = eqb-true (length these) w (and-left (eqb (length these) w) (ltb 0 number) f)
 wide (whole low high) w v f = whole-wide w (numberIn v)
 wide (decimal places low high) w v f = places-wide w places false (numberIn v)
 wide (signed places) w v f = places-wide w places (negativeIn v) (magnitudeIn v)
@@ -239,7 +239,11 @@ keeps-text w v e p = let all = text-whole w v e in record { plain = rw all p; so
 pub keeps : (kind : Kind) (w : ℕ) (v : Held) → fitsIn kind w ≡ true → holdsIn kind w v ≡ true → Keeps kind w v
 keeps unused w v f h = record { plain = blanks-printable w; sound = λ column. blanks-clean w column; back = none-left v h }
 keeps (fixed number these) w v f h =
-    record { plain = and-right (eqb (length these) w) (printable these) f; sound = λ column. rw (same-refl these); back = none-left v h }
+    record {
+      plain = and-right (isNothing v) (printable these) h;
+      sound = λ column. rw (same-refl these);
+      back = none-left v (and-left (isNothing v) (printable these) h);
+    }
 keeps (whole low high) w v f h =
     let one = a-number (λ n. within low high n && fitsWhole w n) v h in
     rw (one .1) (keeps-whole low high w (one .0) (one .2))

@@ -16,6 +16,7 @@ use Rattle.laws.specs.Texts.{every, isPrintable, blanks}
 use Rattle.laws.proofs.Bools.{and-left, and-right, and-true}
 use Rattle.laws.proofs.Lists.{rest-step, rest-none}
 use Rattle.layout.specs.Kind.{printable}
+use Rattle.layout.specs.Layout.{overlaid}
 use Rattle.layout.specs.Line.{padded, consTrimmed, trimmed, ended, lineOf, laidIn, Lays}
 
 pub blanks-length : (w : ℕ) → length (blanks w) ≡ w
@@ -218,3 +219,17 @@ flag-more test s i ok h = rw (rest-step s i h) (go ok)
 
 pub flag-end : (test : ℕ → Bool) (s : List ℕ) (i : ℕ) (ok : Bool) → length s ≤ i → ok ≡ (ok && every test (drop i s))
 flag-end test s i ok h = sym (ap (λ (r : List ℕ). ok && every test r) (rest-none s i h) ∙ and-true ok)
+
+-- bytes laid over as many columns keep a line's length
+pub overlaid-length : (bytes line : List ℕ) (first last : ℕ) → 1 ≤ first → first ≤ last → last ≤ length line → length bytes ≡ last - (first - 1)
+    → length (overlaid first last bytes line) ≡ length line
+overlaid-length bytes line first last p q r e =
+    let rest = drop (last - (first - 1)) (drop (first - 1) line) in
+    omega (
+      arith,
+      length-append (take (first - 1) line) (bytes ++ rest),
+      length-append bytes rest,
+      length-take-le (first - 1) line (omega arith),
+      length-drop (last - (first - 1)) (drop (first - 1) line),
+      length-drop (first - 1) line,
+    )

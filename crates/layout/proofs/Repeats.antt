@@ -14,7 +14,8 @@ use lib.Seq.{take-suc-set, drop-cons}
 use Rattle.layout.specs.Fault.{lower}
 use Rattle.layout.specs.Kind.{Kind, Held, silent, isUnused, numberIn, shownIn, fitsIn}
 use Rattle.layout.specs.Kind.Held.{one}
-use Rattle.layout.specs.Layout.{Item, Values, heldAt, faultAt, entered, faultFrom, valuesOf, tiledFrom, overlaid, drawn, slotAt, slotsFrom, numbersOf, onesOf}
+use Rattle.layout.proofs.Fields.{wide}
+use Rattle.layout.specs.Layout.{Item, Values, heldAt, faultAt, entered, faultFrom, valuesOf, tiledFrom, overlaid, drawn, slotFor, slotAt, slotsFrom, numbersOf, onesOf}
 
 -- there are satellites left for the slot k
 left-some : (left k : ℕ) → ltb 0 (left - k) ≡ ltb k left
@@ -62,19 +63,23 @@ stored vs i v rest h = rw (add-one i, take-suc-set vs i v h, append-assoc)
 
 -- one more slot of a loop that draws
 module _ (kind : Kind) (loud : silent kind ≡ false) (used : isUnused kind ≡ false) where
-  slot-drawn : (t : Bool) (at code : ℕ) (vs : Values) (items : List Item) (line : List ℕ)
-      → drawn (slotAt t kind at ∷ items) (one code ∷ vs) line
-      ≡ drawn items vs (overlaid at (at + 2) (shownIn (slotAt t kind at .kind) (at + 2 - (at - 1)) (one code)) line)
-  slot-drawn true at code vs items line = rw (loud, used)
-  slot-drawn false at code vs items line = refl
+  slot-drawn : (t : Bool) (at code : ℕ) (vs : Values) (items : List Item) (line : List ℕ) → 1 ≤ at
+      → drawn (slotAt t kind at ∷ items) (one code ∷ vs) line ≡ drawn items vs (overlaid at (at + 2) (shownIn (slotFor t kind) 3 (one code)) line)
+  slot-drawn true at code vs items line p = let three : at + 2 - (at - 1) ≡ 3 = omega arith in rw (loud, used, three)
+  slot-drawn false at code vs items line p = refl
 
-  pub next-drawn : (m n left k at : ℕ) → m ≡ suc n → (names line : List ℕ) → k < length names
+  pub next-drawn : (m n left k at : ℕ) → 1 ≤ at → m ≡ suc n → (names line : List ℕ) → k < length names
       → drawn (slotsFrom kind m (left - k) at) (onesOf (drop k names)) line
       ≡ drawn (slotsFrom kind n (left - (k + 1)) (at + 3)) (onesOf (drop (k + 1) names))
-      (overlaid at (at + 2) (shownIn (slotAt (ltb k left) kind at .kind) (at + 2 - (at - 1)) (one (getD names k 0))) line)
-  next-drawn m n left k at e names line h =
+      (overlaid at (at + 2) (shownIn (slotFor (ltb k left) kind) 3 (one (getD names k 0))) line)
+  next-drawn m n left k at p e names line h =
       rw (next-slot kind m n left k at e, drop-cons names k 0 h, add-one k)
-      (slot-drawn (ltb k left) at (getD names k 0) (onesOf (drop (suc k) names)) (slotsFrom kind n (left - suc k) (at + 3)) line)
+      (slot-drawn (ltb k left) at (getD names k 0) (onesOf (drop (suc k) names)) (slotsFrom kind n (left - suc k) (at + 3)) line p)
+
+-- a slot fills its three columns
+pub slot-length : (kind : Kind) → fitsIn kind 3 ≡ true → (t : Bool) (code : ℕ) → length (shownIn (slotFor t kind) 3 (one code)) ≡ 3
+slot-length kind fits true code = wide kind 3 (one code) fits
+slot-length kind fits false code = refl
 
 -- so many slots from the column at, then other items, tile
 pub slots-tile : (kind : Kind) → fitsIn kind 3 ≡ true → (count left at : ℕ) (more : List Item) → 1 ≤ at

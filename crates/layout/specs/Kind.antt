@@ -296,7 +296,7 @@ wordsFit w (word ∷ these) = (eqb (length word) w && printable word) && wordsFi
 -- the widths that a kind can have
 abbrev pub fitsIn : Kind → ℕ → Bool
 fitsIn unused w = true
-fitsIn (fixed number these) w = eqb (length these) w && printable these
+fitsIn (fixed number these) w = eqb (length these) w && ltb 0 number
 fitsIn (whole low high) w = true
 fitsIn (decimal places low high) w = true
 fitsIn (signed places) w = true
@@ -352,7 +352,7 @@ canAmount w places negative m = leb m largest && (fitsDecimal w places negative 
 -- what a field of w columns can hold
 abbrev pub holdsIn : Kind → ℕ → Held → Bool
 holdsIn unused w v = isNothing v
-holdsIn (fixed number these) w v = isNothing v
+holdsIn (fixed number these) w v = isNothing v && printable these
 holdsIn (whole low high) w v = numberWith (λ n. within low high n && fitsWhole w n) v
 holdsIn (decimal places low high) w v = numberWith (λ m. within low high m && fitsDecimal w places false m) v
 holdsIn (signed places) w v = amountWith (canAmount w places) v

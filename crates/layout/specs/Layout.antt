@@ -132,9 +132,12 @@ abbrev pub wordsAt : Values → ℕ → List ℕ
 wordsAt vs k = wordsIn (getD vs k nothing)
 
 -- a slot of a satellite, or one after the last, whose fault names no column
+abbrev pub slotFor : Bool → Kind → Kind
+slotFor true kind = kind
+slotFor false kind = filler
+
 abbrev pub slotAt : Bool → Kind → ℕ → Item
-slotAt true kind at = columns at (at + 2) kind
-slotAt false kind at = partAt 0 at (at + 2) filler
+slotAt used kind at = partAt (cond used at 0) at (at + 2) (slotFor used kind)
 
 -- so many slots of three columns from the column at, of which the first `left` are of satellites
 unfoldable pub slotsFrom : Kind → ℕ → ℕ → ℕ → List Item

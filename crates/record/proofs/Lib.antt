@@ -3,3 +3,4 @@ pub mod Same
 pub mod Letters
 pub mod Reading
 pub mod SlotKinds
+pub mod Tiled

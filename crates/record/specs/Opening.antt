@@ -17,8 +17,25 @@ use Rattle.record.specs.declared.types.First.{First}
 use Rattle.record.specs.declared.types.Second.{Second}
 use Rattle.record.specs.declared.types.Epoch.{Epoch}
 
--- 000, line one: Columns 1-2 Version Symbol A2, 3 Pos or Vel Flag A1, 4-31 the start, 33-39 Number of Epochs I7, 41-45 Data Used A5, 47-51
--- Coordinate Sys A5, 53-55 Orbit Type A3, 57-60 Agency A4; 32, 40, 46, 52, 56 Unused
+-- the four texts of line 1, from column 41 on: 41-45 Data Used A5, 47-51 Coordinate Sys A5, 53-55 Orbit Type A3, 57-60 Agency A4; 46, 52, 56
+-- Unused
+abbrev pub textItems : List Item
+textItems =
+    columns 41 45 text
+    ∷ column 46 unused
+    ∷ columns 47 51 text
+    ∷ column 52 unused
+    ∷ columns 53 55 text
+    ∷ column 56 unused
+    ∷ columns 57 60 text
+    ∷ columns 61 80 unused
+    ∷ []
+
+abbrev pub textValues : Texts → Values
+textValues t = words (t .«data_used») ∷ words (t .coordinates) ∷ words (t .orbit) ∷ words (t .agency) ∷ []
+
+-- 000, line one: Columns 1-2 Version Symbol A2, 3 Pos or Vel Flag A1, 4-31 the start, 33-39 Number of Epochs I7, 41-60 the texts; 32,
+-- 40 Unused
 abbrev pub firstItems : Rules → List Item
 firstItems rules =
     partAt 0 1 2 (fixed 4 (35 ∷ rules .letter ∷ []))
@@ -27,15 +44,7 @@ firstItems rules =
     ++ (column 32 unused
     ∷ columns 33 39 (whole 1 maxEpochs)
     ∷ column 40 unused
-    ∷ columns 41 45 text
-    ∷ column 46 unused
-    ∷ columns 47 51 text
-    ∷ column 52 unused
-    ∷ columns 53 55 text
-    ∷ column 56 unused
-    ∷ columns 57 60 text
-    ∷ columns 61 80 unused
-    ∷ []))
+    ∷ textItems))
 
 -- the four texts of a line of 80 columns
 abbrev pub textsOf : List ℕ → Texts
@@ -58,13 +67,7 @@ firstFrom fault vs = record {
 abbrev pub firstValues : First → Values
 firstValues f =
     one (f .mode)
-    ∷ (momentValues (f .start)
-    ++ (one (f .epochs)
-    ∷ words (f .texts .«data_used»)
-    ∷ words (f .texts .coordinates)
-    ∷ words (f .texts .orbit)
-    ∷ words (f .texts .agency)
-    ∷ []))
+    ∷ (momentValues (f .start) ++ (one (f .epochs) ∷ textValues (f .texts)))
 
 abbrev pub firstOf : Rules → List ℕ → First
 firstOf rules line = firstFrom (faultOf (firstItems rules) line) (valuesOf (firstItems rules) line)

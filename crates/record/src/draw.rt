@@ -1,6 +1,6 @@
 // A line of 80 columns drawn field by field, by the columns as the document counts them. What does not fit its columns leaves them blank.
 ghost use mathlib.Core.Path.{_≡_};
-ghost use mathlib.Core.Bool.{Bool};
+ghost use mathlib.Core.Bool.{cond};
 ghost use mathlib.Core.List.{[], _∷_};
 ghost use Prim.Native.Nat.{_+_, _-_, _≤_};
 ghost use lib.ListN.{length};
@@ -12,7 +12,7 @@ use crate::rows::UNKNOWN;
 use crate::types::Signed;
 
 // A whole number in all of `out`.
-fn put_number(out: &mut [u8], n: u64)
+pub(crate) fn put_number(out: &mut [u8], n: u64)
     ensures { λ _. ⌜ now (out .exit) ≡ shownIn (whole 0 0) (length (now (out .entry))) (one n) ⌝ }
 {
     laws::fill_blanks(out);
@@ -137,13 +137,18 @@ pub(crate) fn with_exponent(line: [u8; 80], n: u64, first: usize, last: usize) -
     shown
 }
 
-// A flag: its letter where it is set.
+// A flag's letter where it is set, else a blank.
+fn flag_letter(sign: u8, set: bool) -> u8
+    ensures { λ r. ⌜ r ≡ cond set sign 32 ⌝ }
+{
+    if set { sign } else { b' ' }
+}
+
 pub(crate) fn with_flag(line: [u8; 80], sign: u8, set: bool, at: usize) -> [u8; 80]
     requires { ⌜ (1 ≤ at) × (at ≤ 80) ⌝ }
     ensures { λ r. ⌜ r ≡ overlaid at at (shownIn (flag sign) 1 (mark set)) line ⌝ }
 {
-    let letter = if set { sign } else { b' ' };
-    let text = [letter];
+    let text = [flag_letter(sign, set)];
     with_fixed(line, &text, at, at)
 }
 

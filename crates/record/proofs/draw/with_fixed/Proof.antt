@@ -1,35 +1,30 @@
+-- `record::draw::with_fixed` meets its contract.
+-- Assumes nothing.
+use mathlib.Core.Path.{_≡_, _∙_, sym}
+use Prim.Native.Nat.{_-_}
+use native.Mathlib.Omega.{arith}
+use lib.ListN.{length, take, drop, length-drop}
+use lib.Seq.{length-take-le}
+use Rattle.layout.proofs.Lines.{covering}
 use borrow.Author.Needs.{needs}
 use Rattle.record.proofs.draw.with_fixed.Statement.{statement}
 use Rattle.record.proofs.draw.with_fixed.Tie as tie
-use Rattle.record.proofs.draw.with_fixed.Reads as reads
-use Rattle.record.proofs.draw.with_fixed.Lts as lts
-use Rattle.layout.proofs.copy_front.Reads as copy-front-reads
 
--- src/draw.rt:68:16
-sub-from : tie.Need-sub-from
-sub-from c = search needs
-
--- src/draw.rt:69:24
-sub-copy-front : tie.Need-sub-copy-front
-sub-copy-front c = search needs
-
--- src/draw.rt:69:24
-part-shown-start : tie.Need-part-shown-start
-part-shown-start c = search needs
-
--- src/draw.rt:69:24
-part-shown-end : tie.Need-part-shown-end
-part-shown-end c = search needs
-
--- src/draw.rt:69:5
-copy-front-requires : tie.Need-copy-front-requires
-copy-front-requires c κs = search needs
-
--- src/draw.rt:63:1
 returns : tie.Need-returns
-returns c = ?
+returns c =
+    let a = c .before .before .before .before .args in
+    let rest = drop (a .first - 1) (a .line) in
+    let part = take (a .last - (a .first - 1)) rest in
+    let wide : length (a .these .now) ≡ length part = sym (length-take-le (a .last - (a .first - 1)) rest (omega (arith, length-drop (a .first - 1) (a .line))) ∙ omega arith) in
+    rw (c .before .copy-front .ensures, covering (a .these .now) part wide)
 
 pub with-fixed-spec : {M : Type 1} → statement M
 with-fixed-spec =
     tie.close
-    (tie.spec sub-from sub-copy-front part-shown-start part-shown-end copy-front-requires returns)
+    (tie.spec
+    (λ c. search needs)
+    (λ c. search needs)
+    (λ c. search needs)
+    (λ c. search needs)
+    (λ c κs. search needs)
+    returns)

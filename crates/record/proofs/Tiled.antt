@@ -1,0 +1,40 @@
+-- The layouts of the lines of satellites tile the 80 columns for every number of satellites, so that the one law of layouts holds of them too.
+-- Assumes nothing.
+use mathlib.Core.Path.{_≡_, refl}
+use mathlib.Core.Bool.{Bool, true, false}
+use mathlib.Core.List.{[], _∷_}
+use Prim.Native.Nat.{ℕ}
+use native.Mathlib.Omega.{arith}
+use Rattle.header.specs.declared.types.Rules.{Rules}
+use Rattle.layout.specs.Kind.Kind.{unused}
+use Rattle.layout.specs.Layout.{columns, tiled, tiledFrom}
+use Rattle.layout.proofs.Repeats.{slots-tile}
+use Rattle.field.specs.Show.{fitsDecimal, fitsInteger}
+use Rattle.record.specs.Descriptors.{baseItems, floatItems, integerItems}
+use Rattle.record.specs.Plain.{correlationItems}
+use Rattle.record.specs.SlotLines.{slotKind, satelliteItems, moreItems}
+use Rattle.record.proofs.SlotKinds.{three-wide}
+
+pub satellites-tiled : (rules : Rules) (n : ℕ) → tiled (satelliteItems rules n) ≡ true
+satellites-tiled rules n = slots-tile (slotKind false) (three-wide false) 17 n 10 (columns 61 80 unused ∷ []) (omega arith) refl
+
+pub more-tiled : (accuracies : Bool) (left : ℕ) → tiled (moreItems accuracies left) ≡ true
+more-tiled true left = slots-tile (slotKind true) (three-wide true) 17 left 10 (columns 61 80 unused ∷ []) (omega arith) refl
+more-tiled false left = slots-tile (slotKind false) (three-wide false) 17 left 10 (columns 61 80 unused ∷ []) (omega arith) refl
+
+-- placeholders of zero fit their columns
+pub base-tiled : tiled baseItems ≡ true
+unfolding fitsDecimal fitsInteger
+base-tiled = refl
+
+pub float-tiled : tiled floatItems ≡ true
+unfolding fitsDecimal fitsInteger
+float-tiled = refl
+
+pub integer-tiled : tiled integerItems ≡ true
+unfolding fitsInteger
+integer-tiled = refl
+
+pub correlation-tiled : (velocity : Bool) → tiled (correlationItems velocity) ≡ true
+correlation-tiled true = refl
+correlation-tiled false = refl
