@@ -8,5 +8,6 @@ pub mod Again
 pub mod Drawn
 pub mod Drawing
 pub mod Reading
+pub mod Deciding
 pub mod Repeats
 pub mod ReadBack

@@ -10,6 +10,7 @@ use Rattle.layout.specs.Fault.{clean}
 use Rattle.layout.specs.Kind.{printable}
 use Rattle.layout.specs.Layout.{Item, Values, tiled, canShow, faultOf, valuesOf, showLine}
 use Rattle.layout.specs.Line.{padded, trimmed, ended, lineOf}
+use Rattle.layout.proofs.Again.{shown-again}
 use Rattle.layout.proofs.Layouts.{shown-wide, ReadsBack, reads-back}
 use Rattle.layout.proofs.Lines.{padded-trimmed, line-found, trimmed-shorter, trimmed-printable}
 
@@ -33,3 +34,10 @@ written items vs t c = record {
   plain = trimmed-printable (showLine items vs) (reads-back items vs t c .plain);
   short = omega (arith, trimmed-shorter (showLine items vs), shown-wide items vs t);
 }
+
+-- a line without fault, shown again, is read as what it was
+pub line-again : {X : Type 0} (items : List Item) (make : ℕ → Values → X) (line rest : List ℕ) → length line ≡ 80 → printable line ≡ true → tiled items ≡ true
+    → faultOf items line ≡ clean
+    → let again = padded (lineOf (ended (showLine items (valuesOf items line)) ++ rest)) in
+    make (faultOf items again) (valuesOf items again) ≡ make clean (valuesOf items line)
+line-again items make line rest w p t f = line-back items make (valuesOf items line) rest t (shown-again items line w p t f)

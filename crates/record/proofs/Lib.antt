@@ -4,3 +4,6 @@ pub mod Letters
 pub mod Reading
 pub mod SlotKinds
 pub mod Tiled
+pub mod Taking
+pub mod Absent
+pub mod RoundTrips

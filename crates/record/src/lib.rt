@@ -1,5 +1,6 @@
 // Every line of the format by its layout: its kind, its columns judged and read, and its canonical text written.
 // Readers take a line of 80 columns (a shorter one is padded by `layout::pad`); writers take the output from the next free byte on.
+pub mod absence;
 pub mod descriptors;
 mod draw;
 mod fields;
