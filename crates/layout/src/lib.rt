@@ -94,7 +94,7 @@ fn trimmed_length(line: &[u8]) -> usize
 
 // Lays a line, cut and with its LF, at the front of `out`, where there is room, and tells its length in any case.
 pub fn lay_line(line: &[u8; 80], out: &mut [u8]) -> usize
-    ensures { λ r. ⌜ Lays (ended (now (line .entry))) (now (out .entry)) r (now (out .exit)) ⌝ }
+    ensures lays { λ r. ⌜ Lays (ended (now (line .entry))) (now (out .entry)) r (now (out .exit)) ⌝ }
 {
     let s = &line[..];
     let n = trimmed_length(s);

@@ -155,7 +155,7 @@ fn with_later_characters(line: [u8; 80]) -> [u8; 80]
 
 // The first `%c` line laid at the front of `out`, where there is room, and its length in any case.
 pub fn write_descriptor(d: Descriptor, out: &mut [u8]) -> usize
-    ensures { λ r. ⌜ Lays (descriptorLine d) (now (out .entry)) r (now (out .exit)) ⌝ }
+    ensures lays { λ r. ⌜ Lays (descriptorLine d) (now (out .entry)) r (now (out .exit)) ⌝ }
 {
     let time_system = d.time_system;
     let a = draw::with_fixed([b' '; 80], b"%c", 1, 2);
@@ -168,7 +168,7 @@ pub fn write_descriptor(d: Descriptor, out: &mut [u8]) -> usize
 
 // The same of the second.
 pub fn write_characters(out: &mut [u8]) -> usize
-    ensures { λ r. ⌜ Lays (fixedLine characterItems) (now (out .entry)) r (now (out .exit)) ⌝ }
+    ensures lays { λ r. ⌜ Lays (fixedLine characterItems) (now (out .entry)) r (now (out .exit)) ⌝ }
 {
     let a = draw::with_fixed([b' '; 80], b"%c", 1, 2);
     let b = draw::with_fixed(a, b"cc", 4, 5);
@@ -188,7 +188,7 @@ fn with_later_floats(line: [u8; 80]) -> [u8; 80]
 
 // The first `%f` line laid at the front of `out`, where there is room, and its length in any case.
 pub fn write_bases(b: BaseLine, out: &mut [u8]) -> usize
-    ensures { λ r. ⌜ Lays (baseLine b) (now (out .entry)) r (now (out .exit)) ⌝ }
+    ensures lays { λ r. ⌜ Lays (baseLine b) (now (out .entry)) r (now (out .exit)) ⌝ }
 {
     let bases = b.bases;
     let a = draw::with_fixed([b' '; 80], b"%f", 1, 2);
@@ -200,7 +200,7 @@ pub fn write_bases(b: BaseLine, out: &mut [u8]) -> usize
 
 // The same of the second.
 pub fn write_floats(out: &mut [u8]) -> usize
-    ensures { λ r. ⌜ Lays (fixedLine floatItems) (now (out .entry)) r (now (out .exit)) ⌝ }
+    ensures lays { λ r. ⌜ Lays (fixedLine floatItems) (now (out .entry)) r (now (out .exit)) ⌝ }
 {
     let a = draw::with_fixed([b' '; 80], b"%f", 1, 2);
     let b = draw::with_decimal(a, 7, 0, 4, 13);
@@ -211,7 +211,7 @@ pub fn write_floats(out: &mut [u8]) -> usize
 
 // The same of a `%i` line.
 pub fn write_integers(out: &mut [u8]) -> usize
-    ensures { λ r. ⌜ Lays (fixedLine integerItems) (now (out .entry)) r (now (out .exit)) ⌝ }
+    ensures lays { λ r. ⌜ Lays (fixedLine integerItems) (now (out .entry)) r (now (out .exit)) ⌝ }
 {
     let a = draw::with_fixed([b' '; 80], b"%i", 1, 2);
     let b = draw::with_whole(a, 0, 4, 7);

@@ -153,7 +153,7 @@ fn with_texts(line: [u8; 80], t: Texts) -> [u8; 80]
 
 // Line 1 laid at the front of `out`, where there is room, and its length in any case.
 pub fn write_first(rules: Rules, f: First, out: &mut [u8]) -> usize
-    ensures { λ r. ⌜ Lays (firstLine rules f) (now (out .entry)) r (now (out .exit)) ⌝ }
+    ensures lays { λ r. ⌜ Lays (firstLine rules f) (now (out .entry)) r (now (out .exit)) ⌝ }
 {
     let start = f.start;
     let texts = f.texts;
@@ -168,7 +168,7 @@ pub fn write_first(rules: Rules, f: First, out: &mut [u8]) -> usize
 
 // The same of line 2.
 pub fn write_second(s: Second, out: &mut [u8]) -> usize
-    ensures { λ r. ⌜ Lays (secondLine s) (now (out .entry)) r (now (out .exit)) ⌝ }
+    ensures lays { λ r. ⌜ Lays (secondLine s) (now (out .entry)) r (now (out .exit)) ⌝ }
 {
     let a = draw::with_fixed([b' '; 80], b"##", 1, 2);
     let b = draw::with_whole(a, s.week, 4, 7);
@@ -181,7 +181,7 @@ pub fn write_second(s: Second, out: &mut [u8]) -> usize
 
 // The same of an epoch line.
 pub fn write_epoch(e: Epoch, out: &mut [u8]) -> usize
-    ensures { λ r. ⌜ Lays (epochLine e) (now (out .entry)) r (now (out .exit)) ⌝ }
+    ensures lays { λ r. ⌜ Lays (epochLine e) (now (out .entry)) r (now (out .exit)) ⌝ }
 {
     let moment = e.moment;
     let a = draw::with_fixed([b' '; 80], b"* ", 1, 2);

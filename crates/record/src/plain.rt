@@ -36,7 +36,7 @@ pub fn end_fault(line: &[u8; 80]) -> usize
 
 // A comment of this text laid at the front of `out`, where there is room, and its length in any case.
 pub fn write_comment(text: &[u8], out: &mut [u8]) -> usize
-    ensures { λ r. ⌜ Lays (commentLine (now (text .entry))) (now (out .entry)) r (now (out .exit)) ⌝ }
+    ensures lays { λ r. ⌜ Lays (commentLine (now (text .entry))) (now (out .entry)) r (now (out .exit)) ⌝ }
 {
     let a = draw::with_fixed([b' '; 80], b"/*", 1, 2);
     let line = draw::with_text(a, text, 4, 80);
@@ -55,7 +55,7 @@ fn with_symbol(velocity: bool) -> [u8; 80]
 
 // The same of an EP line, or of an EV line where `velocity` says so, with this text after column 2.
 pub fn write_correlation(text: &[u8], velocity: bool, out: &mut [u8]) -> usize
-    ensures { λ r. ⌜ Lays (correlationLine velocity (now (text .entry))) (now (out .entry)) r (now (out .exit)) ⌝ }
+    ensures lays { λ r. ⌜ Lays (correlationLine velocity (now (text .entry))) (now (out .entry)) r (now (out .exit)) ⌝ }
 {
     let a = with_symbol(velocity);
     let line = draw::with_text(a, text, 3, 80);
@@ -64,7 +64,7 @@ pub fn write_correlation(text: &[u8], velocity: bool, out: &mut [u8]) -> usize
 
 // The same of the end of the file.
 pub fn write_end(out: &mut [u8]) -> usize
-    ensures { λ r. ⌜ Lays (fixedLine endItems) (now (out .entry)) r (now (out .exit)) ⌝ }
+    ensures lays { λ r. ⌜ Lays (fixedLine endItems) (now (out .entry)) r (now (out .exit)) ⌝ }
 {
     let line = draw::with_fixed([b' '; 80], b"EOF", 1, 3);
     layout::lay_line(&line, out)

@@ -201,7 +201,7 @@ fn row_shown(p: Row, velocity: bool) -> [u8; 80]
 
 // A P line, or a V line where `velocity` says so, laid at the front of `out`, where there is room, and its length in any case.
 pub fn write_row(p: Row, velocity: bool, out: &mut [u8]) -> usize
-    ensures { λ r. ⌜ Lays (rowLine velocity p) (now (out .entry)) r (now (out .exit)) ⌝ }
+    ensures lays { λ r. ⌜ Lays (rowLine velocity p) (now (out .entry)) r (now (out .exit)) ⌝ }
 {
     let line = row_shown(p, velocity);
     layout::lay_line(&line, out)

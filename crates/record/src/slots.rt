@@ -127,7 +127,7 @@ fn with_slots(line: [u8; 80], accuracies: bool, left: u64, values: &[u64; 17]) -
 
 // The first `+ ` line laid at the front of `out`, where there is room, and its length in any case.
 pub fn write_satellites(rules: Rules, s: Satellites, out: &mut [u8]) -> usize
-    ensures { λ r. ⌜ Lays (satellitesLine rules s) (now (out .entry)) r (now (out .exit)) ⌝ }
+    ensures lays { λ r. ⌜ Lays (satellitesLine rules s) (now (out .entry)) r (now (out .exit)) ⌝ }
 {
     let names = s.names;
     let a = draw::with_fixed([b' '; 80], b"+ ", 1, 2);
@@ -148,7 +148,7 @@ fn with_symbol(accuracies: bool) -> [u8; 80]
 
 // The same of a further `+ ` line, or of a `++` line where `accuracies` says so, of which the first `left` slots are of satellites.
 pub fn write_slots(s: Slots, accuracies: bool, left: u64, out: &mut [u8]) -> usize
-    ensures { λ r. ⌜ Lays (moreLine accuracies left s) (now (out .entry)) r (now (out .exit)) ⌝ }
+    ensures lays { λ r. ⌜ Lays (moreLine accuracies left s) (now (out .entry)) r (now (out .exit)) ⌝ }
 {
     let values = s.values;
     let a = with_symbol(accuracies);
