@@ -28,7 +28,7 @@ use Rattle.record.specs.declared.types.Slots.{Slots}
 use Rattle.record.specs.declared.types.Descriptor.{Descriptor}
 use Rattle.record.specs.declared.types.BaseLine.{BaseLine}
 use Rattle.record.specs.declared.types.Row.{Row}
-use Rattle.record.proofs.Tiled.{satellites-tiled, more-tiled, base-tiled, float-tiled, integer-tiled, correlation-tiled}
+use Rattle.record.proofs.Tiled.{first-tiled, second-tiled, epoch-tiled, satellites-tiled, more-tiled, descriptor-tiled, character-tiled, base-tiled, float-tiled, integer-tiled, comment-tiled, correlation-tiled, end-tiled, rows-tiled}
 use Rattle.record.proofs.Taking.{row-taken}
 
 -- a date and time that make a date
@@ -38,16 +38,16 @@ dated m = isDate (m .year) (m .month) (m .day)
 pub first-back : (rules : Rules) (f : First) (rest : List ℕ) → f .fault ≡ clean → dated (f .start) ≡ true → canShow (firstItems rules) (firstValues f) ≡ true
     → firstOf rules (padded (lineOf (firstLine rules f ++ rest))) ≡ f
 unfolding firstLine
-first-back rules f rest e d c = line-back (firstItems rules) firstFrom (firstValues f) rest refl c ∙ rw (d, e)
+first-back rules f rest e d c = line-back (firstItems rules) firstFrom (firstValues f) rest (first-tiled rules) c ∙ rw (d, e)
 
 pub second-back : (s : Second) (rest : List ℕ) → s .fault ≡ clean → canShow secondItems (secondValues s) ≡ true → secondOf (padded (lineOf (secondLine s ++ rest))) ≡ s
 unfolding secondLine
-second-back s rest e c = line-back secondItems secondFrom (secondValues s) rest refl c ∙ ap (λ (fault : ℕ). secondFrom fault (secondValues s)) (sym e)
+second-back s rest e c = line-back secondItems secondFrom (secondValues s) rest second-tiled c ∙ ap (λ (fault : ℕ). secondFrom fault (secondValues s)) (sym e)
 
 pub epoch-back : (m : Epoch) (rest : List ℕ) → m .fault ≡ clean → dated (m .moment) ≡ true → canShow epochItems (epochValues m) ≡ true
     → epochOf (padded (lineOf (epochLine m ++ rest))) ≡ m
 unfolding epochLine
-epoch-back m rest e d c = line-back epochItems epochFrom (epochValues m) rest refl c ∙ rw (d, e)
+epoch-back m rest e d c = line-back epochItems epochFrom (epochValues m) rest epoch-tiled c ∙ rw (d, e)
 
 numbers-back : (ns : List ℕ) → numbersOf (onesOf ns) ≡ ns
 numbers-back [] = refl
@@ -78,7 +78,7 @@ slots-back accuracies left s rest e c =
 pub descriptor-back : (d : Descriptor) (rest : List ℕ) → d .fault ≡ clean → canShow descriptorItems (descriptorValues d) ≡ true
     → descriptorOf (padded (lineOf (descriptorLine d ++ rest))) ≡ d
 unfolding descriptorLine
-descriptor-back d rest e c = line-back descriptorItems descriptorFrom (descriptorValues d) rest refl c ∙ ap (λ (fault : ℕ). descriptorFrom fault (descriptorValues d)) (sym e)
+descriptor-back d rest e c = line-back descriptorItems descriptorFrom (descriptorValues d) rest descriptor-tiled c ∙ ap (λ (fault : ℕ). descriptorFrom fault (descriptorValues d)) (sym e)
 
 pub base-back : (b : BaseLine) (rest : List ℕ) → b .fault ≡ clean → canShow baseItems (baseValues b) ≡ true → baseOf (padded (lineOf (baseLine b ++ rest))) ≡ b
 unfolding baseLine
@@ -90,7 +90,7 @@ unfolding fixedLine
 fixed-back items rest t c = line-back items (λ fault vs. fault) [] rest t c
 
 pub characters-back : (rest : List ℕ) → faultOf characterItems (padded (lineOf (fixedLine characterItems ++ rest))) ≡ clean
-characters-back rest = fixed-back characterItems rest refl refl
+characters-back rest = fixed-back characterItems rest character-tiled refl
 
 pub floats-back : (rest : List ℕ) → faultOf floatItems (padded (lineOf (fixedLine floatItems ++ rest))) ≡ clean
 floats-back rest = fixed-back floatItems rest float-tiled refl
@@ -99,14 +99,14 @@ pub integers-back : (rest : List ℕ) → faultOf integerItems (padded (lineOf (
 integers-back rest = fixed-back integerItems rest integer-tiled refl
 
 pub end-back : (rest : List ℕ) → faultOf endItems (padded (lineOf (fixedLine endItems ++ rest))) ≡ clean
-end-back rest = fixed-back endItems rest refl refl
+end-back rest = fixed-back endItems rest end-tiled refl
 
 -- a comment's text of 77 bytes, and a correlation line's of 78
 pub comment-back : (bytes rest : List ℕ) → canShow commentItems (words bytes ∷ []) ≡ true
     → (faultOf commentItems (padded (lineOf (commentLine bytes ++ rest))) ≡ clean) × (commentOf (padded (lineOf (commentLine bytes ++ rest))) ≡ bytes)
 unfolding commentLine
 comment-back bytes rest c =
-    (line-back commentItems (λ fault vs. fault) (words bytes ∷ []) rest refl c, line-back commentItems (λ fault vs. wordsAt vs 0) (words bytes ∷ []) rest refl c)
+    (line-back commentItems (λ fault vs. fault) (words bytes ∷ []) rest comment-tiled c, line-back commentItems (λ fault vs. wordsAt vs 0) (words bytes ∷ []) rest comment-tiled c)
 
 pub correlation-back : (velocity : Bool) (bytes rest : List ℕ) → canShow (correlationItems velocity) (words bytes ∷ []) ≡ true
     → faultOf (correlationItems velocity) (padded (lineOf (correlationLine velocity bytes ++ rest))) ≡ clean
@@ -149,10 +149,6 @@ kept true p h =
     ∙ ap (λ (t : Bool). flagged p (p .event) (p .predicted) t false) (unset (p .maneuver) (and-left (not (p .maneuver)) _ two))
     ∙ ap (λ (t : Bool). flagged p (p .event) (p .predicted) (p .maneuver) t) (unset (p .«orbit_predicted») (and-right (not (p .maneuver)) _ two))
 kept false p h = refl
-
-pub rows-tiled : (velocity : Bool) → tiled (rowItems velocity) ≡ true
-rows-tiled true = refl
-rows-tiled false = refl
 
 pub row-back : (velocity : Bool) (p : Row) (rest : List ℕ) → (velocity ≡ true → flagless p ≡ true) → canShow (rowItems velocity) (rowValues velocity p) ≡ true
     → (rowFault velocity (padded (lineOf (rowLine velocity p ++ rest))) ≡ clean) × (rowOf velocity (lineOf (rowLine velocity p ++ rest)) ≡ p)

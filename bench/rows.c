@@ -1,0 +1,115 @@
+// Counts calls, under callgrind, of the library's judging of a P line and of taking its row, beside plain C that does the same.
+#include <stdbool.h>
+#include <stddef.h>
+#include <stdint.h>
+#include <stdio.h>
+#include <string.h>
+
+size_t our_judge(const uint8_t line[80]);
+uint64_t our_take(const uint8_t *line, size_t n);
+
+static size_t lower(size_t a, size_t b) { return !b ? a : !a ? b : a < b ? a : b; }
+static size_t fault(size_t number, size_t column) { return number * 128 + column; }
+
+// blanks, a minus, at least one digit, the point, six digits; at most twelve nines
+static size_t decimal(const uint8_t *s, size_t column, bool *negative, uint64_t *value) {
+    size_t i = 0, first;
+    uint64_t v = 0;
+    *negative = false;
+    while (i < 14 && s[i] == ' ') i++;
+    if (i < 14 && s[i] == '-') { *negative = true; i++; }
+    for (first = i; i < 14 && s[i] >= '0' && s[i] <= '9'; i++) v = v * 10 + (s[i] - '0');
+    if (i == first || i != 7 || s[i] != '.') return fault(6, column);
+    for (i++; i < 14; i++) {
+        if (s[i] < '0' || s[i] > '9') return fault(6, column);
+        v = v * 10 + (s[i] - '0');
+    }
+    *negative = *negative && v;
+    *value = v;
+    return v > 999999999999u ? fault(7, column) : 0;
+}
+
+// blank, or blanks and at least one digit
+static size_t exponent(const uint8_t *s, size_t n, size_t column, uint64_t *value) {
+    size_t i = 0;
+    while (i < n && s[i] == ' ') i++;
+    if (i == n) { *value = 1000; return 0; }
+    for (*value = 0; i < n; i++) {
+        if (s[i] < '0' || s[i] > '9') return fault(6, column);
+        *value = *value * 10 + (s[i] - '0');
+    }
+    return 0;
+}
+
+static size_t blank(const uint8_t *s, size_t column) { return s[column - 1] == ' ' ? 0 : fault(5, column); }
+static size_t flag(const uint8_t *s, size_t column, uint8_t letter) {
+    return s[column - 1] == letter || s[column - 1] == ' ' ? 0 : fault(6, column);
+}
+
+struct row { uint64_t satellite, number[4], spread[4]; bool negative[4], flag[4]; };
+
+static size_t read_row(const uint8_t *s, struct row *r) {
+    static const size_t at[4] = {62, 65, 68, 71}, wide[4] = {2, 2, 2, 3}, unused[4] = {61, 64, 67, 70};
+    size_t low = s[0] == 'P' ? 0 : fault(4, 0);
+    bool named = s[1] >= 'A' && s[1] <= 'Z' && s[2] >= '0' && s[2] <= '9' && s[3] >= '0' && s[3] <= '9';
+    uint64_t number = (s[2] - '0') * 10 + (s[3] - '0');
+    low = lower(low, !named ? fault(6, 2) : number == 0 ? fault(7, 2) : 0);
+    r->satellite = s[1] * 100 + number;
+    for (int k = 0; k < 4; k++) low = lower(low, decimal(s + 4 + 14 * k, 5 + 14 * k, &r->negative[k], &r->number[k]));
+    for (int k = 0; k < 4; k++) {
+        low = lower(low, blank(s, unused[k]));
+        low = lower(low, exponent(s + at[k] - 1, wide[k], at[k], &r->spread[k]));
+    }
+    low = lower(lower(low, blank(s, 74)), flag(s, 75, 'E'));
+    low = lower(lower(low, flag(s, 76, 'P')), blank(s, 77));
+    low = lower(lower(low, blank(s, 78)), flag(s, 79, 'M'));
+    low = lower(low, flag(s, 80, 'P'));
+    r->flag[0] = s[74] == 'E', r->flag[1] = s[75] == 'P', r->flag[2] = s[78] == 'M', r->flag[3] = s[79] == 'P';
+    return low;
+}
+
+__attribute__((noipa)) size_t c_judge(const uint8_t *s) {
+    struct row r;
+    return read_row(s, &r);
+}
+
+__attribute__((noipa)) uint64_t c_take(const uint8_t *s) {
+    struct row r;
+    uint64_t sum = 0;
+    bool any = false;
+    read_row(s, &r);
+    for (int k = 0; k < 4; k++) {
+        sum += r.number[k] % 4294967296u + r.spread[k] % 4096;
+        any |= r.negative[k] | r.flag[k];
+    }
+    return sum + r.satellite % 16384 + any;
+}
+
+static const char *const good[] = {
+    "PG01   5783.206741 -18133.044484 -18510.756016     12.734450 18 18 18 219 EP  MP",
+    "PR24 -12345.678901  25000.000001      0.000000 999999.999999                    ",
+    "PE07      0.000000      0.000000      0.000000 999999.999999 99 99 99 999       ",
+    "PC33  20123.456789 -20123.456789   -123.000001     -0.000001  0  1  9   0     M ",
+};
+static const char *const bad[] = {
+    "PG01   5783.206741 -18133.04448x -18510.756016     12.734450 18 18 18 219 EP  MP",
+    "PG00 -12345.678901  25000.000001      0.000000 999999.999999                    ",
+    "PE071000000.000000      0.000000      0.000000 999999.999999 99 9a 99 999       ",
+    "PC33  20123.456789 -20123.456789   -123.000001     -0.000001 .0  1  9   0    xM ",
+};
+
+// `good`: lines without fault are judged and taken; `bad`: lines with one are judged.
+int main(int count, char **words) {
+    bool well = count > 1 && words[1][0] == 'g';
+    const char *const *lines = well ? good : bad;
+    int wrong = 0;
+    for (int round = 0; round < 1000; round++)
+        for (int k = 0; k < 4; k++) {
+            const uint8_t *s = (const uint8_t *)lines[k];
+            size_t a = our_judge(s), b = c_judge(s);
+            wrong += a != b || (a == 0) != well;
+            if (well) wrong += our_take(s, 80) != c_take(s);
+        }
+    printf("%s\n", wrong ? "DIFFERENT" : "same answers");
+    return wrong != 0;
+}
