@@ -10,3 +10,4 @@ pub mod Drawing
 pub mod Reading
 pub mod Repeats
 pub mod ReadBack
+pub mod Determined

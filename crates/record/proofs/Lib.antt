@@ -4,3 +4,4 @@ pub mod Letters
 pub mod Reading
 pub mod SlotKinds
 pub mod Tiled
+pub mod Determined
