@@ -11,3 +11,4 @@ pub mod Reading
 pub mod Deciding
 pub mod Repeats
 pub mod ReadBack
+pub mod Determined

@@ -7,3 +7,4 @@ pub mod Tiled
 pub mod Taking
 pub mod Absent
 pub mod RoundTrips
+pub mod Determined

@@ -1,0 +1,175 @@
+-- Any two outcomes that a contract allows agree, in the result and in every lent place. What is laid for a line is one thing, by one law of lines.
+-- Assumes nothing.
+use mathlib.Core.Path.{_≡_, refl, sym, ap, _∙_}
+use mathlib.Core.List.{List, [], _∷_}
+use Prim.Native.Nat.{ℕ}
+use denote.Ref.{now}
+use lib.ListN.{getD}
+use Rattle.layout.proofs.Determined.{lays-one}
+use Rattle.record.specs.LineKinds.{toldKind}
+use Rattle.record.specs.declared.types.LineKind.{LineKind}
+use Rattle.record.specs.declared.types.LineKind.the-variants as kind
+use Rattle.record.proofs.kind.kind_of.Reads as kind-of
+use Rattle.record.proofs.opening.read_first.Reads as read-first
+use Rattle.record.proofs.opening.read_second.Reads as read-second
+use Rattle.record.proofs.opening.read_epoch.Reads as read-epoch
+use Rattle.record.proofs.slots.read_satellites.Reads as read-satellites
+use Rattle.record.proofs.slots.read_slots.Reads as read-slots
+use Rattle.record.proofs.descriptors.read_descriptor.Reads as read-descriptor
+use Rattle.record.proofs.descriptors.characters_fault.Reads as characters-fault
+use Rattle.record.proofs.descriptors.read_bases.Reads as read-bases
+use Rattle.record.proofs.descriptors.floats_fault.Reads as floats-fault
+use Rattle.record.proofs.descriptors.integers_fault.Reads as integers-fault
+use Rattle.record.proofs.plain.comment_fault.Reads as comment-fault
+use Rattle.record.proofs.plain.correlation_fault.Reads as correlation-fault
+use Rattle.record.proofs.plain.end_fault.Reads as end-fault
+use Rattle.record.proofs.rows.row_fault.Reads as row-fault
+use Rattle.record.proofs.rows.row_of.Reads as row-of
+use Rattle.record.proofs.opening.write_first.Reads as write-first
+use Rattle.record.proofs.opening.write_second.Reads as write-second
+use Rattle.record.proofs.opening.write_epoch.Reads as write-epoch
+use Rattle.record.proofs.slots.write_satellites.Reads as write-satellites
+use Rattle.record.proofs.slots.write_slots.Reads as write-slots
+use Rattle.record.proofs.descriptors.write_descriptor.Reads as write-descriptor
+use Rattle.record.proofs.descriptors.write_characters.Reads as write-characters
+use Rattle.record.proofs.descriptors.write_bases.Reads as write-bases
+use Rattle.record.proofs.descriptors.write_floats.Reads as write-floats
+use Rattle.record.proofs.descriptors.write_integers.Reads as write-integers
+use Rattle.record.proofs.plain.write_comment.Reads as write-comment
+use Rattle.record.proofs.plain.write_correlation.Reads as write-correlation
+use Rattle.record.proofs.plain.write_end.Reads as write-end
+use Rattle.record.proofs.rows.write_row.Reads as write-row
+
+-- the kinds in the order of their numbers
+abbrev kinds : List LineKind
+kinds =
+    kind.Other
+    ∷ kind.First
+    ∷ kind.Second
+    ∷ kind.Satellites
+    ∷ kind.Accuracies
+    ∷ kind.Characters
+    ∷ kind.Floats
+    ∷ kind.Integers
+    ∷ kind.Comment
+    ∷ kind.Epoch
+    ∷ kind.Position
+    ∷ kind.Velocity
+    ∷ kind.PositionCorrelation
+    ∷ kind.VelocityCorrelation
+    ∷ kind.EndOfFile
+    ∷ []
+
+-- the kind of a number
+abbrev kindAt : ℕ → LineKind
+kindAt n = getD kinds n kind.Other
+
+kind-back : (a : LineKind) → kindAt (toldKind a) ≡ a
+kind-back kind.Other = refl
+kind-back kind.First = refl
+kind-back kind.Second = refl
+kind-back kind.Satellites = refl
+kind-back kind.Accuracies = refl
+kind-back kind.Characters = refl
+kind-back kind.Floats = refl
+kind-back kind.Integers = refl
+kind-back kind.Comment = refl
+kind-back kind.Epoch = refl
+kind-back kind.Position = refl
+kind-back kind.Velocity = refl
+kind-back kind.PositionCorrelation = refl
+kind-back kind.VelocityCorrelation = refl
+kind-back kind.EndOfFile = refl
+
+pub toldKind-one : (a b : LineKind) → toldKind a ≡ toldKind b → a ≡ b
+toldKind-one a b e = sym (kind-back a) ∙ (ap kindAt e ∙ kind-back b)
+
+pub kind-of-determined : (κs : _) (a : _) (r r′ : _) (s s′ : _) → kind-of.Post κs a r s → kind-of.Post κs a r′ s′ → r ≡ r′
+kind-of-determined κs a r r′ s s′ p q = toldKind-one r r′ (p ∙ sym q)
+
+pub read-first-determined : (κs : _) (a : _) (r r′ : _) (s s′ : _) → read-first.Post κs a r s → read-first.Post κs a r′ s′ → r ≡ r′
+read-first-determined κs a r r′ s s′ p q = p ∙ sym q
+
+pub read-second-determined : (κs : _) (a : _) (r r′ : _) (s s′ : _) → read-second.Post κs a r s → read-second.Post κs a r′ s′ → r ≡ r′
+read-second-determined κs a r r′ s s′ p q = p ∙ sym q
+
+pub read-epoch-determined : (κs : _) (a : _) (r r′ : _) (s s′ : _) → read-epoch.Post κs a r s → read-epoch.Post κs a r′ s′ → r ≡ r′
+read-epoch-determined κs a r r′ s s′ p q = p ∙ sym q
+
+pub read-satellites-determined : (κs : _) (a : _) (r r′ : _) (s s′ : _) → read-satellites.Post κs a r s → read-satellites.Post κs a r′ s′ → r ≡ r′
+read-satellites-determined κs a r r′ s s′ p q = p ∙ sym q
+
+pub read-slots-determined : (κs : _) (a : _) (r r′ : _) (s s′ : _) → read-slots.Post κs a r s → read-slots.Post κs a r′ s′ → r ≡ r′
+read-slots-determined κs a r r′ s s′ p q = p ∙ sym q
+
+pub read-descriptor-determined : (κs : _) (a : _) (r r′ : _) (s s′ : _) → read-descriptor.Post κs a r s → read-descriptor.Post κs a r′ s′ → r ≡ r′
+read-descriptor-determined κs a r r′ s s′ p q = p ∙ sym q
+
+pub characters-fault-determined : (κs : _) (a : _) (r r′ : _) (s s′ : _) → characters-fault.Post κs a r s → characters-fault.Post κs a r′ s′ → r ≡ r′
+characters-fault-determined κs a r r′ s s′ p q = p ∙ sym q
+
+pub read-bases-determined : (κs : _) (a : _) (r r′ : _) (s s′ : _) → read-bases.Post κs a r s → read-bases.Post κs a r′ s′ → r ≡ r′
+read-bases-determined κs a r r′ s s′ p q = p ∙ sym q
+
+pub floats-fault-determined : (κs : _) (a : _) (r r′ : _) (s s′ : _) → floats-fault.Post κs a r s → floats-fault.Post κs a r′ s′ → r ≡ r′
+floats-fault-determined κs a r r′ s s′ p q = p ∙ sym q
+
+pub integers-fault-determined : (κs : _) (a : _) (r r′ : _) (s s′ : _) → integers-fault.Post κs a r s → integers-fault.Post κs a r′ s′ → r ≡ r′
+integers-fault-determined κs a r r′ s s′ p q = p ∙ sym q
+
+pub comment-fault-determined : (κs : _) (a : _) (r r′ : _) (s s′ : _) → comment-fault.Post κs a r s → comment-fault.Post κs a r′ s′ → r ≡ r′
+comment-fault-determined κs a r r′ s s′ p q = p ∙ sym q
+
+pub correlation-fault-determined : (κs : _) (a : _) (r r′ : _) (s s′ : _) → correlation-fault.Post κs a r s → correlation-fault.Post κs a r′ s′ → r ≡ r′
+correlation-fault-determined κs a r r′ s s′ p q = p ∙ sym q
+
+pub end-fault-determined : (κs : _) (a : _) (r r′ : _) (s s′ : _) → end-fault.Post κs a r s → end-fault.Post κs a r′ s′ → r ≡ r′
+end-fault-determined κs a r r′ s s′ p q = p ∙ sym q
+
+pub row-fault-determined : (κs : _) (a : _) (r r′ : _) (s s′ : _) → row-fault.Post κs a r s → row-fault.Post κs a r′ s′ → r ≡ r′
+row-fault-determined κs a r r′ s s′ p q = p ∙ sym q
+
+pub row-of-determined : (κs : _) (a : _) (r r′ : _) (s s′ : _) → row-of.Post κs a r s → row-of.Post κs a r′ s′ → r ≡ r′
+row-of-determined κs a r r′ s s′ p q = p ∙ sym q
+
+pub write-first-determined : (κs : _) (a : _) (r r′ : _) (s s′ : _) → write-first.Post κs a r s → write-first.Post κs a r′ s′ → (r ≡ r′) × (now (s .1 .1 .0) ≡ now (s′ .1 .1 .0))
+write-first-determined κs a r r′ s s′ p q = lays-one _ _ r r′ _ _ p q
+
+pub write-second-determined : (κs : _) (a : _) (r r′ : _) (s s′ : _) → write-second.Post κs a r s → write-second.Post κs a r′ s′ → (r ≡ r′) × (now (s .1 .0) ≡ now (s′ .1 .0))
+write-second-determined κs a r r′ s s′ p q = lays-one _ _ r r′ _ _ p q
+
+pub write-epoch-determined : (κs : _) (a : _) (r r′ : _) (s s′ : _) → write-epoch.Post κs a r s → write-epoch.Post κs a r′ s′ → (r ≡ r′) × (now (s .1 .0) ≡ now (s′ .1 .0))
+write-epoch-determined κs a r r′ s s′ p q = lays-one _ _ r r′ _ _ p q
+
+pub write-satellites-determined : (κs : _) (a : _) (r r′ : _) (s s′ : _) → write-satellites.Post κs a r s → write-satellites.Post κs a r′ s′ → (r ≡ r′) × (now (s .1 .1 .0) ≡ now (s′ .1 .1 .0))
+write-satellites-determined κs a r r′ s s′ p q = lays-one _ _ r r′ _ _ p q
+
+pub write-slots-determined : (κs : _) (a : _) (r r′ : _) (s s′ : _) → write-slots.Post κs a r s → write-slots.Post κs a r′ s′ → (r ≡ r′) × (now (s .1 .1 .1 .0) ≡ now (s′ .1 .1 .1 .0))
+write-slots-determined κs a r r′ s s′ p q = lays-one _ _ r r′ _ _ p q
+
+pub write-descriptor-determined : (κs : _) (a : _) (r r′ : _) (s s′ : _) → write-descriptor.Post κs a r s → write-descriptor.Post κs a r′ s′ → (r ≡ r′) × (now (s .1 .0) ≡ now (s′ .1 .0))
+write-descriptor-determined κs a r r′ s s′ p q = lays-one _ _ r r′ _ _ p q
+
+pub write-characters-determined : (κs : _) (a : _) (r r′ : _) (s s′ : _) → write-characters.Post κs a r s → write-characters.Post κs a r′ s′ → (r ≡ r′) × (now (s .0) ≡ now (s′ .0))
+write-characters-determined κs a r r′ s s′ p q = lays-one _ _ r r′ _ _ p q
+
+pub write-bases-determined : (κs : _) (a : _) (r r′ : _) (s s′ : _) → write-bases.Post κs a r s → write-bases.Post κs a r′ s′ → (r ≡ r′) × (now (s .1 .0) ≡ now (s′ .1 .0))
+write-bases-determined κs a r r′ s s′ p q = lays-one _ _ r r′ _ _ p q
+
+pub write-floats-determined : (κs : _) (a : _) (r r′ : _) (s s′ : _) → write-floats.Post κs a r s → write-floats.Post κs a r′ s′ → (r ≡ r′) × (now (s .0) ≡ now (s′ .0))
+write-floats-determined κs a r r′ s s′ p q = lays-one _ _ r r′ _ _ p q
+
+pub write-integers-determined : (κs : _) (a : _) (r r′ : _) (s s′ : _) → write-integers.Post κs a r s → write-integers.Post κs a r′ s′ → (r ≡ r′) × (now (s .0) ≡ now (s′ .0))
+write-integers-determined κs a r r′ s s′ p q = lays-one _ _ r r′ _ _ p q
+
+pub write-comment-determined : (κs : _) (a : _) (r r′ : _) (s s′ : _) → write-comment.Post κs a r s → write-comment.Post κs a r′ s′ → (r ≡ r′) × (now (s .1 .0) ≡ now (s′ .1 .0))
+write-comment-determined κs a r r′ s s′ p q = lays-one _ _ r r′ _ _ p q
+
+pub write-correlation-determined : (κs : _) (a : _) (r r′ : _) (s s′ : _) → write-correlation.Post κs a r s → write-correlation.Post κs a r′ s′ → (r ≡ r′) × (now (s .1 .1 .0) ≡ now (s′ .1 .1 .0))
+write-correlation-determined κs a r r′ s s′ p q = lays-one _ _ r r′ _ _ p q
+
+pub write-end-determined : (κs : _) (a : _) (r r′ : _) (s s′ : _) → write-end.Post κs a r s → write-end.Post κs a r′ s′ → (r ≡ r′) × (now (s .0) ≡ now (s′ .0))
+write-end-determined κs a r r′ s s′ p q = lays-one _ _ r r′ _ _ p q
+
+pub write-row-determined : (κs : _) (a : _) (r r′ : _) (s s′ : _) → write-row.Post κs a r s → write-row.Post κs a r′ s′ → (r ≡ r′) × (now (s .1 .1 .0) ≡ now (s′ .1 .1 .0))
+write-row-determined κs a r r′ s s′ p q = lays-one _ _ r r′ _ _ p q
