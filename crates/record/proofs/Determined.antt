@@ -1,14 +1,17 @@
--- Any two outcomes that a contract allows agree, in the result and in every lent place. What is laid for a line is one thing, by one law of lines.
+-- Any two outcomes that a contract allows agree, in the result and in every lent place.
 -- Assumes nothing.
 use mathlib.Core.Path.{_≡_, refl, sym, ap, _∙_}
 use mathlib.Core.List.{List, [], _∷_}
 use Prim.Native.Nat.{ℕ}
 use denote.Ref.{now}
 use lib.ListN.{getD}
-use Rattle.layout.proofs.Determined.{lays-one}
 use Rattle.record.specs.LineKinds.{toldKind}
 use Rattle.record.specs.declared.types.LineKind.{LineKind}
 use Rattle.record.specs.declared.types.LineKind.the-variants as kind
+use Rattle.record.proofs.absence.place_absent.Reads as place-absent
+use Rattle.record.proofs.absence.clock_absent.Reads as clock-absent
+use Rattle.record.proofs.absence.is_unknown.Reads as is-unknown
+use Rattle.record.proofs.absence.is_too_large.Reads as is-too-large
 use Rattle.record.proofs.kind.kind_of.Reads as kind-of
 use Rattle.record.proofs.opening.read_first.Reads as read-first
 use Rattle.record.proofs.opening.read_second.Reads as read-second
@@ -25,20 +28,6 @@ use Rattle.record.proofs.plain.correlation_fault.Reads as correlation-f
 use Rattle.record.proofs.plain.end_fault.Reads as end-fault
 use Rattle.record.proofs.rows.row_fault.Reads as row-fault
 use Rattle.record.proofs.rows.row_of.Reads as row-of
-use Rattle.record.proofs.opening.write_first.Reads as write-first
-use Rattle.record.proofs.opening.write_second.Reads as write-second
-use Rattle.record.proofs.opening.write_epoch.Reads as write-epoch
-use Rattle.record.proofs.slots.write_satellites.Reads as write-satellites
-use Rattle.record.proofs.slots.write_slots.Reads as write-slots
-use Rattle.record.proofs.descriptors.write_descriptor.Reads as write-descriptor
-use Rattle.record.proofs.descriptors.write_characters.Reads as write-characters
-use Rattle.record.proofs.descriptors.write_bases.Reads as write-bases
-use Rattle.record.proofs.descriptors.write_floats.Reads as write-floats
-use Rattle.record.proofs.descriptors.write_integers.Reads as write-integers
-use Rattle.record.proofs.plain.write_comment.Reads as write-comment
-use Rattle.record.proofs.plain.write_correlation.Reads as write-correlation
-use Rattle.record.proofs.plain.write_end.Reads as write-end
-use Rattle.record.proofs.rows.write_row.Reads as write-row
 
 -- the kinds in the order of their numbers
 abbrev kinds : List LineKind
@@ -132,44 +121,14 @@ row-fault-determined κs a r r′ s s′ p q = p ∙ sym q
 pub row-of-determined : (κs : _) (a : _) (r r′ : _) (s s′ : _) → row-of.Post κs a r s → row-of.Post κs a r′ s′ → r ≡ r′
 row-of-determined κs a r r′ s s′ p q = p ∙ sym q
 
-pub write-first-determined : (κs : _) (a : _) (r r′ : _) (s s′ : _) → write-first.Post κs a r s → write-first.Post κs a r′ s′ → (r ≡ r′) × (now (s .1 .1 .0) ≡ now (s′ .1 .1 .0))
-write-first-determined κs a r r′ s s′ p q = lays-one _ _ r r′ _ _ p q
+pub place-absent-determined : (κs : _) (a : _) (r r′ : _) (s s′ : _) → place-absent.Post κs a r s → place-absent.Post κs a r′ s′ → r ≡ r′
+place-absent-determined κs a r r′ s s′ p q = p ∙ sym q
 
-pub write-second-determined : (κs : _) (a : _) (r r′ : _) (s s′ : _) → write-second.Post κs a r s → write-second.Post κs a r′ s′ → (r ≡ r′) × (now (s .1 .0) ≡ now (s′ .1 .0))
-write-second-determined κs a r r′ s s′ p q = lays-one _ _ r r′ _ _ p q
+pub clock-absent-determined : (κs : _) (a : _) (r r′ : _) (s s′ : _) → clock-absent.Post κs a r s → clock-absent.Post κs a r′ s′ → r ≡ r′
+clock-absent-determined κs a r r′ s s′ p q = p ∙ sym q
 
-pub write-epoch-determined : (κs : _) (a : _) (r r′ : _) (s s′ : _) → write-epoch.Post κs a r s → write-epoch.Post κs a r′ s′ → (r ≡ r′) × (now (s .1 .0) ≡ now (s′ .1 .0))
-write-epoch-determined κs a r r′ s s′ p q = lays-one _ _ r r′ _ _ p q
+pub is-unknown-determined : (κs : _) (a : _) (r r′ : _) (s s′ : _) → is-unknown.Post κs a r s → is-unknown.Post κs a r′ s′ → r ≡ r′
+is-unknown-determined κs a r r′ s s′ p q = p ∙ sym q
 
-pub write-satellites-determined : (κs : _) (a : _) (r r′ : _) (s s′ : _) → write-satellites.Post κs a r s → write-satellites.Post κs a r′ s′ → (r ≡ r′) × (now (s .1 .1 .0) ≡ now (s′ .1 .1 .0))
-write-satellites-determined κs a r r′ s s′ p q = lays-one _ _ r r′ _ _ p q
-
-pub write-slots-determined : (κs : _) (a : _) (r r′ : _) (s s′ : _) → write-slots.Post κs a r s → write-slots.Post κs a r′ s′ → (r ≡ r′) × (now (s .1 .1 .1 .0) ≡ now (s′ .1 .1 .1 .0))
-write-slots-determined κs a r r′ s s′ p q = lays-one _ _ r r′ _ _ p q
-
-pub write-descriptor-determined : (κs : _) (a : _) (r r′ : _) (s s′ : _) → write-descriptor.Post κs a r s → write-descriptor.Post κs a r′ s′ → (r ≡ r′) × (now (s .1 .0) ≡ now (s′ .1 .0))
-write-descriptor-determined κs a r r′ s s′ p q = lays-one _ _ r r′ _ _ p q
-
-pub write-characters-determined : (κs : _) (a : _) (r r′ : _) (s s′ : _) → write-characters.Post κs a r s → write-characters.Post κs a r′ s′ → (r ≡ r′) × (now (s .0) ≡ now (s′ .0))
-write-characters-determined κs a r r′ s s′ p q = lays-one _ _ r r′ _ _ p q
-
-pub write-bases-determined : (κs : _) (a : _) (r r′ : _) (s s′ : _) → write-bases.Post κs a r s → write-bases.Post κs a r′ s′ → (r ≡ r′) × (now (s .1 .0) ≡ now (s′ .1 .0))
-write-bases-determined κs a r r′ s s′ p q = lays-one _ _ r r′ _ _ p q
-
-pub write-floats-determined : (κs : _) (a : _) (r r′ : _) (s s′ : _) → write-floats.Post κs a r s → write-floats.Post κs a r′ s′ → (r ≡ r′) × (now (s .0) ≡ now (s′ .0))
-write-floats-determined κs a r r′ s s′ p q = lays-one _ _ r r′ _ _ p q
-
-pub write-integers-determined : (κs : _) (a : _) (r r′ : _) (s s′ : _) → write-integers.Post κs a r s → write-integers.Post κs a r′ s′ → (r ≡ r′) × (now (s .0) ≡ now (s′ .0))
-write-integers-determined κs a r r′ s s′ p q = lays-one _ _ r r′ _ _ p q
-
-pub write-comment-determined : (κs : _) (a : _) (r r′ : _) (s s′ : _) → write-comment.Post κs a r s → write-comment.Post κs a r′ s′ → (r ≡ r′) × (now (s .1 .0) ≡ now (s′ .1 .0))
-write-comment-determined κs a r r′ s s′ p q = lays-one _ _ r r′ _ _ p q
-
-pub write-correlation-determined : (κs : _) (a : _) (r r′ : _) (s s′ : _) → write-correlation.Post κs a r s → write-correlation.Post κs a r′ s′ → (r ≡ r′) × (now (s .1 .1 .0) ≡ now (s′ .1 .1 .0))
-write-correlation-determined κs a r r′ s s′ p q = lays-one _ _ r r′ _ _ p q
-
-pub write-end-determined : (κs : _) (a : _) (r r′ : _) (s s′ : _) → write-end.Post κs a r s → write-end.Post κs a r′ s′ → (r ≡ r′) × (now (s .0) ≡ now (s′ .0))
-write-end-determined κs a r r′ s s′ p q = lays-one _ _ r r′ _ _ p q
-
-pub write-row-determined : (κs : _) (a : _) (r r′ : _) (s s′ : _) → write-row.Post κs a r s → write-row.Post κs a r′ s′ → (r ≡ r′) × (now (s .1 .1 .0) ≡ now (s′ .1 .1 .0))
-write-row-determined κs a r r′ s s′ p q = lays-one _ _ r r′ _ _ p q
+pub is-too-large-determined : (κs : _) (a : _) (r r′ : _) (s s′ : _) → is-too-large.Post κs a r s → is-too-large.Post κs a r′ s′ → r ≡ r′
+is-too-large-determined κs a r r′ s s′ p q = p ∙ sym q

@@ -1,10 +1,7 @@
 // The `%c`, `%f` and `%i` lines.
 ghost use mathlib.Core.Path.{_≡_};
-ghost use mathlib.Core.List.{[]};
-ghost use Rattle.layout.specs.Layout.{faultFrom, faultOf, drawn};
-ghost use Rattle.layout.specs.Line.{Lays};
-ghost use Rattle.record.specs.Descriptors.{laterCharacters, descriptorOf, descriptorLine, characterItems, laterFloats, baseOf, baseLine, floatItems, integerItems, fixedLine};
-use crate::draw;
+ghost use Rattle.layout.specs.Layout.{faultFrom, faultOf};
+ghost use Rattle.record.specs.Descriptors.{laterCharacters, descriptorOf, characterItems, laterFloats, baseOf, floatItems, integerItems};
 use crate::fields;
 use crate::types::BaseLine;
 use crate::types::Descriptor;
@@ -136,92 +133,4 @@ pub fn integers_fault(line: &[u8; 80]) -> usize
     let r = fields::unused_in(q, line, 51, 51);
     let s = fields::zero_whole_in(r, line, 52, 60);
     fields::unused_in(s, line, 61, 80)
-}
-
-// Columns 13 to 60 of both `%c` lines.
-fn with_later_characters(line: [u8; 80]) -> [u8; 80]
-    ensures { λ r. ⌜ r ≡ drawn laterCharacters [] line ⌝ }
-{
-    let a = draw::with_fixed(line, b"ccc", 14, 16);
-    let b = draw::with_fixed(a, b"cccc", 18, 21);
-    let c = draw::with_fixed(b, b"cccc", 23, 26);
-    let d = draw::with_fixed(c, b"cccc", 28, 31);
-    let e = draw::with_fixed(d, b"cccc", 33, 36);
-    let f = draw::with_fixed(e, b"ccccc", 38, 42);
-    let g = draw::with_fixed(f, b"ccccc", 44, 48);
-    let h = draw::with_fixed(g, b"ccccc", 50, 54);
-    draw::with_fixed(h, b"ccccc", 56, 60)
-}
-
-// The first `%c` line laid at the front of `out`, where there is room, and its length in any case.
-pub fn write_descriptor(d: Descriptor, out: &mut [u8]) -> usize
-    ensures lays { λ r. ⌜ Lays (descriptorLine d) (now (out .entry)) r (now (out .exit)) ⌝ }
-{
-    let time_system = d.time_system;
-    let a = draw::with_fixed([b' '; 80], b"%c", 1, 2);
-    let b = draw::with_letter(a, d.file_type, 4, 5);
-    let c = draw::with_fixed(b, b"cc", 7, 8);
-    let e = draw::with_text(c, &time_system, 10, 12);
-    let line = with_later_characters(e);
-    layout::lay_line(&line, out)
-}
-
-// The same of the second.
-pub fn write_characters(out: &mut [u8]) -> usize
-    ensures lays { λ r. ⌜ Lays (fixedLine characterItems) (now (out .entry)) r (now (out .exit)) ⌝ }
-{
-    let a = draw::with_fixed([b' '; 80], b"%c", 1, 2);
-    let b = draw::with_fixed(a, b"cc", 4, 5);
-    let c = draw::with_fixed(b, b"cc", 7, 8);
-    let d = draw::with_fixed(c, b"ccc", 10, 12);
-    let line = with_later_characters(d);
-    layout::lay_line(&line, out)
-}
-
-// Columns 27 to 60 of both `%f` lines.
-fn with_later_floats(line: [u8; 80]) -> [u8; 80]
-    ensures { λ r. ⌜ r ≡ drawn laterFloats [] line ⌝ }
-{
-    let a = draw::with_decimal(line, 11, 0, 28, 41);
-    draw::with_decimal(a, 15, 0, 43, 60)
-}
-
-// The first `%f` line laid at the front of `out`, where there is room, and its length in any case.
-pub fn write_bases(b: BaseLine, out: &mut [u8]) -> usize
-    ensures lays { λ r. ⌜ Lays (baseLine b) (now (out .entry)) r (now (out .exit)) ⌝ }
-{
-    let bases = b.bases;
-    let a = draw::with_fixed([b' '; 80], b"%f", 1, 2);
-    let c = draw::with_decimal(a, 7, bases.place, 4, 13);
-    let d = draw::with_decimal(c, 9, bases.clock, 15, 26);
-    let line = with_later_floats(d);
-    layout::lay_line(&line, out)
-}
-
-// The same of the second.
-pub fn write_floats(out: &mut [u8]) -> usize
-    ensures lays { λ r. ⌜ Lays (fixedLine floatItems) (now (out .entry)) r (now (out .exit)) ⌝ }
-{
-    let a = draw::with_fixed([b' '; 80], b"%f", 1, 2);
-    let b = draw::with_decimal(a, 7, 0, 4, 13);
-    let c = draw::with_decimal(b, 9, 0, 15, 26);
-    let line = with_later_floats(c);
-    layout::lay_line(&line, out)
-}
-
-// The same of a `%i` line.
-pub fn write_integers(out: &mut [u8]) -> usize
-    ensures lays { λ r. ⌜ Lays (fixedLine integerItems) (now (out .entry)) r (now (out .exit)) ⌝ }
-{
-    let a = draw::with_fixed([b' '; 80], b"%i", 1, 2);
-    let b = draw::with_whole(a, 0, 4, 7);
-    let c = draw::with_whole(b, 0, 9, 12);
-    let d = draw::with_whole(c, 0, 14, 17);
-    let e = draw::with_whole(d, 0, 19, 22);
-    let f = draw::with_whole(e, 0, 24, 29);
-    let g = draw::with_whole(f, 0, 31, 36);
-    let h = draw::with_whole(g, 0, 38, 43);
-    let i = draw::with_whole(h, 0, 45, 50);
-    let line = draw::with_whole(i, 0, 52, 60);
-    layout::lay_line(&line, out)
 }

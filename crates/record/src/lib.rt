@@ -1,8 +1,7 @@
-// Every line of the format by its layout: its kind, its columns judged and read, and its canonical text written.
-// Readers take a line of 80 columns (a shorter one is padded by `layout::pad`); writers take the output from the next free byte on.
+// Every line of the format by its layout: its kind, its columns judged and read. A reader takes a line of 80 columns; a shorter one is padded
+// by `layout::pad`. The definitions say too how each line is shown, and `draw` writes it.
 pub mod absence;
 pub mod descriptors;
-mod draw;
 mod fields;
 pub mod kind;
 pub mod opening;

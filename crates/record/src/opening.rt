@@ -1,10 +1,7 @@
 // Lines 1 and 2, and the epoch lines.
 ghost use mathlib.Core.Path.{_≡_};
-ghost use Rattle.layout.specs.Layout.{drawn};
-ghost use Rattle.layout.specs.Line.{Lays};
-ghost use Rattle.record.specs.Times.{timeItems, momentAfter, momentValues};
-ghost use Rattle.record.specs.Opening.{textItems, textsOf, textValues, firstOf, firstLine, secondOf, secondLine, epochOf, epochLine};
-use crate::draw;
+ghost use Rattle.record.specs.Times.{momentAfter};
+ghost use Rattle.record.specs.Opening.{textsOf, firstOf, secondOf, epochOf};
 use crate::fields;
 use crate::types::Epoch;
 use crate::types::First;
@@ -123,68 +120,4 @@ pub fn read_epoch(line: &[u8; 80]) -> Epoch
         fault: fields::dated(c, moment),
         moment,
     }
-}
-
-// Columns 4 to 31 of a line.
-fn with_moment(line: [u8; 80], m: Moment) -> [u8; 80]
-    ensures { λ r. ⌜ r ≡ drawn timeItems (momentValues m) line ⌝ }
-{
-    let a = draw::with_whole(line, m.year, 4, 7);
-    let b = draw::with_whole(a, m.month, 9, 10);
-    let c = draw::with_whole(b, m.day, 12, 13);
-    let d = draw::with_whole(c, m.hour, 15, 16);
-    let e = draw::with_whole(d, m.minute, 18, 19);
-    draw::with_decimal(e, 8, m.second8, 21, 31)
-}
-
-// Columns 41 to 60 of line 1, with the epochs before them.
-fn with_texts(line: [u8; 80], t: Texts) -> [u8; 80]
-    ensures { λ r. ⌜ r ≡ drawn textItems (textValues t) line ⌝ }
-{
-    let data_used = t.data_used;
-    let coordinates = t.coordinates;
-    let orbit = t.orbit;
-    let agency = t.agency;
-    let a = draw::with_text(line, &data_used, 41, 45);
-    let b = draw::with_text(a, &coordinates, 47, 51);
-    let c = draw::with_text(b, &orbit, 53, 55);
-    draw::with_text(c, &agency, 57, 60)
-}
-
-// Line 1 laid at the front of `out`, where there is room, and its length in any case.
-pub fn write_first(rules: Rules, f: First, out: &mut [u8]) -> usize
-    ensures lays { λ r. ⌜ Lays (firstLine rules f) (now (out .entry)) r (now (out .exit)) ⌝ }
-{
-    let start = f.start;
-    let texts = f.texts;
-    let symbol = [b'#', rules.letter];
-    let a = draw::with_fixed([b' '; 80], &symbol, 1, 2);
-    let b = draw::with_letter(a, f.mode, 3, 3);
-    let c = with_moment(b, start);
-    let d = draw::with_whole(c, f.epochs, 33, 39);
-    let line = with_texts(d, texts);
-    layout::lay_line(&line, out)
-}
-
-// The same of line 2.
-pub fn write_second(s: Second, out: &mut [u8]) -> usize
-    ensures lays { λ r. ⌜ Lays (secondLine s) (now (out .entry)) r (now (out .exit)) ⌝ }
-{
-    let a = draw::with_fixed([b' '; 80], b"##", 1, 2);
-    let b = draw::with_whole(a, s.week, 4, 7);
-    let c = draw::with_decimal(b, 8, s.seconds8, 9, 23);
-    let d = draw::with_decimal(c, 8, s.interval8, 25, 38);
-    let e = draw::with_whole(d, s.mjd, 40, 44);
-    let line = draw::with_decimal(e, 13, s.fraction13, 46, 60);
-    layout::lay_line(&line, out)
-}
-
-// The same of an epoch line.
-pub fn write_epoch(e: Epoch, out: &mut [u8]) -> usize
-    ensures lays { λ r. ⌜ Lays (epochLine e) (now (out .entry)) r (now (out .exit)) ⌝ }
-{
-    let moment = e.moment;
-    let a = draw::with_fixed([b' '; 80], b"* ", 1, 2);
-    let line = with_moment(a, moment);
-    layout::lay_line(&line, out)
 }

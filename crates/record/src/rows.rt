@@ -3,10 +3,8 @@ ghost use mathlib.Core.Path.{_≡_};
 ghost use Prim.Native.Nat.{_+_, _≤_};
 ghost use lib.ListN.{length, take, drop};
 ghost use Rattle.layout.specs.Kind.{nameCode};
-ghost use Rattle.layout.specs.Layout.{faultFrom, drawn, showLine};
-ghost use Rattle.layout.specs.Line.{Lays};
-ghost use Rattle.record.specs.Rows.{bodyItems, bodyValues, flagItems, flagValues, rowItems, rowValues, rowLine, rowFault, cut, signedIn, exponentIn, flagIn, rowTaken, rowOf};
-use crate::draw;
+ghost use Rattle.layout.specs.Layout.{faultFrom};
+ghost use Rattle.record.specs.Rows.{bodyItems, flagItems, rowFault, cut, signedIn, exponentIn, flagIn, rowTaken, rowOf};
 use crate::fields;
 use crate::types::Row;
 use crate::types::Signed;
@@ -155,54 +153,4 @@ pub fn row_of(line: &[u8], velocity: bool) -> Row
 {
     let padded = layout::pad(line);
     row_taken(&padded, velocity)
-}
-
-// Columns 2 to 73 of a line.
-fn with_body(line: [u8; 80], p: Row) -> [u8; 80]
-    ensures { λ r. ⌜ r ≡ drawn bodyItems (bodyValues p) line ⌝ }
-{
-    let x = p.x;
-    let y = p.y;
-    let z = p.z;
-    let clock = p.clock;
-    let a = draw::with_name(line, p.satellite, 2, 4);
-    let b = draw::with_signed(a, x, 5, 18);
-    let c = draw::with_signed(b, y, 19, 32);
-    let d = draw::with_signed(c, z, 33, 46);
-    let e = draw::with_signed(d, clock, 47, 60);
-    let f = draw::with_exponent(e, p.x_exponent, 62, 63);
-    let g = draw::with_exponent(f, p.y_exponent, 65, 66);
-    let h = draw::with_exponent(g, p.z_exponent, 68, 69);
-    draw::with_exponent(h, p.clock_exponent, 71, 73)
-}
-
-// Columns 74 to 80 of P.
-fn with_flags(line: [u8; 80], p: Row) -> [u8; 80]
-    ensures { λ r. ⌜ r ≡ drawn flagItems (flagValues p) line ⌝ }
-{
-    let a = draw::with_flag(line, b'E', p.event, 75);
-    let b = draw::with_flag(a, b'P', p.predicted, 76);
-    let c = draw::with_flag(b, b'M', p.maneuver, 79);
-    draw::with_flag(c, b'P', p.orbit_predicted, 80)
-}
-
-// The line of 80 columns that shows a row.
-fn row_shown(p: Row, velocity: bool) -> [u8; 80]
-    ensures { λ r. ⌜ r ≡ showLine (rowItems velocity) (rowValues velocity p) ⌝ }
-{
-    if velocity {
-        let a = draw::with_fixed([b' '; 80], b"V", 1, 1);
-        return with_body(a, p);
-    }
-    let a = draw::with_fixed([b' '; 80], b"P", 1, 1);
-    let b = with_body(a, p);
-    with_flags(b, p)
-}
-
-// A P line, or a V line where `velocity` says so, laid at the front of `out`, where there is room, and its length in any case.
-pub fn write_row(p: Row, velocity: bool, out: &mut [u8]) -> usize
-    ensures lays { λ r. ⌜ Lays (rowLine velocity p) (now (out .entry)) r (now (out .exit)) ⌝ }
-{
-    let line = row_shown(p, velocity);
-    layout::lay_line(&line, out)
 }

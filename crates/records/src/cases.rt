@@ -16,7 +16,7 @@ use record::slots;
 fn first(line: &[u8; 80]) {
     let read = opening::read_first(Rules::d(), line);
     let mut out = [35u8; 81];
-    let n = opening::write_first(Rules::d(), read, &mut out);
+    let n = draw::opening::write_first(Rules::d(), read, &mut out);
     print::written(read.fault, &out, n);
 }
 
@@ -24,7 +24,7 @@ fn first(line: &[u8; 80]) {
 fn second(line: &[u8; 80]) {
     let read = opening::read_second(line);
     let mut out = [35u8; 81];
-    let n = opening::write_second(read, &mut out);
+    let n = draw::opening::write_second(read, &mut out);
     print::written(read.fault, &out, n);
 }
 
@@ -32,7 +32,7 @@ fn second(line: &[u8; 80]) {
 fn satellites(line: &[u8; 80]) {
     let read = slots::read_satellites(Rules::d(), line);
     let mut out = [35u8; 81];
-    let n = slots::write_satellites(Rules::d(), read, &mut out);
+    let n = draw::slots::write_satellites(Rules::d(), read, &mut out);
     print::written(read.fault, &out, n);
 }
 
@@ -40,7 +40,7 @@ fn satellites(line: &[u8; 80]) {
 fn more(line: &[u8; 80], accuracies: bool, left: u64) {
     let read = slots::read_slots(line, accuracies, left);
     let mut out = [35u8; 81];
-    let n = slots::write_slots(read, accuracies, left, &mut out);
+    let n = draw::slots::write_slots(read, accuracies, left, &mut out);
     print::written(read.fault, &out, n);
 }
 
@@ -48,14 +48,14 @@ fn more(line: &[u8; 80], accuracies: bool, left: u64) {
 fn descriptor(line: &[u8; 80]) {
     let read = descriptors::read_descriptor(line);
     let mut out = [35u8; 81];
-    let n = descriptors::write_descriptor(read, &mut out);
+    let n = draw::descriptors::write_descriptor(read, &mut out);
     print::written(read.fault, &out, n);
 }
 
 // The second `%c` line.
 fn characters(line: &[u8; 80]) {
     let mut out = [35u8; 81];
-    let n = descriptors::write_characters(&mut out);
+    let n = draw::descriptors::write_characters(&mut out);
     print::written(descriptors::characters_fault(line), &out, n);
 }
 
@@ -63,21 +63,21 @@ fn characters(line: &[u8; 80]) {
 fn bases(line: &[u8; 80]) {
     let read = descriptors::read_bases(line);
     let mut out = [35u8; 81];
-    let n = descriptors::write_bases(read, &mut out);
+    let n = draw::descriptors::write_bases(read, &mut out);
     print::written(read.fault, &out, n);
 }
 
 // The second `%f` line.
 fn floats(line: &[u8; 80]) {
     let mut out = [35u8; 81];
-    let n = descriptors::write_floats(&mut out);
+    let n = draw::descriptors::write_floats(&mut out);
     print::written(descriptors::floats_fault(line), &out, n);
 }
 
 // A `%i` line.
 fn integers(line: &[u8; 80]) {
     let mut out = [35u8; 81];
-    let n = descriptors::write_integers(&mut out);
+    let n = draw::descriptors::write_integers(&mut out);
     print::written(descriptors::integers_fault(line), &out, n);
 }
 
@@ -85,7 +85,7 @@ fn integers(line: &[u8; 80]) {
 fn comment(line: &[u8; 80]) {
     let s = &line[..];
     let mut out = [35u8; 81];
-    let n = plain::write_comment(&s[3..80], &mut out);
+    let n = draw::plain::write_comment(&s[3..80], &mut out);
     print::written(plain::comment_fault(line), &out, n);
 }
 
@@ -93,7 +93,7 @@ fn comment(line: &[u8; 80]) {
 fn epoch(line: &[u8; 80]) {
     let read = opening::read_epoch(line);
     let mut out = [35u8; 81];
-    let n = opening::write_epoch(read, &mut out);
+    let n = draw::opening::write_epoch(read, &mut out);
     print::written(read.fault, &out, n);
 }
 
@@ -101,14 +101,14 @@ fn epoch(line: &[u8; 80]) {
 fn row(line: &[u8; 80], velocity: bool) {
     let read = rows::row_of(&line[..], velocity);
     let mut out = [35u8; 81];
-    let n = rows::write_row(read, velocity, &mut out);
+    let n = draw::rows::write_row(read, velocity, &mut out);
     print::written(rows::row_fault(line, velocity), &out, n);
 }
 
 // The end of the file.
 fn end(line: &[u8; 80]) {
     let mut out = [35u8; 81];
-    let n = plain::write_end(&mut out);
+    let n = draw::plain::write_end(&mut out);
     print::written(plain::end_fault(line), &out, n);
 }
 

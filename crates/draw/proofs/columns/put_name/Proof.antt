@@ -1,0 +1,29 @@
+-- `draw::columns::put_name` meets its contract.
+-- Assumes nothing.
+use mathlib.Core.Path.{_≡_, _∙_, sym}
+use lib.ListN.{length}
+use Rattle.layout.specs.Kind.{showName}
+use Rattle.layout.proofs.Lines.{covering}
+use borrow.Author.Needs.{needs}
+use Rattle.draw.proofs.columns.put_name.Statement.{statement}
+use Rattle.draw.proofs.columns.put_name.Tie as tie
+
+returns : tie.Need-returns
+returns c =
+    let a = c .before .before .before .before .before .before .args in
+    let three : length (a .out .now) ≡ 3 = search needs in
+    c .before .before .copy-front .ensures ∙ covering (showName (a .code)) (a .out .now) (sym three)
+
+pub put-name-spec : {M : Type 1} → statement M
+put-name-spec =
+    tie.close
+    (tie.spec
+    (λ c. search needs)
+    (λ c. search needs)
+    (λ c. search needs)
+    (λ c. search needs)
+    (λ c. search needs)
+    (λ c. search needs)
+    (λ c κs. search needs)
+    (λ c. search needs)
+    returns)

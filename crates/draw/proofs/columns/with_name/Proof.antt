@@ -1,0 +1,19 @@
+-- `draw::columns::with_name` meets its contract.
+-- Assumes nothing.
+use borrow.Author.Needs.{needs}
+use Rattle.draw.proofs.columns.with_name.Statement.{statement}
+use Rattle.draw.proofs.columns.with_name.Tie as tie
+
+returns : tie.Need-returns
+returns c = rw (c .before .put-name .ensures)
+
+pub with-name-spec : {M : Type 1} → statement M
+with-name-spec =
+    tie.close
+    (tie.spec
+    (λ c. search needs)
+    (λ c. search needs)
+    (λ c. search needs)
+    (λ c. search needs)
+    (λ c κs. search needs)
+    returns)
