@@ -29,8 +29,8 @@ exponent-determined κs a r r′ s s′ p q = toldExponent-one r r′ (p ∙ sym
 pub decimal-determined : (κs : _) (a : _) (r r′ : _) (s s′ : _) → decimal.Post κs a r s → decimal.Post κs a r′ s′ → r ≡ r′
 decimal-determined κs a r r′ s s′ p q = toldAmount-one r r′ (p ∙ sym q)
 
-pub known-magnitude-determined : (κs : _) (a : _) (r r′ : _) (s s′ : _) → known-magnitude.Post κs a r s → known-magnitude.Post κs a r′ s′ → r ≡ r′
-known-magnitude-determined κs a r r′ s s′ p q = p ∙ sym q
+pub magnitude-determined : (κs : _) (a : _) (r r′ : _) (s s′ : _) → known-magnitude.Post κs a r s → known-magnitude.Post κs a r′ s′ → r ≡ r′
+magnitude-determined κs a r r′ s s′ p q = p ∙ sym q
 
 pub known-is-negative-determined : (κs : _) (a : _) (r r′ : _) (s s′ : _) → known-negative.Post κs a r s → known-negative.Post κs a r′ s′ → r ≡ r′
 known-is-negative-determined κs a r r′ s s′ p q = p ∙ sym q

@@ -22,14 +22,14 @@ is-time-system-determined κs a r r′ s s′ p q = p ∙ sym q
 pub slot-lines-determined : (κs : _) (a : _) (r r′ : _) (s s′ : _) → slots.Post κs a r s → slots.Post κs a r′ s′ → r ≡ r′
 slot-lines-determined κs a r r′ s s′ p q = p ∙ sym q
 
-pub d-determined : (κs : _) (a : _) (r r′ : _) (s s′ : _) → rules.Post κs a r s → rules.Post κs a r′ s′ → r ≡ r′
-d-determined κs a r r′ s s′ p q = p ∙ sym q
+pub rules-d-determined : (κs : _) (a : _) (r r′ : _) (s s′ : _) → rules.Post κs a r s → rules.Post κs a r′ s′ → r ≡ r′
+rules-d-determined κs a r r′ s s′ p q = p ∙ sym q
 
-pub bounds-hold-determined : (κs : _) (a : _) (r r′ : _) (s s′ : _) → bounds.Post κs a r s → bounds.Post κs a r′ s′ → r ≡ r′
-bounds-hold-determined κs a r r′ s s′ p q = p .0 ∙ sym (q .0)
+pub header-bounds-hold-determined : (κs : _) (a : _) (r r′ : _) (s s′ : _) → bounds.Post κs a r s → bounds.Post κs a r′ s′ → r ≡ r′
+header-bounds-hold-determined κs a r r′ s s′ p q = p .0 ∙ sym (q .0)
 
-pub none-determined : (κs : _) (a : _) (r r′ : _) (s s′ : _) → none.Post κs a r s → none.Post κs a r′ s′ → r ≡ r′
-none-determined κs a r r′ s s′ p q = p ∙ sym q
+pub header-none-determined : (κs : _) (a : _) (r r′ : _) (s s′ : _) → none.Post κs a r s → none.Post κs a r′ s′ → r ≡ r′
+header-none-determined κs a r r′ s s′ p q = p ∙ sym q
 
-pub new-determined : (κs : _) (a : _) (r r′ : _) (s s′ : _) → new.Post κs a r s → new.Post κs a r′ s′ → r ≡ r′
-new-determined κs a r r′ s s′ p q = p ∙ sym q
+pub header-new-determined : (κs : _) (a : _) (r r′ : _) (s s′ : _) → new.Post κs a r s → new.Post κs a r′ s′ → r ≡ r′
+header-new-determined κs a r r′ s s′ p q = p ∙ sym q
