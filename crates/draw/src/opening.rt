@@ -24,7 +24,7 @@ fn with_moment(line: [u8; 80], m: Moment) -> [u8; 80]
     columns::with_decimal(e, 8, m.second8, 21, 31)
 }
 
-// Columns 41 to 60 of line 1, with the epochs before them.
+// Columns 41 to 60 of line 1: the four texts.
 fn with_texts(line: [u8; 80], t: Texts) -> [u8; 80]
     ensures { λ r. ⌜ r ≡ drawn textItems (textValues t) line ⌝ }
 {
