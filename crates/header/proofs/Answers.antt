@@ -5,7 +5,6 @@ use mathlib.Core.List.{List, [], _∷_}
 use mathlib.Core.Path.{_≡_}
 use Prim.Native.Nat.{ℕ, _+_, _*_}
 use lib.Dec.{lit≤, eqb}
-use Rattle.laws.proofs.Answers as answers
 use Rattle.calendar.specs.Gregorian.{isDate, mjdOf}
 use Rattle.calendar.specs.Clock.{isTime, timeOf, dayUnits, instantAnswer}
 use Rattle.header.specs.Header.{lettersListed, isMoment, instantOf, numbersBounded, refused, headerOf}
@@ -13,6 +12,7 @@ use Rattle.header.specs.declared.types.Moment.{Moment}
 use Rattle.header.specs.declared.types.Texts.{Texts}
 use Rattle.header.specs.declared.types.Bases.{Bases}
 use Rattle.header.specs.declared.types.HeaderAnswer.{HeaderAnswer}
+use Rattle.laws.proofs.Answers as answers
 
 -- what the calendar answers for a start
 abbrev pub startAnswer : Moment → List ℕ

@@ -9,18 +9,18 @@ use native.Mathlib.Omega.{arith}
 use borrow.Author.Tests.{leb-true}
 use lib.Dec.{leb, eqb}
 use Rattle.laws.specs.Tests.{within}
-use Rattle.laws.proofs.Bools.{and-left, and-right, both-true}
-use Rattle.laws.proofs.Bounds.{within-true}
 use Rattle.layout.specs.Kind.{isOneOf, isListed}
 use Rattle.header.specs.Rules.{maxSatellites, maxEpochs, minComments, slotLines}
 use Rattle.header.specs.Letters.{modes, fileTypes, timeSystems}
 use Rattle.header.specs.Header.{maxInterval, maxPlaceBase, maxClockBase, textsPrintable, lettersListed, isMoment, instantOf, numbersBounded, noHeader, refused, headerOf}
-use Rattle.header.proofs.Answers.{begun}
 use Rattle.header.specs.declared.types.Moment.{Moment}
 use Rattle.header.specs.declared.types.Texts.{Texts}
 use Rattle.header.specs.declared.types.Bases.{Bases}
 use Rattle.header.specs.declared.types.Header.{Header}
 use Rattle.header.specs.declared.types.HeaderAnswer.{HeaderAnswer}
+use Rattle.laws.proofs.Bools.{and-left, and-right, both-true}
+use Rattle.laws.proofs.Bounds.{within-true}
+use Rattle.header.proofs.Answers.{begun}
 
 -- the numbers of a header, within their bounds
 pub record Bounded (epochs interval8 satellites comments : ℕ) (bases : Bases) : Type 0 where

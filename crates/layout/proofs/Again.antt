@@ -2,8 +2,8 @@
 -- Assumes nothing.
 use mathlib.Core.Path.{_≡_, refl, sym, ap, _∙_}
 use mathlib.Core.Bool.{Bool, true, false, cond, not, _&&_, _||_}
-use mathlib.Core.List.{List, [], _∷_, _++_}
-use Prim.Native.Nat.{ℕ, zero, suc, _+_, _*_, _-_, min, _<_, _≤_}
+use mathlib.Core.List.{List, [], _∷_}
+use Prim.Native.Nat.{ℕ, zero, suc, _-_, min, _<_, _≤_}
 use native.Mathlib.Omega.{arith}
 use borrow.Author.Tests.{eqb-true, eqb-false, eq-eqb, ltb-true}
 use lib.Dec.{leb, ltb, eqb}
@@ -11,26 +11,26 @@ use lib.ListN.{length, getD, take, drop, length-drop}
 use lib.Seq.{length-take-le}
 use Rattle.laws.specs.Tests.{within}
 use Rattle.laws.specs.Texts.{every, isPrintable}
-use Rattle.laws.proofs.Bools.{and-left, and-right, and-both}
 use Rattle.field.specs.Read.{wholeOf, exponentOf, decimalOf, minusFirst}
 use Rattle.field.specs.Show.{fitsWhole, fitsDecimal}
 use Rattle.field.specs.Sign.{largest}
+use Rattle.layout.specs.Fault.{clean, keyed, lower, lowerOf, lowerUnless}
+use Rattle.layout.specs.Kind.{Kind, silent, unknown, sameBytes, isOneOf, isListed, isBlank, isLettered, isName, named, nameCode, nameNumber, canAmount, unless, boundFault, wholeFault, amountFault, exponentFault, faultIn, heldIn, wholeHeld, amountHeld, signHeld, exponentHeld, fitsIn, holdsIn, printable}
+use Rattle.layout.specs.Kind.Kind.{unused, fixed, whole, decimal, signed, clock, exponent, flag, letter, listed, identifier, filler, zeroWhole, zeroDecimal, text}
+use Rattle.layout.specs.Kind.Held.{nothing}
+use Rattle.layout.specs.Layout.{hasOwn, ownOf, othersOf, Item, Values, widthOf, partOf, faultAt, tiledFrom, tiled, faultFrom, faultOf, valuesOf, canShow, entered}
 use Rattle.field.specs.declared.Whole.{Whole}
 use Rattle.field.specs.declared.Whole.the-variants as wholes
 use Rattle.field.specs.declared.Exponent.{Exponent}
 use Rattle.field.specs.declared.Exponent.the-variants as exponents
 use Rattle.field.specs.declared.Amount.{Amount}
 use Rattle.field.specs.declared.Amount.the-variants as amounts
-use Rattle.field.proofs.Accepted.{Carried, Taken, decimal-taken, integer-minus}
+use Rattle.laws.proofs.Bools.{and-left, and-right, and-both}
+use Rattle.field.proofs.Accepted.{decimal-taken, integer-minus}
 use Rattle.field.proofs.Again.{whole-again, exponent-again, decimal-again}
-use Rattle.layout.specs.Fault.{clean, keyed, lower, lowerOf, lowerUnless}
-use Rattle.layout.specs.Kind.{Kind, Held, silent, unknown, sameBytes, isOneOf, isListed, isBlank, isLettered, isName, named, nameCode, nameNumber, canAmount, unless, boundFault, wholeFault, amountFault, exponentFault, faultIn, heldIn, heldAmount, wholeHeld, amountHeld, signHeld, exponentHeld, fitsIn, holdsIn, printable, numberWith, amountWith}
-use Rattle.layout.specs.Kind.Kind.{unused, fixed, whole, decimal, signed, clock, exponent, flag, letter, listed, identifier, filler, zeroWhole, zeroDecimal, text}
-use Rattle.layout.specs.Kind.Held.{nothing}
-use Rattle.layout.specs.Layout.{hasOwn, ownOf, othersOf, Item, Values, widthOf, partOf, faultAt, heldAt, tiledFrom, tiled, faultFrom, faultOf, valuesOf, canShow, entered}
 use Rattle.layout.proofs.Names.{name-again}
 use Rattle.layout.proofs.Fields.{not-false-true, same-one}
-use Rattle.layout.proofs.Layouts.{Stands, stands, start-bound}
+use Rattle.layout.proofs.Layouts.{stands, start-bound}
 
 -- a key has a number, so it is no fault's absence
 no-key : (number column : ℕ) → 0 < number → keyed number column ≡ clean → ⊥

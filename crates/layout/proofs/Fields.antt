@@ -2,24 +2,24 @@
 -- One law over every kind, width and column. Numbers are cited from `field`. Assumes nothing.
 use mathlib.Core.Path.{_≡_, refl, sym, ap, _∙_}
 use mathlib.Core.Bool.{Bool, true, false, cond, not, _&&_, _||_}
-use mathlib.Core.List.{List, [], _∷_, _++_}
-use Prim.Native.Nat.{ℕ, zero, suc, _+_, _<_, _≤_}
+use mathlib.Core.List.{List, [], _∷_}
+use Prim.Native.Nat.{ℕ, zero, suc, _<_, _≤_}
 use native.Mathlib.Omega.{arith}
 use borrow.Author.Tests.{le-leb, leb-true, ltb-true, eqb-true, eq-eqb, ne-eqb}
 use lib.Dec.{leb, ltb, eqb}
 use lib.ListN.{length, take}
 use Rattle.laws.specs.Tests.{within}
-use Rattle.laws.specs.Texts.{every, isPrintable, blanks}
-use Rattle.laws.proofs.Bools.{and-left, and-right, and-true}
+use Rattle.laws.specs.Texts.{isPrintable, blanks}
 use Rattle.field.specs.Show.{fitsWhole, putWhole, fitsDecimal, shownNegative}
 use Rattle.field.specs.Sign.{largest}
-use Rattle.field.specs.declared.Exponent.the-variants as exponents
-use Rattle.field.proofs.Back.{whole-back, exponent-back, decimal-back}
-use Rattle.field.proofs.Shown.{integer-printable, decimal-printable}
 use Rattle.layout.specs.Fault.{clean}
-use Rattle.layout.specs.Kind.{Kind, Held, numberIn, negativeIn, magnitudeIn, wordsIn, unknown, sameBytes, isOneOf, isListed, isBlank, isName, canAmount, faultIn, heldIn, shownIn, shownText, fitsIn, wordsFit, holdsIn, printable, isNothing, numberWith, amountWith, isMark, wordsWith}
+use Rattle.layout.specs.Kind.{Kind, Held, numberIn, negativeIn, magnitudeIn, wordsIn, unknown, sameBytes, isOneOf, isListed, isName, canAmount, faultIn, heldIn, shownIn, fitsIn, wordsFit, holdsIn, printable, isNothing, numberWith, amountWith, isMark, wordsWith}
 use Rattle.layout.specs.Kind.Kind.{unused, fixed, whole, decimal, signed, clock, exponent, flag, letter, listed, identifier, filler, zeroWhole, zeroDecimal, text}
 use Rattle.layout.specs.Kind.Held.{nothing, one, amount, mark, words}
+use Rattle.field.specs.declared.Exponent.the-variants as exponents
+use Rattle.laws.proofs.Bools.{and-left, and-right}
+use Rattle.field.proofs.Back.{whole-back, exponent-back, decimal-back}
+use Rattle.field.proofs.Shown.{integer-printable, decimal-printable}
 use Rattle.layout.proofs.Lines.{blanks-length}
 use Rattle.layout.proofs.Shown.{whole-put, whole-wide, places-put, places-wide, printable-byte, blanks-clean, blanks-printable, blanks-blank, text-wide, text-whole}
 use Rattle.layout.proofs.Names.{name-named, name-bounds, name-code, name-printable}

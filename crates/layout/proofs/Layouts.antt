@@ -10,13 +10,12 @@ use lib.Dec.{leb, eqb}
 use lib.ListN.{length, take, length-append}
 use lib.Seq.{take-at, drop-at}
 use Rattle.laws.specs.Texts.{isPrintable}
+use Rattle.layout.specs.Fault.{clean}
+use Rattle.layout.specs.Kind.{printable, silent, fitsIn, holdsIn}
+use Rattle.layout.specs.Layout.{Item, Values, partOf, widthOf, entered, ownOf, othersOf, noMore, hasOwn, standsAt, tiledFrom, tiled, faultFrom, valuesOf, showLine, canShow, bytesOf, leftOf}
 use Rattle.laws.proofs.Bools.{and-left, and-right}
 use Rattle.laws.proofs.Lists.{every-append}
-use Rattle.layout.specs.Fault.{clean}
-use Rattle.layout.specs.Kind.{Held, printable, silent, shownIn, fitsIn, holdsIn}
-use Rattle.layout.specs.Layout.{Item, Values, partOf, widthOf, entered, ownOf, othersOf, noMore, hasOwn, standsAt, tiledFrom, tiled, faultFrom, valuesOf, showLine, canShow, bytesOf, leftOf}
-use Rattle.layout.proofs.Fields.{not-false-true}
-use Rattle.layout.proofs.Fields.{wide, keeps}
+use Rattle.layout.proofs.Fields.{not-false-true, wide, keeps}
 
 -- what the test of a tiling says of its first item
 pub record Stands (at : ℕ) (item : Item) (items : List Item) : Type 0 where

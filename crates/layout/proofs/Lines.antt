@@ -13,11 +13,11 @@ use lib.Dec.{leb, eqb}
 use lib.ListN.{length, getD, take, drop, set, length-append, length-replicate, replicate-append-replicate, drop-of-length-le, length-drop}
 use lib.Seq.{take-suc, take-at, drop-at, take-append-le, take-all, length-take-le, drop-drop}
 use Rattle.laws.specs.Texts.{every, isPrintable, blanks}
-use Rattle.laws.proofs.Bools.{and-left, and-right, and-true}
-use Rattle.laws.proofs.Lists.{rest-step, rest-none}
 use Rattle.layout.specs.Kind.{printable}
 use Rattle.layout.specs.Layout.{overlaid}
 use Rattle.layout.specs.Line.{padded, consTrimmed, trimmed, ended, lineOf, laidIn, Lays}
+use Rattle.laws.proofs.Bools.{and-left, and-right, and-true}
+use Rattle.laws.proofs.Lists.{rest-step, rest-none}
 
 pub blanks-length : (w : ℕ) → length (blanks w) ≡ w
 blanks-length w = length-replicate w 32

@@ -1,19 +1,19 @@
 -- An identifier as one number: its letter and two digits, and back.
 -- Assumes nothing.
-use mathlib.Core.Path.{_≡_, refl, sym, ap, _∙_}
-use mathlib.Core.Bool.{Bool, true, false, _&&_}
-use mathlib.Core.List.{List, [], _∷_}
-use Prim.Native.Nat.{ℕ, _+_, _-_, _*_, _/_, _%_, _<_, _≤_}
+use mathlib.Core.Path.{_≡_}
+use mathlib.Core.Bool.{true, _&&_}
+use mathlib.Core.List.{List}
+use Prim.Native.Nat.{ℕ, _+_, _*_, _/_, _%_, _<_, _≤_}
 use native.Mathlib.Nat.{mod-lt, mod-eq-of-lt, div-add-mod'}
 use native.Mathlib.Omega.{arith}
 use borrow.Author.Tests.{leb-true, ltb-true, lt-ltb}
 use lib.Dec.{leb, ltb, lit<}
 use lib.ListN.{getD}
 use Rattle.field.specs.Digits.{isDigit}
-use Rattle.laws.proofs.Bools.{and-left, and-right, and-both}
 use Rattle.laws.specs.Tests.{within}
-use Rattle.laws.proofs.Bounds.{true-within, within-true}
 use Rattle.layout.specs.Kind.{named, nameNumber, nameCode, showName, isName, printable}
+use Rattle.laws.proofs.Bools.{and-left, and-right}
+use Rattle.laws.proofs.Bounds.{true-within, within-true}
 use Rattle.layout.proofs.Shown.{printable-byte}
 
 digit-is : (d : ℕ) → d < 10 → isDigit (48 + d) ≡ true

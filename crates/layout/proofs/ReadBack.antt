@@ -11,7 +11,7 @@ use Rattle.layout.specs.Kind.{printable}
 use Rattle.layout.specs.Layout.{Item, Values, tiled, canShow, faultOf, valuesOf, showLine}
 use Rattle.layout.specs.Line.{padded, trimmed, ended, lineOf}
 use Rattle.layout.proofs.Again.{shown-again}
-use Rattle.layout.proofs.Layouts.{shown-wide, ReadsBack, reads-back}
+use Rattle.layout.proofs.Layouts.{shown-wide, reads-back}
 use Rattle.layout.proofs.Lines.{padded-trimmed, line-found, trimmed-shorter, trimmed-printable}
 
 -- whatever is made of a written line's fault and values is made of no fault and the values that the line was shown by

@@ -1,7 +1,7 @@
 -- Slots that repeat over a line: one more slot of a loop that reads or draws, and that they tile their columns for every number of satellites.
 -- Assumes nothing.
 use mathlib.Core.Path.{_≡_, refl, ap, sym, _∙_}
-use mathlib.Core.Bool.{Bool, true, false, _&&_}
+use mathlib.Core.Bool.{Bool, true, false}
 use mathlib.Core.List.{List, [], _∷_, _++_, append-assoc}
 use Prim.Native.Nat.{ℕ, zero, suc, _+_, _-_, _*_, _<_, _≤_}
 use native.Mathlib.Nat.{sub-zero}
@@ -12,10 +12,10 @@ use lib.Dec.{ltb}
 use lib.ListN.{length, getD, take, drop, set}
 use lib.Seq.{take-suc-set, drop-cons}
 use Rattle.layout.specs.Fault.{lower}
-use Rattle.layout.specs.Kind.{Kind, Held, silent, isUnused, numberIn, shownIn, fitsIn}
+use Rattle.layout.specs.Kind.{Kind, silent, isUnused, numberIn, shownIn, fitsIn}
 use Rattle.layout.specs.Kind.Held.{one}
-use Rattle.layout.proofs.Fields.{wide}
 use Rattle.layout.specs.Layout.{Item, Values, heldAt, faultAt, entered, faultFrom, valuesOf, tiledFrom, overlaid, drawn, slotFor, slotAt, slotsFrom, numbersOf, onesOf}
+use Rattle.layout.proofs.Fields.{wide}
 
 -- there are satellites left for the slot k
 left-some : (left k : ℕ) → ltb 0 (left - k) ≡ ltb k left

@@ -1,8 +1,8 @@
 -- What fields are shown by: blanks, printable bytes, texts, and numbers put over blanks.
 -- Assumes nothing.
-use mathlib.Core.Path.{_≡_, refl, sym, ap, _∙_}
+use mathlib.Core.Path.{_≡_, refl, ap}
 use mathlib.Core.Bool.{Bool, true, false, cond}
-use mathlib.Core.List.{List, [], _∷_, _++_}
+use mathlib.Core.List.{List, _++_}
 use Prim.Native.Nat.{ℕ, zero, suc, _+_, _<_, _≤_}
 use native.Mathlib.Numerals.{add-one}
 use native.Mathlib.Omega.{arith}
@@ -12,9 +12,9 @@ use lib.ListN.{length, getD, drop, length-append}
 use lib.Seq.{drop-cons, length-take-le, take-at}
 use Rattle.laws.specs.Texts.{every, isPrintable, blanks}
 use Rattle.field.specs.Show.{showWhole, fitsWhole, putWhole, showDecimal, fitsDecimal, putDecimal}
-use Rattle.field.proofs.Back.{integer-length, decimal-length}
 use Rattle.layout.specs.Fault.{clean, keyed}
 use Rattle.layout.specs.Kind.{printable, unusedFault, isBlank, shownText}
+use Rattle.field.proofs.Back.{integer-length, decimal-length}
 use Rattle.layout.proofs.Lines.{blanks-length}
 
 pub printable-byte : (b : ℕ) → 32 ≤ b → b ≤ 126 → isPrintable b ≡ true

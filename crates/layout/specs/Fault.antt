@@ -1,7 +1,7 @@
 -- Which fault decides. 01, "Numbers of the answers": "in a line the lowest number"; among equal numbers it is the leftmost column.
 -- A fault found in a line is one number, its key: the paper's number of the answer and the column that it names, so that the lowest key decides.
-use Prim.Native.Nat.{ℕ, _+_, _*_, _/_, _%_, min}
 use mathlib.Core.Bool.{Bool, true, false, cond}
+use Prim.Native.Nat.{ℕ, _+_, _*_, _/_, _%_, min}
 use lib.Dec.{eqb}
 
 -- no fault: the number of what is accepted, and no column

@@ -3,9 +3,9 @@
 -- 5 "an unused column isn't blank, or a placeholder (rules 5 and 6) isn't all `c` or a well-formed zero"; 6 "a field is malformed, or a
 -- letter, file type (two columns) or time system isn't listed"; 7 "a number or date is outside its bounds, 00 in an identifier too";
 -- 8 "a slot after n isn't `  0`".
-use Prim.Native.Nat.{ℕ, suc, _+_, _-_, _*_, _/_, _%_}
 use mathlib.Core.Bool.{Bool, true, false, cond, not, _&&_, _||_}
 use mathlib.Core.List.{List, [], _∷_, _++_}
+use Prim.Native.Nat.{ℕ, suc, _+_, _-_, _*_, _/_, _%_}
 use lib.ListN.{length, getD, take, drop}
 use lib.Dec.{leb, ltb, eqb}
 use Rattle.laws.specs.Tests.{within}
@@ -14,13 +14,13 @@ use Rattle.field.specs.Digits.{isDigit}
 use Rattle.field.specs.Read.{wholeOf, exponentOf, decimalOf}
 use Rattle.field.specs.Show.{fitsWhole, putWhole, fitsDecimal, putDecimal}
 use Rattle.field.specs.Sign.{largest}
+use Rattle.layout.specs.Fault.{clean, keyed}
 use Rattle.field.specs.declared.Whole.{Whole}
 use Rattle.field.specs.declared.Whole.the-variants as wholes
 use Rattle.field.specs.declared.Exponent.{Exponent}
 use Rattle.field.specs.declared.Exponent.the-variants as exponents
 use Rattle.field.specs.declared.Amount.{Amount}
 use Rattle.field.specs.declared.Amount.the-variants as amounts
-use Rattle.layout.specs.Fault.{clean, keyed}
 
 -- what a field's columns can be
 pub data Kind : Type 0 where

@@ -1,9 +1,9 @@
 -- A record's line as data: its items in column order, as the document lists them, and what judging, reading and showing a line by such a
 -- list means. Columns are counted from 1. 01, "Lines": "Unused columns, and all columns past a record's last, are blank."
-use Prim.Native.Nat.{ℕ, zero, suc, _+_, _-_}
 use mathlib.Core.Bool.{Bool, true, false, cond, _&&_}
 use mathlib.Core.List.{List, [], _∷_, _++_}
-use lib.ListN.{length, getD, take, drop}
+use Prim.Native.Nat.{ℕ, zero, suc, _+_, _-_}
+use lib.ListN.{getD, take, drop}
 use lib.Dec.{leb, ltb, eqb}
 use Rattle.layout.specs.Fault.{clean, lower}
 use Rattle.layout.specs.Kind.{Kind, Held, faultIn, heldIn, silent, isUnused, shownIn, fitsIn, holdsIn, numberIn, negativeIn, magnitudeIn, markIn, wordsIn}

@@ -1,9 +1,9 @@
 -- A line as bytes. 01, "Lines": "A line is the bytes up to the next LF. .. A short line counts as padded with blanks."
 -- "The canonical form": "trailing blanks cut from each line. Each canonical line stands directly after the one before in the lent output."
-use Prim.Native.Nat.{ℕ}
 use mathlib.Core.Path.{_≡_}
 use mathlib.Core.Bool.{cond}
 use mathlib.Core.List.{List, [], _∷_, _++_}
+use Prim.Native.Nat.{ℕ}
 use lib.ListN.{length, take, drop}
 use lib.Dec.{leb, eqb}
 use Rattle.laws.specs.Texts.{blanks}

@@ -2,15 +2,15 @@
 -- +999,999,999,999." Each both ways.
 -- Assumes nothing.
 use mathlib.Core.Path.{_≡_, refl}
-use mathlib.Core.Bool.{Bool, true, false, not, _&&_}
+use mathlib.Core.Bool.{Bool, true, false, _&&_}
 use Prim.Native.Nat.{ℕ}
-use borrow.Author.Tests.{eqb-true, eq-eqb}
+use borrow.Author.Tests.{eqb-true}
 use lib.Dec.{eqb}
-use Rattle.laws.proofs.Bools.{and-left, and-right}
 use Rattle.field.specs.Sign.{largest}
 use Rattle.layout.specs.Kind.{unknown}
-use Rattle.layout.proofs.Fields.{not-false-true}
 use Rattle.record.specs.Absence.{placeAbsent, clockAbsent, isUnknown, isTooLarge}
+use Rattle.laws.proofs.Bools.{and-left, and-right}
+use Rattle.layout.proofs.Fields.{not-false-true}
 
 pub place-absent : (x y z : ℕ) → placeAbsent x y z ≡ true → (x ≡ 0) × (y ≡ 0) × (z ≡ 0)
 place-absent x y z h =

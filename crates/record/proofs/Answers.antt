@@ -1,24 +1,24 @@
 -- What a field's reader told, as the definition's own case: the enum by its told numbers.
 -- Assumes nothing.
 use mathlib.Core.Path.{_≡_, refl, sym, _∙_}
+use mathlib.Core.List.{List, [], _∷_}
+use mathlib.Core.Bool.{Bool, true, false}
+use Prim.Native.Nat.{ℕ}
 use denote.Enum.Declared.{tagOf}
 use types.Run.{OneOf, miss}
-use Rattle.field.specs.declared.Exponent.the-variants as exponents
-use Rattle.field.proofs.Exponent.{the-type}
 use Rattle.layout.specs.Fault.{clean}
 use Rattle.layout.specs.Kind.{exponentFault}
-use mathlib.Core.List.{List, [], _∷_}
-use Prim.Native.Nat.{ℕ}
-use mathlib.Core.Bool.{Bool, true, false}
 use Rattle.field.specs.Read.{wholeOf, wholeAnswer, toldWhole, decimalOf, decimalAnswer, toldAmount, exponentOf, exponentAnswer, toldExponent}
+use Rattle.calendar.specs.Gregorian.{dateAnswer, toldDate, isDate}
+use Rattle.field.specs.declared.Exponent.the-variants as exponents
 use Rattle.field.specs.declared.Whole.{Whole}
 use Rattle.field.specs.declared.Amount.{Amount}
 use Rattle.field.specs.declared.Exponent.{Exponent}
-use Rattle.field.proofs.Told.{toldWhole-one, toldAmount-one, toldExponent-one}
-use Rattle.calendar.specs.Gregorian.{dateAnswer, toldDate, isDate}
 use Rattle.calendar.specs.declared.types.Dated.{Dated}
 use Rattle.calendar.specs.declared.types.Dated.the-variants as dated
-use Rattle.calendar.proofs.Days.{date-told, date-refused, DayTold}
+use Rattle.field.proofs.Exponent.{the-type}
+use Rattle.field.proofs.Told.{toldWhole-one, toldAmount-one, toldExponent-one}
+use Rattle.calendar.proofs.Days.{date-told, date-refused}
 
 pub whole-case : (bs : List ℕ) (r a : Whole) → toldWhole r ≡ wholeAnswer bs → r ≡ a → wholeOf bs ≡ a
 whole-case bs r a e h = sym (toldWhole-one r (wholeOf bs) e) ∙ h

@@ -3,7 +3,6 @@
 use mathlib.Core.Path.{_≡_, refl, sym, ap, _∙_}
 use mathlib.Core.List.{List, [], _∷_}
 use Prim.Native.Nat.{ℕ}
-use denote.Ref.{now}
 use lib.ListN.{getD}
 use Rattle.record.specs.LineKinds.{toldKind}
 use Rattle.record.specs.declared.types.LineKind.{LineKind}

@@ -1,16 +1,15 @@
 -- Letters and words of a few columns, byte by byte.
 -- Assumes nothing.
-use mathlib.Core.Path.{_≡_, refl, sym, ap, _∙_}
+use mathlib.Core.Path.{_≡_, sym, ap, _∙_}
 use mathlib.Core.Bool.{Bool, _&&_}
 use mathlib.Core.List.{List, [], _∷_}
-use Prim.Native.Nat.{ℕ, _<_}
+use Prim.Native.Nat.{ℕ}
 use native.Mathlib.Omega.{arith}
 use lib.Dec.{eqb}
-use lib.ListN.{length, getD, drop}
-use Rattle.laws.specs.Texts.{every}
+use lib.ListN.{length, getD}
+use Rattle.layout.specs.Kind.{isOneOf, isLettered}
 use Rattle.laws.proofs.Bools.{and-true}
 use Rattle.laws.proofs.Lists.{rest-step, rest-none}
-use Rattle.layout.specs.Kind.{isOneOf, isBlank, isLettered}
 
 -- a letter in one column
 pub lettered-one : (bs these : List ℕ) → length bs ≡ 1 → isOneOf (getD bs 0 0) these ≡ isLettered bs these

@@ -1,19 +1,19 @@
 -- The steps of a reading by the contracts of the field readers: a number, a text, a date and time, and several fields at once.
 -- Assumes nothing.
-use mathlib.Core.Path.{_≡_, refl, sym, ap, _∙_}
-use mathlib.Core.Bool.{Bool, true, false}
-use mathlib.Core.List.{List, [], _∷_, _++_}
+use mathlib.Core.Path.{_≡_, sym, ap, _∙_}
+use mathlib.Core.Bool.{false}
+use mathlib.Core.List.{List, _∷_, _++_}
 use Prim.Native.Nat.{ℕ}
 use Rattle.layout.specs.Fault.{clean, lower}
 use Rattle.layout.specs.Kind.{Held, silent, numberIn}
 use Rattle.layout.specs.Kind.Held.{one, words}
-use Rattle.layout.specs.Layout.{Item, Values, partOf, faultAt, heldAt, faultFrom, valuesOf}
-use Rattle.layout.proofs.Reading.{Reads, keep, several}
+use Rattle.layout.specs.Layout.{Item, Values, partOf, faultAt, heldAt}
 use Rattle.record.specs.Steps.{judgedAt, letteredAt}
 use Rattle.record.specs.Times.{timeItems, momentAfter, momentValues}
 use Rattle.record.specs.declared.types.Judged.{Judged}
 use Rattle.record.specs.declared.types.Lettered.{Lettered}
 use Rattle.record.specs.declared.types.Epoch.{Epoch}
+use Rattle.layout.proofs.Reading.{Reads, keep, several}
 
 -- a field of one number
 pub number : {item : Item} {items : List Item} {line : List ℕ} {lowest fault : ℕ} {r : Judged} {vs : Values}

@@ -5,21 +5,18 @@ use mathlib.Core.Path.{_≡_, refl, sym, ap, _∙_}
 use mathlib.Core.Bool.{Bool, true, false, not, _&&_}
 use mathlib.Core.List.{List, [], _∷_, _++_}
 use Prim.Native.Nat.{ℕ}
-use Rattle.laws.proofs.Bools.{and-left, and-right}
 use Rattle.calendar.specs.Gregorian.{isDate}
-use Rattle.header.specs.declared.types.Rules.{Rules}
-use Rattle.header.specs.declared.types.Moment.{Moment}
-use Rattle.layout.specs.Fault.{clean, lower}
-use Rattle.layout.specs.Kind.{numberIn, wordsIn}
+use Rattle.layout.specs.Fault.{clean}
 use Rattle.layout.specs.Kind.Held.{words}
-use Rattle.layout.specs.Layout.{Item, Values, tiled, canShow, faultOf, valuesOf, heldAt, numberAt, wordsAt, showLine, numbersOf, onesOf}
+use Rattle.layout.specs.Layout.{Item, tiled, canShow, faultOf, valuesOf, numberAt, wordsAt, showLine, numbersOf, onesOf}
 use Rattle.layout.specs.Line.{padded, lineOf, ended}
-use Rattle.layout.proofs.ReadBack.{line-back}
 use Rattle.record.specs.Opening.{firstItems, firstFrom, firstValues, firstOf, firstLine, secondItems, secondFrom, secondValues, secondOf, secondLine, epochItems, epochFrom, epochValues, epochOf, epochLine}
-use Rattle.record.specs.SlotLines.{satelliteItems, satellitesFrom, satellitesValues, satellitesOf, satellitesLine, countItem, countIn, moreItems, moreFrom, moreOf, moreLine}
+use Rattle.record.specs.SlotLines.{satelliteItems, satellitesFrom, satellitesValues, satellitesOf, satellitesLine, countIn, moreItems, moreFrom, moreOf, moreLine}
 use Rattle.record.specs.Descriptors.{descriptorItems, descriptorFrom, descriptorValues, descriptorOf, descriptorLine, baseItems, baseFrom, baseValues, baseOf, baseLine, characterItems, floatItems, integerItems, fixedLine}
 use Rattle.record.specs.Plain.{commentItems, commentOf, commentLine, correlationItems, correlationLine, endItems}
-use Rattle.record.specs.Rows.{rowItems, rowFrom, rowValues, rowFault, rowTaken, rowOf, rowLine}
+use Rattle.record.specs.Rows.{rowItems, rowFrom, rowValues, rowFault, rowOf, rowLine}
+use Rattle.header.specs.declared.types.Rules.{Rules}
+use Rattle.header.specs.declared.types.Moment.{Moment}
 use Rattle.record.specs.declared.types.First.{First}
 use Rattle.record.specs.declared.types.Second.{Second}
 use Rattle.record.specs.declared.types.Epoch.{Epoch}
@@ -28,6 +25,8 @@ use Rattle.record.specs.declared.types.Slots.{Slots}
 use Rattle.record.specs.declared.types.Descriptor.{Descriptor}
 use Rattle.record.specs.declared.types.BaseLine.{BaseLine}
 use Rattle.record.specs.declared.types.Row.{Row}
+use Rattle.laws.proofs.Bools.{and-left, and-right}
+use Rattle.layout.proofs.ReadBack.{line-back}
 use Rattle.record.proofs.Tiled.{first-tiled, second-tiled, epoch-tiled, satellites-tiled, more-tiled, descriptor-tiled, character-tiled, base-tiled, float-tiled, integer-tiled, comment-tiled, correlation-tiled, end-tiled, rows-tiled}
 use Rattle.record.proofs.Taking.{row-taken}
 

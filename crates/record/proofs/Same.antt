@@ -8,8 +8,8 @@ use native.Mathlib.Numerals.{add-one}
 use lib.Dec.{eqb}
 use lib.ListN.{length, getD, drop, drop-of-length-le}
 use lib.Seq.{drop-cons}
-use Rattle.laws.proofs.Bools.{and-false}
 use Rattle.layout.specs.Kind.{sameBytes}
+use Rattle.laws.proofs.Bools.{and-false}
 
 pub other-length : (a b : List ℕ) → (length a ≡ length b → ⊥) → sameBytes a b ≡ false
 other-length [] [] h = absurd (h refl)

@@ -1,23 +1,23 @@
 -- The row that is taken from a line without fault is what the line's layout holds.
 -- Assumes nothing.
-use mathlib.Core.Path.{_≡_, refl, sym, ap, _∙_}
+use mathlib.Core.Path.{_≡_, refl}
 use mathlib.Core.Bool.{Bool, true, false, cond}
 use mathlib.Core.List.{List, [], _∷_, _++_}
 use Prim.Native.Nat.{ℕ, _-_, _≤_}
 use native.Mathlib.Omega.{arith}
-use lib.ListN.{length, take, drop, length-take}
+use lib.ListN.{length, drop, length-take}
 use Rattle.field.specs.Read.{decimalOf}
 use Rattle.field.specs.Sign.{largest}
-use Rattle.field.specs.declared.Amount.{Amount}
-use Rattle.field.specs.declared.Amount.the-variants as amounts
-use Rattle.field.proofs.KnownGood.{known-magnitude, known-negative}
 use Rattle.layout.specs.Fault.{clean, keyed, lower}
 use Rattle.layout.specs.Kind.{named, nameNumber, boundFault, amountFault, signHeld, amountHeld}
 use Rattle.layout.specs.Kind.Kind.{unused, fixed, signed, clock, identifier}
 use Rattle.layout.specs.Layout.{Item, columns, partAt, faultAt, faultFrom, valuesOf}
-use Rattle.layout.proofs.Again.{item-clean}
 use Rattle.record.specs.Rows.{bodyItems, flagItems, rowItems, rowFrom, rowFault, rowTaken, signedIn, cut}
+use Rattle.field.specs.declared.Amount.{Amount}
+use Rattle.field.specs.declared.Amount.the-variants as amounts
 use Rattle.record.specs.declared.types.Signed.{Signed}
+use Rattle.field.proofs.KnownGood.{known-magnitude, known-negative}
+use Rattle.layout.proofs.Again.{item-clean}
 
 -- the number that a field of 14 columns says
 abbrev heldSigned : List ℕ → Signed

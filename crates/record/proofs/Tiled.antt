@@ -5,16 +5,16 @@ use mathlib.Core.Bool.{Bool, true, false}
 use mathlib.Core.List.{[], _∷_}
 use Prim.Native.Nat.{ℕ}
 use native.Mathlib.Omega.{arith}
-use Rattle.header.specs.declared.types.Rules.{Rules}
 use Rattle.layout.specs.Kind.Kind.{unused}
-use Rattle.layout.specs.Layout.{columns, tiled, tiledFrom}
-use Rattle.layout.proofs.Repeats.{slots-tile}
+use Rattle.layout.specs.Layout.{columns, tiled}
 use Rattle.field.specs.Show.{fitsDecimal, fitsInteger}
 use Rattle.record.specs.Descriptors.{descriptorItems, characterItems, baseItems, floatItems, integerItems}
 use Rattle.record.specs.Opening.{firstItems, secondItems, epochItems}
 use Rattle.record.specs.Plain.{commentItems, correlationItems, endItems}
 use Rattle.record.specs.Rows.{rowItems}
 use Rattle.record.specs.SlotLines.{slotKind, satelliteItems, moreItems}
+use Rattle.header.specs.declared.types.Rules.{Rules}
+use Rattle.layout.proofs.Repeats.{slots-tile}
 use Rattle.record.proofs.SlotKinds.{three-wide}
 
 pub first-tiled : (rules : Rules) → tiled (firstItems rules) ≡ true

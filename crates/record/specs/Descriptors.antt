@@ -1,6 +1,6 @@
 -- The `%c`, `%f` and `%i` lines. 01, "Records in order", 5 and 6: "All other text fields hold `c` in each column"; "the first carries two
 -- bases (F10.7, F12.9); the other decimals are zero. Two `%i`: zeros." 000, lines twenty one to twenty six.
-use mathlib.Core.List.{List, [], _∷_, _++_}
+use mathlib.Core.List.{List, [], _∷_}
 use Prim.Native.Nat.{ℕ}
 use lib.ListN.{replicate}
 use Rattle.header.specs.Header.{maxPlaceBase, maxClockBase}

@@ -1,6 +1,6 @@
 -- The kind of a line. 01, "Lines": "The kind of a line is told by columns 1 and 2; for P and V by column 1, for EOF by columns 1 to 3."
 -- The first line's second column has the letter of the version. What is no kind is `Other`.
-use mathlib.Core.Bool.{Bool, cond, _&&_}
+use mathlib.Core.Bool.{cond, _&&_}
 use mathlib.Core.List.{List}
 use Prim.Native.Nat.{ℕ}
 use lib.Dec.{eqb}

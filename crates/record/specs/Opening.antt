@@ -5,14 +5,14 @@ use mathlib.Core.List.{List, [], _∷_, _++_}
 use Prim.Native.Nat.{ℕ}
 use Rattle.header.specs.Rules.{maxEpochs}
 use Rattle.header.specs.Letters.{modes}
-use Rattle.header.specs.declared.types.Rules.{Rules}
-use Rattle.header.specs.declared.types.Texts.{Texts}
 use Rattle.layout.specs.Fault.{lower}
 use Rattle.layout.specs.Kind.Kind.{unused, fixed, whole, decimal, letter, text}
 use Rattle.layout.specs.Kind.Held.{one, words}
 use Rattle.layout.specs.Layout.{Item, Values, columns, column, partAt, partOf, numberAt, wordsAt, faultOf, valuesOf, showLine}
 use Rattle.layout.specs.Line.{ended}
 use Rattle.record.specs.Times.{timeItems, momentAt, momentValues, dateFault}
+use Rattle.header.specs.declared.types.Rules.{Rules}
+use Rattle.header.specs.declared.types.Texts.{Texts}
 use Rattle.record.specs.declared.types.First.{First}
 use Rattle.record.specs.declared.types.Second.{Second}
 use Rattle.record.specs.declared.types.Epoch.{Epoch}

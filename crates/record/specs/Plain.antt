@@ -5,7 +5,7 @@ use mathlib.Core.List.{List, [], _∷_}
 use Prim.Native.Nat.{ℕ}
 use Rattle.layout.specs.Kind.Kind.{unused, fixed, text}
 use Rattle.layout.specs.Kind.Held.{words}
-use Rattle.layout.specs.Layout.{Item, Values, columns, column, partAt, partOf, showLine}
+use Rattle.layout.specs.Layout.{Item, columns, column, partAt, partOf, showLine}
 use Rattle.layout.specs.Line.{ended}
 
 -- `/*`: Columns 1-2 Symbols A2, 4-80 Comment A77; 3 Unused

@@ -11,7 +11,7 @@ use Rattle.field.specs.Known.{knownMagnitude, knownNegative}
 use Rattle.layout.specs.Kind.{nameCode, exponentHeld}
 use Rattle.layout.specs.Kind.Kind.{unused, fixed, signed, clock, exponent, flag, identifier}
 use Rattle.layout.specs.Kind.Held.{one, amount, mark}
-use Rattle.layout.specs.Layout.{Item, Values, columns, column, partAt, numberAt, negativeAt, magnitudeAt, markAt, faultOf, valuesOf, showLine}
+use Rattle.layout.specs.Layout.{Item, Values, columns, column, partAt, numberAt, negativeAt, magnitudeAt, markAt, faultOf, showLine}
 use Rattle.layout.specs.Line.{padded, ended}
 use Rattle.record.specs.declared.types.Signed.{Signed}
 use Rattle.record.specs.declared.types.Row.{Row}

@@ -3,12 +3,12 @@
 use mathlib.Core.Bool.{Bool, true, false}
 use mathlib.Core.List.{List, [], _∷_, _++_}
 use Prim.Native.Nat.{ℕ}
-use Rattle.header.specs.declared.types.Rules.{Rules}
 use Rattle.layout.specs.Kind.{Kind, numberIn}
 use Rattle.layout.specs.Kind.Kind.{unused, fixed, whole, identifier}
 use Rattle.layout.specs.Kind.Held.{one}
 use Rattle.layout.specs.Layout.{Item, Values, columns, column, partAt, heldAt, faultFrom, faultOf, valuesOf, showLine, slotsFrom, numbersOf, onesOf}
 use Rattle.layout.specs.Line.{ended}
+use Rattle.header.specs.declared.types.Rules.{Rules}
 use Rattle.record.specs.declared.types.Satellites.{Satellites}
 use Rattle.record.specs.declared.types.Slots.{Slots}
 

@@ -4,12 +4,11 @@
 use mathlib.Core.List.{List, [], _∷_}
 use Prim.Native.Nat.{ℕ, _+_}
 use Rattle.calendar.specs.Gregorian.{isDate}
-use Rattle.header.specs.declared.types.Moment.{Moment}
-use Rattle.layout.specs.Fault.{lower}
 use Rattle.layout.specs.Kind.{unless}
 use Rattle.layout.specs.Kind.Kind.{unused, whole, decimal}
 use Rattle.layout.specs.Kind.Held.{one}
 use Rattle.layout.specs.Layout.{Item, Values, columns, column, partAt, numberAt, faultFrom, valuesOf}
+use Rattle.header.specs.declared.types.Moment.{Moment}
 use Rattle.record.specs.declared.types.Epoch.{Epoch}
 
 -- the seconds in 10^-8 s

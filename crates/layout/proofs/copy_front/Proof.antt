@@ -1,13 +1,13 @@
 -- `layout::copy_front` meets its contract. The invariant: the first i bytes are copied, and the rest is as it was.
 -- Assumes nothing.
-use mathlib.Core.Path.{_≡_, refl, sym, ap, _∙_}
-use mathlib.Core.List.{List, _++_}
-use Prim.Native.Nat.{ℕ, _-_, _≤_, min}
+use mathlib.Core.Path.{_≡_, refl, _∙_}
+use mathlib.Core.List.{_++_}
+use Prim.Native.Nat.{_-_, _≤_, min}
 use native.Mathlib.Numerals.{add-one}
 use native.Mathlib.Omega.{arith}
+use borrow.Author.Needs.{needs}
 use lib.ListN.{length, take, drop, length-set}
 use Rattle.layout.proofs.Lines.{copy-more, copied}
-use borrow.Author.Needs.{needs}
 use Rattle.layout.proofs.copy_front.Statement.{statement}
 use Rattle.layout.proofs.copy_front.Tie as tie
 

@@ -5,8 +5,8 @@ use mathlib.Core.List.{List}
 use Prim.Native.Nat.{ℕ, _-_}
 use native.Mathlib.Nat.{sub-zero}
 use native.Mathlib.Omega.{arith}
-use lib.ListN.{set, take}
 use borrow.Author.Needs.{needs}
+use lib.ListN.{set, take}
 use Rattle.layout.proofs.Lines.{laid, not-laid, told, trimmed-shorter}
 use Rattle.layout.proofs.lay_line.Statement.{statement}
 use Rattle.layout.proofs.lay_line.Tie as tie

@@ -3,11 +3,11 @@
 use mathlib.Core.Path.{_≡_, ap, _∙_, sym}
 use Prim.Native.Nat.{ℕ, suc, _-_, _≤_}
 use native.Mathlib.Omega.{arith}
+use borrow.Author.Needs.{needs}
 use lib.ListN.{length, take}
 use lib.Seq.{take-length}
 use Rattle.layout.specs.Line.{trimmed}
 use Rattle.layout.proofs.Lines.{trim-on, trim-stop}
-use borrow.Author.Needs.{needs}
 use Rattle.layout.proofs.trimmed_length.Statement.{statement}
 use Rattle.layout.proofs.trimmed_length.Tie as tie
 

@@ -1,10 +1,10 @@
 -- `draw::columns::put_name` meets its contract.
 -- Assumes nothing.
 use mathlib.Core.Path.{_≡_, _∙_, sym}
+use borrow.Author.Needs.{needs}
 use lib.ListN.{length}
 use Rattle.layout.specs.Kind.{showName}
 use Rattle.layout.proofs.Lines.{covering}
-use borrow.Author.Needs.{needs}
 use Rattle.draw.proofs.columns.put_name.Statement.{statement}
 use Rattle.draw.proofs.columns.put_name.Tie as tie
 

@@ -1,9 +1,9 @@
 -- `draw::columns::put_text` meets its contract.
 -- Assumes nothing.
 use mathlib.Core.Path.{_∙_}
+use borrow.Author.Needs.{needs}
 use lib.ListN.{length}
 use Rattle.layout.proofs.Lines.{blanks-length, filled-copy}
-use borrow.Author.Needs.{needs}
 use Rattle.draw.proofs.columns.put_text.Statement.{statement}
 use Rattle.draw.proofs.columns.put_text.Tie as tie
 

@@ -3,10 +3,10 @@
 use mathlib.Core.Path.{_≡_, _∙_, sym}
 use Prim.Native.Nat.{_-_}
 use native.Mathlib.Omega.{arith}
+use borrow.Author.Needs.{needs}
 use lib.ListN.{length, take, drop, length-drop}
 use lib.Seq.{length-take-le}
 use Rattle.layout.proofs.Lines.{covering}
-use borrow.Author.Needs.{needs}
 use Rattle.draw.proofs.columns.with_fixed.Statement.{statement}
 use Rattle.draw.proofs.columns.with_fixed.Tie as tie
 

@@ -2,9 +2,9 @@
 -- Assumes nothing.
 use mathlib.Core.Path.{refl}
 use mathlib.Core.List.{[]}
+use borrow.Author.Needs.{needs}
 use Rattle.record.specs.Descriptors.{laterFloats}
 use Rattle.layout.proofs.Drawing.{draw, drawn-all, draws, leave}
-use borrow.Author.Needs.{needs}
 use Rattle.draw.proofs.descriptors.with_later_floats.Statement.{statement}
 use Rattle.draw.proofs.descriptors.with_later_floats.Tie as tie
 

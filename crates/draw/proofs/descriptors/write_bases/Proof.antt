@@ -1,11 +1,11 @@
 -- `draw::descriptors::write_bases` meets its contract. Each writer's contract is a step of the drawing.
 -- Assumes nothing.
 use mathlib.Core.Path.{_≡_, refl}
+use borrow.Author.Needs.{needs}
 use Rattle.layout.specs.Layout.{showLine}
 use Rattle.record.specs.Descriptors.{baseItems, baseValues, baseLine}
 use Rattle.layout.proofs.Drawing.{draw, leave, shows}
 use Rattle.record.proofs.Tiled.{base-tiled}
-use borrow.Author.Needs.{needs}
 use Rattle.draw.proofs.descriptors.write_bases.Statement.{statement}
 use Rattle.draw.proofs.descriptors.write_bases.Tie as tie
 

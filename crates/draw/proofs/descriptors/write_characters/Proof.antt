@@ -1,11 +1,11 @@
 -- `draw::descriptors::write_characters` meets its contract. Each writer's contract is a step of the drawing.
 -- Assumes nothing.
 use mathlib.Core.Path.{_≡_, refl}
-use Rattle.layout.specs.Layout.{showLine}
 use mathlib.Core.List.{[]}
+use borrow.Author.Needs.{needs}
+use Rattle.layout.specs.Layout.{showLine}
 use Rattle.record.specs.Descriptors.{characterItems, fixedLine}
 use Rattle.layout.proofs.Drawing.{draw, leave, shows}
-use borrow.Author.Needs.{needs}
 use Rattle.draw.proofs.descriptors.write_characters.Statement.{statement}
 use Rattle.draw.proofs.descriptors.write_characters.Tie as tie
 

@@ -1,10 +1,10 @@
 -- `draw::descriptors::write_descriptor` meets its contract. Each writer's contract is a step of the drawing.
 -- Assumes nothing.
 use mathlib.Core.Path.{_≡_, refl}
+use borrow.Author.Needs.{needs}
 use Rattle.layout.specs.Layout.{showLine}
 use Rattle.record.specs.Descriptors.{descriptorItems, descriptorValues, descriptorLine}
 use Rattle.layout.proofs.Drawing.{draw, leave, shows}
-use borrow.Author.Needs.{needs}
 use Rattle.draw.proofs.descriptors.write_descriptor.Statement.{statement}
 use Rattle.draw.proofs.descriptors.write_descriptor.Tie as tie
 

@@ -1,12 +1,12 @@
 -- `draw::descriptors::write_floats` meets its contract. Each writer's contract is a step of the drawing.
 -- Assumes nothing.
 use mathlib.Core.Path.{_≡_, refl}
-use Rattle.layout.specs.Layout.{showLine}
 use mathlib.Core.List.{[]}
+use borrow.Author.Needs.{needs}
+use Rattle.layout.specs.Layout.{showLine}
 use Rattle.record.specs.Descriptors.{floatItems, fixedLine}
 use Rattle.layout.proofs.Drawing.{draw, leave, shows}
 use Rattle.record.proofs.Tiled.{float-tiled}
-use borrow.Author.Needs.{needs}
 use Rattle.draw.proofs.descriptors.write_floats.Statement.{statement}
 use Rattle.draw.proofs.descriptors.write_floats.Tie as tie
 

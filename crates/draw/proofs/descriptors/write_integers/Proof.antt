@@ -1,12 +1,12 @@
 -- `draw::descriptors::write_integers` meets its contract. Each writer's contract is a step of the drawing.
 -- Assumes nothing.
 use mathlib.Core.Path.{_≡_, refl}
-use Rattle.layout.specs.Layout.{showLine}
 use mathlib.Core.List.{[]}
+use borrow.Author.Needs.{needs}
+use Rattle.layout.specs.Layout.{showLine}
 use Rattle.record.specs.Descriptors.{integerItems, fixedLine}
 use Rattle.layout.proofs.Drawing.{draw, drawn-all, leave, shows}
 use Rattle.record.proofs.Tiled.{integer-tiled}
-use borrow.Author.Needs.{needs}
 use Rattle.draw.proofs.descriptors.write_integers.Statement.{statement}
 use Rattle.draw.proofs.descriptors.write_integers.Tie as tie
 

@@ -1,9 +1,9 @@
 -- `draw::opening::with_moment` meets its contract. Each writer's contract is a step of the drawing.
 -- Assumes nothing.
 use mathlib.Core.Path.{refl}
+use borrow.Author.Needs.{needs}
 use Rattle.record.specs.Times.{timeItems, momentValues}
 use Rattle.layout.proofs.Drawing.{draw, drawn-all, draws, leave}
-use borrow.Author.Needs.{needs}
 use Rattle.draw.proofs.opening.with_moment.Statement.{statement}
 use Rattle.draw.proofs.opening.with_moment.Tie as tie
 

@@ -1,9 +1,9 @@
 -- `draw::opening::with_texts` meets its contract. Each writer's contract is a step of the drawing.
 -- Assumes nothing.
 use mathlib.Core.Path.{refl}
+use borrow.Author.Needs.{needs}
 use Rattle.record.specs.Opening.{textItems, textValues}
 use Rattle.layout.proofs.Drawing.{draw, drawn-all, draws, leave}
-use borrow.Author.Needs.{needs}
 use Rattle.draw.proofs.opening.with_texts.Statement.{statement}
 use Rattle.draw.proofs.opening.with_texts.Tie as tie
 

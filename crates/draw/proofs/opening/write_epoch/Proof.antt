@@ -1,11 +1,11 @@
 -- `draw::opening::write_epoch` meets its contract. Each writer's contract is a step of the drawing.
 -- Assumes nothing.
 use mathlib.Core.Path.{_≡_, refl}
+use borrow.Author.Needs.{needs}
 use Rattle.layout.specs.Layout.{showLine}
 use Rattle.record.specs.Times.{timeItems}
 use Rattle.record.specs.Opening.{epochItems, epochValues, epochLine}
 use Rattle.layout.proofs.Drawing.{draw, draw-several, drawn-all, leave, shows}
-use borrow.Author.Needs.{needs}
 use Rattle.draw.proofs.opening.write_epoch.Statement.{statement}
 use Rattle.draw.proofs.opening.write_epoch.Tie as tie
 

@@ -1,11 +1,11 @@
 -- `draw::opening::write_first` meets its contract. Each writer's contract is a step of the drawing.
 -- Assumes nothing.
 use mathlib.Core.Path.{_≡_, refl}
+use borrow.Author.Needs.{needs}
 use Rattle.layout.specs.Layout.{showLine}
 use Rattle.record.specs.Times.{timeItems}
 use Rattle.record.specs.Opening.{firstItems, firstValues, firstLine}
 use Rattle.layout.proofs.Drawing.{draw, draw-several, leave, shows}
-use borrow.Author.Needs.{needs}
 use Rattle.draw.proofs.opening.write_first.Statement.{statement}
 use Rattle.draw.proofs.opening.write_first.Tie as tie
 

@@ -1,10 +1,10 @@
 -- `draw::opening::write_second` meets its contract. Each writer's contract is a step of the drawing.
 -- Assumes nothing.
 use mathlib.Core.Path.{_≡_, refl}
+use borrow.Author.Needs.{needs}
 use Rattle.layout.specs.Layout.{showLine}
 use Rattle.record.specs.Opening.{secondItems, secondValues, secondLine}
 use Rattle.layout.proofs.Drawing.{draw, drawn-all, leave, shows}
-use borrow.Author.Needs.{needs}
 use Rattle.draw.proofs.opening.write_second.Statement.{statement}
 use Rattle.draw.proofs.opening.write_second.Tie as tie
 

@@ -1,12 +1,12 @@
 -- `draw::plain::write_comment` meets its contract. Each writer's contract is a step of the drawing.
 -- Assumes nothing.
 use mathlib.Core.Path.{_≡_, refl}
+use mathlib.Core.List.{[], _∷_}
+use borrow.Author.Needs.{needs}
 use Rattle.layout.specs.Layout.{showLine}
 use Rattle.record.specs.Plain.{commentItems, commentLine}
-use Rattle.layout.proofs.Drawing.{draw, drawn-all, leave, shows}
-use mathlib.Core.List.{[], _∷_}
 use Rattle.layout.specs.Kind.Held.{words}
-use borrow.Author.Needs.{needs}
+use Rattle.layout.proofs.Drawing.{draw, drawn-all, leave, shows}
 use Rattle.draw.proofs.plain.write_comment.Statement.{statement}
 use Rattle.draw.proofs.plain.write_comment.Tie as tie
 

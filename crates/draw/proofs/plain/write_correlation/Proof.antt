@@ -1,13 +1,13 @@
 -- `draw::plain::write_correlation` meets its contract. Each writer's contract is a step of the drawing.
 -- Assumes nothing.
 use mathlib.Core.Path.{_≡_, refl}
+use mathlib.Core.List.{[], _∷_}
+use borrow.Author.Needs.{needs}
 use Rattle.layout.specs.Layout.{showLine}
 use Rattle.record.specs.Plain.{correlationItems, correlationLine}
-use Rattle.layout.proofs.Drawing.{draw, drawn-all, shows}
-use mathlib.Core.List.{[], _∷_}
 use Rattle.layout.specs.Kind.Held.{words}
+use Rattle.layout.proofs.Drawing.{draw, drawn-all, shows}
 use Rattle.record.proofs.Tiled.{correlation-tiled}
-use borrow.Author.Needs.{needs}
 use Rattle.draw.proofs.plain.write_correlation.Statement.{statement}
 use Rattle.draw.proofs.plain.write_correlation.Tie as tie
 

@@ -1,12 +1,12 @@
 -- `draw::plain::write_end` meets its contract. Each writer's contract is a step of the drawing.
 -- Assumes nothing.
 use mathlib.Core.Path.{_≡_, refl}
-use Rattle.layout.specs.Layout.{showLine}
 use mathlib.Core.List.{[]}
+use borrow.Author.Needs.{needs}
+use Rattle.layout.specs.Layout.{showLine}
 use Rattle.record.specs.Plain.{endItems}
 use Rattle.record.specs.Descriptors.{fixedLine}
 use Rattle.layout.proofs.Drawing.{draw, drawn-all, leave, shows}
-use borrow.Author.Needs.{needs}
 use Rattle.draw.proofs.plain.write_end.Statement.{statement}
 use Rattle.draw.proofs.plain.write_end.Tie as tie
 

@@ -2,9 +2,9 @@
 -- Assumes nothing.
 use mathlib.Core.Path.{refl}
 use mathlib.Core.Bool.{true, false}
+use borrow.Author.Needs.{needs}
 use Rattle.record.specs.Rows.{bodyItems, rowItems, rowValues}
 use Rattle.layout.proofs.Drawing.{leave, draw, draw-several, drawn-all, shows}
-use borrow.Author.Needs.{needs}
 use Rattle.draw.proofs.rows.row_shown.Statement.{statement}
 use Rattle.draw.proofs.rows.row_shown.Tie as tie
 

@@ -1,9 +1,9 @@
 -- `draw::rows::with_flags` meets its contract. Each writer's contract is a step of the drawing.
 -- Assumes nothing.
 use mathlib.Core.Path.{refl}
+use borrow.Author.Needs.{needs}
 use Rattle.record.specs.Rows.{flagItems, flagValues}
 use Rattle.layout.proofs.Drawing.{draw, drawn-all, draws, leave}
-use borrow.Author.Needs.{needs}
 use Rattle.draw.proofs.rows.with_flags.Statement.{statement}
 use Rattle.draw.proofs.rows.with_flags.Tie as tie
 

@@ -1,7 +1,7 @@
 -- `draw::rows::write_row` meets its contract.
 -- Assumes nothing.
-use Rattle.record.specs.Rows.{rowLine}
 use borrow.Author.Needs.{needs}
+use Rattle.record.specs.Rows.{rowLine}
 use Rattle.draw.proofs.rows.write_row.Statement.{statement}
 use Rattle.draw.proofs.rows.write_row.Tie as tie
 

@@ -2,13 +2,13 @@
 -- Assumes nothing.
 use mathlib.Core.Path.{_≡_, _∙_, sym, ap}
 use Prim.Native.Nat.{ℕ}
-use lib.ListN.{length}
 use borrow.Author.Tests.{not-true, not-false}
+use borrow.Author.Needs.{needs}
+use lib.ListN.{length}
 use Rattle.layout.specs.Kind.{zeroSlot, shownIn}
 use Rattle.layout.specs.Kind.Kind.{whole}
 use Rattle.layout.specs.Kind.Held.{one}
 use Rattle.layout.proofs.Lines.{covering}
-use borrow.Author.Needs.{needs}
 use Rattle.draw.proofs.slots.put_slot.Statement.{statement}
 use Rattle.draw.proofs.slots.put_slot.Tie as tie
 

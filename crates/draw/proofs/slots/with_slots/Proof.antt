@@ -2,7 +2,7 @@
 -- Assumes nothing.
 use mathlib.Core.Path.{_≡_, refl, ap, _∙_}
 use mathlib.Core.List.{List}
-use Prim.Native.Nat.{ℕ, suc, _+_, _*_, _-_, _≤_}
+use Prim.Native.Nat.{suc, _+_, _*_, _-_, _≤_}
 use native.Mathlib.Omega.{arith}
 use borrow.Author.Needs.{needs}
 use lib.Dec.{ltb}
@@ -10,9 +10,9 @@ use lib.ListN.{length, getD, drop}
 use Rattle.layout.specs.Kind.{shownIn}
 use Rattle.layout.specs.Kind.Held.{one}
 use Rattle.layout.specs.Layout.{Item, drawn, slotFor, slotsFrom, onesOf}
+use Rattle.record.specs.SlotLines.{slotKind}
 use Rattle.layout.proofs.Lines.{overlaid-length}
 use Rattle.layout.proofs.Repeats.{first-slot, next-drawn, no-slot, slot-length}
-use Rattle.record.specs.SlotLines.{slotKind}
 use Rattle.record.proofs.SlotKinds.{loud, drawn-kind, three-wide}
 use Rattle.draw.proofs.slots.with_slots.Statement.{statement}
 use Rattle.draw.proofs.slots.with_slots.Tie as tie

@@ -1,12 +1,12 @@
 -- `draw::slots::write_satellites` meets its contract. Each writer's contract is a step of the drawing.
 -- Assumes nothing.
 use mathlib.Core.Path.{_≡_, refl}
+use mathlib.Core.Bool.{false}
+use borrow.Author.Needs.{needs}
 use Rattle.layout.specs.Layout.{showLine}
 use Rattle.record.specs.SlotLines.{slotItems, satelliteItems, satellitesValues, satellitesLine}
 use Rattle.layout.proofs.Drawing.{draw, draw-several, drawn-all, leave, shows}
-use mathlib.Core.Bool.{false}
 use Rattle.record.proofs.Tiled.{satellites-tiled}
-use borrow.Author.Needs.{needs}
 use Rattle.draw.proofs.slots.write_satellites.Statement.{statement}
 use Rattle.draw.proofs.slots.write_satellites.Tie as tie
 

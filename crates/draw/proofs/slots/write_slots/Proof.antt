@@ -1,12 +1,11 @@
 -- `draw::slots::write_slots` meets its contract. Each writer's contract is a step of the drawing.
 -- Assumes nothing.
 use mathlib.Core.Path.{_≡_, refl}
-use Rattle.layout.specs.Layout.{showLine}
+use borrow.Author.Needs.{needs}
+use Rattle.layout.specs.Layout.{showLine, onesOf}
 use Rattle.record.specs.SlotLines.{slotItems, moreItems, moreLine}
 use Rattle.layout.proofs.Drawing.{draw, draw-several, drawn-all, leave, shows}
-use Rattle.layout.specs.Layout.{onesOf}
 use Rattle.record.proofs.Tiled.{more-tiled}
-use borrow.Author.Needs.{needs}
 use Rattle.draw.proofs.slots.write_slots.Statement.{statement}
 use Rattle.draw.proofs.slots.write_slots.Tie as tie
 

@@ -1,9 +1,9 @@
 -- `record::descriptors::characters_fault` meets its contract. Each field's contract is a step.
 -- Assumes nothing.
+use borrow.Author.Needs.{needs}
 use Rattle.layout.specs.Fault.{clean}
 use Rattle.record.specs.Descriptors.{characterItems}
 use Rattle.layout.proofs.Reading.{judges, past}
-use borrow.Author.Needs.{needs}
 use Rattle.record.proofs.descriptors.characters_fault.Statement.{statement}
 use Rattle.record.proofs.descriptors.characters_fault.Tie as tie
 

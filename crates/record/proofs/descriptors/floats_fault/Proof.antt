@@ -1,9 +1,9 @@
 -- `record::descriptors::floats_fault` meets its contract. Each field's contract is a step.
 -- Assumes nothing.
+use borrow.Author.Needs.{needs}
 use Rattle.layout.specs.Fault.{clean}
 use Rattle.record.specs.Descriptors.{floatItems}
 use Rattle.layout.proofs.Reading.{judges, past}
-use borrow.Author.Needs.{needs}
 use Rattle.record.proofs.descriptors.floats_fault.Statement.{statement}
 use Rattle.record.proofs.descriptors.floats_fault.Tie as tie
 

@@ -1,9 +1,9 @@
 -- `record::descriptors::integers_fault` meets its contract. Each field's contract is a step.
 -- Assumes nothing.
+use borrow.Author.Needs.{needs}
 use Rattle.record.specs.Descriptors.{integerItems}
 use Rattle.layout.specs.Fault.{clean}
 use Rattle.layout.proofs.Reading.{judged, judges, past}
-use borrow.Author.Needs.{needs}
 use Rattle.record.proofs.descriptors.integers_fault.Statement.{statement}
 use Rattle.record.proofs.descriptors.integers_fault.Tie as tie
 

@@ -1,8 +1,8 @@
 -- `record::descriptors::later_floats_in` meets its contract. Each field's contract is a step.
 -- Assumes nothing.
+use borrow.Author.Needs.{needs}
 use Rattle.record.specs.Descriptors.{laterFloats}
 use Rattle.layout.proofs.Reading.{judged, judges, past}
-use borrow.Author.Needs.{needs}
 use Rattle.record.proofs.descriptors.later_floats_in.Statement.{statement}
 use Rattle.record.proofs.descriptors.later_floats_in.Tie as tie
 

@@ -1,10 +1,10 @@
 -- `record::descriptors::read_bases` meets its contract. Each field's contract is a step of the reading.
 -- Assumes nothing.
 use mathlib.Core.Path.{refl}
+use borrow.Author.Needs.{needs}
 use Rattle.record.specs.Descriptors.{baseItems, baseFrom}
 use Rattle.layout.proofs.Reading.{made, skip}
 use Rattle.record.proofs.Reading.{number}
-use borrow.Author.Needs.{needs}
 use Rattle.record.proofs.descriptors.read_bases.Statement.{statement}
 use Rattle.record.proofs.descriptors.read_bases.Tie as tie
 

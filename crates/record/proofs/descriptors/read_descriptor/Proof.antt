@@ -1,10 +1,10 @@
 -- `record::descriptors::read_descriptor` meets its contract. Each field's contract is a step of the reading.
 -- Assumes nothing.
 use mathlib.Core.Path.{refl}
+use borrow.Author.Needs.{needs}
 use Rattle.record.specs.Descriptors.{descriptorItems, descriptorFrom}
 use Rattle.layout.proofs.Reading.{made, skip}
-use Rattle.record.proofs.Reading.{lettered, number, words-judged}
-use borrow.Author.Needs.{needs}
+use Rattle.record.proofs.Reading.{lettered, words-judged}
 use Rattle.record.proofs.descriptors.read_descriptor.Statement.{statement}
 use Rattle.record.proofs.descriptors.read_descriptor.Tie as tie
 

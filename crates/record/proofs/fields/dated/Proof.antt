@@ -1,7 +1,7 @@
 -- `record::fields::dated` meets its contract.
 -- Assumes nothing.
-use Rattle.record.proofs.Answers.{dated-case, undated-case}
 use borrow.Author.Needs.{needs}
+use Rattle.record.proofs.Answers.{dated-case, undated-case}
 use Rattle.record.proofs.fields.dated.Statement.{statement}
 use Rattle.record.proofs.fields.dated.Tie as tie
 

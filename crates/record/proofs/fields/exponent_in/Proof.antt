@@ -2,9 +2,9 @@
 -- Assumes nothing.
 use mathlib.Core.Path.{refl}
 use Prim.Native.Nat.{_-_}
+use borrow.Author.Needs.{needs}
 use lib.ListN.{take, drop}
 use Rattle.record.proofs.Answers.{exponent-case, exponent-good}
-use borrow.Author.Needs.{needs}
 use Rattle.record.proofs.fields.exponent_in.Statement.{statement}
 use Rattle.record.proofs.fields.exponent_in.Tie as tie
 

@@ -1,10 +1,10 @@
 -- `record::fields::read_file_type` meets its contract.
 -- Assumes nothing.
 use mathlib.Core.Path.{_≡_}
+use borrow.Author.Needs.{needs}
 use lib.ListN.{length}
 use Rattle.header.specs.Letters.{fileTypes}
 use Rattle.record.proofs.Letters.{lettered-two}
-use borrow.Author.Needs.{needs}
 use Rattle.record.proofs.fields.read_file_type.Statement.{statement}
 use Rattle.record.proofs.fields.read_file_type.Tie as tie
 

@@ -1,10 +1,10 @@
 -- `record::fields::read_mode` meets its contract.
 -- Assumes nothing.
 use mathlib.Core.Path.{_≡_}
+use borrow.Author.Needs.{needs}
 use lib.ListN.{length}
 use Rattle.header.specs.Letters.{modes}
 use Rattle.record.proofs.Letters.{lettered-one}
-use borrow.Author.Needs.{needs}
 use Rattle.record.proofs.fields.read_mode.Statement.{statement}
 use Rattle.record.proofs.fields.read_mode.Tie as tie
 

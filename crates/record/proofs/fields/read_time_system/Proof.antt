@@ -2,14 +2,14 @@
 -- Assumes nothing.
 use mathlib.Core.Path.{_≡_, ap, _∙_}
 use mathlib.Core.List.{List}
-use Prim.Native.Nat.{ℕ}
-use lib.ListN.{length}
 use mathlib.Core.Bool.{Bool}
+use Prim.Native.Nat.{ℕ}
+use borrow.Author.Needs.{needs}
+use lib.ListN.{length}
 use Rattle.layout.specs.Fault.{lower}
 use Rattle.layout.specs.Kind.{unless, isListed}
 use Rattle.header.specs.Letters.{timeSystems}
 use Rattle.record.proofs.Letters.{three-bytes}
-use borrow.Author.Needs.{needs}
 use Rattle.record.proofs.fields.read_time_system.Statement.{statement}
 use Rattle.record.proofs.fields.read_time_system.Tie as tie
 

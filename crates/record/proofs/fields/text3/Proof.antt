@@ -3,11 +3,11 @@
 use mathlib.Core.Path.{_≡_, _∙_}
 use Prim.Native.Nat.{_-_}
 use native.Mathlib.Omega.{arith}
+use borrow.Author.Needs.{needs}
 use lib.ListN.{length, take, drop, length-drop}
 use lib.Seq.{length-take-le}
 use Rattle.laws.specs.Texts.{blanks}
 use Rattle.layout.proofs.Lines.{covering}
-use borrow.Author.Needs.{needs}
 use Rattle.record.proofs.fields.text3.Statement.{statement}
 use Rattle.record.proofs.fields.text3.Tie as tie
 

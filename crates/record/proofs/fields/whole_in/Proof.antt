@@ -1,10 +1,9 @@
 -- `record::fields::whole_in` meets its contract.
 -- Assumes nothing.
 use Prim.Native.Nat.{_-_}
-use lib.ListN.{take, drop}
-use Rattle.field.specs.declared.Whole.the-variants as wholes
-use Rattle.record.proofs.Answers.{whole-case}
 use borrow.Author.Needs.{needs}
+use lib.ListN.{take, drop}
+use Rattle.record.proofs.Answers.{whole-case}
 use Rattle.record.proofs.fields.whole_in.Statement.{statement}
 use Rattle.record.proofs.fields.whole_in.Tie as tie
 

@@ -1,10 +1,10 @@
 -- `record::fields::zero_decimal_in` meets its contract.
 -- Assumes nothing.
-use Prim.Native.Nat.{_-_}
-use lib.ListN.{take, drop}
 use mathlib.Core.Bool.{false}
-use Rattle.record.proofs.Answers.{decimal-case}
+use Prim.Native.Nat.{_-_}
 use borrow.Author.Needs.{needs}
+use lib.ListN.{take, drop}
+use Rattle.record.proofs.Answers.{decimal-case}
 use Rattle.record.proofs.fields.zero_decimal_in.Statement.{statement}
 use Rattle.record.proofs.fields.zero_decimal_in.Tie as tie
 

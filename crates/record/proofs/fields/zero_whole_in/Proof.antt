@@ -1,9 +1,9 @@
 -- `record::fields::zero_whole_in` meets its contract.
 -- Assumes nothing.
 use Prim.Native.Nat.{_-_}
+use borrow.Author.Needs.{needs}
 use lib.ListN.{take, drop}
 use Rattle.record.proofs.Answers.{whole-case}
-use borrow.Author.Needs.{needs}
 use Rattle.record.proofs.fields.zero_whole_in.Statement.{statement}
 use Rattle.record.proofs.fields.zero_whole_in.Tie as tie
 

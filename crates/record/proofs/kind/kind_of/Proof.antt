@@ -1,8 +1,8 @@
 -- `record::kind::kind_of` meets its contract.
 -- Assumes nothing.
 use mathlib.Core.Path.{ap}
-use Rattle.record.specs.LineKinds.{toldKind, kindOf}
 use borrow.Author.Needs.{needs}
+use Rattle.record.specs.LineKinds.{toldKind, kindOf}
 use Rattle.record.proofs.kind.kind_of.Statement.{statement}
 use Rattle.record.proofs.kind.kind_of.Tie as tie
 

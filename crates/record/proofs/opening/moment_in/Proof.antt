@@ -1,11 +1,11 @@
 -- `record::opening::moment_in` meets its contract. Each field's contract is a step of the reading.
 -- Assumes nothing.
 use mathlib.Core.Path.{refl}
-use Rattle.record.specs.declared.types.Epoch.{Epoch}
+use borrow.Author.Needs.{needs}
 use Rattle.record.specs.Times.{timeItems, momentAt}
+use Rattle.record.specs.declared.types.Epoch.{Epoch}
 use Rattle.layout.proofs.Reading.{done, made-after, skip}
 use Rattle.record.proofs.Reading.{number}
-use borrow.Author.Needs.{needs}
 use Rattle.record.proofs.opening.moment_in.Statement.{statement}
 use Rattle.record.proofs.opening.moment_in.Tie as tie
 

@@ -1,10 +1,10 @@
 -- `record::opening::read_epoch` meets its contract. Each field's contract is a step of the reading.
 -- Assumes nothing.
 use mathlib.Core.Path.{refl}
+use borrow.Author.Needs.{needs}
 use Rattle.record.specs.Opening.{epochItems, epochFrom}
 use Rattle.layout.proofs.Reading.{done, made, skip}
 use Rattle.record.proofs.Reading.{moment}
-use borrow.Author.Needs.{needs}
 use Rattle.record.proofs.opening.read_epoch.Statement.{statement}
 use Rattle.record.proofs.opening.read_epoch.Tie as tie
 

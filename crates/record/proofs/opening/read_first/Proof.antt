@@ -1,11 +1,11 @@
 -- `record::opening::read_first` meets its contract. Each field's contract is a step of the reading.
 -- Assumes nothing.
 use mathlib.Core.Path.{refl, ap}
-use Rattle.header.specs.declared.types.Texts.{Texts}
+use borrow.Author.Needs.{needs}
 use Rattle.record.specs.Opening.{firstItems, firstFrom}
+use Rattle.header.specs.declared.types.Texts.{Texts}
 use Rattle.layout.proofs.Reading.{done, made, skip}
 use Rattle.record.proofs.Reading.{lettered, moment, number, words-kept}
-use borrow.Author.Needs.{needs}
 use Rattle.record.proofs.opening.read_first.Statement.{statement}
 use Rattle.record.proofs.opening.read_first.Tie as tie
 

@@ -1,10 +1,10 @@
 -- `record::opening::read_second` meets its contract. Each field's contract is a step of the reading.
 -- Assumes nothing.
 use mathlib.Core.Path.{refl}
+use borrow.Author.Needs.{needs}
 use Rattle.record.specs.Opening.{secondItems, secondFrom}
 use Rattle.layout.proofs.Reading.{done, made, skip}
 use Rattle.record.proofs.Reading.{number}
-use borrow.Author.Needs.{needs}
 use Rattle.record.proofs.opening.read_second.Statement.{statement}
 use Rattle.record.proofs.opening.read_second.Tie as tie
 

@@ -1,10 +1,10 @@
 -- `record::plain::comment_fault` meets its contract. Each field's contract is a step.
 -- Assumes nothing.
 use mathlib.Core.Path.{refl}
+use borrow.Author.Needs.{needs}
 use Rattle.record.specs.Plain.{commentItems}
 use Rattle.layout.specs.Fault.{clean}
 use Rattle.layout.proofs.Reading.{judged, judges, past}
-use borrow.Author.Needs.{needs}
 use Rattle.record.proofs.plain.comment_fault.Statement.{statement}
 use Rattle.record.proofs.plain.comment_fault.Tie as tie
 

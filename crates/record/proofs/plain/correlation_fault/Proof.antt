@@ -1,11 +1,11 @@
 -- `record::plain::correlation_fault` meets its contract. Each field's contract is a step.
 -- Assumes nothing.
 use mathlib.Core.Bool.{true, false}
+use mathlib.Core.Path.{refl}
+use borrow.Author.Needs.{needs}
 use Rattle.layout.specs.Fault.{clean}
 use Rattle.record.specs.Plain.{correlationItems}
 use Rattle.layout.proofs.Reading.{judged, judges, past}
-use mathlib.Core.Path.{refl}
-use borrow.Author.Needs.{needs}
 use Rattle.record.proofs.plain.correlation_fault.Statement.{statement}
 use Rattle.record.proofs.plain.correlation_fault.Tie as tie
 

@@ -1,9 +1,9 @@
 -- `record::plain::end_fault` meets its contract. Each field's contract is a step.
 -- Assumes nothing.
+use borrow.Author.Needs.{needs}
 use Rattle.record.specs.Plain.{endItems}
 use Rattle.layout.specs.Fault.{clean}
 use Rattle.layout.proofs.Reading.{judged, judges, past}
-use borrow.Author.Needs.{needs}
 use Rattle.record.proofs.plain.end_fault.Statement.{statement}
 use Rattle.record.proofs.plain.end_fault.Tie as tie
 

@@ -1,10 +1,10 @@
 -- `record::rows::body_fault` meets its contract. Each field's contract is a step.
 -- Assumes nothing.
 use mathlib.Core.Path.{ap}
-use Rattle.record.specs.declared.types.Judged.{Judged}
-use Rattle.record.specs.Rows.{bodyItems}
-use Rattle.layout.proofs.Reading.{judged, judges, past}
 use borrow.Author.Needs.{needs}
+use Rattle.record.specs.Rows.{bodyItems}
+use Rattle.record.specs.declared.types.Judged.{Judged}
+use Rattle.layout.proofs.Reading.{judged, judges, past}
 use Rattle.record.proofs.rows.body_fault.Statement.{statement}
 use Rattle.record.proofs.rows.body_fault.Tie as tie
 

@@ -1,8 +1,8 @@
 -- `record::rows::flags_fault` meets its contract. Each field's contract is a step.
 -- Assumes nothing.
+use borrow.Author.Needs.{needs}
 use Rattle.record.specs.Rows.{flagItems}
 use Rattle.layout.proofs.Reading.{judged, judges, past}
-use borrow.Author.Needs.{needs}
 use Rattle.record.proofs.rows.flags_fault.Statement.{statement}
 use Rattle.record.proofs.rows.flags_fault.Tie as tie
 

@@ -1,7 +1,7 @@
 -- `record::rows::row_exponent` meets its contract.
 -- Assumes nothing.
-use Rattle.record.proofs.Answers.{exponent-case, exponent-malformed}
 use borrow.Author.Needs.{needs}
+use Rattle.record.proofs.Answers.{exponent-case, exponent-malformed}
 use Rattle.record.proofs.rows.row_exponent.Statement.{statement}
 use Rattle.record.proofs.rows.row_exponent.Tie as tie
 

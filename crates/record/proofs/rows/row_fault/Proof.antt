@@ -1,10 +1,10 @@
 -- `record::rows::row_fault` meets its contract. Each field's contract is a step.
 -- Assumes nothing.
 use mathlib.Core.Bool.{true, false}
+use borrow.Author.Needs.{needs}
 use Rattle.layout.specs.Fault.{clean}
 use Rattle.record.specs.Rows.{rowItems, bodyItems}
 use Rattle.layout.proofs.Reading.{judged, judges, past, past-several}
-use borrow.Author.Needs.{needs}
 use Rattle.record.proofs.rows.row_fault.Statement.{statement}
 use Rattle.record.proofs.rows.row_fault.Tie as tie
 

@@ -1,8 +1,8 @@
 -- `record::rows::row_of` meets its contract.
 -- Assumes nothing.
 use mathlib.Core.Path.{ap, _∙_}
-use Rattle.record.specs.Rows.{rowTaken}
 use borrow.Author.Needs.{needs}
+use Rattle.record.specs.Rows.{rowTaken}
 use Rattle.record.proofs.rows.row_of.Statement.{statement}
 use Rattle.record.proofs.rows.row_of.Tie as tie
 

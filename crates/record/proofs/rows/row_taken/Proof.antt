@@ -1,7 +1,7 @@
 -- `record::rows::row_taken` meets its contract.
 -- Assumes nothing.
-use Rattle.record.specs.Rows.{rowTaken}
 use borrow.Author.Needs.{needs}
+use Rattle.record.specs.Rows.{rowTaken}
 use Rattle.record.proofs.rows.row_taken.Statement.{statement}
 use Rattle.record.proofs.rows.row_taken.Tie as tie
 

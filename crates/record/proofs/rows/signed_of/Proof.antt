@@ -1,7 +1,7 @@
 -- `record::rows::signed_of` meets its contract.
 -- Assumes nothing.
-use Rattle.field.specs.Known.{knownNegative}
 use borrow.Author.Needs.{needs}
+use Rattle.field.specs.Known.{knownNegative}
 use Rattle.record.proofs.rows.signed_of.Statement.{statement}
 use Rattle.record.proofs.rows.signed_of.Tie as tie
 

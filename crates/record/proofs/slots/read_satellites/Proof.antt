@@ -4,14 +4,14 @@ use mathlib.Core.Path.{refl, ap, sym, _∙_}
 use mathlib.Core.Bool.{false}
 use mathlib.Core.List.{List, append-nil}
 use Prim.Native.Nat.{ℕ}
+use borrow.Author.Needs.{needs}
 use Rattle.layout.specs.Layout.{faultOf, valuesOf, numbersOf}
-use Rattle.layout.proofs.Reading.{skip, several, done, made}
 use Rattle.record.specs.SlotLines.{slotItems, satelliteItems, satellitesFrom}
 use Rattle.record.specs.declared.types.Judged.{Judged}
 use Rattle.record.specs.declared.types.Slots.{Slots}
 use Rattle.record.specs.declared.types.Satellites.{Satellites}
+use Rattle.layout.proofs.Reading.{skip, several, done, made}
 use Rattle.record.proofs.Reading.{number}
-use borrow.Author.Needs.{needs}
 use Rattle.record.proofs.slots.read_satellites.Statement.{statement}
 use Rattle.record.proofs.slots.read_satellites.Tie as tie
 

@@ -3,11 +3,11 @@
 use mathlib.Core.Path.{refl, ap, sym, _∙_}
 use mathlib.Core.List.{List, append-nil}
 use Prim.Native.Nat.{ℕ}
+use borrow.Author.Needs.{needs}
 use Rattle.layout.specs.Layout.{valuesOf, numbersOf}
-use Rattle.layout.proofs.Reading.{skip, several, done, made}
 use Rattle.record.specs.SlotLines.{slotItems, moreItems, moreFrom}
 use Rattle.record.specs.declared.types.Slots.{Slots}
-use borrow.Author.Needs.{needs}
+use Rattle.layout.proofs.Reading.{skip, several, done, made}
 use Rattle.record.proofs.slots.read_slots.Statement.{statement}
 use Rattle.record.proofs.slots.read_slots.Tie as tie
 

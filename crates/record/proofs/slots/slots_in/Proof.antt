@@ -4,13 +4,13 @@ use mathlib.Core.Path.{_≡_, refl, ap, _∙_}
 use mathlib.Core.List.{List, _++_, append-nil}
 use Prim.Native.Nat.{ℕ, suc, _+_, _*_, _-_, _<_, _≤_}
 use native.Mathlib.Omega.{arith}
+use borrow.Author.Needs.{needs}
 use lib.ListN.{length, take, length-set}
 use lib.Seq.{take-all}
 use Rattle.layout.specs.Layout.{Item, faultFrom, valuesOf, slotsFrom, numbersOf}
-use Rattle.layout.proofs.Repeats.{first-slot, next-fault, next-numbers, no-slot, stored}
 use Rattle.record.specs.SlotLines.{slotKind}
+use Rattle.layout.proofs.Repeats.{first-slot, next-fault, next-numbers, no-slot, stored}
 use Rattle.record.proofs.SlotKinds.{loud}
-use borrow.Author.Needs.{needs}
 use Rattle.record.proofs.slots.slots_in.Statement.{statement}
 use Rattle.record.proofs.slots.slots_in.Tie as tie
 

@@ -1,7 +1,7 @@
 -- `records::input::all` is safe and ends: the bytes that it lends are as many as their type says, by a law, since to count them costs too much.
 -- Assumes nothing.
-use Prim.Native.Nat.{ℕ}
 use mathlib.Core.Path.{sym}
+use Prim.Native.Nat.{ℕ}
 use borrow.Author.Needs.{needs}
 use lib.ListN.{length-replicate}
 use Rattle.records.proofs.input.all.Statement.{statement}
