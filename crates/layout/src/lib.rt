@@ -1,7 +1,6 @@
 // Lines of 80 columns, whatever their record: which fault decides, short lines padded, lines cut and laid into lent output.
 // The layouts themselves are definitions (specs/Kind, specs/Layout); their laws, once over all of them, are in proofs/.
 ghost use mathlib.Core.Path.{_≡_};
-ghost use mathlib.Core.Bool.{Bool};
 ghost use mathlib.Core.List.{_++_};
 ghost use Prim.Native.Nat.{min};
 ghost use lib.ListN.{length, take, drop};

@@ -2,11 +2,11 @@
 // fault found before it, and what it gives is the lowest with its own.
 ghost use mathlib.Core.Path.{_≡_};
 ghost use mathlib.Core.Bool.{_&&_};
-ghost use Prim.Native.Nat.{ℕ, _+_, _-_, _*_, _≤_};
-ghost use lib.ListN.{length, take, drop};
+ghost use Prim.Native.Nat.{_+_, _-_, _*_, _≤_};
+ghost use lib.ListN.{length};
 ghost use Rattle.field.specs.Digits.{isDigit};
 ghost use Rattle.laws.specs.Tests.{within};
-ghost use Rattle.layout.specs.Fault.{lower, keyed};
+ghost use Rattle.layout.specs.Fault.{lower};
 ghost use Rattle.layout.specs.Kind.{unless, unusedFault, sameBytes, isListed, faultIn, nameCode};
 ghost use Rattle.layout.specs.Kind.Kind.{unused, fixed, whole, decimal, signed, clock, exponent, flag, letter, listed, identifier, zeroWhole, zeroDecimal, text};
 ghost use Rattle.layout.specs.Layout.{columns, column, partAt, partOf, faultAt};

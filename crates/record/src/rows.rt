@@ -1,7 +1,7 @@
 // P and V lines: judged first, and their rows taken when they have no fault.
 ghost use mathlib.Core.Path.{_≡_};
-ghost use Prim.Native.Nat.{_+_, _≤_};
-ghost use lib.ListN.{length, take, drop};
+ghost use Prim.Native.Nat.{_≤_};
+ghost use lib.ListN.{length};
 ghost use Rattle.layout.specs.Kind.{nameCode};
 ghost use Rattle.layout.specs.Layout.{faultFrom};
 ghost use Rattle.record.specs.Rows.{bodyItems, flagItems, rowFault, cut, signedIn, exponentIn, flagIn, rowTaken, rowOf};
