@@ -1,8 +1,8 @@
 -- Letters and words of a few columns, byte by byte.
 -- Assumes nothing.
-use mathlib.Core.Path.{_≡_, sym, ap, _∙_}
+use mathlib.Core.Path.{_≡_, sym, ap}
 use mathlib.Core.Bool.{Bool, _&&_}
-use mathlib.Core.List.{List, [], _∷_}
+use mathlib.Core.List.{List}
 use Prim.Native.Nat.{ℕ}
 use native.Mathlib.Omega.{arith}
 use lib.Dec.{eqb}
@@ -20,8 +20,3 @@ pub lettered-two : (bs these : List ℕ) → length bs ≡ 2 → (isOneOf (getD 
 lettered-two bs these e =
     ap (λ (t : Bool). isOneOf (getD bs 0 0) these && t)
     (sym (rw (rest-step bs 1 (omega arith), rest-none bs 2 (omega arith)) (and-true (eqb (getD bs 1 0) 32))))
-
--- three bytes
-pub three-bytes : (bs : List ℕ) → length bs ≡ 3 → getD bs 0 0 ∷ getD bs 1 0 ∷ getD bs 2 0 ∷ [] ≡ bs
-three-bytes bs e =
-    sym (rest-step bs 0 (omega arith) ∙ rw (rest-step bs 1 (omega arith), rest-step bs 2 (omega arith), rest-none bs 3 (omega arith)))

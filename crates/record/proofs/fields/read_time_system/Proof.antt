@@ -9,7 +9,7 @@ use lib.ListN.{length}
 use Rattle.layout.specs.Fault.{lower}
 use Rattle.layout.specs.Kind.{unless, isListed}
 use Rattle.header.specs.Letters.{timeSystems}
-use Rattle.record.proofs.Letters.{three-bytes}
+use Rattle.header.proofs.Tests.{three-bytes}
 use Rattle.record.proofs.fields.read_time_system.Statement.{statement}
 use Rattle.record.proofs.fields.read_time_system.Tie as tie
 
