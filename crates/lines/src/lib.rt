@@ -1,0 +1,70 @@
+// Bytes as lines, and lent memory that is filled from its first place on.
+ghost use mathlib.Core.Path.{_≡_};
+ghost use Prim.Native.Nat.{_+_, _≤_, min};
+ghost use lib.ListN.{length, take, drop};
+ghost use Rattle.lines.specs.Lines.{lineLength, hasLf};
+ghost use Rattle.lines.specs.Lent.{laid};
+
+// Whether an LF stands in the sixteen bytes from `at` on. A flag to the end, and no way out, lets LLVM take them at once.
+fn lf_in_sixteen(bytes: &[u8], at: usize) -> bool
+    requires { ⌜ at + 16 ≤ length (now bytes) ⌝ }
+    ensures { λ r. ⌜ r ≡ hasLf (take 16 (drop at (now (bytes .entry)))) ⌝ }
+{
+    let mut found = false;
+    let mut i = 0;
+    while i < 16 {
+        found = found | (bytes[at + i] == 10);
+        i += 1;
+    }
+    found
+}
+
+// The end of the line at `at`, byte by byte.
+fn line_end_by_bytes(bytes: &[u8], at: usize) -> usize
+    ensures { λ r. ⌜ r ≡ at + lineLength (drop at (now (bytes .entry))) ⌝ }
+{
+    let mut end = at;
+    while end < bytes.len() {
+        if bytes[end] == 10 {
+            return end;
+        }
+        end += 1;
+    }
+    end
+}
+
+// Where the line that begins at `at` ends: at its LF, or after the last byte where there is none.
+pub fn line_end(bytes: &[u8], at: usize) -> usize
+    ensures result { λ r. ⌜ r ≡ at + lineLength (drop at (now (bytes .entry))) ⌝ }
+{
+    let mut from = at;
+    while from < bytes.len() {
+        if bytes.len() - from < 16 {
+            return line_end_by_bytes(bytes, from);
+        }
+        if lf_in_sixteen(bytes, from) {
+            return line_end_by_bytes(bytes, from);
+        }
+        from += 16;
+    }
+    from
+}
+
+// The smaller of two counts.
+fn fewer(a: usize, b: usize) -> usize
+    ensures { λ r. ⌜ r ≡ min a b ⌝ }
+{
+    if a < b { a } else { b }
+}
+
+// The numbers laid over the front of `out`, as many as it has room for.
+pub fn lay_numbers(out: &mut [u64], numbers: &[u64])
+    ensures lent { λ _. ⌜ now (out .exit) ≡ laid (now (numbers .entry)) (now (out .entry)) ⌝ }
+{
+    let n = fewer(out.len(), numbers.len());
+    let mut i = 0;
+    while i < n {
+        out[i] = numbers[i];
+        i += 1;
+    }
+}
