@@ -14,4 +14,4 @@ laid new old = take (length old) new ++ drop (length new) old
 -- lists one after another
 unfoldable pub flat : {A : Type 0} → List (List A) → List A
 flat [] = []
-flat (a ∷ as) = a ++ flat as
+flat (part ∷ parts) = part ++ flat parts
