@@ -27,6 +27,7 @@ use Rattle.record.proofs.plain.correlation_fault.Reads as correlation-f
 use Rattle.record.proofs.plain.end_fault.Reads as end-fault
 use Rattle.record.proofs.rows.row_fault.Reads as row-fault
 use Rattle.record.proofs.rows.row_of.Reads as row-of
+use Rattle.record.proofs.rows.satellite_in.Reads as satellite-in
 
 -- the kinds in the order of their numbers
 abbrev kinds : List LineKind
@@ -131,3 +132,6 @@ is-unknown-determined κs a r r′ s s′ p q = p ∙ sym q
 
 pub is-too-large-determined : (κs : _) (a : _) (r r′ : _) (s s′ : _) → is-too-large.Post κs a r s → is-too-large.Post κs a r′ s′ → r ≡ r′
 is-too-large-determined κs a r r′ s s′ p q = p ∙ sym q
+
+pub satellite-in-determined : (κs : _) (a : _) (r r′ : _) (s s′ : _) → satellite-in.Post κs a r s → satellite-in.Post κs a r′ s′ → r ≡ r′
+satellite-in-determined κs a r r′ s s′ p q = p ∙ sym q

@@ -114,9 +114,9 @@ fn mark_of(line: &[u8; 80], velocity: bool, sign: u8, at: usize) -> bool
     read_mark(&s[from..at], velocity, sign)
 }
 
-// The identifier in columns 2 to 4.
-fn satellite_of(line: &[u8; 80]) -> u64
-    ensures { λ r. ⌜ r ≡ nameCode (cut 2 4 (now (line .entry))) ⌝ }
+// The identifier in columns 2 to 4 as one number: 7107 of `PG07`.
+pub fn satellite_in(line: &[u8; 80]) -> u64
+    ensures result { λ r. ⌜ r ≡ nameCode (cut 2 4 (now (line .entry))) ⌝ }
 {
     let s = &line[..];
     fields::name_of(&s[1..4])
@@ -131,7 +131,7 @@ fn row_taken(line: &[u8; 80], velocity: bool) -> Row
     let z = signed_of(line, 33, 46);
     let clock = signed_of(line, 47, 60);
     Row {
-        satellite: satellite_of(line),
+        satellite: satellite_in(line),
         x,
         y,
         z,

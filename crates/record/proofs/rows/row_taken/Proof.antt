@@ -13,7 +13,7 @@ returns c =
       c .before .before .before .before .before .before .before .before .before .before .before .signed-of2 .ensures,
       c .before .before .before .before .before .before .before .before .before .before .signed-of3 .ensures,
       c .before .before .before .before .before .before .before .before .before .signed-of4 .ensures,
-      c .before .before .before .before .before .before .before .before .satellite-of .ensures,
+      c .before .before .before .before .before .before .before .before .satellite-in .ensures,
       c .before .before .before .before .before .before .before .exponent-of .ensures,
       c .before .before .before .before .before .before .exponent-of2 .ensures,
       c .before .before .before .before .before .exponent-of3 .ensures,

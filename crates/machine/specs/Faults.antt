@@ -1,0 +1,91 @@
+-- The fault of a line at its place. 01, "The first faulty line decides; in a line the lowest number": 2, 3, 4, then what the columns of its
+-- record earn (5 to 8), then 8, 9 and 10 against header and start. A fault is a key of number and column (layout, Fault); that of 2 may lie
+-- far past column 80 and is told as two numbers.
+use mathlib.Core.Bool.{Bool, true, false, cond, not}
+use mathlib.Core.List.{List}
+use Prim.Native.Nat.{ℕ, _+_, min}
+use lib.Dec.{eqb}
+use lib.ListN.{take}
+use Rattle.layout.specs.Fault.{keyed, lower}
+use Rattle.layout.specs.Kind.{unless, nameCode}
+use Rattle.layout.specs.Layout.{faultOf}
+use Rattle.record.specs.Opening.{firstOf, secondOf, epochOf}
+use Rattle.record.specs.SlotLines.{satellitesOf, moreOf}
+use Rattle.record.specs.Descriptors.{descriptorOf, characterItems, baseOf, floatItems, integerItems}
+use Rattle.record.specs.Plain.{commentItems, correlationItems, endItems}
+use Rattle.record.specs.Rows.{rowFault, cut}
+use Rattle.header.specs.declared.types.Rules.{Rules}
+use Rattle.record.specs.declared.types.LineKind.{LineKind}
+use Rattle.record.specs.declared.types.LineKind.the-variants as kind
+use Rattle.machine.specs.Checks.{instantIn, secondAgrees, repeats, typeAgrees}
+use Rattle.machine.specs.State.{stands, knownNames, nameDue, isFirst, namesIn}
+use Rattle.machine.specs.declared.types.State.{State}
+
+-- the columns that a line of a kind may have: 80, or fewer of a comment where the version says so
+abbrev pub longest : Rules → LineKind → ℕ
+longest rules kind.Other = 80
+longest rules kind.First = 80
+longest rules kind.Second = 80
+longest rules kind.Satellites = 80
+longest rules kind.Accuracies = 80
+longest rules kind.Characters = 80
+longest rules kind.Floats = 80
+longest rules kind.Integers = 80
+longest rules kind.Comment = min 80 (rules .«comment_columns»)
+longest rules kind.Epoch = 80
+longest rules kind.Position = 80
+longest rules kind.Velocity = 80
+longest rules kind.PositionCorrelation = 80
+longest rules kind.VelocityCorrelation = 80
+longest rules kind.EndOfFile = 80
+
+-- line 2 agrees with the start
+unfoldable pub secondFault : State → List ℕ → ℕ
+secondFault s line = lower (secondOf line .fault) (unless (secondAgrees (s .at8) (secondOf line)) 8 0)
+
+-- a `+ ` line: no identifier repeats
+unfoldable pub satellitesFault : Rules → State → List ℕ → List ℕ → ℕ
+satellitesFault rules s names line =
+    lower (cond (isFirst s) (satellitesOf rules line .fault) (moreOf false (s .left) line .fault))
+    (unless (not (repeats (knownNames s names) (namesIn rules s line))) 8 0)
+
+-- the first `%c` agrees with the identifiers; the second has placeholders alone
+unfoldable pub charactersFault : State → List ℕ → List ℕ → ℕ
+charactersFault s names line =
+    cond (eqb (s .lines) 2)
+    (lower (descriptorOf line .fault) (unless (typeAgrees (descriptorOf line .«file_type») (take (s .satellites) names)) 8 0))
+    (faultOf characterItems line)
+
+-- the first `%f` has the bases; the second has placeholders alone
+unfoldable pub floatsFault : State → List ℕ → ℕ
+floatsFault s line = cond (eqb (s .lines) 2) (baseOf line .fault) (faultOf floatItems line)
+
+-- an epoch stands at its instant: the start, then an interval after the epoch before
+unfoldable pub epochFault : State → List ℕ → ℕ
+epochFault s line = lower (epochOf line .fault) (unless (eqb (instantIn (epochOf line .moment)) (s .at8 + s .gap8)) 9 0)
+
+-- a P or V line names the satellite that the header has here
+unfoldable pub namedFault : Bool → State → List ℕ → List ℕ → ℕ
+namedFault velocity s names line = lower (rowFault velocity line) (unless (eqb (nameCode (cut 2 4 line)) (nameDue s names)) 10 0)
+
+-- the fault of a line of 80 columns, by its kind
+abbrev pub recordFault : LineKind → Rules → State → List ℕ → List ℕ → ℕ
+recordFault kind.Other rules s names line = keyed 4 0
+recordFault kind.First rules s names line = firstOf rules line .fault
+recordFault kind.Second rules s names line = secondFault s line
+recordFault kind.Satellites rules s names line = satellitesFault rules s names line
+recordFault kind.Accuracies rules s names line = moreOf true (s .left) line .fault
+recordFault kind.Characters rules s names line = charactersFault s names line
+recordFault kind.Floats rules s names line = floatsFault s line
+recordFault kind.Integers rules s names line = faultOf integerItems line
+recordFault kind.Comment rules s names line = faultOf commentItems line
+recordFault kind.Epoch rules s names line = epochFault s line
+recordFault kind.Position rules s names line = namedFault false s names line
+recordFault kind.Velocity rules s names line = namedFault true s names line
+recordFault kind.PositionCorrelation rules s names line = faultOf (correlationItems false) line
+recordFault kind.VelocityCorrelation rules s names line = faultOf (correlationItems true) line
+recordFault kind.EndOfFile rules s names line = faultOf endItems line
+
+-- the fault of a line of 80 columns at its place: 4 where its kind may not stand here
+unfoldable pub placeFault : LineKind → Rules → State → List ℕ → List ℕ → ℕ
+placeFault kind rules s names line = cond (stands s kind) (recordFault kind rules s names line) (keyed 4 0)

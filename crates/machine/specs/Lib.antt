@@ -1,0 +1,5 @@
+pub mod Checks
+pub mod State
+pub mod Faults
+pub mod Next
+pub mod Step

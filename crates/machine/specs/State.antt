@@ -1,0 +1,64 @@
+-- The state between two lines: what must stand next, and what the lines before have said.
+use mathlib.Core.Bool.{Bool, false, cond, _||_}
+use mathlib.Core.List.{List, _++_}
+use Prim.Native.Nat.{ℕ, _+_, _-_}
+use lib.Dec.{eqb}
+use lib.ListN.{getD, take, drop, replicate}
+use Rattle.header.specs.Rules.{maxSatellites}
+use Rattle.lines.specs.Lent.{laid}
+use Rattle.record.specs.LineKinds.{toldKind}
+use Rattle.record.specs.SlotLines.{satellitesOf, moreOf}
+use Rattle.header.specs.declared.types.Rules.{Rules}
+use Rattle.record.specs.declared.types.LineKind.{LineKind}
+use Rattle.machine.specs.declared.types.State.{State}
+
+-- before the first line: `#d` (1) must come
+abbrev pub start : State
+start = record {
+  due = 1;
+  also = 0;
+  lines = 1;
+  left = 0;
+  comments = 0;
+  velocity = false;
+  satellites = 0;
+  epochs = 0;
+  at8 = 0;
+  gap8 = 0;
+  interval8 = 0;
+}
+
+-- no identifier is known before the first `+ ` line
+abbrev pub noNames : List ℕ
+noNames = replicate maxSatellites 0
+
+-- a kind of line may stand here: the one that must come, or the other that may
+abbrev pub stands : State → LineKind → Bool
+stands s kind = eqb (toldKind kind) (s .due) || eqb (toldKind kind) (s .also)
+
+-- how many satellites have had their slot, or their row of this epoch
+abbrev pub seen : State → ℕ
+seen s = s .satellites - s .left
+
+-- the identifiers known so far
+abbrev pub knownNames : State → List ℕ → List ℕ
+knownNames s names = take (seen s) names
+
+-- the identifier of the satellite whose row must come
+abbrev pub nameDue : State → List ℕ → ℕ
+nameDue s names = getD names (seen s) 0
+
+-- the first `+ ` line is due as long as no number of satellites is known
+abbrev pub isFirst : State → Bool
+isFirst s = eqb (s .satellites) 0
+
+-- the identifiers that a `+ ` line of 80 columns brings: the first `+ ` line as many as its own number says, a further one as many as are left
+unfoldable pub namesIn : Rules → State → List ℕ → List ℕ
+namesIn rules s line =
+    cond (isFirst s)
+    (take (satellitesOf rules line .count) (satellitesOf rules line .names))
+    (take (s .left) (moreOf false (s .left) line .values))
+
+-- the identifiers after a `+ ` line
+unfoldable pub namesAfter : Rules → State → List ℕ → List ℕ → List ℕ
+namesAfter rules s names line = knownNames s names ++ laid (namesIn rules s line) (drop (seen s) names)

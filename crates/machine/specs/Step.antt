@@ -1,0 +1,72 @@
+-- What a line does at its place, and what the lines of some bytes do one after another. 01: "Readers go line by line. First they take plain
+-- bytes and a place".
+use mathlib.Core.Bool.{Bool, cond}
+use mathlib.Core.List.{List, [], _∷_}
+use Prim.Native.Nat.{ℕ, _+_}
+use lib.Dec.{eqb, leb}
+use lib.ListN.{length, drop}
+use Rattle.laws.specs.Texts.{every, isPrintable}
+use Rattle.layout.specs.Fault.{numberOf, columnOf}
+use Rattle.layout.specs.Line.{padded}
+use Rattle.lines.specs.Lines.{linesOf}
+use Rattle.record.specs.LineKinds.{kindOf}
+use Rattle.header.specs.declared.types.Rules.{Rules}
+use Rattle.record.specs.declared.types.LineKind.{LineKind}
+use Rattle.machine.specs.Checks.{firstUnprintable}
+use Rattle.machine.specs.State.{namesAfter}
+use Rattle.machine.specs.Faults.{longest, placeFault}
+use Rattle.machine.specs.Next.{nextOf}
+use Rattle.machine.specs.declared.types.State.{State}
+use Rattle.machine.specs.declared.types.Verdict.{Verdict}
+use Rattle.machine.specs.declared.types.Verdict.the-variants as verdict
+use Rattle.machine.specs.declared.types.LineRead.{LineRead}
+use Rattle.machine.specs.declared.types.LineRead.the-variants as found
+
+-- a fault by its key, or else what follows
+unfoldable pub onKey : ℕ → Verdict → Verdict
+onKey key next = cond (eqb key 0) next (verdict.Fault (numberOf key) (columnOf key))
+
+-- a line that has only characters 32 to 126 and is not too long, by its kind
+unfoldable pub judgedLine : LineKind → Rules → State → List ℕ → List ℕ → Verdict
+judgedLine kind rules s names line = onKey (placeFault kind rules s names line) (nextOf kind rules s line)
+
+-- a line of printable characters: 3 names the column after the last that it may have
+unfoldable pub printedLine : LineKind → Rules → State → List ℕ → List ℕ → Verdict
+printedLine kind rules s names line =
+    cond (leb (length line) (longest rules kind)) (judgedLine kind rules s names (padded line)) (verdict.Fault 3 (longest rules kind + 1))
+
+-- what a line does
+unfoldable pub stepOf : Rules → State → List ℕ → List ℕ → Verdict
+stepOf rules s names line =
+    cond (every isPrintable line) (printedLine (kindOf rules (padded line)) rules s names line) (verdict.Fault 2 (firstUnprintable line))
+
+-- the identifiers after a line: a `+ ` line (3) without fault brings some
+abbrev pub keptOn : Verdict → Rules → State → List ℕ → List ℕ → List ℕ
+keptOn (verdict.Fault number column) rules s names line = names
+keptOn (verdict.Next s′) rules s names line = cond (eqb (s .due) 3) (namesAfter rules s names (padded line)) names
+keptOn verdict.Finished rules s names line = names
+
+unfoldable pub namesKept : Rules → State → List ℕ → List ℕ → List ℕ
+namesKept rules s names line = keptOn (stepOf rules s names line) rules s names line
+
+-- what the line reader finds: a verdict at the place after the line
+abbrev pub readAs : Verdict → ℕ → LineRead
+readAs (verdict.Fault number column) at = found.Fault number column
+readAs (verdict.Next s) at = found.Next at s
+readAs verdict.Finished at = found.Finished at
+
+-- the first of the lines that are left
+unfoldable pub readFirst : Rules → State → List ℕ → ℕ → List (List ℕ) → LineRead
+readFirst rules s names at [] = found.NoLine
+readFirst rules s names at (l ∷ ls) = readAs (stepOf rules s names l) (at + length l + 1)
+
+unfoldable pub namesFirst : Rules → State → List ℕ → List (List ℕ) → List ℕ
+namesFirst rules s names [] = names
+namesFirst rules s names (l ∷ ls) = namesKept rules s names l
+
+-- the line of some bytes that begins at a place
+abbrev pub lineRead : Rules → List ℕ → ℕ → State → List ℕ → LineRead
+lineRead rules bytes at s names = readFirst rules s names at (linesOf (drop at bytes))
+
+abbrev pub lineNames : Rules → List ℕ → ℕ → State → List ℕ → List ℕ
+lineNames rules bytes at s names = namesFirst rules s names (linesOf (drop at bytes))

@@ -1,0 +1,108 @@
+// What a line must agree with besides its own columns.
+ghost use mathlib.Core.Path.{_≡_};
+ghost use mathlib.Core.Bool.{_||_};
+ghost use lib.ListN.{length};
+ghost use Rattle.laws.specs.Texts.{every};
+ghost use Rattle.layout.specs.Kind.{isOneOf};
+ghost use lib.Dec.{eqb};
+ghost use Rattle.machine.specs.Checks.{firstUnprintable, instantIn, secondAgrees, repeats, letterOf, typeAgrees};
+use calendar::Instant;
+use calendar::Week;
+use header::Moment;
+use record::Second;
+
+// One day in 10^-8 s.
+const DAY: u64 = 8_640_000_000_000;
+
+// The column of the first byte outside 32 to 126, counted from 1, in a line that has one.
+pub(crate) fn first_unprintable(line: &[u8]) -> usize
+    ensures { λ r. ⌜ r ≡ firstUnprintable (now (line .entry)) ⌝ }
+{
+    let mut i = 0;
+    while i < line.len() {
+        if (line[i] < 32) | (126 < line[i]) {
+            return i + 1;
+        }
+        i += 1;
+    }
+    i
+}
+
+// The instant of a date and time, or 0 where there is none.
+pub(crate) fn instant_in(m: Moment) -> u64
+    ensures { λ r. ⌜ r ≡ instantIn m ⌝ }
+{
+    let Instant::At(instant) =
+        calendar::instant(m.year, m.month, m.day, m.hour, m.minute, m.second8)
+    else {
+        return 0;
+    };
+    instant
+}
+
+// Whether week, seconds of week, MJD and fraction of line 2 are those of the start.
+pub(crate) fn second_agrees(start8: u64, second: Second) -> bool
+    ensures { λ r. ⌜ r ≡ secondAgrees start8 second ⌝ }
+{
+    let Week::Of { week, second8 } = calendar::week_of(start8) else {
+        return false;
+    };
+    let day = start8 / DAY == second.mjd;
+    let fraction = calendar::fraction_agrees(second.fraction13, start8 % DAY);
+    ((week == second.week) & (second8 == second.seconds8)) & (day & fraction)
+}
+
+// Whether a name stands among others.
+pub(crate) fn is_among(name: u64, names: &[u64]) -> bool
+    ensures { λ r. ⌜ r ≡ isOneOf name (now (names .entry)) ⌝ }
+{
+    let mut i = 0;
+    while i < names.len() {
+        if name == names[i] {
+            return true;
+        }
+        i += 1;
+    }
+    false
+}
+
+// Whether one of the new names stands among those known or earlier among the new.
+pub(crate) fn repeats_name(known: &[u64], new: &[u64]) -> bool
+    ensures { λ r. ⌜ r ≡ repeats (now (known .entry)) (now (new .entry)) ⌝ }
+{
+    let mut i = 0;
+    while i < new.len() {
+        if is_among(new[i], known) {
+            return true;
+        }
+        if is_among(new[i], &new[0..i]) {
+            return true;
+        }
+        i += 1;
+    }
+    false
+}
+
+// Whether every name begins with a letter.
+fn all_begin(letter: u64, names: &[u64]) -> bool
+    ensures { λ r. ⌜ r ≡ every (λ name. eqb (letterOf name) letter) (now (names .entry)) ⌝ }
+{
+    let mut i = 0;
+    while i < names.len() {
+        if names[i] / 100 != letter {
+            return false;
+        }
+        i += 1;
+    }
+    true
+}
+
+// Whether a file type agrees with the names: M with all, another with those that begin with it.
+pub(crate) fn type_agrees(file_type: u8, names: &[u64]) -> bool
+    ensures { λ r. ⌜ r ≡ typeAgrees «file_type» (now (names .entry)) ⌝ }
+{
+    if file_type == b'M' {
+        return true;
+    }
+    all_begin(file_type as u64, names)
+}

@@ -1,0 +1,12 @@
+// The machine that a file is judged by, line by line: what may stand where, and what each line does.
+mod checks;
+mod faults;
+mod next;
+mod step;
+mod types;
+
+pub use step::start;
+pub use step::step_line;
+pub use types::LineRead;
+pub use types::State;
+pub use types::Verdict;

@@ -1,0 +1,35 @@
+// What must stand next in a file and what its lines have said so far. Kinds of line are told by their numbers, 1 for `#d` to 14 for EOF.
+pub struct State {
+    // The kind of line that must come, and the kind that may stand here before it (0 where none may).
+    pub due: u64,
+    pub also: u64,
+    // Lines of the kind due that are still to come, this one too.
+    pub lines: u64,
+    // Satellites of which a slot, or a row of this epoch, is still to come.
+    pub left: u64,
+    // Comments that may still stand.
+    pub comments: u64,
+    pub velocity: bool,
+    pub satellites: u64,
+    // Epochs still to come.
+    pub epochs: u64,
+    // The start, then the instant of the last epoch, in 10^-8 s since MJD 0; the next epoch is later by the gap: 0, then the interval.
+    pub at8: u64,
+    pub gap8: u64,
+    pub interval8: u64,
+}
+
+// What a line does: its fault, by the paper's number and the column that it names (0 for none), or the state after it, or it ends the file.
+pub enum Verdict {
+    Fault { number: usize, column: usize },
+    Next(State),
+    Finished,
+}
+
+// What the line reader finds at a place: no complete line, a fault, the place and the state after the line, or the place after the file.
+pub enum LineRead {
+    NoLine,
+    Fault { number: usize, column: usize },
+    Next { at: usize, state: State },
+    Finished { at: usize },
+}
