@@ -13,8 +13,8 @@ use Rattle.record.specs.declared.types.LineKind.{LineKind}
 use Rattle.machine.specs.declared.types.State.{State}
 
 -- before the first line: `#d` (1) must come
-abbrev pub start : State
-start = record {
+abbrev pub startState : State
+startState = record {
   due = 1;
   also = 0;
   lines = 1;

@@ -40,10 +40,14 @@ unfoldable pub stepOf : Rules → State → List ℕ → List ℕ → Verdict
 stepOf rules s names line =
     cond (every isPrintable line) (printedLine (kindOf rules (padded line)) rules s names line) (verdict.Fault 2 (firstUnprintable line))
 
--- the identifiers after a line: a `+ ` line (3) without fault brings some
+-- the identifiers after a line without fault: where a `+ ` line (3) is due it brings some
+unfoldable pub namesBrought : Rules → State → List ℕ → List ℕ → List ℕ
+namesBrought rules s names line = cond (eqb (s .due) 3) (namesAfter rules s names (padded line)) names
+
+-- the identifiers after a line, by what it does
 abbrev pub keptOn : Verdict → Rules → State → List ℕ → List ℕ → List ℕ
 keptOn (verdict.Fault number column) rules s names line = names
-keptOn (verdict.Next s′) rules s names line = cond (eqb (s .due) 3) (namesAfter rules s names (padded line)) names
+keptOn (verdict.Next s′) rules s names line = namesBrought rules s names line
 keptOn verdict.Finished rules s names line = names
 
 unfoldable pub namesKept : Rules → State → List ℕ → List ℕ → List ℕ

@@ -1,11 +1,12 @@
 // The fault of a line of 80 columns at its place.
 ghost use mathlib.Core.Path.{_≡_};
-ghost use Prim.Native.Nat.{_≤_};
+ghost use Prim.Native.Nat.{_+_, _≤_};
+ghost use lib.Dec.{eqb};
 ghost use lib.ListN.{take};
 ghost use Rattle.layout.specs.Fault.{lower};
 ghost use Rattle.layout.specs.Kind.{unless};
 ghost use Rattle.record.specs.LineKinds.{toldKind};
-ghost use Rattle.machine.specs.State.{stands, seen, nameDue};
+ghost use Rattle.machine.specs.State.{seen, nameDue};
 ghost use Rattle.machine.specs.Faults.{longest, secondFault, satellitesFault, charactersFault, floatsFault, epochFault, namedFault, recordFault, placeFault};
 use crate::checks;
 use crate::types::State;
@@ -109,7 +110,7 @@ fn floats_fault(state: State, line: &[u8; 80]) -> usize
 
 // Whether an instant is as much later than another as the gap says.
 fn is_later_by(gap8: u64, from8: u64, at8: u64) -> bool
-    ensures { λ r. ⌜ r ≡ lib.Dec.eqb at8 (from8 Prim.Native.Nat.+ gap8) ⌝ }
+    ensures { λ r. ⌜ r ≡ eqb at8 (from8 + gap8) ⌝ }
 {
     if at8 < gap8 {
         return false;

@@ -1,5 +1,6 @@
 // What must stand after a line without fault.
 ghost use mathlib.Core.Path.{_≡_};
+ghost use Prim.Native.Nat.{_-_};
 ghost use Rattle.machine.specs.Next.{expect, lineLess, afterFirst, afterSecond, afterCount, afterNames, afterSatellites, afterAccuracies, commentsDue, afterIntegers, afterEpoch, rowDue, satelliteDone, afterPosition, nextOf};
 use crate::checks;
 use crate::types::State;
@@ -8,9 +9,9 @@ use header::Rules;
 use record::First;
 use record::LineKind;
 
-// One less, of which 0 has none.
+// So many less, or none.
 fn less(n: u64, by: u64) -> u64
-    ensures { λ r. ⌜ r ≡ n Prim.Native.Nat.- by ⌝ }
+    ensures { λ r. ⌜ r ≡ n - by ⌝ }
 {
     if n < by {
         return 0;

@@ -1,8 +1,7 @@
 // What a line does at its place: the plain line reader.
 ghost use mathlib.Core.Path.{_≡_};
-ghost use Rattle.machine.specs.State;
-ghost use Rattle.machine.specs.State.{namesAfter};
-ghost use Rattle.machine.specs.Step.{judgedLine, stepOf, namesKept, lineRead, lineNames};
+ghost use Rattle.machine.specs.State.{startState, namesAfter};
+ghost use Rattle.machine.specs.Step.{judgedLine, stepOf, namesBrought, lineRead, lineNames};
 use crate::checks;
 use crate::faults;
 use crate::next;
@@ -14,7 +13,7 @@ use record::LineKind;
 
 // The state before the first line.
 pub fn start() -> State
-    ensures result { λ r. ⌜ r ≡ State.start ⌝ }
+    ensures result { λ r. ⌜ r ≡ startState ⌝ }
 {
     State {
         due: 1,
@@ -65,4 +64,64 @@ pub fn step_line(rules: Rules, state: State, names: &[u64], line: &[u8]) -> Verd
         };
     }
     judge_line(kind, rules, state, names, &padded)
+}
+
+// Stores the names that a `+ ` line of 80 columns brings after those known.
+fn store_names(rules: Rules, state: State, names: &mut [u64], line: &[u8; 80])
+    ensures { λ _. ⌜ now (names .exit) ≡ namesAfter rules state (now (names .entry)) (now (line .entry)) ⌝ }
+{
+    let from = faults::seen_so_far(state);
+    if names.len() <= from {
+        return;
+    }
+    if state.satellites == 0 {
+        let first = record::slots::read_satellites(rules, line);
+        let all = first.names;
+        lines::lay_numbers(&mut names[from..], faults::front_of(&all, first.count as usize));
+        return;
+    }
+    let more = record::slots::read_slots(line, false, state.left);
+    let all = more.values;
+    lines::lay_numbers(&mut names[from..], faults::front_of(&all, state.left as usize));
+}
+
+// The names after a line without fault: a `+ ` line brings some.
+fn keep_names(rules: Rules, state: State, names: &mut [u64], line: &[u8])
+    ensures { λ _. ⌜ now (names .exit) ≡ namesBrought rules state (now (names .entry)) (now (line .entry)) ⌝ }
+{
+    if state.due != 3 {
+        return;
+    }
+    let padded = layout::pad(line);
+    store_names(rules, state, names, &padded);
+}
+
+// The plain line reader: what the line at a place does, and where the next begins. A `+ ` line leaves its identifiers in `names`. No LF from
+// the place on: no line.
+pub fn read_line(
+    rules: Rules,
+    bytes: &[u8],
+    at: usize,
+    state: State,
+    names: &mut [u64],
+) -> LineRead
+    ensures result { λ r. ⌜ r ≡ lineRead rules (now (bytes .entry)) at state (now (names .entry)) ⌝ }
+    ensures lent { λ _. ⌜ now (names .exit) ≡ lineNames rules (now (bytes .entry)) at state (now (names .entry)) ⌝ }
+{
+    let end = lines::line_end(bytes, at);
+    if end >= bytes.len() {
+        return LineRead::NoLine;
+    }
+    let line = &bytes[at..end];
+    match step_line(rules, state, names, line) {
+        Verdict::Fault { number, column } => LineRead::Fault { number, column },
+        Verdict::Finished => LineRead::Finished { at: end + 1 },
+        Verdict::Next(next) => {
+            keep_names(rules, state, names, line);
+            LineRead::Next {
+                at: end + 1,
+                state: next,
+            }
+        }
+    }
 }
