@@ -166,9 +166,9 @@ fn record_fault(kind: LineKind, rules: Rules, state: State, names: &[u64], line:
     }
 }
 
-// The number of a kind, in the order of the records.
-fn kind_number(kind: LineKind) -> u64
-    ensures { λ r. ⌜ r ≡ toldKind kind ⌝ }
+// The number of a kind, in the order of the records: 10 of P.
+pub fn kind_number(kind: LineKind) -> u64
+    ensures result { λ r. ⌜ r ≡ toldKind kind ⌝ }
 {
     match kind {
         LineKind::Other => 0,

@@ -5,6 +5,7 @@ mod next;
 mod step;
 mod types;
 
+pub use faults::kind_number;
 pub use step::read_line;
 pub use step::start;
 pub use step::step_line;

@@ -12,6 +12,7 @@ use Rattle.record.proofs.absence.clock_absent.Reads as clock-absent
 use Rattle.record.proofs.absence.is_unknown.Reads as is-unknown
 use Rattle.record.proofs.absence.is_too_large.Reads as is-too-large
 use Rattle.record.proofs.kind.kind_of.Reads as kind-of
+use Rattle.record.proofs.kind.kind_by.Reads as kind-by
 use Rattle.record.proofs.opening.read_first.Reads as read-first
 use Rattle.record.proofs.opening.read_second.Reads as read-second
 use Rattle.record.proofs.opening.read_epoch.Reads as read-epoch
@@ -135,3 +136,6 @@ is-too-large-determined κs a r r′ s s′ p q = p ∙ sym q
 
 pub satellite-in-determined : (κs : _) (a : _) (r r′ : _) (s s′ : _) → satellite-in.Post κs a r s → satellite-in.Post κs a r′ s′ → r ≡ r′
 satellite-in-determined κs a r r′ s s′ p q = p ∙ sym q
+
+pub kind-by-determined : (κs : _) (a : _) (r r′ : _) (s s′ : _) → kind-by.Post κs a r s → kind-by.Post κs a r′ s′ → r ≡ r′
+kind-by-determined κs a r r′ s s′ p q = p ∙ sym q

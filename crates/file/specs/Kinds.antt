@@ -1,0 +1,29 @@
+-- The kind of a line as it stands in a file, a short line being padded, and the lines of a kind.
+use mathlib.Core.Bool.{Bool, _||_}
+use mathlib.Core.List.{List}
+use Prim.Native.Nat.{ℕ}
+use lib.Dec.{eqb}
+use lib.ListN.{length}
+use Rattle.layout.specs.Line.{padded}
+use Rattle.lines.specs.Lines.{select, nth}
+use Rattle.record.specs.LineKinds.{toldKind, kindOf}
+use Rattle.header.specs.declared.types.Rules.{Rules}
+
+-- its number: 1 for `#d` to 14 for EOF, 0 for none
+abbrev pub kindIn : Rules → List ℕ → ℕ
+kindIn rules line = toldKind (kindOf rules (padded line))
+
+abbrev pub isKind : Rules → ℕ → List ℕ → Bool
+isKind rules kind line = eqb (kindIn rules line) kind
+
+-- P (10) and V (11)
+abbrev pub isRow : Rules → List ℕ → Bool
+isRow rules line = isKind rules 10 line || isKind rules 11 line
+
+-- the lines of a kind, in their order
+abbrev pub ofKind : Rules → ℕ → List (List ℕ) → List (List ℕ)
+ofKind rules kind lines = select (isKind rules kind) lines
+
+-- the first of them
+abbrev pub firstOfKind : Rules → ℕ → List (List ℕ) → List ℕ
+firstOfKind rules kind lines = nth 0 (ofKind rules kind lines)

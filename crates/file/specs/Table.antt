@@ -1,0 +1,128 @@
+-- The table that the lines of a file hold, by selecting lines, whatever the machine says. 01, "What the build covers": "A table holds the mode,
+-- start, number of epochs, interval, four texts, identifiers with their exponents, file type, time system, two bases, the comments without
+-- trailing blanks, and the rows in file order: numbers or absence, exponents, flags."
+use mathlib.Core.Bool.{Bool, true, false, cond}
+use mathlib.Core.List.{List, [], _∷_, map}
+use Prim.Native.Nat.{ℕ}
+use lib.Dec.{eqb, leb}
+use lib.IntN.{ℤ, pos}
+use lib.ListN.{length, take}
+use Rattle.field.specs.Sign.{largest, signedInt}
+use Rattle.layout.specs.Line.{padded}
+use Rattle.lines.specs.Lent.{flat}
+use Rattle.lines.specs.Lines.{select}
+use Rattle.record.specs.Opening.{firstOf, secondOf}
+use Rattle.record.specs.SlotLines.{countIn, moreOf}
+use Rattle.record.specs.Descriptors.{descriptorOf, baseOf}
+use Rattle.record.specs.Plain.{commentOf}
+use Rattle.record.specs.Rows.{rowOf}
+use Rattle.machine.specs.Checks.{instantIn}
+use Rattle.header.specs.declared.types.Rules.{Rules}
+use Rattle.header.specs.declared.types.Header.{Header}
+use Rattle.record.specs.declared.types.First.{First}
+use Rattle.record.specs.declared.types.Descriptor.{Descriptor}
+use Rattle.record.specs.declared.types.BaseLine.{BaseLine}
+use Rattle.record.specs.declared.types.Signed.{Signed}
+use Rattle.record.specs.declared.types.Row.{Row}
+use Rattle.file.specs.Kinds.{isKind, isRow, ofKind, firstOfKind}
+
+-- the header of its first `#d`, `##`, `+ `, `%c` and `%f` lines, and the number of its comments
+abbrev pub headerFrom : First → ℕ → ℕ → Descriptor → BaseLine → ℕ → Header
+headerFrom f interval8 n d b comments = record {
+  velocity = eqb (f .mode) 86;
+  start8 = instantIn (f .start);
+  epochs = f .epochs;
+  interval8 = interval8;
+  texts = f .texts;
+  satellites = n;
+  comments = comments;
+  «file_type» = d .«file_type»;
+  «time_system» = d .«time_system»;
+  bases = b .bases;
+}
+
+abbrev pub countOf : Rules → List (List ℕ) → ℕ
+countOf rules lines = countIn rules (padded (firstOfKind rules 3 lines))
+
+unfoldable pub headerIn : Rules → List (List ℕ) → Header
+headerIn rules lines =
+    headerFrom
+    (firstOf rules (padded (firstOfKind rules 1 lines)))
+    (secondOf (padded (firstOfKind rules 2 lines)) .interval8)
+    (countOf rules lines)
+    (descriptorOf (padded (firstOfKind rules 5 lines)))
+    (baseOf (padded (firstOfKind rules 6 lines)))
+    (length (ofKind rules 8 lines))
+
+-- the numbers in the seventeen slots of a `+ ` or `++` line: identifiers, or accuracy exponents
+abbrev pub slotNumbers : Bool → List ℕ → List ℕ
+slotNumbers accuracies line = moreOf accuracies 17 (padded line) .values
+
+-- `+ ` lines (3), or `++` lines (4)
+abbrev pub slotKind : Bool → ℕ
+slotKind true = 4
+slotKind false = 3
+
+-- the identifiers of n satellites, or their exponents
+unfoldable pub slotsIn : Rules → Bool → ℕ → List (List ℕ) → List ℕ
+slotsIn rules accuracies n lines = take n (flat (map (slotNumbers accuracies) (ofKind rules (slotKind accuracies) lines)))
+
+-- the text of a comment: columns 4 to 80, filled up with blanks
+abbrev pub commentText : List ℕ → List ℕ
+commentText line = commentOf (padded line)
+
+-- the comments, 77 bytes each
+unfoldable pub commentsIn : Rules → List (List ℕ) → List ℕ
+commentsIn rules lines = flat (map commentText (ofKind rules 8 lines))
+
+-- the row of a P or V line
+abbrev pub rowIn : Rules → List ℕ → Row
+rowIn rules line = rowOf (isKind rules 11 line) line
+
+-- a number as it is stored; every magnitude of an accepted row is within the bound
+unfoldable pub storedInt : Bool → ℕ → ℤ
+storedInt negative m = cond (leb m largest) (signedInt negative m) (pos 0)
+
+abbrev pub storedSigned : Signed → ℤ
+storedSigned s = storedInt (s .negative) (s .magnitude)
+
+abbrev pub storedCount : ℕ → ℤ
+storedCount n = storedInt false n
+
+-- a flag that is set is 1
+abbrev pub markNumber : Bool → ℕ
+markNumber set = cond set 1 0
+
+abbrev pub storedMark : Bool → ℤ
+storedMark set = storedCount (markNumber set)
+
+-- the twelve numbers of a stored row: x, y, z, clock, their exponents, and the flags of columns 75, 76, 79 and 80
+unfoldable pub rowNumbers : Row → List ℤ
+rowNumbers p =
+    storedSigned (p .x)
+    ∷ storedSigned (p .y)
+    ∷ storedSigned (p .z)
+    ∷ storedSigned (p .clock)
+    ∷ storedCount (p .«x_exponent»)
+    ∷ storedCount (p .«y_exponent»)
+    ∷ storedCount (p .«z_exponent»)
+    ∷ storedCount (p .«clock_exponent»)
+    ∷ storedMark (p .event)
+    ∷ storedMark (p .predicted)
+    ∷ storedMark (p .maneuver)
+    ∷ storedMark (p .«orbit_predicted»)
+    ∷ []
+
+-- how many numbers that is
+abbrev pub rowWidth : ℕ
+rowWidth = 12
+
+-- the numbers of some P and V lines, in file order
+unfoldable pub numbersOfRows : Rules → List (List ℕ) → List ℤ
+numbersOfRows rules lines = flat (map (λ line. rowNumbers (rowIn rules line)) lines)
+
+abbrev pub rowLines : Rules → List (List ℕ) → List (List ℕ)
+rowLines rules lines = select (isRow rules) lines
+
+abbrev pub rowsIn : Rules → List (List ℕ) → List ℤ
+rowsIn rules lines = numbersOfRows rules (rowLines rules lines)
