@@ -115,6 +115,11 @@ pub record Noted (rules : Rules) (velocity : Bool) (note : LineKind) (name : ℕ
   pub is-row : isRowLine rules velocity name row ≡ true
   pub are-notes : areNotes rules note notes ≡ true
 
+-- what follows in mode V: V; in mode P nothing
+abbrev pub Rest : Rules → Bool → ℕ → List (List ℕ) → Type 0
+Rest rules true name lines = Noted rules true kind.VelocityCorrelation name lines
+Rest rules false name lines = lines ≡ []
+
 -- the lines of one satellite in an epoch: P; in mode V then V
 pub record Satellite (rules : Rules) (velocity : Bool) (name : ℕ) (lines : List (List ℕ)) : Type 0 where
   pub position : List (List ℕ)
@@ -122,10 +127,6 @@ pub record Satellite (rules : Rules) (velocity : Bool) (name : ℕ) (lines : Lis
   pub lines-are : lines ≡ position ++ rest
   pub is-position : Noted rules false kind.PositionCorrelation name position
   pub is-rest : Rest rules velocity name rest
-
-abbrev pub Rest : Rules → Bool → ℕ → List (List ℕ) → Type 0
-Rest rules true name lines = Noted rules true kind.VelocityCorrelation name lines
-Rest rules false name lines = lines ≡ []
 
 -- the lines of each satellite in header order
 abbrev pub Rows : Rules → Bool → List ℕ → List (List ℕ) → Type 0

@@ -1,20 +1,23 @@
 // A file at the front of some bytes, judged line by line.
 ghost use mathlib.Core.Path.{_≡_};
+ghost use Prim.Native.Nat.{_+_, _<_, _^_};
 ghost use lib.ListN.{length};
-ghost use Rattle.scan.specs.Run.{scanOf, wholeOf};
+ghost use Rattle.scan.specs.Run.{counted, scanOf, wholeOf};
 use header::Rules;
 use machine::LineRead;
 use machine::State;
 
-// What has been read so far: lines and bytes.
+// What has been read so far: lines, bytes, comments, and rows of both kinds.
 pub struct Tally {
     pub lines: u64,
     pub end: usize,
+    pub comments: u64,
+    pub rows: u64,
 }
 
-// What stands at the front of some bytes: a file, with the state before its last line, or a refusal with its number, line and column.
+// What stands at the front of some bytes: a file, or a refusal with its number, line and column (0 for none).
 pub enum Front {
-    File { tally: Tally, last: State },
+    File(Tally),
     Refused {
         number: usize,
         line: u64,
@@ -22,16 +25,38 @@ pub enum Front {
     },
 }
 
-// The file at the front of the bytes.
+// One line more, with its LF.
+fn count_line(rules: Rules, tally: Tally, line: &[u8]) -> Tally
+    requires { ⌜ (tally .lines + 1 < 2 ^ 64) × (tally .comments + 1 < 2 ^ 64) × (tally .rows + 1 < 2 ^ 64) × (tally .end + length (now line) + 1 < 2 ^ 64) ⌝ }
+    ensures { λ r. ⌜ r ≡ counted rules tally (now (line .entry)) ⌝ }
+{
+    let kind = file::kind_in(rules, line);
+    let comments = if kind == 8 { tally.comments + 1 } else { tally.comments };
+    let rows = if (kind == 10) | (kind == 11) { tally.rows + 1 } else { tally.rows };
+    Tally {
+        lines: tally.lines + 1,
+        end: tally.end + line.len() + 1,
+        comments,
+        rows,
+    }
+}
+
+// The file at the front of the bytes, judged line by line: no bytes are refused with 1 at line 1.
 pub fn scan_front(rules: Rules, bytes: &[u8]) -> Front
     ensures result { λ r. ⌜ r ≡ scanOf rules (now (bytes .entry)) ⌝ }
 {
     let mut names = [0u64; 255];
     let mut state = machine::start();
-    let mut tally = Tally { lines: 0, end: 0 };
+    let mut tally = Tally {
+        lines: 0,
+        end: 0,
+        comments: 0,
+        rows: 0,
+    };
     loop {
+        let at = tally.end;
         let line = tally.lines + 1;
-        match machine::read_line(rules, bytes, tally.end, state, &mut names) {
+        match machine::read_line(rules, bytes, at, state, &mut names) {
             LineRead::NoLine => {
                 return Front::Refused {
                     number: 1,
@@ -46,27 +71,21 @@ pub fn scan_front(rules: Rules, bytes: &[u8]) -> Front
                     column,
                 };
             }
-            LineRead::Finished { at } => {
-                return Front::File {
-                    tally: Tally {
-                        lines: line,
-                        end: at,
-                    },
-                    last: state,
-                };
+            LineRead::Finished { at: end } => {
+                return Front::File(count_line(rules, tally, &bytes[at..end - 1]));
             }
-            LineRead::Next { at, state: next } => {
-                tally = Tally {
-                    lines: line,
-                    end: at,
-                };
+            LineRead::Next {
+                at: end,
+                state: next,
+            } => {
+                tally = count_line(rules, tally, &bytes[at..end - 1]);
                 state = next;
             }
         }
     }
 }
 
-// The file that the bytes are from first to last.
+// The file that the bytes are from first to last: bytes after its EOF line are refused with 11 at the line after it.
 pub fn scan_whole(rules: Rules, bytes: &[u8]) -> Front
     ensures result { λ r. ⌜ r ≡ wholeOf (length (now (bytes .entry))) (scanOf rules (now (bytes .entry))) ⌝ }
 {
@@ -80,7 +99,7 @@ pub fn scan_whole(rules: Rules, bytes: &[u8]) -> Front
             line,
             column,
         },
-        Front::File { tally, last } => {
+        Front::File(tally) => {
             if tally.end < bytes.len() {
                 return Front::Refused {
                     number: 11,
@@ -88,7 +107,7 @@ pub fn scan_whole(rules: Rules, bytes: &[u8]) -> Front
                     column: 0,
                 };
             }
-            Front::File { tally, last }
+            Front::File(tally)
         }
     }
 }
