@@ -41,9 +41,9 @@ module _ {A : Type 0} where
   laid-append a b old h =
       let left : length old ≡ length a + length (drop (length a) old) = omega (arith, length-drop (length a) old) in
       let front : take (length old) (a ++ b) ≡ a ++ take (length (drop (length a) old)) b =
-          ap (λ (n : ℕ). take n (a ++ b)) left ∙ take-append-add a b (length (drop (length a) old)) in
+      ap (λ (n : ℕ). take n (a ++ b)) left ∙ take-append-add a b (length (drop (length a) old)) in
       let back : drop (length (a ++ b)) old ≡ drop (length b) (drop (length a) old) =
-          ap (λ (n : ℕ). drop n old) (length-append a b) ∙ sym (drop-drop (length b) (length a) old) in
+      ap (λ (n : ℕ). drop n old) (length-append a b) ∙ sym (drop-drop (length b) (length a) old) in
       ap₂ (λ (x y : List A). x ++ y) front back
       ∙ append-assoc a (take (length (drop (length a) old)) b) (drop (length b) (drop (length a) old))
 
@@ -131,10 +131,10 @@ module _ {A : Type 0} where
         let size : length (take n all) ≡ n = length-take-le n all (s .count) in
         let fits : length (take n all) ≤ length old = omega (arith, size, s .kept) in
         let so : now′ ≡ laid (take (n + length block) all) old =
-            e ∙ ap₂ (λ (x y : List A). x ++ laid block y) (laying-front s h) (laying-back s h)
-            ∙ ap (λ (k : ℕ). take n all ++ laid block (drop k old)) (sym size)
-            ∙ sym (laid-append (take n all) block old fits)
-            ∙ ap (λ (t : List A). laid t old) (sym more-front) in
+        e ∙ ap₂ (λ (x y : List A). x ++ laid block y) (laying-front s h) (laying-back s h)
+        ∙ ap (λ (k : ℕ). take n all ++ laid block (drop k old)) (sym size)
+        ∙ sym (laid-append (take n all) block old fits)
+        ∙ ap (λ (t : List A). laid t old) (sym more-front) in
         record { kept = ap length so ∙ laid-length (take (n + length block) all) old; so-far = so; rest = more-rest; count = more-count }
 
     -- laid into `&mut out[n..]`
