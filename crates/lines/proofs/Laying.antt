@@ -73,6 +73,16 @@ module _ {A : Type 0} where
   pub laying-none : (all old : List A) → Laying all old old 0 all
   laying-none all old = record { kept = refl; so-far = sym (laid-none old); rest = refl; count = zero-le }
 
+  -- the first block, laid over all of it
+  pub laying-start : (block left old : List A) {now : List A} → now ≡ laid block old → Laying (block ++ left) old now (length block) left
+  laying-start block left old e =
+      record {
+        kept = ap length e ∙ laid-length block old;
+        so-far = e ∙ ap (λ (t : List A). laid t old) (sym (take-at block left (length block) refl));
+        rest = sym (drop-at block left (length block) refl);
+        count = omega (arith, length-append block left);
+      }
+
   -- the same, with what is left said in another way
   pub laying-as : {all old now : List A} {n : ℕ} {left left′ : List A} → left ≡ left′ → Laying all old now n left → Laying all old now n left′
   laying-as e s = record { kept = s .kept; so-far = s .so-far; rest = sym e ∙ s .rest; count = s .count }
