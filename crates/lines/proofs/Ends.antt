@@ -75,7 +75,7 @@ pub line-over : (n : ℕ) (l : List ℕ) (i : ℕ) → i + n ≤ length l → ha
 line-over n l i h e =
     let fits : n ≤ length (drop i l) = rw (length-drop i l) (omega arith) in
     let over : lineLength (drop i l) ≡ n + lineLength (drop (i + n) l) =
-        passed-over n (drop i l) fits e ∙ ap (λ (x : List ℕ). n + lineLength x) (drop-drop n i l) in
+    passed-over n (drop i l) fits e ∙ ap (λ (x : List ℕ). n + lineLength x) (drop-drop n i l) in
     omega arith
 
 -- the first line of some bytes, and those after it

@@ -3,7 +3,7 @@
 -- Assumes nothing.
 use mathlib.Core.Path.{_≡_, refl, sym, ap, ap₂, _∙_}
 use mathlib.Core.List.{List, [], _∷_, _++_, append-nil, append-assoc}
-use Prim.Native.Nat.{ℕ, suc, _+_, _-_, _<_, _≤_, min, zero-le}
+use Prim.Native.Nat.{ℕ, _+_, _-_, _<_, _≤_, min, zero-le}
 use native.Mathlib.Decide.{decLe}
 use native.Mathlib.Numerals.{add-one}
 use native.Mathlib.Omega.{arith}
@@ -41,9 +41,9 @@ module _ {A : Type 0} where
   laid-append a b old h =
       let left : length old ≡ length a + length (drop (length a) old) = omega (arith, length-drop (length a) old) in
       let front : take (length old) (a ++ b) ≡ a ++ take (length (drop (length a) old)) b =
-          ap (λ (n : ℕ). take n (a ++ b)) left ∙ take-append-add a b (length (drop (length a) old)) in
+      ap (λ (n : ℕ). take n (a ++ b)) left ∙ take-append-add a b (length (drop (length a) old)) in
       let back : drop (length (a ++ b)) old ≡ drop (length b) (drop (length a) old) =
-          ap (λ (n : ℕ). drop n old) (length-append a b) ∙ sym (drop-drop (length b) (length a) old) in
+      ap (λ (n : ℕ). drop n old) (length-append a b) ∙ sym (drop-drop (length b) (length a) old) in
       ap₂ (λ (x y : List A). x ++ y) front back
       ∙ append-assoc a (take (length (drop (length a) old)) b) (drop (length b) (drop (length a) old))
 
@@ -72,6 +72,16 @@ pub record Laying {A : Type 0} (all old now : List A) (n : ℕ) (left : List A) 
 module _ {A : Type 0} where
   pub laying-none : (all old : List A) → Laying all old old 0 all
   laying-none all old = record { kept = refl; so-far = sym (laid-none old); rest = refl; count = zero-le }
+
+  -- the first block, laid over all of it
+  pub laying-start : (block left old : List A) {now : List A} → now ≡ laid block old → Laying (block ++ left) old now (length block) left
+  laying-start block left old e =
+      record {
+        kept = ap length e ∙ laid-length block old;
+        so-far = e ∙ ap (λ (t : List A). laid t old) (sym (take-at block left (length block) refl));
+        rest = sym (drop-at block left (length block) refl);
+        count = omega (arith, length-append block left);
+      }
 
   -- the same, with what is left said in another way
   pub laying-as : {all old now : List A} {n : ℕ} {left left′ : List A} → left ≡ left′ → Laying all old now n left → Laying all old now n left′
@@ -131,10 +141,10 @@ module _ {A : Type 0} where
         let size : length (take n all) ≡ n = length-take-le n all (s .count) in
         let fits : length (take n all) ≤ length old = omega (arith, size, s .kept) in
         let so : now′ ≡ laid (take (n + length block) all) old =
-            e ∙ ap₂ (λ (x y : List A). x ++ laid block y) (laying-front s h) (laying-back s h)
-            ∙ ap (λ (k : ℕ). take n all ++ laid block (drop k old)) (sym size)
-            ∙ sym (laid-append (take n all) block old fits)
-            ∙ ap (λ (t : List A). laid t old) (sym more-front) in
+        e ∙ ap₂ (λ (x y : List A). x ++ laid block y) (laying-front s h) (laying-back s h)
+        ∙ ap (λ (k : ℕ). take n all ++ laid block (drop k old)) (sym size)
+        ∙ sym (laid-append (take n all) block old fits)
+        ∙ ap (λ (t : List A). laid t old) (sym more-front) in
         record { kept = ap length so ∙ laid-length (take (n + length block) all) old; so-far = so; rest = more-rest; count = more-count }
 
     -- laid into `&mut out[n..]`

@@ -1,2 +1,6 @@
 pub mod Ends
 pub mod Laying
+pub mod Each
+pub mod Split
+pub mod Picking
+pub mod Determined

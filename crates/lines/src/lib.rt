@@ -62,9 +62,9 @@ pub fn lay_numbers(out: &mut [u64], numbers: &[u64])
     ensures lent { λ _. ⌜ now (out .exit) ≡ laid (now (numbers .entry)) (now (out .entry)) ⌝ }
 {
     let n = fewer(out.len(), numbers.len());
-    let mut i = 0;
-    while i < n {
-        out[i] = numbers[i];
-        i += 1;
+    let mut k = 0;
+    while k < n {
+        out[k] = numbers[k];
+        k += 1;
     }
 }

@@ -1,4 +1,4 @@
--- `lines::lay_numbers` meets its contract. The invariant: the first i numbers are laid, and those from i on are left.
+-- `lines::lay_numbers` meets its contract. The invariant: the first k numbers are laid, and those from k on are left.
 -- Assumes nothing.
 use mathlib.Core.Path.{_≡_}
 use Prim.Native.Nat.{_-_, _≤_, min}
@@ -11,10 +11,10 @@ use Rattle.lines.proofs.lay_numbers.Statement.{statement}
 use Rattle.lines.proofs.lay_numbers.Tie as tie
 
 abbrev Inv-loop : tie.InvT-loop
-Inv-loop out₀ numbers n i₀ out i = (n ≡ min (length out₀) (length numbers)) × (i ≤ n) × (length out ≡ length out₀) × Laying numbers out₀ out i (drop i numbers)
+Inv-loop out₀ numbers n k₀ out k = (n ≡ min (length out₀) (length numbers)) × (k ≤ n) × (length out ≡ length out₀) × Laying numbers out₀ out k (drop k numbers)
 
 abbrev μ-loop : tie.MeasureT-loop
-μ-loop out₀ numbers n i₀ out i = n - i
+μ-loop out₀ numbers n k₀ out k = n - k
 
 loop-holds : tie.Need-loop-holds Inv-loop μ-loop
 loop-holds c =
@@ -25,7 +25,7 @@ loop-again : tie.Need-loop-again Inv-loop μ-loop
 loop-again c =
     let at-loop = c .before .before in
     let numbers = at-loop .before .before .before .before .args .numbers .now in
-    let next = laying-one (omega arith) (rest-step numbers (at-loop .loop .i) (omega arith)) (at-loop .loop .inv .3) in
+    let next = laying-one (omega arith) (rest-step numbers (at-loop .loop .k) (omega arith)) (at-loop .loop .inv .3) in
     (at-loop .loop .inv .0, search needs, next .kept, next)
 
 same-length : tie.Need-same-length Inv-loop μ-loop
