@@ -7,7 +7,7 @@ use Prim.Native.Nat.{ℕ, suc, _+_, _-_, _*_, _/_, _%_, _<_, _≤_}
 use native.Mathlib.Nat.{sub-zero}
 use native.Mathlib.Numerals.{add-one}
 use native.Mathlib.Omega.{arith}
-use borrow.Author.Tests.{ltb-true, ltb-false, eqb-true, eq-eqb}
+use borrow.Author.Tests.{ltb-true, ltb-false, eqb-true, eq-eqb, ne-eqb}
 use lib.Dec.{lit≤, eqb, ltb}
 use lib.ListN.{length, getD, take, drop}
 use lib.Seq.{take-suc}
@@ -98,6 +98,12 @@ later gap from at h =
     same-truth (eqb (at - gap) from) (eqb at (from + gap))
     (λ e. eq-eqb at (from + gap) (omega (arith, eqb-true (at - gap) from e)))
     (λ e. eq-eqb (at - gap) from (omega (arith, eqb-true at (from + gap) e)))
+
+pub not-later : (gap from at : ℕ) → at < gap → eqb at (from + gap) ≡ false
+not-later gap from at h = ne-eqb at (from + gap) apart
+  where
+    apart : at ≡ from + gap → ⊥
+    apart e = omega arith
 
 -- line 2 against the start, by what the calendar answers for its week
 module _ (at : ℕ) (s : Second) where
