@@ -1,0 +1,28 @@
+-- `machine::faults::place_fault` meets its contract.
+-- Assumes nothing.
+use mathlib.Core.Path.{_≡_}
+use mathlib.Core.Bool.{true, false}
+use borrow.Author.Needs.{needs}
+use Rattle.machine.specs.State.{stands}
+use Rattle.machine.specs.Faults.{placeFault}
+use Rattle.machine.proofs.faults.place_fault.Statement.{statement}
+use Rattle.machine.proofs.faults.place_fault.Tie as tie
+
+returns : tie.Need-returns
+unfolding placeFault
+returns c =
+    let number = c .before .before .before .before in
+    let a = number .before .before .args in
+    let here : stands (a .state) (a .kind) ≡ true = rw (← (number .kind-number .ensures)) (c .before .if1 .taken) in
+    rw here (c .record-fault .ensures)
+
+returns-2 : tie.Need-returns-2
+unfolding placeFault
+returns-2 c =
+    let number = c .before .before .before in
+    let a = number .before .before .args in
+    let elsewhere : stands (a .state) (a .kind) ≡ false = rw (← (number .kind-number .ensures)) (c .if1 .left) in
+    rw elsewhere
+
+pub place-fault-spec : {M : Type 1} → statement M
+place-fault-spec = tie.close (tie.spec (λ c κs. search needs) (λ c κs. search needs) returns returns-2)
