@@ -1,2 +1,3 @@
 pub mod Checking
 pub mod Stating
+pub mod Stepping
