@@ -1,9 +1,9 @@
 -- What a line must agree with: one step of each loop over bytes or names, and the answers of the calendar.
 -- Assumes nothing.
-use mathlib.Core.Path.{_≡_, refl, sym, ap, ap₂, _∙_}
+use mathlib.Core.Path.{_≡_, refl, sym, ap, _∙_}
 use mathlib.Core.Bool.{Bool, true, false, _&&_, _||_, or-assoc, false≢true}
 use mathlib.Core.List.{List, [], _∷_, _++_, append-nil, append-assoc}
-use Prim.Native.Nat.{ℕ, suc, _+_, _-_, _*_, _/_, _%_, _<_, _≤_}
+use Prim.Native.Nat.{ℕ, _+_, _-_, _*_, _/_, _%_, _<_, _≤_}
 use native.Mathlib.Nat.{sub-zero}
 use native.Mathlib.Numerals.{add-one}
 use native.Mathlib.Omega.{arith}
@@ -83,7 +83,7 @@ repeats-start known new = ap (λ (k : List ℕ). repeats k new) (append-nil know
 
 pub repeats-step : (known new : List ℕ) (i : ℕ) → i < length new
     → repeats (known ++ take i new) (drop i new)
-      ≡ ((isOneOf (getD new i 0) known || isOneOf (getD new i 0) (take (i - 0) new)) || repeats (known ++ take (i + 1) new) (drop (i + 1) new))
+    ≡ ((isOneOf (getD new i 0) known || isOneOf (getD new i 0) (take (i - 0) new)) || repeats (known ++ take (i + 1) new) (drop (i + 1) new))
 unfolding repeats
 repeats-step known new i h =
     rw (rest-step new i h, among-append (getD new i 0) known (take i new), append-assoc known (take i new), sub-zero i, add-one i, take-suc new i 0 h)

@@ -32,9 +32,14 @@ pub(crate) fn first_unprintable(line: &[u8]) -> usize
 pub(crate) fn instant_in(m: Moment) -> u64
     ensures { λ r. ⌜ r ≡ instantIn m ⌝ }
 {
-    let Instant::At(instant) =
-        calendar::instant(m.year, m.month, m.day, m.hour, m.minute, m.second8)
-    else {
+    let Instant::At(instant) = calendar::instant(
+        m.year,
+        m.month,
+        m.day,
+        m.hour,
+        m.minute,
+        m.second8,
+    ) else {
         return 0;
     };
     instant

@@ -1,6 +1,6 @@
 -- `machine::checks::instant_in` meets its contract: it is the calendar's answer.
 -- Assumes nothing.
-use mathlib.Core.Path.{_≡_, sym, ap, _∙_}
+use mathlib.Core.Path.{sym, ap, _∙_}
 use borrow.Author.Needs.{needs}
 use Rattle.calendar.specs.Clock.{toldInstant}
 use Rattle.header.proofs.Answers.{no-moment, moment-at}

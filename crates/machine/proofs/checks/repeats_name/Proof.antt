@@ -1,7 +1,7 @@
 -- `machine::checks::repeats_name` meets its contract. The invariant: the names from i on decide, those before them known too.
 -- Assumes nothing.
 use mathlib.Core.Path.{_≡_, sym, _∙_}
-use mathlib.Core.Bool.{Bool, true, false}
+use mathlib.Core.Bool.{true, false}
 use mathlib.Core.List.{_++_}
 use Prim.Native.Nat.{_-_}
 use borrow.Author.Needs.{needs}

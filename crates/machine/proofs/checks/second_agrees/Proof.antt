@@ -1,6 +1,6 @@
 -- `machine::checks::second_agrees` meets its contract: each way out by the calendar's answer.
 -- Assumes nothing.
-use mathlib.Core.Path.{_≡_, sym, ap, _∙_}
+use mathlib.Core.Path.{sym, ap, _∙_}
 use borrow.Author.Needs.{needs}
 use Rattle.calendar.specs.Clock.{toldWeek}
 use Rattle.machine.proofs.Checking.{no-agreement, week-agreement}

@@ -1,6 +1,5 @@
 -- `machine::faults::floats_fault` meets its contract.
 -- Assumes nothing.
-use mathlib.Core.Path.{_≡_, ap}
 use borrow.Author.Needs.{needs}
 use borrow.Author.Tests.{eq-eqb, ne-eqb}
 use Rattle.machine.specs.Faults.{floatsFault}
