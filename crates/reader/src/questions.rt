@@ -5,8 +5,9 @@ ghost use lib.ListN.{length};
 ghost use Rattle.layout.specs.Line.{trimmed};
 ghost use Rattle.lines.specs.Lines.{linesOf};
 ghost use Rattle.header.specs.Rules.{d};
+ghost use Rattle.file.specs.Table.{countOf};
 ghost use Rattle.reader.specs.Reading.{fileOf, identifiersOf};
-ghost use Rattle.reader.specs.Questions.{textIn, noComment, commentAt, commentAnswer, commentWords, indexOf, noSatellite, satelliteIn, satelliteAnswer, noRow, rowAt, rowPlace};
+ghost use Rattle.reader.specs.Questions.{textIn, noComment, commentAt, commentAnswer, commentWords, indexOf, noSatellite, satelliteIn, satelliteAnswer, epochsOf, noRow, rowAt, rowPlace};
 use crate::fill;
 use crate::judge;
 use crate::types::CommentAnswer;
@@ -178,6 +179,7 @@ fn no_row(number: usize, line: u64) -> RowPlace
 
 // Where the P line of an epoch and a satellite begins among some lines.
 fn row_at(rules: Rules, bytes: &[u8], epoch: u64, satellite: u64) -> RowPlace
+    requires { ⌜ (epochsOf rules (linesOf (now bytes)) ≤ 100000) × (countOf rules (linesOf (now bytes)) ≤ 255) ⌝ }
     ensures { λ r. ⌜ r ≡ rowAt rules (linesOf (now (bytes .entry))) epoch satellite ⌝ }
 {
     let first = judge::first_of(rules, bytes);
