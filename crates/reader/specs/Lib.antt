@@ -1,3 +1,2 @@
 pub mod Reading
 pub mod Questions
-pub mod Stored

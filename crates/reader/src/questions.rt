@@ -8,7 +8,6 @@ ghost use Rattle.header.specs.Rules.{d};
 ghost use Rattle.file.specs.Table.{countOf};
 ghost use Rattle.reader.specs.Reading.{fileOf, identifiersOf};
 ghost use Rattle.reader.specs.Questions.{textIn, noComment, commentAt, commentAnswer, commentWords, indexOf, noSatellite, satelliteIn, satelliteAnswer, epochsOf, noRow, rowAt, rowPlace};
-use crate::fill;
 use crate::judge;
 use crate::types::CommentAnswer;
 use crate::types::RowPlace;
@@ -157,7 +156,7 @@ fn satellite_among(rules: Rules, bytes: &[u8], name: u64) -> SatelliteAnswer
 {
     let mut names = [0u64; 255];
     let n = judge::count_of(rules, bytes);
-    fill::fill_slots(rules, bytes, false, n, &mut names);
+    store::fill_slots(rules, bytes, false, n, &mut names);
     let all = &names[..];
     if n < 255 {
         let few = n as usize;

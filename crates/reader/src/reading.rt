@@ -4,9 +4,7 @@ ghost use lib.ListN.{length};
 ghost use Rattle.header.specs.Rules.{d};
 ghost use Rattle.file.specs.Table.{commentsIn, rowsIn};
 ghost use Rattle.reader.specs.Reading.{frontOf, fileOf, Accounted, roomFor, enough, delivered, linesIn, filled, identifiersOf, exponentsOf};
-use crate::fill;
 use crate::judge;
-use crate::rows::ROW_WIDTH;
 use crate::types::Reading;
 use header::Rules;
 use scan::Front;
@@ -17,7 +15,7 @@ fn has_room(n: u64, tally: Tally, i: usize, x: usize, c: usize, r: usize) -> boo
     ensures { λ s. ⌜ s ≡ roomFor n tally i x c r ⌝ }
 {
     ((n <= i as u64) & (n <= x as u64))
-        & ((tally.comments <= (c / 77) as u64) & (tally.rows <= (r / ROW_WIDTH) as u64))
+        & ((tally.comments <= (c / 77) as u64) & (tally.rows <= (r / store::ROW_WIDTH) as u64))
 }
 
 // Fills the lists from a file that was judged, where they have room.
@@ -50,10 +48,10 @@ fn deliver(
             if !has_room(n, tally, identifiers.len(), exponents.len(), comments.len(), rows.len()) {
                 return judge::refused(12, 0);
             }
-            fill::fill_slots(rules, used, false, n, identifiers);
-            fill::fill_slots(rules, used, true, n, exponents);
-            fill::fill_comments(rules, used, tally.comments, comments);
-            fill::fill_rows(rules, used, rows);
+            store::fill_slots(rules, used, false, n, identifiers);
+            store::fill_slots(rules, used, true, n, exponents);
+            store::fill_comments(rules, used, tally.comments, comments);
+            store::fill_rows(rules, used, rows);
             Reading {
                 refusal: 0,
                 line: 0,

@@ -1,12 +1,12 @@
 // Filling lent memory from a file that was judged: each list from its first place on, in one walk over the lines that it needs.
 ghost use mathlib.Core.Path.{_≡_};
 ghost use mathlib.Core.List.{map};
-ghost use Prim.Native.Nat.{_≤_};
+ghost use Prim.Native.Nat.{_/_};
 ghost use lib.ListN.{length, take};
 ghost use Rattle.lines.specs.Lent.{laid, over, flat};
 ghost use Rattle.lines.specs.Lines.{linesOf};
 ghost use Rattle.file.specs.Kinds.{ofKind};
-ghost use Rattle.file.specs.Table.{slotNumbers, slotsIn, commentText, rowNumbers, rowsIn};
+ghost use Rattle.file.specs.Table.{slotNumbers, slotsIn, commentText, rowWidth, rowLines, numbersOfRows};
 use crate::rows;
 use crate::rows::ROW_WIDTH;
 use header::Rules;
@@ -28,8 +28,8 @@ fn lay_slots(line: &[u8], accuracies: bool, left: u64, out: &mut [u64])
 }
 
 // The identifiers of n satellites, or their exponents where `accuracies` says so.
-pub(crate) fn fill_slots(rules: Rules, bytes: &[u8], accuracies: bool, n: u64, out: &mut [u64])
-    ensures { λ _. ⌜ now (out .exit) ≡ laid (slotsIn rules accuracies n (linesOf (now (bytes .entry)))) (now (out .entry)) ⌝ }
+pub fn fill_slots(rules: Rules, bytes: &[u8], accuracies: bool, n: u64, out: &mut [u64])
+    ensures lent { λ _. ⌜ now (out .exit) ≡ laid (slotsIn rules accuracies n (linesOf (now (bytes .entry)))) (now (out .entry)) ⌝ }
 {
     let kind = if accuracies { 4 } else { 3 };
     let mut at: usize = 0;
@@ -63,8 +63,8 @@ fn lay_comment(line: &[u8], out: &mut [u8])
 }
 
 // The first comments, so many of them.
-pub(crate) fn fill_comments(rules: Rules, bytes: &[u8], count: u64, out: &mut [u8])
-    ensures { λ _. ⌜ now (out .exit) ≡ laid (flat (map commentText (take count (ofKind rules 8 (linesOf (now (bytes .entry))))))) (now (out .entry)) ⌝ }
+pub fn fill_comments(rules: Rules, bytes: &[u8], count: u64, out: &mut [u8])
+    ensures lent { λ _. ⌜ now (out .exit) ≡ laid (flat (map commentText (take count (ofKind rules 8 (linesOf (now (bytes .entry))))))) (now (out .entry)) ⌝ }
 {
     if count == 0 {
         return;
@@ -90,10 +90,9 @@ pub(crate) fn fill_comments(rules: Rules, bytes: &[u8], count: u64, out: &mut [u
     }
 }
 
-// The rows, where there is room for all.
-pub(crate) fn fill_rows(rules: Rules, bytes: &[u8], out: &mut [i64])
-    requires { ⌜ length (rowsIn rules (linesOf (now bytes))) ≤ length (now out) ⌝ }
-    ensures { λ _. ⌜ now (out .exit) ≡ over (rowsIn rules (linesOf (now (bytes .entry)))) (now (out .entry)) ⌝ }
+// The rows, as many whole ones as there is room for, twelve numbers each.
+pub fn fill_rows(rules: Rules, bytes: &[u8], out: &mut [i64])
+    ensures lent { λ _. ⌜ now (out .exit) ≡ over (numbersOfRows rules (take (length (now (out .entry)) / rowWidth) (rowLines rules (linesOf (now (bytes .entry)))))) (now (out .entry)) ⌝ }
 {
     let mut at: usize = 0;
     let mut stored: usize = 0;
@@ -105,6 +104,9 @@ pub(crate) fn fill_rows(rules: Rules, bytes: &[u8], out: &mut [i64])
         let line = &bytes[at..end];
         let kind = file::kind_in(rules, line);
         if (kind == 10) | (kind == 11) {
+            if out.len() - stored < ROW_WIDTH {
+                return;
+            }
             rows::store_row(record::rows::row_of(line, kind == 11), &mut out[stored..]);
             stored += ROW_WIDTH;
         }

@@ -4,7 +4,7 @@ ghost use Prim.Native.Nat.{_≤_};
 ghost use lib.ListN.{length};
 ghost use Rattle.lines.specs.Lent.{over};
 ghost use Rattle.file.specs.Table.{storedInt, storedSigned, storedMark, rowNumbers};
-ghost use Rattle.reader.specs.Stored.{isThere, placeIn, clockIn, deviationIn, flagIn};
+ghost use Rattle.store.specs.Stored.{isThere, placeIn, clockIn, deviationIn, flagIn};
 use crate::types::ClockRead;
 use crate::types::Deviation;
 use crate::types::Flag;
