@@ -1,8 +1,8 @@
 -- A turn of `scan_front`'s loop, on plain values. `Going` is the loop's invariant: the run over all lines is the run from here over the lines left.
 -- Assumes nothing.
 use mathlib.Core.Path.{_≡_, refl, sym, ap, ap₂, _∙_, subst}
-use mathlib.Core.Bool.{Bool, true, false, cond, _||_}
-use mathlib.Core.List.{List, [], _∷_, _++_}
+use mathlib.Core.Bool.{Bool, true, false, _||_}
+use mathlib.Core.List.{List, [], _∷_}
 use Prim.Native.Nat.{ℕ, suc, _+_, _-_, _≤_, _<_, zero-le}
 use native.Mathlib.Omega.{arith}
 use lib.Dec.{eqb}
@@ -22,7 +22,6 @@ use Rattle.machine.specs.declared.types.Verdict.the-variants as verdict
 use Rattle.machine.specs.declared.types.LineRead.{LineRead}
 use Rattle.machine.specs.declared.types.LineRead.the-variants as found
 use Rattle.scan.specs.declared.Tally.{Tally}
-use Rattle.scan.specs.declared.Front.{Front}
 use Rattle.scan.specs.declared.Front.the-variants as front
 use Rattle.scan.specs.Run.{nothing, oneMore, counted, onVerdict, run, scanOf}
 
@@ -96,54 +95,38 @@ pub going-first : (rules : Rules) (bytes : List ℕ) (s : State) → s ≡ start
 going-first rules bytes s e =
     record { size = refl; within = zero-le; lines = zero-le; comments = zero-le; rows = zero-le; same = rw e }
 
--- where the line that the reader passed over ends
-pub record Passed (bytes : List ℕ) (t : Tally) (end : ℕ) : Type 0 where
+-- after the last line of a file, which ends before `end`
+pub record Ended (rules : Rules) (bytes : List ℕ) (t : Tally) (end : ℕ) : Type 0 where
   pub starts : t .end < end
   pub within : end ≤ length bytes
+  pub finished : (t′ : Tally) → t′ ≡ counted rules t (take (end - 1 - t .end) (drop (t .end) bytes)) → front.File t′ ≡ scanOf rules bytes
 
--- what the reader found, with the identifiers after it
-pub record Turned (rules : Rules) (bytes names′ : List ℕ) (t : Tally) (v : LineRead) : Type 0 where
-  pub ran-out : v ≡ found.NoLine → front.Refused 1 (t .lines + 1) 0 ≡ scanOf rules bytes
-  pub faulty : (number column : ℕ) → v ≡ found.Fault number column → front.Refused number (t .lines + 1) column ≡ scanOf rules bytes
-  pub finishes : (end : ℕ) → v ≡ found.Finished end → Passed bytes t end
-  pub finished : (end : ℕ) (t′ : Tally) → v ≡ found.Finished end → t′ ≡ counted rules t (take (end - 1 - t .end) (drop (t .end) bytes)) → front.File t′ ≡ scanOf rules bytes
-  pub passes : (end : ℕ) (s′ : State) → v ≡ found.Next end s′ → Passed bytes t end
-  pub goes-on : (end : ℕ) (s′ : State) (t′ : Tally) → v ≡ found.Next end s′ → t′ ≡ counted rules t (take (end - 1 - t .end) (drop (t .end) bytes)) → Going rules bytes names′ s′ t′
-  pub falls : (end : ℕ) (s′ : State) (t′ : Tally) → v ≡ found.Next end s′ → t′ ≡ counted rules t (take (end - 1 - t .end) (drop (t .end) bytes)) → length bytes - t′ .end < length bytes - t .end
+-- after another line
+pub record Passed (rules : Rules) (bytes names : List ℕ) (s : State) (t : Tally) (end : ℕ) : Type 0 where
+  pub starts : t .end < end
+  pub within : end ≤ length bytes
+  pub goes-on : (t′ : Tally) → t′ ≡ counted rules t (take (end - 1 - t .end) (drop (t .end) bytes)) → Going rules bytes names s t′
+  pub falls : (t′ : Tally) → t′ ≡ counted rules t (take (end - 1 - t .end) (drop (t .end) bytes)) → length bytes - t′ .end < length bytes - t .end
+
+-- by what the reader found, with the identifiers after it
+abbrev pub Turned : Rules → List ℕ → List ℕ → Tally → LineRead → Type 0
+Turned rules bytes names t found.NoLine = front.Refused 1 (t .lines + 1) 0 ≡ scanOf rules bytes
+Turned rules bytes names t (found.Fault number column) = front.Refused number (t .lines + 1) column ≡ scanOf rules bytes
+Turned rules bytes names t (found.Next end s) = Passed rules bytes names s t end
+Turned rules bytes names t (found.Finished end) = Ended rules bytes t end
 
 module _ (rules : Rules) (bytes names : List ℕ) (s : State) (t : Tally) (g : Going rules bytes names s t) where
-  -- no line is left
-  none-turned : (names′ : List ℕ) → linesOf (drop (t .end) bytes) ≡ [] → Turned rules bytes names′ t found.NoLine
-  unfolding run
-  none-turned names′ e =
-      record {
-        ran-out = λ _. sym (ap (run rules s names t) e) ∙ g .same;
-        faulty = λ number column x. let z : _≡_ {A = ℕ} 0 1 = cc in absurd (omega arith);
-        finishes = λ end x. let z : _≡_ {A = ℕ} 0 1 = cc in absurd (omega arith);
-        finished = λ end t′ x y. let z : _≡_ {A = ℕ} 0 1 = cc in absurd (omega arith);
-        passes = λ end s′ x. let z : _≡_ {A = ℕ} 0 1 = cc in absurd (omega arith);
-        goes-on = λ end s′ t′ x y. let z : _≡_ {A = ℕ} 0 1 = cc in absurd (omega arith);
-        falls = λ end s′ t′ x y. let z : _≡_ {A = ℕ} 0 1 = cc in absurd (omega arith);
-      }
-
   module _ (l : List ℕ) (ls : List (List ℕ)) (e : linesOf (drop (t .end) bytes) ≡ l ∷ ls) where
+    here : Lined bytes (t .end) (t .end + length l + 1) l ls
+    here = lined bytes (t .end) l ls e
+
     judged : onVerdict (stepOf rules s names l) (counted rules t l) (λ s′. run rules s′ (namesBrought rules s names l) (counted rules t l) ls) ≡ scanOf rules bytes
     unfolding run
     judged = sym (ap (run rules s names t) e) ∙ g .same
 
-    passed : (end : ℕ) → t .end + length l + 1 ≡ end → Passed bytes t end
-    passed end x = let here = lined bytes (t .end) l ls e in record { starts = omega (arith, here .starts); within = omega (arith, here .within) }
-
-    counts : (end : ℕ) (t′ : Tally) → t .end + length l + 1 ≡ end → t′ ≡ counted rules t (take (end - 1 - t .end) (drop (t .end) bytes)) → t′ ≡ counted rules t l
-    counts end t′ x y =
-        y
-        ∙ ap (counted rules t)
-        (ap (λ (n : ℕ). take (n - 1 - t .end) (drop (t .end) bytes)) (sym x) ∙ lined bytes (t .end) l ls e .text)
-
-    goes : (t′ : Tally) (s′ : State) → stepOf rules s names l ≡ verdict.Next s′ → t′ ≡ counted rules t l → Going rules bytes (namesBrought rules s names l) s′ t′
+    goes : (s′ : State) → stepOf rules s names l ≡ verdict.Next s′ → (t′ : Tally) → t′ ≡ counted rules t l → Going rules bytes (namesBrought rules s names l) s′ t′
     unfolding counted
-    goes t′ s′ w y =
-        let here = lined bytes (t .end) l ls e in
+    goes s′ w t′ y =
         let ends : t′ .end ≡ t .end + length l + 1 = ap (λ (x : Tally). x .end) y in
         record {
           size = brought-size rules s names l ∙ g .size;
@@ -158,59 +141,32 @@ module _ (rules : Rules) (bytes names : List ℕ) (s : State) (t : Tally) (g : G
 
     drops : (t′ : Tally) → t′ ≡ counted rules t l → length bytes - t′ .end < length bytes - t .end
     unfolding counted
-    drops t′ y =
-        let here = lined bytes (t .end) l ls e in
-        omega (arith, ap (λ (x : Tally). x .end) y, here .starts, here .within)
+    drops t′ y = omega (arith, ap (λ (x : Tally). x .end) y, here .starts, here .within)
 
-    line-turned : (w : Verdict) → stepOf rules s names l ≡ w → Turned rules bytes (keptOn w rules s names l) t (readAs w (t .end + length l + 1))
+    line-turned : (v : Verdict) → stepOf rules s names l ≡ v → Turned rules bytes (keptOn v rules s names l) t (readAs v (t .end + length l + 1))
     unfolding counted
-    line-turned (verdict.Fault number column) w =
+    line-turned (verdict.Fault number column) w = rw w at judged
+    line-turned (verdict.Next s′) w =
+        let known = ap (counted rules t) (here .text) in
         record {
-          ran-out = λ x. let z : _≡_ {A = ℕ} 0 1 = cc in absurd (omega arith);
-          faulty = λ n k x.
-            let p : number ≡ n = cc in
-            let q : column ≡ k = cc in
-            ap₂ (λ (i j : ℕ). front.Refused i (t .lines + 1) j) (sym p) (sym q) ∙ (rw w at judged);
-          finishes = λ end x. let z : _≡_ {A = ℕ} 0 1 = cc in absurd (omega arith);
-          finished = λ end t′ x y. let z : _≡_ {A = ℕ} 0 1 = cc in absurd (omega arith);
-          passes = λ end s′ x. let z : _≡_ {A = ℕ} 0 1 = cc in absurd (omega arith);
-          goes-on = λ end s′ t′ x y. let z : _≡_ {A = ℕ} 0 1 = cc in absurd (omega arith);
-          falls = λ end s′ t′ x y. let z : _≡_ {A = ℕ} 0 1 = cc in absurd (omega arith);
-        }
-    line-turned (verdict.Next s₁) w =
-        record {
-          ran-out = λ x. let z : _≡_ {A = ℕ} 0 1 = cc in absurd (omega arith);
-          faulty = λ n k x. let z : _≡_ {A = ℕ} 0 1 = cc in absurd (omega arith);
-          finishes = λ end x. let z : _≡_ {A = ℕ} 0 1 = cc in absurd (omega arith);
-          finished = λ end t′ x y. let z : _≡_ {A = ℕ} 0 1 = cc in absurd (omega arith);
-          passes = λ end s′ x. let p : t .end + length l + 1 ≡ end = cc in passed end p;
-          goes-on = λ end s′ t′ x y.
-            let p : t .end + length l + 1 ≡ end = cc in
-            let q : s₁ ≡ s′ = cc in
-            goes t′ s′ (w ∙ ap verdict.Next q) (counts end t′ p y);
-          falls = λ end s′ t′ x y. let p : t .end + length l + 1 ≡ end = cc in drops t′ (counts end t′ p y);
+          starts = here .starts;
+          within = here .within;
+          goes-on = λ t′ y. goes s′ w t′ (y ∙ known);
+          falls = λ t′ y. drops t′ (y ∙ known);
         }
     line-turned verdict.Finished w =
-        record {
-          ran-out = λ x. let z : _≡_ {A = ℕ} 0 1 = cc in absurd (omega arith);
-          faulty = λ n k x. let z : _≡_ {A = ℕ} 0 1 = cc in absurd (omega arith);
-          finishes = λ end x. let p : t .end + length l + 1 ≡ end = cc in passed end p;
-          finished = λ end t′ x y.
-            let p : t .end + length l + 1 ≡ end = cc in
-            ap front.File (counts end t′ p y) ∙ (rw w at judged);
-          passes = λ end s′ x. let z : _≡_ {A = ℕ} 0 1 = cc in absurd (omega arith);
-          goes-on = λ end s′ t′ x y. let z : _≡_ {A = ℕ} 0 1 = cc in absurd (omega arith);
-          falls = λ end s′ t′ x y. let z : _≡_ {A = ℕ} 0 1 = cc in absurd (omega arith);
-        }
+        let known = ap (counted rules t) (here .text) in
+        record { starts = here .starts; within = here .within; finished = λ t′ y. ap front.File (y ∙ known) ∙ (rw w at judged) }
 
   first-turned : (ks : List (List ℕ)) → linesOf (drop (t .end) bytes) ≡ ks → Turned rules bytes (namesFirst rules s names ks) t (readFirst rules s names (t .end) ks)
-  unfolding readFirst namesFirst namesKept
-  first-turned [] e = none-turned names e
+  unfolding readFirst namesFirst namesKept run
+  first-turned [] e = sym (ap (run rules s names t) e) ∙ g .same
   first-turned (l ∷ ls) e = line-turned l ls e (stepOf rules s names l) refl
 
-  pub turned : (v : LineRead) (names′ : List ℕ) → v ≡ lineRead rules bytes (t .end) s names → names′ ≡ lineNames rules bytes (t .end) s names → Turned rules bytes names′ t v
-  turned v names′ p q =
-      subst (λ (x : LineRead). Turned rules bytes names′ t x) (sym p)
+  pub turned : (names′ : List ℕ) (v w : LineRead) → v ≡ lineRead rules bytes (t .end) s names → names′ ≡ lineNames rules bytes (t .end) s names → v ≡ w
+      → Turned rules bytes names′ t w
+  turned names′ v w p q e =
+      subst (λ (x : LineRead). Turned rules bytes names′ t x) (sym p ∙ e)
       (subst (λ (x : List ℕ). Turned rules bytes x t (lineRead rules bytes (t .end) s names)) (sym q) (first-turned (linesOf (drop (t .end) bytes)) refl))
 
 -- a file has no more lines than bytes

@@ -1,12 +1,8 @@
 -- `scan::count_line` meets its contract.
 -- Assumes nothing.
-use mathlib.Core.Path.{_≡_}
-use mathlib.Core.Bool.{_||_}
 use mathlib.Core.Logic.{⊎-elim}
-use lib.Dec.{eqb}
 use borrow.Author.Needs.{needs}
 use borrow.Author.Tests.{eq-eqb, ne-eqb}
-use Rattle.scan.specs.Run.{oneMore}
 use Rattle.scan.proofs.Turn.{counted-as}
 use Rattle.scan.proofs.count_line.Statement.{statement}
 use Rattle.scan.proofs.count_line.Tie as tie

@@ -1,9 +1,11 @@
 -- `scan::scan_front` meets its contract. The loop's invariant and its turn are in `Turn`.
 -- Assumes nothing.
+use mathlib.Core.Path.{_≡_}
 use Prim.Native.Nat.{_-_}
 use borrow.Author.Needs.{needs}
 use lib.ListN.{length}
-use Rattle.scan.proofs.Turn.{Going, going-first, Passed, Turned, turned}
+use Rattle.machine.specs.declared.types.LineRead.{LineRead}
+use Rattle.scan.proofs.Turn.{Going, going-first, Turned, turned}
 use Rattle.scan.proofs.scan_front.Statement.{statement}
 use Rattle.scan.proofs.scan_front.Tie as tie
 
@@ -17,78 +19,35 @@ loop-holds : tie.Need-loop-holds Inv-loop μ-loop
 loop-holds c = going-first (c .before .before .args .rules) (c .before .before .args .bytes .now) (c .start .result) (c .start .ensures)
 
 -- where the line has been read
-after-read : (c : tie.After-read-line Inv-loop μ-loop)
+after-read : (c : tie.After-read-line Inv-loop μ-loop) (w : LineRead) → c .read-line .result ≡ w
     → Turned (c .before .before .before .before .before .before .args .rules) (c .before .before .before .before .before .before .args .bytes .now)
-    (c .read-line .last .1 .1 .1 .1 .0) (c .before .before .before .loop .tally) (c .read-line .result)
-after-read c =
+    (c .read-line .last .1 .1 .1 .1 .0) (c .before .before .before .loop .tally) w
+after-read c w e =
     let here = c .before .before .before in
     let a = here .before .before .before .args in
     turned (a .rules) (a .bytes .now) (here .loop .names) (here .loop .state) (here .loop .tally) (here .loop .inv)
-    (c .read-line .result) (c .read-line .last .1 .1 .1 .1 .0) (c .read-line .ensures .0) (c .read-line .ensures .1)
-
--- where it ends the file, and where another follows
-after-last : (c : tie.After-end Inv-loop μ-loop)
-    → Passed (c .before .before .before .before .before .before .before .before .before .args .bytes .now)
-    (c .before .before .before .before .before .before .loop .tally) (c .end .given .0 .0)
-after-last c = after-read (c .before .before .before) .finishes (c .end .given .0 .0) (c .end .given .1)
-
-after-line : (c : tie.After-end2 Inv-loop μ-loop)
-    → Passed (c .before .before .before .before .before .before .before .before .before .args .bytes .now)
-    (c .before .before .before .before .before .before .loop .tally) (c .end2 .given .0 .0)
-after-line c = after-read (c .before .before .before) .passes (c .end2 .given .0 .0) (c .end2 .given .0 .1 .0) (c .end2 .given .1)
+    (c .read-line .last .1 .1 .1 .1 .0) (c .read-line .result) w (c .read-line .ensures .0) (c .read-line .ensures .1) e
 
 returns : tie.Need-returns Inv-loop μ-loop
-returns c = after-read (c .before .before .before) .ran-out (c .enum-told .given .1)
+returns c = after-read (c .before .before .before) _ (c .enum-told .given .1)
 
 returns-2 : tie.Need-returns-2 Inv-loop μ-loop
-returns-2 c =
-    let known = c .before in
-    after-read (known .before .before .before) .faulty (known .number .given .0 .0) (known .number .given .0 .1 .0) (known .number .given .1)
-
-sub-count-line : tie.Need-sub-count-line Inv-loop μ-loop
-sub-count-line c = let p = after-last (c .before) in search needs
-
-sub-count-line-2 : tie.Need-sub-count-line-2 Inv-loop μ-loop
-sub-count-line-2 c = let p = after-last (c .before) in search needs
-
-part-count-line-start : tie.Need-part-count-line-start Inv-loop μ-loop
-part-count-line-start c = let p = after-last (c .before) in search needs
-
-part-count-line-end : tie.Need-part-count-line-end Inv-loop μ-loop
-part-count-line-end c = let p = after-last (c .before) in search needs
-
-count-line-requires : tie.Need-count-line-requires Inv-loop μ-loop
-count-line-requires c κs = let p = after-last (c .before .before) in search needs
+returns-2 c = let known = c .before in after-read (known .before .before .before) _ (known .number .given .1)
 
 returns-3 : tie.Need-returns-3 Inv-loop μ-loop
 returns-3 c =
     let known = c .before .before .before in
-    after-read (known .before .before .before) .finished (known .end .given .0 .0) (c .count-line .result) (known .end .given .1) (c .count-line .ensures)
-
-sub-count-line-3 : tie.Need-sub-count-line-3 Inv-loop μ-loop
-sub-count-line-3 c = let p = after-line (c .before) in search needs
-
-sub-count-line-4 : tie.Need-sub-count-line-4 Inv-loop μ-loop
-sub-count-line-4 c = let p = after-line (c .before) in search needs
-
-part-count-line-start-2 : tie.Need-part-count-line-start-2 Inv-loop μ-loop
-part-count-line-start-2 c = let p = after-line (c .before) in search needs
-
-part-count-line-end-2 : tie.Need-part-count-line-end-2 Inv-loop μ-loop
-part-count-line-end-2 c = let p = after-line (c .before) in search needs
-
-count-line-requires-2 : tie.Need-count-line-requires-2 Inv-loop μ-loop
-count-line-requires-2 c κs = let p = after-line (c .before .before) in search needs
+    after-read (known .before .before .before) _ (known .end .given .1) .finished (c .count-line .result) (c .count-line .ensures)
 
 loop-less : tie.Need-loop-less Inv-loop μ-loop
 loop-less c =
     let known = c .before .before .before in
-    after-read (known .before .before .before) .falls (known .end2 .given .0 .0) (known .end2 .given .0 .1 .0) (c .count-line2 .result) (known .end2 .given .1) (c .count-line2 .ensures)
+    after-read (known .before .before .before) _ (known .end2 .given .1) .falls (c .count-line2 .result) (c .count-line2 .ensures)
 
 loop-again : tie.Need-loop-again Inv-loop μ-loop
 loop-again c =
     let known = c .before .before .before in
-    after-read (known .before .before .before) .goes-on (known .end2 .given .0 .0) (known .end2 .given .0 .1 .0) (c .count-line2 .result) (known .end2 .given .1) (c .count-line2 .ensures)
+    after-read (known .before .before .before) _ (known .end2 .given .1) .goes-on (c .count-line2 .result) (c .count-line2 .ensures)
 
 pub scan-front-spec : {M : Type 1} → statement M
 scan-front-spec =
@@ -106,17 +65,17 @@ scan-front-spec =
     (λ c. search needs)
     returns-2
     (λ c. search needs)
-    sub-count-line
-    sub-count-line-2
-    part-count-line-start
-    part-count-line-end
-    count-line-requires
+    (λ c. let p = after-read (c .before .before .before .before) _ (c .before .end .given .1) in search needs)
+    (λ c. let p = after-read (c .before .before .before .before) _ (c .before .end .given .1) in search needs)
+    (λ c. let p = after-read (c .before .before .before .before) _ (c .before .end .given .1) in search needs)
+    (λ c. let p = after-read (c .before .before .before .before) _ (c .before .end .given .1) in search needs)
+    (λ c κs. let p = after-read (c .before .before .before .before .before) _ (c .before .before .end .given .1) in search needs)
     returns-3
     (λ c. search needs)
-    sub-count-line-3
-    sub-count-line-4
-    part-count-line-start-2
-    part-count-line-end-2
-    count-line-requires-2
+    (λ c. let p = after-read (c .before .before .before .before) _ (c .before .end2 .given .1) in search needs)
+    (λ c. let p = after-read (c .before .before .before .before) _ (c .before .end2 .given .1) in search needs)
+    (λ c. let p = after-read (c .before .before .before .before) _ (c .before .end2 .given .1) in search needs)
+    (λ c. let p = after-read (c .before .before .before .before) _ (c .before .end2 .given .1) in search needs)
+    (λ c κs. let p = after-read (c .before .before .before .before .before) _ (c .before .before .end2 .given .1) in search needs)
     loop-less
     loop-again)
