@@ -21,5 +21,5 @@ pub step-line-determined : (κs : _) (a : _) (r r′ : _) (s s′ : _) → step-
 step-line-determined κs a r r′ s s′ p q = p ∙ sym q
 
 pub read-line-determined : (κs : _) (a : _) (r r′ : _) (s s′ : _) → read-line.Post κs a r s → read-line.Post κs a r′ s′
-    → (r ≡ r′) × (now (s .1 .0) ≡ now (s′ .1 .0))
+    → (r ≡ r′) × (now (s .1 .1 .1 .1 .0) ≡ now (s′ .1 .1 .1 .1 .0))
 read-line-determined κs a r r′ s s′ p q = (p .0 ∙ sym (q .0), p .1 ∙ sym (q .1))
