@@ -13,11 +13,11 @@ use borrow.Author.Tests.{ltb-false, le-ltb}
 use Rattle.lines.specs.Lines.{isLf, linesOf, onFirst}
 use Rattle.header.specs.declared.types.Rules.{Rules}
 use Rattle.machine.specs.State.{startState, noNames}
 use Rattle.scan.specs.declared.Tally.{Tally}
 use Rattle.scan.specs.declared.Front.{Front}
 use Rattle.scan.specs.declared.Front.the-variants as front
 use Rattle.scan.specs.Run.{nothing, run, scanOf, wholeOf, IsFile}
-use Rattle.scan.proofs.Used.{frontLines, accepted-front}
+use Rattle.accepted.proofs.Used.{frontLines, accepted-front}
 
 -- bytes more leave the complete lines as they were
 abbrev Longer : List ℕ → List ℕ → Type 0

@@ -15,12 +15,12 @@ use Rattle.machine.specs.declared.types.State.{State}
 use Rattle.machine.specs.declared.types.Verdict.{Verdict}
 use Rattle.machine.specs.declared.types.Verdict.the-variants as verdict
 use Rattle.machine.specs.declared.types.LineRead.the-variants as found
-use Rattle.machine.proofs.Numbered.{step-numbered}
+use Rattle.accepted.proofs.Numbered.{step-numbered}
 use Rattle.scan.specs.declared.Tally.{Tally}
 use Rattle.scan.specs.declared.Front.{Front}
 use Rattle.scan.specs.declared.Front.the-variants as front
 use Rattle.scan.specs.Run.{nothing, counted, onVerdict, run, scanOf, Going, stepped, steppedOver, atFirst}
-use Rattle.scan.proofs.Stepping.{judged, GoesOn, behind, GoOn, next-line, go-first, go-later, go-more, stepped-on, stands-behind}
+use Rattle.accepted.proofs.Stepping.{judged, GoesOn, behind, GoOn, next-line, go-first, go-later, go-more, stepped-on, stands-behind}
 
 -- what has been read, some lines further
 abbrev talliedOver : Rules → Tally → List (List ℕ) → Tally

@@ -24,15 +24,15 @@ use Rattle.record.specs.Rows.{rowItems, cut}
 use Rattle.header.specs.declared.types.Rules.{Rules}
 use Rattle.record.specs.declared.types.LineKind.{LineKind}
 use Rattle.record.specs.declared.types.LineKind.the-variants as kind
 use Rattle.machine.specs.Checks.{firstUnprintable, instantIn, secondAgrees, repeats, typeAgrees}
 use Rattle.machine.specs.State.{stands, knownNames, nameDue, isFirst, namesIn}
 use Rattle.machine.specs.Faults.{longest, secondFault, satellitesFault, charactersFault, floatsFault, epochFault, namedFault, recordFault, placeFault}
 use Rattle.machine.specs.Next.{nextOf}
 use Rattle.machine.specs.Step.{onKey, judgedLine, printedLine, stepOf}
 use Rattle.machine.specs.declared.types.State.{State}
 use Rattle.machine.specs.declared.types.Verdict.{Verdict}
 use Rattle.machine.specs.declared.types.Verdict.the-variants as verdict
-use Rattle.machine.proofs.LeastKey.{Among, lowestOf, Lowest, lowest-is, items-lowest, number-monotone}
+use Rattle.accepted.proofs.LeastKey.{Among, lowestOf, Lowest, lowest-is, items-lowest, number-monotone}
 
 -- What a line earns. Its columns, as the record of its kind lists them at this place:
 abbrev pub itemsAt : LineKind → Rules → State → List ℕ → List Item

@@ -27,14 +27,14 @@ use Rattle.header.specs.declared.types.Rules.{Rules}
 use Rattle.header.specs.declared.types.Moment.{Moment}
 use Rattle.record.specs.declared.types.LineKind.{LineKind}
 use Rattle.record.specs.declared.types.LineKind.the-variants as kind
 use Rattle.machine.specs.Checks.{instantIn, secondAgrees, repeats, typeAgrees}
 use Rattle.machine.specs.State.{isFirst, knownNames, nameDue, namesIn}
 use Rattle.machine.specs.Step.{stepOf}
 use Rattle.machine.specs.declared.types.State.{State}
 use Rattle.machine.specs.declared.types.Verdict.the-variants as verdict
-use Rattle.machine.proofs.LeastKey.{Among}
-use Rattle.machine.proofs.Lowest.{itemsAt, checksAt, partsAt, kindAt, Earns, lowest}
-use Rattle.machine.proofs.Lowest.Earns.{by-byte, by-length, by-place, by-part}
+use Rattle.accepted.proofs.LeastKey.{Among}
+use Rattle.accepted.proofs.Lowest.{itemsAt, checksAt, partsAt, kindAt, Earns, lowest}
+use Rattle.accepted.proofs.Lowest.Earns.{by-byte, by-length, by-place, by-part}
 
 numbered-unless : (t : Bool) (number column : ℕ) → 4 ≤ number → number ≤ 10 → column < 128 → Numbered (unless t number column)
 numbered-unless true number column p q r h = absurd (omega arith)
