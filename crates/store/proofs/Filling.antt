@@ -13,21 +13,34 @@ use borrow.Rule.Slice.PartMut.{putMid}
 use lib.Dec.{leb}
 use lib.IntN.{ℤ}
 use lib.ListN.{length, take, drop, length-take, length-drop, length-map}
-use lib.Seq.{take-append-le, take-append-add, take-nil}
+use lib.Seq.{take-append-le, take-append-add, take-nil, take-all}
 use Rattle.layout.specs.Layout.{slotsFrom}
 use Rattle.layout.specs.Line.{padded}
 use Rattle.layout.proofs.Lines.{padded-length}
 use Rattle.lines.specs.Lent.{laid, over, flat}
 use Rattle.lines.specs.Lines.{lineLength, linesOf, select}
-use Rattle.lines.proofs.Ends.{no-line, first-line}
-use Rattle.lines.proofs.Laying.{Laying, laying-none, laying-as, laying-block, laying-full, laying-all, laid-fits}
+use Rattle.lines.proofs.Ends.{neither, no-line, first-line}
+use Rattle.lines.proofs.Laying.{Laying, laying-none, laying-as, laying-block, laying-full, laying-all, laid-fits, laid-none}
 use Rattle.lines.proofs.Picking.{select-none, select-first, select-other, length-flat}
 use Rattle.lines.proofs.Each.{Each, each-map}
-use Rattle.record.specs.SlotLines.{moreItems}
+use Rattle.record.specs.SlotLines.{moreOf}
 use Rattle.header.specs.declared.types.Rules.{Rules}
 use Rattle.record.specs.declared.types.Row.{Row}
 use Rattle.file.specs.Kinds.{isKind, isRow, ofKind}
 use Rattle.file.specs.Table.{slotNumbers, slotKind, slotsIn, commentText, rowIn, rowNumbers, rowWidth, rowLines, numbersOfRows}
+
+-- one of two bounds is met, or neither is
+either-met : (n a m b : ℕ) → (leb n a || leb m b) ≡ true → (n ≤ a) ⊎ (m ≤ b)
+either-met n a m b e = go (leb n a) refl e
+  where
+    go : (t : Bool) → leb n a ≡ t → (t || leb m b) ≡ true → (n ≤ a) ⊎ (m ≤ b)
+    go true p q = inl (leb-true n a p)
+    go false p q = inr (leb-true m b q)
+
+pub neither-met : (n a m b : ℕ) → (leb n a || leb m b) ≡ false → (a < n) × (b < m)
+neither-met n a m b e =
+    let parts = neither (leb n a) (leb m b) e in
+    (leb-false n a (parts .0), leb-false m b (parts .1))
 
 -- The bytes from `at` on are still to be walked, and `rest left` of their lines that pass the test is still to be laid.
 pub record Filling {A : Type 0} (test : List ℕ → Bool) (rest : ℕ → List (List ℕ) → List A) (bytes : List ℕ) (all old now : List A) (at stored left : ℕ) : Type 0 where
@@ -97,10 +110,22 @@ module _ {A : Type 0} {test : List ℕ → Bool} {rest : ℕ → List (List ℕ)
 abbrev pub slotsLeft : Bool → ℕ → List (List ℕ) → List ℕ
 slotsLeft accuracies n ls = take n (flat (map (slotNumbers accuracies) ls))
 
-pub slots-length : (accuracies : Bool) (line : List ℕ) → length (slotNumbers accuracies line) ≡ 17
+pub slots-length : (accuracies : Bool) (columns : List ℕ) → length (moreOf accuracies 17 columns .values) ≡ 17
 unfolding slotsFrom
-slots-length true line = refl
-slots-length false line = refl
+slots-length true columns = refl
+slots-length false columns = refl
+
+-- a line's slots as they are read, the first of them or all
+module _ (accuracies : Bool) (line values out : List ℕ) (left : ℕ) (e : values ≡ slotNumbers accuracies line) where
+  pub first-slots : laid (take (left - 0) (drop 0 values)) out ≡ laid (take left (slotNumbers accuracies line)) out
+  first-slots =
+      let same : left - 0 ≡ left = omega arith in
+      ap₂ (λ (n : ℕ) (t : List ℕ). laid (take n t) out) same e
+
+  pub all-slots : 17 ≤ left → laid values out ≡ laid (take left (slotNumbers accuracies line)) out
+  all-slots h =
+      ap (λ (t : List ℕ). laid t out)
+      (e ∙ sym (take-all left (slotNumbers accuracies line) (omega (arith, slots-length accuracies (padded line)))))
 
 front-append : {A : Type 0} (n : ℕ) (a b : List A) → take n (a ++ b) ≡ take n a ++ take (n - length a) b
 front-append {A} zero a b = ap (λ (k : ℕ). take k b) (zero-less (length a))
@@ -122,7 +147,7 @@ slots-one : (accuracies : Bool) (n : ℕ) (l : List ℕ) (ls : List (List ℕ))
 unfolding flat
 slots-one accuracies n l ls =
     front-append n (slotNumbers accuracies l) (flat (map (slotNumbers accuracies) ls))
-    ∙ ap (λ (k : ℕ). take n (slotNumbers accuracies l) ++ take (n - k) (flat (map (slotNumbers accuracies) ls))) (slots-length accuracies l)
+    ∙ ap (λ (k : ℕ). take n (slotNumbers accuracies l) ++ take (n - k) (flat (map (slotNumbers accuracies) ls))) (slots-length accuracies (padded l))
 
 slots-none : (accuracies : Bool) (n : ℕ) → slotsLeft accuracies n [] ≡ []
 unfolding flat
@@ -157,26 +182,30 @@ module _ (accuracies : Bool) {test : List ℕ → Bool} {bytes all old now : Lis
     slots-here = slots-one accuracies left (take (end - at) (drop at bytes)) more-slots
 
     slots-size : 17 ≤ left → length (take left slots) ≡ 17
-    slots-size m = omega (arith, length-take left slots, slots-length accuracies (take (end - at) (drop at bytes)))
+    slots-size m = omega (arith, length-take left slots, slots-length accuracies (padded (take (end - at) (drop at bytes))))
 
     pub slots-kept : length (putMid stored (length now - stored) now part) ≡ length now
     slots-kept = filling-kept f end found h is (take left slots) (left - 17) slots-here e
 
     -- the last of them
-    pub slots-done : (left ≤ 17) ⊎ (length now - stored ≤ 17) → putMid stored (length now - stored) now part ≡ laid all old
-    slots-done why = go (decLe left 17) why
+    pub slots-done : (leb left 17 || leb (length (putMid stored (length now - stored) now part) - stored) 17) ≡ true
+        → putMid stored (length now - stored) now part ≡ laid all old
+    slots-done flag = go (decLe left 17) (either-met left 17 (length (putMid stored (length now - stored) now part) - stored) 17 flag)
       where
-        go : Dec (left ≤ 17) → (left ≤ 17) ⊎ (length now - stored ≤ 17) → putMid stored (length now - stored) now part ≡ laid all old
+        go : Dec (left ≤ 17) → (left ≤ 17) ⊎ (length (putMid stored (length now - stored) now part) - stored ≤ 17)
+            → putMid stored (length now - stored) now part ≡ laid all old
         go (yes m) w = filling-last f end found h is (take left slots) (left - 17) slots-here e (slots-spent accuracies left more-slots m)
         go (no m) (inl w) = absurd (m w)
-        go (no m) (inr w) = filling-full f end found h is (take left slots) (left - 17) slots-here e (omega (arith, slots-size (omega arith)))
+        go (no m) (inr w) =
+            filling-full f end found h is (take left slots) (left - 17) slots-here e (omega (arith, slots-size (omega arith), slots-kept))
 
     -- and more
-    pub slots-more : 17 < left → 17 < length now - stored
+    pub slots-more : (leb left 17 || leb (length (putMid stored (length now - stored) now part) - stored) 17) ≡ false
         → Filling test (slotsLeft accuracies) bytes all old (putMid stored (length now - stored) now part) (end + 1) (stored + 17) (left - 17)
-    slots-more m r =
-        let size = slots-size (omega arith) in
-        rw size at (filling-more f end found h is (take left slots) (left - 17) slots-here e (omega arith))
+    slots-more flag =
+        let both = neither-met left 17 (length (putMid stored (length now - stored) now part) - stored) 17 flag in
+        let size = slots-size (omega (arith, both .0)) in
+        rw size at (filling-more f end found h is (take left slots) (left - 17) slots-here e (omega (arith, both .1, slots-kept)))
 
 -- Parts of one length: those of so many lines.
 abbrev pub partsLeft : {A : Type 0} → (List ℕ → List A) → ℕ → List (List ℕ) → List A
@@ -200,6 +229,9 @@ parts-one part (suc n) l ls h =
     ap (λ (k : ℕ). part l ++ partsLeft part k ls) same
 
 -- Comments: 77 bytes to a line.
+pub no-comments : (count : ℕ) (ls : List (List ℕ)) (old : List ℕ) → count ≡ 0 → old ≡ laid (partsLeft commentText count ls) old
+no-comments count ls old e = sym (ap (λ (t : List ℕ). laid t old) (parts-spent commentText count ls e) ∙ laid-none old)
+
 pub comment-length : (line : List ℕ) → length (commentText line) ≡ 77
 comment-length line =
     omega (arith, length-take 77 (drop 3 (padded line)), length-drop 3 (padded line), padded-length line)
@@ -224,17 +256,27 @@ module _ {test : List ℕ → Bool} {bytes all old now : List ℕ} {at stored le
     comments-kept = filling-kept f end found h is text (left - 1) comments-here e
 
     -- the last of them
-    pub comments-done : (left ≤ 1) ⊎ (length now - stored ≤ 77) → putMid stored (length now - stored) now part ≡ laid all old
-    comments-done (inl w) = filling-last f end found h is text (left - 1) comments-here e (parts-spent commentText (left - 1) more-comments (omega arith))
-    comments-done (inr w) =
-        filling-full f end found h is text (left - 1) comments-here e (omega (arith, comment-length (take (end - at) (drop at bytes))))
+    pub comments-done : (leb left 1 || leb (length (putMid stored (length now - stored) now part) - stored) 77) ≡ true
+        → putMid stored (length now - stored) now part ≡ laid all old
+    comments-done flag = go (either-met left 1 (length (putMid stored (length now - stored) now part) - stored) 77 flag)
+      where
+        go : (left ≤ 1) ⊎ (length (putMid stored (length now - stored) now part) - stored ≤ 77)
+            → putMid stored (length now - stored) now part ≡ laid all old
+        go (inl w) = filling-last f end found h is text (left - 1) comments-here e (parts-spent commentText (left - 1) more-comments (omega arith))
+        go (inr w) =
+            filling-full f end found h is text (left - 1) comments-here e
+            (omega (arith, comment-length (take (end - at) (drop at bytes)), comments-kept))
 
     -- and more
-    pub comments-more : 77 < length now - stored
-        → Filling test (partsLeft commentText) bytes all old (putMid stored (length now - stored) now part) (end + 1) (stored + 77) (left - 1)
-    comments-more r =
-        let size : length text ≡ 77 = comment-length (take (end - at) (drop at bytes)) in
-        rw size at (filling-more f end found h is text (left - 1) comments-here e (omega arith))
+    pub comments-more : (leb left 1 || leb (length (putMid stored (length now - stored) now part) - stored) 77) ≡ false
+        → (0 < left - 1)
+        × Filling test (partsLeft commentText) bytes all old (putMid stored (length now - stored) now part) (end + 1) (stored + 77) (left - 1)
+    comments-more flag =
+        let both = neither-met left 1 (length (putMid stored (length now - stored) now part) - stored) 77 flag in
+        let size : length text ≡ 77 = comment-length (take (end - at) (drop at bytes)) in (
+          omega (arith, both .0),
+          rw size at (filling-more f end found h is text (left - 1) comments-here e (omega (arith, both .1, comments-kept))),
+        )
 
 -- Rows: twelve numbers to a line, as many whole rows as there is room for.
 abbrev pub numbersIn : Rules → List ℕ → List ℤ

@@ -1,111 +1,69 @@
+-- `store::fill::fill_comments` meets its contract. The invariant and the loop's turn are in `Filling`: the comments of the lines left are still to be laid.
+-- Assumes nothing.
 use Prim.Native.Nat.{_-_, _<_}
-use mathlib.Core.Path.{_≡_, refl, sym, ap, _∙_}
+use mathlib.Core.Path.{_≡_, refl, sym, _∙_}
+use mathlib.Core.List.{map}
 use mathlib.Core.Logic.{⊎-elim}
 use borrow.Author.Needs.{needs}
+use borrow.Author.Tests.{eq-eqb, ne-eqb}
 use lib.ListN.{length, take}
-use Rattle.lines.specs.Lines.{linesOf}
-use Rattle.file.specs.Kinds.{isKind, isRow, ofKind}
-use Rattle.file.specs.Table.{slotKind, slotsIn, commentText, slotNumbers}
-use Rattle.store.proofs.Filling.{Filling, slotsLeft, partsLeft, RowsFilling}
-use mathlib.Core.List.{map}
 use Rattle.lines.specs.Lent.{flat}
+use Rattle.lines.specs.Lines.{linesOf}
+use Rattle.file.specs.Kinds.{isKind, ofKind}
+use Rattle.file.specs.Table.{commentText}
+use Rattle.store.proofs.Filling.{Filling, filling-first, filling-other, partsLeft, no-comments, comments-end, comments-done, comments-more}
 use Rattle.store.proofs.fill.fill_comments.Statement.{statement}
 use Rattle.store.proofs.fill.fill_comments.Tie as tie
-use Rattle.store.proofs.fill.fill_comments.Reads as reads
-use Rattle.store.proofs.fill.fill_comments.Lts as lts
-use Rattle.file.proofs.kind_in.Reads as kind-in-reads
-use Rattle.lines.proofs.line_end.Reads as line-end-reads
-use Rattle.store.proofs.fill.lay_comment.Reads as lay-comment-reads
 
 abbrev Inv-loop : tie.InvT-loop
-Inv-loop rules bytes count out₀ at₀ stored₀ left₀ out at stored left = (0 < left) × Filling (isKind rules 8) (partsLeft commentText) bytes (flat (map commentText (take count (ofKind rules 8 (linesOf bytes))))) out₀ out at stored left
+Inv-loop rules bytes count out₀ at₀ stored₀ left₀ out at stored left =
+    (0 < left)
+    × Filling (isKind rules 8) (partsLeft commentText) bytes (flat (map commentText (take count (ofKind rules 8 (linesOf bytes))))) out₀ out at stored left
 
 abbrev μ-loop : tie.MeasureT-loop
 μ-loop rules bytes count out₀ at₀ stored₀ left₀ out at stored left = length bytes - at
 
--- src/fill.rt:70:9
 returns : tie.Need-returns Inv-loop μ-loop
-returns c = search needs
+returns c =
+    let a = c .before .before .before .args in
+    no-comments (a .count) (ofKind (a .rules) 8 (linesOf (a .bytes .now))) (a .out .now) (c .if1 .taken)
 
--- src/fill.rt:75:5
 loop-holds : tie.Need-loop-holds Inv-loop μ-loop
-loop-holds c = search needs
+loop-holds c =
+    let a = c .before .before .before .args in
+    let all = flat (map commentText (take (a .count) (ofKind (a .rules) 8 (linesOf (a .bytes .now))))) in
+    (search needs, filling-first (isKind (a .rules) 8) (partsLeft commentText) (a .bytes .now) all (a .out .now) (a .count) refl)
 
--- src/fill.rt:76:13
-line-end-requires : tie.Need-line-end-requires Inv-loop μ-loop
-line-end-requires c κs = search needs
-
--- src/fill.rt:78:13
-same-length : tie.Need-same-length Inv-loop μ-loop
-same-length c = search needs
-
--- src/fill.rt:78:13
 returns-2 : tie.Need-returns-2 Inv-loop μ-loop
-returns-2 c = search needs
+returns-2 c =
+    let ended = c .before in
+    comments-end (ended .before .loop .inv .1) (ended .line-end .result) (ended .line-end .ensures) (c .if2 .taken)
 
--- src/fill.rt:80:20
-sub-line : tie.Need-sub-line Inv-loop μ-loop
-sub-line c = search needs
-
--- src/fill.rt:80:20
-part-line-start : tie.Need-part-line-start Inv-loop μ-loop
-part-line-start c = search needs
-
--- src/fill.rt:80:20
-part-line-end : tie.Need-part-line-end Inv-loop μ-loop
-part-line-end c = search needs
-
--- src/fill.rt:81:12
-kind-in-requires : tie.Need-kind-in-requires Inv-loop μ-loop
-kind-in-requires c κs = search needs
-
--- src/fill.rt:82:31
-sub-lay-comment : tie.Need-sub-lay-comment Inv-loop μ-loop
-sub-lay-comment c = search needs
-
--- src/fill.rt:82:31
-part-lay-comment-start : tie.Need-part-lay-comment-start Inv-loop μ-loop
-part-lay-comment-start c = search needs
-
--- src/fill.rt:82:31
-part-lay-comment-end : tie.Need-part-lay-comment-end Inv-loop μ-loop
-part-lay-comment-end c = search needs
-
--- src/fill.rt:82:13
-lay-comment-requires : tie.Need-lay-comment-requires Inv-loop μ-loop
-lay-comment-requires c κs = search needs
-
--- src/fill.rt:83:31
-sub-if4 : tie.Need-sub-if4 Inv-loop μ-loop
-sub-if4 c = search needs
-
--- src/fill.rt:84:17
-same-length-2 : tie.Need-same-length-2 Inv-loop μ-loop
-same-length-2 c = search needs
-
--- src/fill.rt:84:17
 returns-3 : tie.Need-returns-3 Inv-loop μ-loop
-returns-3 c = search needs
+returns-3 c =
+    let laid = c .before .before .before in
+    let told = laid .before .before .before in
+    let ended = told .before .before .before in
+    let inv = ended .before .loop .inv in
+    comments-done (inv .1) (ended .line-end .result) (ended .line-end .ensures) (told .before .before .if2 .left)
+    (eq-eqb _ 8 (sym (told .kind-in .ensures) ∙ laid .before .before .if3 .taken)) (inv .0) (laid .lay-comment .ensures) (c .if4 .taken)
 
--- src/fill.rt:86:13
-sub-left : tie.Need-sub-left Inv-loop μ-loop
-sub-left c = search needs
-
--- src/fill.rt:87:13
-add-stored : tie.Need-add-stored Inv-loop μ-loop
-add-stored c = search needs
-
--- src/fill.rt:89:14
-add-at : tie.Need-add-at Inv-loop μ-loop
-add-at c = search needs
-
--- src/fill.rt:75:5
-loop-less : tie.Need-loop-less Inv-loop μ-loop
-loop-less c = search needs
-
--- src/fill.rt:75:5
 loop-again : tie.Need-loop-again Inv-loop μ-loop
-loop-again c = search needs
+loop-again c =
+    let told = c .before in
+    let ended = told .before .before .before in
+    let inv = ended .before .loop .inv in
+    let found = told .before .before .if2 .left in
+    ⊎-elim
+    (λ w.
+      rw (w .6, w .7, w .8)
+      (comments-more (inv .1) (ended .line-end .result) (ended .line-end .ensures) found
+      (eq-eqb _ 8 (sym (told .kind-in .ensures) ∙ w .0 .taken)) (inv .0) (w .2 .ensures) (w .5 .left)))
+    (λ w.
+      rw (w .1, w .2, w .3)
+      (inv .0, filling-other (inv .1) (ended .line-end .result) (ended .line-end .ensures) found
+      (ne-eqb _ 8 (λ e. w .0 .left (told .kind-in .ensures ∙ e)))))
+    (c .if3 .came)
 
 pub fill-comments-spec : {M : Type 1} → statement M
 fill-comments-spec =
@@ -115,22 +73,22 @@ fill-comments-spec =
     μ-loop
     returns
     loop-holds
-    line-end-requires
-    same-length
+    (λ c κs. search needs)
+    (λ c. search needs)
     returns-2
-    sub-line
-    part-line-start
-    part-line-end
-    kind-in-requires
-    sub-lay-comment
-    part-lay-comment-start
-    part-lay-comment-end
-    lay-comment-requires
-    sub-if4
-    same-length-2
+    (λ c. search needs)
+    (λ c. search needs)
+    (λ c. search needs)
+    (λ c κs. search needs)
+    (λ c. search needs)
+    (λ c. search needs)
+    (λ c. search needs)
+    (λ c κs. search needs)
+    (λ c. search needs)
+    (λ c. search needs)
     returns-3
-    sub-left
-    add-stored
-    add-at
-    loop-less
+    (λ c. search needs)
+    (λ c. search needs)
+    (λ c. search needs)
+    (λ c. search needs)
     loop-again)

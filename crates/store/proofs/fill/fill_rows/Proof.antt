@@ -1,22 +1,16 @@
-use Prim.Native.Nat.{_-_, _<_}
-use mathlib.Core.Path.{_≡_, refl, sym, ap, _∙_}
+-- `store::fill::fill_rows` meets its contract. The invariant and the loop's turn are in `Filling`: the rows left that have room are still to be laid.
+-- Assumes nothing.
+use Prim.Native.Nat.{ℕ, _-_}
+use mathlib.Core.Path.{_≡_, sym, ap, _∙_}
+use mathlib.Core.Bool.{Bool, _||_}
 use mathlib.Core.Logic.{⊎-elim}
 use borrow.Author.Needs.{needs}
-use lib.ListN.{length, take}
-use Rattle.lines.specs.Lines.{linesOf}
-use Rattle.file.specs.Kinds.{isKind, isRow, ofKind}
-use Rattle.file.specs.Table.{slotKind, slotsIn, commentText, slotNumbers}
-use Rattle.store.proofs.Filling.{Filling, slotsLeft, partsLeft, RowsFilling}
-use mathlib.Core.List.{map}
-use Rattle.lines.specs.Lent.{flat}
+use lib.Dec.{eqb}
+use lib.ListN.{length, take, drop}
+use Rattle.record.specs.Rows.{rowOf}
+use Rattle.store.proofs.Filling.{filling-other, RowsFilling, rows-first, rows-end, rows-full, rows-more}
 use Rattle.store.proofs.fill.fill_rows.Statement.{statement}
 use Rattle.store.proofs.fill.fill_rows.Tie as tie
-use Rattle.store.proofs.fill.fill_rows.Reads as reads
-use Rattle.store.proofs.fill.fill_rows.Lts as lts
-use Rattle.file.proofs.kind_in.Reads as kind-in-reads
-use Rattle.lines.proofs.line_end.Reads as line-end-reads
-use Rattle.record.proofs.rows.row_of.Reads as row-of-reads
-use Rattle.store.proofs.rows.store_row.Reads as store-row-reads
 
 abbrev Inv-loop : tie.InvT-loop
 Inv-loop rules bytes out₀ at₀ stored₀ out at stored = RowsFilling rules bytes out₀ out at stored
@@ -24,89 +18,50 @@ Inv-loop rules bytes out₀ at₀ stored₀ out at stored = RowsFilling rules by
 abbrev μ-loop : tie.MeasureT-loop
 μ-loop rules bytes out₀ at₀ stored₀ out at stored = length bytes - at
 
--- src/fill.rt:99:5
 loop-holds : tie.Need-loop-holds Inv-loop μ-loop
-loop-holds c = search needs
+loop-holds c = let a = c .before .args in rows-first (a .rules) (a .bytes .now) (a .out .now)
 
--- src/fill.rt:100:13
-line-end-requires : tie.Need-line-end-requires Inv-loop μ-loop
-line-end-requires c κs = search needs
+-- a row's two kinds, as the loop tests them
+abbrev isRowKind : ℕ → Bool
+isRowKind kind = eqb kind 10 || eqb kind 11
 
--- src/fill.rt:102:13
-same-length : tie.Need-same-length Inv-loop μ-loop
-same-length c = search needs
-
--- src/fill.rt:102:13
 returns : tie.Need-returns Inv-loop μ-loop
-returns c = search needs
+returns c =
+    let ended = c .before in
+    let at-loop = ended .before in
+    let a = at-loop .before .before .args in
+    rows-end (a .rules) (a .bytes .now) (a .out .now) (at-loop .loop .out) (at-loop .loop .at) (at-loop .loop .stored) (at-loop .loop .inv)
+    (ended .line-end .result) (ended .line-end .ensures) (c .if1 .taken)
 
--- src/fill.rt:104:20
-sub-line : tie.Need-sub-line Inv-loop μ-loop
-sub-line c = search needs
-
--- src/fill.rt:104:20
-part-line-start : tie.Need-part-line-start Inv-loop μ-loop
-part-line-start c = search needs
-
--- src/fill.rt:104:20
-part-line-end : tie.Need-part-line-end Inv-loop μ-loop
-part-line-end c = search needs
-
--- src/fill.rt:105:13
-kind-in-requires : tie.Need-kind-in-requires Inv-loop μ-loop
-kind-in-requires c κs = search needs
-
--- src/fill.rt:107:16
-sub-if3 : tie.Need-sub-if3 Inv-loop μ-loop
-sub-if3 c = search needs
-
--- src/fill.rt:108:17
-same-length-2 : tie.Need-same-length-2 Inv-loop μ-loop
-same-length-2 c = search needs
-
--- src/fill.rt:108:17
 returns-2 : tie.Need-returns-2 Inv-loop μ-loop
-returns-2 c = search needs
+returns-2 c =
+    let told = c .before .before in
+    let ended = told .before .before .before in
+    let at-loop = ended .before in
+    let a = at-loop .before .before .args in
+    rows-full (a .rules) (a .bytes .now) (a .out .now) (at-loop .loop .out) (at-loop .loop .at) (at-loop .loop .stored) (at-loop .loop .inv)
+    (ended .line-end .result) (ended .line-end .ensures) (told .before .before .if1 .left)
+    (sym (ap isRowKind (told .kind-in .ensures)) ∙ c .before .if2 .taken) (c .if3 .taken)
 
--- src/fill.rt:110:29
-row-of-requires : tie.Need-row-of-requires Inv-loop μ-loop
-row-of-requires c κs = search needs
-
--- src/fill.rt:110:69
-mul-store-row : tie.Need-mul-store-row Inv-loop μ-loop
-mul-store-row c = search needs
-
--- src/fill.rt:110:69
-sub-store-row : tie.Need-sub-store-row Inv-loop μ-loop
-sub-store-row c = search needs
-
--- src/fill.rt:110:69
-part-store-row-start : tie.Need-part-store-row-start Inv-loop μ-loop
-part-store-row-start c = search needs
-
--- src/fill.rt:110:69
-part-store-row-end : tie.Need-part-store-row-end Inv-loop μ-loop
-part-store-row-end c = search needs
-
--- src/fill.rt:110:13
-store-row-requires : tie.Need-store-row-requires Inv-loop μ-loop
-store-row-requires c κs = search needs
-
--- src/fill.rt:111:13
-add-stored : tie.Need-add-stored Inv-loop μ-loop
-add-stored c = search needs
-
--- src/fill.rt:113:14
-add-at : tie.Need-add-at Inv-loop μ-loop
-add-at c = search needs
-
--- src/fill.rt:99:5
-loop-less : tie.Need-loop-less Inv-loop μ-loop
-loop-less c = search needs
-
--- src/fill.rt:99:5
 loop-again : tie.Need-loop-again Inv-loop μ-loop
-loop-again c = search needs
+loop-again c =
+    let told = c .before in
+    let ended = told .before .before .before in
+    let at-loop = ended .before in
+    let a = at-loop .before .before .args in
+    let found = told .before .before .if1 .left in
+    let line = take (ended .line-end .result - at-loop .loop .at) (drop (at-loop .loop .at) (a .bytes .now)) in
+    ⊎-elim
+    (λ w.
+      rw (w .6, w .7)
+      (rows-more (a .rules) (a .bytes .now) (a .out .now) (at-loop .loop .out) (at-loop .loop .at) (at-loop .loop .stored) (at-loop .loop .inv)
+      (ended .line-end .result) (ended .line-end .ensures) found (sym (ap isRowKind (told .kind-in .ensures)) ∙ w .0 .taken) (w .1 .left)
+      (w .2 .result) (w .2 .ensures ∙ ap (λ (kind : ℕ). rowOf (eqb kind 11) line) (told .kind-in .ensures)) (w .4 .ensures)))
+    (λ w.
+      rw (w .1, w .2)
+      (filling-other (at-loop .loop .inv) (ended .line-end .result) (ended .line-end .ensures) found
+      (sym (ap isRowKind (told .kind-in .ensures)) ∙ w .0 .left)))
+    (c .if2 .came)
 
 pub fill-rows-spec : {M : Type 1} → statement M
 fill-rows-spec =
@@ -115,23 +70,23 @@ fill-rows-spec =
     Inv-loop
     μ-loop
     loop-holds
-    line-end-requires
-    same-length
+    (λ c κs. search needs)
+    (λ c. search needs)
     returns
-    sub-line
-    part-line-start
-    part-line-end
-    kind-in-requires
-    sub-if3
-    same-length-2
+    (λ c. search needs)
+    (λ c. search needs)
+    (λ c. search needs)
+    (λ c κs. search needs)
+    (λ c. search needs)
+    (λ c. search needs)
     returns-2
-    row-of-requires
-    mul-store-row
-    sub-store-row
-    part-store-row-start
-    part-store-row-end
-    store-row-requires
-    add-stored
-    add-at
-    loop-less
+    (λ c κs. search needs)
+    (λ c. search needs)
+    (λ c. search needs)
+    (λ c. search needs)
+    (λ c. search needs)
+    (λ c κs. search needs)
+    (λ c. search needs)
+    (λ c. search needs)
+    (λ c. search needs)
     loop-again)

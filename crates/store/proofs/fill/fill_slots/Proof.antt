@@ -1,111 +1,71 @@
-use Prim.Native.Nat.{_-_, _<_}
-use mathlib.Core.Path.{_≡_, refl, sym, ap, _∙_}
+-- `store::fill::fill_slots` meets its contract. The invariant and the loop's turn are in `Filling`: the slots of the lines left are still to be laid.
+-- Assumes nothing.
+use Prim.Native.Nat.{_-_}
+use mathlib.Core.Path.{_≡_, sym, ap, _∙_}
 use mathlib.Core.Logic.{⊎-elim}
+use native.Mathlib.Omega.{arith}
 use borrow.Author.Needs.{needs}
-use lib.ListN.{length, take}
+use borrow.Author.Tests.{eq-eqb, ne-eqb}
+use lib.ListN.{length}
 use Rattle.lines.specs.Lines.{linesOf}
-use Rattle.file.specs.Kinds.{isKind, isRow, ofKind}
-use Rattle.file.specs.Table.{slotKind, slotsIn, commentText, slotNumbers}
-use Rattle.store.proofs.Filling.{Filling, slotsLeft, partsLeft, RowsFilling}
-use mathlib.Core.List.{map}
-use Rattle.lines.specs.Lent.{flat}
+use Rattle.file.specs.Kinds.{isKind}
+use Rattle.file.specs.Table.{slotKind, slotsIn}
+use Rattle.store.proofs.Filling.{Filling, neither-met, filling-other, slotsLeft, slots-first, slots-end, slots-done, slots-more}
 use Rattle.store.proofs.fill.fill_slots.Statement.{statement}
 use Rattle.store.proofs.fill.fill_slots.Tie as tie
-use Rattle.store.proofs.fill.fill_slots.Reads as reads
-use Rattle.store.proofs.fill.fill_slots.Lts as lts
-use Rattle.file.proofs.kind_in.Reads as kind-in-reads
-use Rattle.lines.proofs.line_end.Reads as line-end-reads
-use Rattle.store.proofs.fill.lay_slots.Reads as lay-slots-reads
 
 abbrev Inv-loop : tie.InvT-loop
-Inv-loop rules bytes accuracies n out₀ kind at₀ stored₀ left₀ out at stored left = Filling (isKind rules kind) (slotsLeft accuracies) bytes (slotsIn rules accuracies n (linesOf bytes)) out₀ out at stored left
+Inv-loop rules bytes accuracies n out₀ kind at₀ stored₀ left₀ out at stored left =
+    Filling (isKind rules kind) (slotsLeft accuracies) bytes (slotsIn rules accuracies n (linesOf bytes)) out₀ out at stored left
 
 abbrev μ-loop : tie.MeasureT-loop
 μ-loop rules bytes accuracies n out₀ kind at₀ stored₀ left₀ out at stored left = length bytes - at
 
--- src/fill.rt:38:5
 loop-holds : tie.Need-loop-holds Inv-loop μ-loop
-loop-holds c = search needs
+loop-holds c =
+    let a = c .before .before .before .args in
+    slots-first (a .rules) (a .accuracies) (c .if1 .kind) (a .n) (a .bytes .now) (a .out .now)
+    (⊎-elim (λ w. w .1 ∙ sym (ap slotKind (w .0 .taken))) (λ w. w .1 ∙ sym (ap slotKind (w .0 .left))) (c .if1 .came))
 
--- src/fill.rt:39:13
-line-end-requires : tie.Need-line-end-requires Inv-loop μ-loop
-line-end-requires c κs = search needs
-
--- src/fill.rt:41:13
-same-length : tie.Need-same-length Inv-loop μ-loop
-same-length c = search needs
-
--- src/fill.rt:41:13
 returns : tie.Need-returns Inv-loop μ-loop
-returns c = search needs
+returns c =
+    let ended = c .before in
+    let a = ended .before .before .before .before .before .args in
+    slots-end (a .accuracies) (ended .before .loop .inv) (ended .line-end .result) (ended .line-end .ensures) (c .if2 .taken)
 
--- src/fill.rt:43:20
-sub-line : tie.Need-sub-line Inv-loop μ-loop
-sub-line c = search needs
-
--- src/fill.rt:43:20
-part-line-start : tie.Need-part-line-start Inv-loop μ-loop
-part-line-start c = search needs
-
--- src/fill.rt:43:20
-part-line-end : tie.Need-part-line-end Inv-loop μ-loop
-part-line-end c = search needs
-
--- src/fill.rt:44:12
-kind-in-requires : tie.Need-kind-in-requires Inv-loop μ-loop
-kind-in-requires c κs = search needs
-
--- src/fill.rt:45:47
-mul-lay-slots : tie.Need-mul-lay-slots Inv-loop μ-loop
-mul-lay-slots c = search needs
-
--- src/fill.rt:45:47
-sub-lay-slots : tie.Need-sub-lay-slots Inv-loop μ-loop
-sub-lay-slots c = search needs
-
--- src/fill.rt:45:47
-part-lay-slots-start : tie.Need-part-lay-slots-start Inv-loop μ-loop
-part-lay-slots-start c = search needs
-
--- src/fill.rt:45:47
-part-lay-slots-end : tie.Need-part-lay-slots-end Inv-loop μ-loop
-part-lay-slots-end c = search needs
-
--- src/fill.rt:45:13
-lay-slots-requires : tie.Need-lay-slots-requires Inv-loop μ-loop
-lay-slots-requires c κs = search needs
-
--- src/fill.rt:46:32
-sub-if4 : tie.Need-sub-if4 Inv-loop μ-loop
-sub-if4 c = search needs
-
--- src/fill.rt:47:17
-same-length-2 : tie.Need-same-length-2 Inv-loop μ-loop
-same-length-2 c = search needs
-
--- src/fill.rt:47:17
 returns-2 : tie.Need-returns-2 Inv-loop μ-loop
-returns-2 c = search needs
+returns-2 c =
+    let laid = c .before .before .before in
+    let told = laid .before .before .before in
+    let ended = told .before .before .before in
+    let joined = ended .before .before in
+    let a = joined .before .before .before .args in
+    slots-done (a .accuracies) (ended .before .loop .inv) (ended .line-end .result) (ended .line-end .ensures) (told .before .before .if2 .left)
+    (eq-eqb _ (joined .if1 .kind) (sym (told .kind-in .ensures) ∙ laid .before .before .if3 .taken)) (laid .lay-slots .ensures) (c .if4 .taken)
 
--- src/fill.rt:49:13
 sub-left : tie.Need-sub-left Inv-loop μ-loop
-sub-left c = search needs
+sub-left c =
+    let at-loop = c .before .before .before .before .before .before .before .before .before .before in
+    omega (arith, neither-met (at-loop .loop .left) 17 _ 17 (c .if4 .left) .0)
 
--- src/fill.rt:50:13
-add-stored : tie.Need-add-stored Inv-loop μ-loop
-add-stored c = search needs
-
--- src/fill.rt:52:14
-add-at : tie.Need-add-at Inv-loop μ-loop
-add-at c = search needs
-
--- src/fill.rt:38:5
-loop-less : tie.Need-loop-less Inv-loop μ-loop
-loop-less c = search needs
-
--- src/fill.rt:38:5
 loop-again : tie.Need-loop-again Inv-loop μ-loop
-loop-again c = search needs
+loop-again c =
+    let told = c .before in
+    let ended = told .before .before .before in
+    let joined = ended .before .before in
+    let a = joined .before .before .before .args in
+    let inv = ended .before .loop .inv in
+    let found = told .before .before .if2 .left in
+    ⊎-elim
+    (λ w.
+      rw (w .6, w .7, w .8)
+      (slots-more (a .accuracies) inv (ended .line-end .result) (ended .line-end .ensures) found
+      (eq-eqb _ (joined .if1 .kind) (sym (told .kind-in .ensures) ∙ w .0 .taken)) (w .2 .ensures) (w .5 .left)))
+    (λ w.
+      rw (w .1, w .2, w .3)
+      (filling-other inv (ended .line-end .result) (ended .line-end .ensures) found
+      (ne-eqb _ (joined .if1 .kind) (λ e. w .0 .left (told .kind-in .ensures ∙ e)))))
+    (c .if3 .came)
 
 pub fill-slots-spec : {M : Type 1} → statement M
 fill-slots-spec =
@@ -114,23 +74,23 @@ fill-slots-spec =
     Inv-loop
     μ-loop
     loop-holds
-    line-end-requires
-    same-length
+    (λ c κs. search needs)
+    (λ c. search needs)
     returns
-    sub-line
-    part-line-start
-    part-line-end
-    kind-in-requires
-    mul-lay-slots
-    sub-lay-slots
-    part-lay-slots-start
-    part-lay-slots-end
-    lay-slots-requires
-    sub-if4
-    same-length-2
+    (λ c. search needs)
+    (λ c. search needs)
+    (λ c. search needs)
+    (λ c κs. search needs)
+    (λ c. search needs)
+    (λ c. search needs)
+    (λ c. search needs)
+    (λ c. search needs)
+    (λ c κs. search needs)
+    (λ c. search needs)
+    (λ c. search needs)
     returns-2
     sub-left
-    add-stored
-    add-at
-    loop-less
+    (λ c. search needs)
+    (λ c. search needs)
+    (λ c. search needs)
     loop-again)

@@ -1,73 +1,65 @@
+-- `store::fill::lay_slots` meets its contract. A line has seventeen slots.
+-- Assumes nothing.
+use mathlib.Core.Path.{ap, _∙_}
+use mathlib.Core.List.{List}
+use Prim.Native.Nat.{ℕ}
+use native.Mathlib.Omega.{arith}
 use borrow.Author.Needs.{needs}
+use lib.ListN.{length}
+use Rattle.record.specs.SlotLines.{moreOf}
+use Rattle.record.specs.declared.types.Slots.{Slots}
+use Rattle.store.proofs.Filling.{slots-length, first-slots, all-slots}
 use Rattle.store.proofs.fill.lay_slots.Statement.{statement}
 use Rattle.store.proofs.fill.lay_slots.Tie as tie
-use Rattle.store.proofs.fill.lay_slots.Reads as reads
-use Rattle.store.proofs.fill.lay_slots.Lts as lts
-use Rattle.layout.proofs.pad.Reads as pad-reads
-use Rattle.lines.proofs.lay_numbers.Reads as lay-numbers-reads
-use Rattle.record.proofs.slots.read_slots.Reads as read-slots-reads
 
--- src/fill.rt:18:18
-pad-requires : tie.Need-pad-requires
-pad-requires c κs = search needs
-
--- src/fill.rt:19:9
-read-slots-requires : tie.Need-read-slots-requires
-read-slots-requires c κs = search needs
-
--- src/fill.rt:21:9
-slice-aggregate-all : tie.Need-slice-aggregate-all
-slice-aggregate-all c = search needs
-
--- src/fill.rt:24:33
-sub-lay-numbers : tie.Need-sub-lay-numbers
-sub-lay-numbers c = search needs
-
--- src/fill.rt:24:33
-part-lay-numbers-start : tie.Need-part-lay-numbers-start
-part-lay-numbers-start c = search needs
-
--- src/fill.rt:24:33
 part-lay-numbers-end : tie.Need-part-lay-numbers-end
-part-lay-numbers-end c = ?
+part-lay-numbers-end c =
+    let read = c .before .before .before .before in
+    let padded = read .before .before in
+    let start = padded .before .before .before in
+    omega (
+      arith,
+      c .before .if1 .taken,
+      ap (λ (s : Slots). length (s .values)) (read .read-slots .ensures) ∙ slots-length (start .args .accuracies) (padded .pad .result),
+    )
 
--- src/fill.rt:24:9
-lay-numbers-requires : tie.Need-lay-numbers-requires
-lay-numbers-requires c κs = search needs
-
--- src/fill.rt:25:9
-same-length : tie.Need-same-length
-same-length c = search needs
-
--- src/fill.rt:25:9
 returns : tie.Need-returns
-returns c = ?
+returns c =
+    let laid = c .before .before in
+    let read = laid .before .before .before .before .before .before in
+    let padded = read .before .before in
+    let a = padded .before .before .before .args in
+    laid .lay-numbers .ensures
+    ∙ first-slots (a .accuracies) (a .line .now) (read .read-slots .result .values) (a .out .now) (a .left)
+    (ap (λ (s : Slots). s .values) (read .read-slots .ensures)
+    ∙ ap (λ (line : List ℕ). moreOf (a .accuracies) 17 line .values) (padded .pad .ensures))
 
--- src/fill.rt:27:5
-lay-numbers-requires-2 : tie.Need-lay-numbers-requires-2
-lay-numbers-requires-2 c κs = search needs
-
--- src/fill.rt:15:1
-same-length-2 : tie.Need-same-length-2
-same-length-2 c = search needs
-
--- src/fill.rt:15:1
 returns-2 : tie.Need-returns-2
-returns-2 c = ?
+returns-2 c =
+    let laid = c .before .before in
+    let more = laid .before .before in
+    let read = more .before .before .before in
+    let padded = read .before .before in
+    let a = padded .before .before .before .args in
+    laid .lay-numbers2 .ensures
+    ∙ all-slots (a .accuracies) (a .line .now) (read .read-slots .result .values) (a .out .now) (a .left)
+    (ap (λ (s : Slots). s .values) (read .read-slots .ensures)
+    ∙ ap (λ (line : List ℕ). moreOf (a .accuracies) 17 line .values) (padded .pad .ensures))
+    (more .if1 .left)
 
 pub lay-slots-spec : {M : Type 1} → statement M
 lay-slots-spec =
     tie.close
     (tie.spec
-    pad-requires
-    read-slots-requires
-    slice-aggregate-all
-    sub-lay-numbers
-    part-lay-numbers-start
+    (λ c κs. search needs)
+    (λ c κs. search needs)
+    (λ c. search needs)
+    (λ c. search needs)
+    (λ c. search needs)
     part-lay-numbers-end
-    lay-numbers-requires
-    same-length
+    (λ c κs. search needs)
+    (λ c. search needs)
     returns
-    lay-numbers-requires-2
-    same-length-2
+    (λ c κs. search needs)
+    (λ c. search needs)
     returns-2)
