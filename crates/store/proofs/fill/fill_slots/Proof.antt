@@ -6,6 +6,7 @@ use mathlib.Core.Logic.{⊎-elim}
 use native.Mathlib.Omega.{arith}
 use borrow.Author.Needs.{needs}
 use borrow.Author.Tests.{eq-eqb, ne-eqb}
+use borrow.Rule.Slice.PartMut.{putMid}
 use lib.ListN.{length}
 use Rattle.lines.specs.Lines.{linesOf}
 use Rattle.file.specs.Kinds.{isKind}
@@ -45,8 +46,10 @@ returns-2 c =
 
 sub-left : tie.Need-sub-left Inv-loop μ-loop
 sub-left c =
-    let at-loop = c .before .before .before .before .before .before .before .before .before .before in
-    omega (arith, neither-met (at-loop .loop .left) 17 _ 17 (c .if4 .left) .0)
+    let laid = c .before .before .before in
+    let loop = laid .before .before .before .before .before .before .before .loop in
+    let out = putMid (loop .stored) (length (loop .out) - loop .stored) (loop .out) (laid .lay-slots .last .1 .1 .1 .0) in
+    omega (arith, neither-met (loop .left) 17 (length out - loop .stored) 17 (c .if4 .left) .0)
 
 loop-again : tie.Need-loop-again Inv-loop μ-loop
 loop-again c =
