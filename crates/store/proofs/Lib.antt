@@ -1,1 +1,3 @@
 pub mod Storing
+pub mod Told
+pub mod Determined

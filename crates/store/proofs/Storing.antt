@@ -8,7 +8,7 @@ use native.Mathlib.Omega.{arith}
 use borrow.Author.Tests.{leb-true, ltb-true}
 use lib.Dec.{eqb, leb, ltb}
 use lib.IntN.{ℤ, pos, negℤ, natAbs}
-use lib.ListN.{length, set}
+use lib.ListN.{length, getD, set}
 use lib.Signed.{mag}
 use mir.Syntax.{w64}
 use mir.Val.{SFits, hbits, toZ, ofZ}
@@ -122,6 +122,15 @@ Read rows k i = mag (numberAt rows k i) < 2 ^ hbits w64
 abbrev readAt : List ℤ → ℕ → ℕ → ℤ
 readAt rows k i = through (numberAt rows k i)
 
+-- the first of a row
+abbrev firstAt : List ℤ → ℕ → ℤ
+firstAt rows k = getD rows (k * rowWidth) (pos 0)
+
+first-is : (rows : List ℤ) (k : ℕ) → firstAt rows k ≡ numberAt rows k 0
+first-is rows k =
+    let same : k * rowWidth ≡ k * rowWidth + 0 = omega arith in
+    ap (λ (i : ℕ). getD rows i (pos 0)) same
+
 module _ (rows : List ℤ) (k : ℕ) where
   abs-read : (i : ℕ) {m : ℕ} → Read rows k i → m ≡ natAbs (readAt rows k i) → natAbs (numberAt rows k i) ≡ m
   abs-read i h e = ap natAbs (sym (through-is (numberAt rows k i) h)) ∙ sym e
@@ -137,13 +146,14 @@ module _ (rows : List ℤ) (k : ℕ) where
 
   module _ (there : isThere rows k ≡ true) where
     -- a place, by the test of its three magnitudes
-    pub place-is : (t : Bool) {x y z : ℕ} {absent : Bool} → Read rows k 0 → Read rows k 1 → Read rows k 2 → x ≡ natAbs (readAt rows k 0)
-        → y ≡ natAbs (readAt rows k 1) → z ≡ natAbs (readAt rows k 2) → absent ≡ placeAbsent x y z → absent ≡ t
-        → cond t place.Absent (place.At (readAt rows k 0) (readAt rows k 1) (readAt rows k 2)) ≡ placeIn rows k
+    pub place-is : (t : Bool) {x y z : ℕ} {absent : Bool} → mag (firstAt rows k) < 2 ^ hbits w64 → Read rows k 1 → Read rows k 2
+        → x ≡ natAbs (through (firstAt rows k)) → y ≡ natAbs (readAt rows k 1) → z ≡ natAbs (readAt rows k 2) → absent ≡ placeAbsent x y z → absent ≡ t
+        → cond t place.Absent (place.At (through (firstAt rows k)) (readAt rows k 1) (readAt rows k 2)) ≡ placeIn rows k
     unfolding placeIn
     place-is t {x} {y} {z} {absent} fx fy fz ex ey ez e is =
-        let test : isPlaceAbsent rows k ≡ t = rw (abs-read 0 fx ex, abs-read 1 fy ey, abs-read 2 fz ez) (sym e ∙ is) in
-        rw (there, test, through-is (numberAt rows k 0) fx, through-is (numberAt rows k 1) fy, through-is (numberAt rows k 2) fz)
+        let first : natAbs (numberAt rows k 0) ≡ x = ap natAbs (sym (through-is (firstAt rows k) fx ∙ first-is rows k)) ∙ sym ex in
+        let test : isPlaceAbsent rows k ≡ t = rw (first, abs-read 1 fy ey, abs-read 2 fz ez) (sym e ∙ is) in
+        rw (there, test, through-is (firstAt rows k) fx, first-is rows k, through-is (numberAt rows k 1) fy, through-is (numberAt rows k 2) fz)
 
     -- a clock, by the test of its sign and magnitude
     pub clock-is : (t : Bool) {negative : Bool} {m : ℕ} {absent : Bool} → Read rows k 3 → negative ≡ isNegative (readAt rows k 3)
