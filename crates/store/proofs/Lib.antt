@@ -1,3 +1,4 @@
 pub mod Storing
 pub mod Told
 pub mod Determined
+pub mod Theorems
