@@ -1,7 +1,7 @@
 -- `store::fill::fill_rows` meets its contract. The invariant and the loop's turn are in `Filling`: the rows left that have room are still to be laid.
 -- Assumes nothing.
 use Prim.Native.Nat.{ℕ, _-_}
-use mathlib.Core.Path.{_≡_, sym, ap, _∙_}
+use mathlib.Core.Path.{sym, ap, _∙_}
 use mathlib.Core.Bool.{Bool, _||_}
 use mathlib.Core.Logic.{⊎-elim}
 use borrow.Author.Needs.{needs}

@@ -1,7 +1,7 @@
 -- `store::fill::fill_slots` meets its contract. The invariant and the loop's turn are in `Filling`: the slots of the lines left are still to be laid.
 -- Assumes nothing.
 use Prim.Native.Nat.{_-_}
-use mathlib.Core.Path.{_≡_, sym, ap, _∙_}
+use mathlib.Core.Path.{sym, ap, _∙_}
 use mathlib.Core.Logic.{⊎-elim}
 use native.Mathlib.Omega.{arith}
 use borrow.Author.Needs.{needs}
