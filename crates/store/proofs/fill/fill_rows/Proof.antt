@@ -53,14 +53,14 @@ loop-again c =
     let line = take (ended .line-end .result - at-loop .loop .at) (drop (at-loop .loop .at) (a .bytes .now)) in
     ⊎-elim
     (λ w.
-      rw (w .6, w .7)
-      (rows-more (a .rules) (a .bytes .now) (a .out .now) (at-loop .loop .out) (at-loop .loop .at) (at-loop .loop .stored) (at-loop .loop .inv)
-      (ended .line-end .result) (ended .line-end .ensures) found (sym (ap isRowKind (told .kind-in .ensures)) ∙ w .0 .taken) (w .1 .left)
-      (w .2 .result) (w .2 .ensures ∙ ap (λ (kind : ℕ). rowOf (eqb kind 11) line) (told .kind-in .ensures)) (w .4 .ensures)))
+    rw (w .6, w .7)
+    (rows-more (a .rules) (a .bytes .now) (a .out .now) (at-loop .loop .out) (at-loop .loop .at) (at-loop .loop .stored) (at-loop .loop .inv)
+    (ended .line-end .result) (ended .line-end .ensures) found (sym (ap isRowKind (told .kind-in .ensures)) ∙ w .0 .taken) (w .1 .left)
+    (w .2 .result) (w .2 .ensures ∙ ap (λ (kind : ℕ). rowOf (eqb kind 11) line) (told .kind-in .ensures)) (w .4 .ensures)))
     (λ w.
-      rw (w .1, w .2)
-      (filling-other (at-loop .loop .inv) (ended .line-end .result) (ended .line-end .ensures) found
-      (sym (ap isRowKind (told .kind-in .ensures)) ∙ w .0 .left)))
+    rw (w .1, w .2)
+    (filling-other (at-loop .loop .inv) (ended .line-end .result) (ended .line-end .ensures) found
+    (sym (ap isRowKind (told .kind-in .ensures)) ∙ w .0 .left)))
     (c .if2 .came)
 
 pub fill-rows-spec : {M : Type 1} → statement M
