@@ -149,22 +149,6 @@ fn satellite_in(name: u64, names: &[u64]) -> SatelliteAnswer
     no_satellite(13, 0)
 }
 
-// The number of a name among the identifiers of some lines, of which there are at most 255.
-fn satellite_among(rules: Rules, bytes: &[u8], name: u64) -> SatelliteAnswer
-    requires { ⌜ length (identifiersOf rules (linesOf (now bytes))) ≤ 255 ⌝ }
-    ensures { λ r. ⌜ r ≡ satelliteIn name (identifiersOf rules (linesOf (now (bytes .entry)))) ⌝ }
-{
-    let mut names = [0u64; 255];
-    let n = judging::count_of(rules, bytes);
-    store::fill_slots(rules, bytes, false, n, &mut names);
-    let all = &names[..];
-    if n < 255 {
-        let few = n as usize;
-        return satellite_in(name, &all[0..few]);
-    }
-    satellite_in(name, all)
-}
-
 // A refusal beside no row.
 fn no_row(number: usize, line: u64) -> RowPlace
     ensures { λ r. ⌜ r ≡ noRow number line ⌝ }
@@ -207,25 +191,6 @@ pub fn row_place(file: &[u8], epoch: u64, satellite: u64) -> RowPlace
         Front::File(tally) => {
             let end = tally.end;
             row_at(rules, &file[0..end], epoch, satellite)
-        }
-    }
-}
-
-// The number in the header of the satellite with this identifier, held as its letter's byte times 100 and its number (7107 for G07): 13 where
-// the header has none such.
-pub fn satellite_of(file: &[u8], identifier: u64) -> SatelliteAnswer
-    ensures result { λ r. ⌜ r ≡ satelliteAnswer d (now (file .entry)) (fileOf d (now (file .entry))) identifier ⌝ }
-{
-    let rules = Rules::d();
-    match scan::scan_whole(rules, file) {
-        Front::Refused {
-            number,
-            line,
-            column: _,
-        } => no_satellite(number, line),
-        Front::File(tally) => {
-            let end = tally.end;
-            satellite_among(rules, &file[0..end], identifier)
         }
     }
 }
