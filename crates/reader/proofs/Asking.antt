@@ -3,7 +3,7 @@
 use mathlib.Core.Path.{_≡_, refl, sym, ap, _∙_}
 use mathlib.Core.Bool.{Bool, true, false, cond, _&&_}
 use mathlib.Core.List.{List, [], _∷_, _++_, append-nil}
-use Prim.Native.Nat.{ℕ, suc, _+_, _*_, _-_, _<_, _≤_}
+use Prim.Native.Nat.{ℕ, suc, _+_, _*_, _-_, _<_, _≤_, min}
 use native.Mathlib.Nat.{add-zero, sub-zero, mul-le-mul}
 use native.Mathlib.Decide.{decLt}
 use native.Mathlib.Omega.{arith}
@@ -11,7 +11,7 @@ use borrow.Author.Tests.{eq-eqb, ne-eqb, lt-ltb, le-ltb, ltb-true}
 use lib.Dec.{ltb}
 use lib.ListN.{length, getD, take, drop, length-append, length-drop}
 use lib.Seq.{take-all, take-length, length-take-le}
-use Rattle.laws.proofs.Bools.{and-left}
+use Rattle.laws.proofs.Bools.{both-true}
 use Rattle.laws.proofs.Lists.{rest-step, rest-none}
 use Rattle.layout.specs.Line.{trimmed}
 use Rattle.layout.proofs.Lines.{trim-stop, trimmed-front}
@@ -34,7 +34,7 @@ use Rattle.accepted.proofs.Local.{whole-ends}
 use Rattle.plain.proofs.Selected.{satellites, epochs, kind-1}
 use Rattle.plain.proofs.Counts.{count-is, satellites-bounds, epochs-bounds, identifiers-room}
 use Rattle.reader.specs.Reading.{linesTo, fileOf, identifiersOf}
-use Rattle.reader.specs.Questions.{textIn, noComment, commentAt, commentAnswer, commentWords, indexOf, epochsOf, noRow, rowAt, rowPlace}
+use Rattle.reader.specs.Questions.{textIn, noComment, commentLine, commentPlace, commentAt, commentAnswer, commentWords, indexOf, epochsOf, noRow, rowAt, rowPlace}
 use Rattle.reader.specs.declared.types.CommentAnswer.{CommentAnswer}
 use Rattle.reader.specs.declared.types.RowPlace.{RowPlace}
 
@@ -80,6 +80,12 @@ line-within test k bytes = go (decLt k (length (select test (linesOf bytes))))
     go (no h) =
         omega (arith, place-past test k 0 (linesOf bytes) (omega arith), ap length (nth-past k (select test (linesOf bytes)) (omega arith)), lines-within bytes)
 
+-- where a comment's text lies, by its line's place, its line and the text
+pub comment-told : (rules : Rules) (lines : List (List ℕ)) (k place indent : ℕ) (line text : List ℕ)
+    → place ≡ commentPlace rules lines k → line ≡ commentLine rules lines k → indent ≡ min 3 (length line) → text ≡ textIn line
+    → _≡_ {A = CommentAnswer} (record { refusal = 0; line = 0; at = place + indent; length = length text }) (commentAt rules lines k)
+comment-told rules lines k place indent line text p l i t = rw (p, i, t, l)
+
 -- the lines of an accepted file are those of a plain one
 pub front-plain : (rules : Rules) → Sound rules → (bytes : List ℕ) (t : Tally) → scanOf rules bytes ≡ front.File t → Plain rules (linesTo (t .end) bytes)
 front-plain rules sound bytes t e =
@@ -112,10 +118,11 @@ module _ (bytes : List ℕ) (t : Tally) (e : wholeOf (length bytes) (scanOf d by
 
 -- a number of a P line that is far from overflowing
 module _ (f : First) (epoch satellite n : ℕ) (has : (ltb epoch (f .epochs) && ltb satellite n) ≡ true) (few : f .epochs ≤ 100000) (fewer : n ≤ 255) where
-  pub row-product : epoch * n ≤ 25500000
-  row-product =
-      let before : epoch ≤ 100000 = omega (arith, ltb-true epoch (f .epochs) (and-left (ltb epoch (f .epochs)) (ltb satellite n) has)) in
-      omega (arith, mul-le-mul before fewer)
+  pub row-bounds : (epoch * n ≤ 25500000) × (satellite < 255)
+  row-bounds =
+      let tests = both-true (ltb epoch (f .epochs)) (ltb satellite n) has in
+      let before : epoch ≤ 100000 = omega (arith, ltb-true epoch (f .epochs) (tests .0)) in
+      (omega (arith, mul-le-mul before fewer), omega (arith, ltb-true satellite n (tests .1)))
 
 -- where a row lies, by what line 1 and the first `+ ` line say
 module _ (rules : Rules) (lines : List (List ℕ)) (epoch satellite : ℕ) (f : First) (n : ℕ) (is-first : f ≡ firstIn rules lines) (is-count : n ≡ countOf rules lines) where
