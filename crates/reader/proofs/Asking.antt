@@ -1,8 +1,8 @@
 -- Laws of the questions, on plain values: a text without its trailing blanks, a name's number, where a line lies, and what bounds the lines
 -- of an accepted file. Assumes nothing.
-use mathlib.Core.Path.{_≡_, refl, sym, ap, _∙_}
-use mathlib.Core.Bool.{Bool, true, false, cond, _&&_}
-use mathlib.Core.List.{List, [], _∷_, _++_, append-nil}
+use mathlib.Core.Path.{_≡_, sym, ap, _∙_}
+use mathlib.Core.Bool.{Bool, true, false, _&&_}
+use mathlib.Core.List.{List, [], _∷_, append-nil}
 use Prim.Native.Nat.{ℕ, suc, _+_, _*_, _-_, _<_, _≤_, min}
 use native.Mathlib.Nat.{add-zero, sub-zero, mul-le-mul}
 use native.Mathlib.Decide.{decLt}
@@ -10,33 +10,33 @@ use native.Mathlib.Omega.{arith}
 use borrow.Author.Tests.{eq-eqb, ne-eqb, lt-ltb, le-ltb, ltb-true}
 use lib.Dec.{ltb}
 use lib.ListN.{length, getD, take, drop, length-append, length-drop}
-use lib.Seq.{take-all, take-length, length-take-le}
-use Rattle.laws.proofs.Bools.{both-true}
-use Rattle.laws.proofs.Lists.{rest-step, rest-none}
+use lib.Seq.{take-all, length-take-le}
 use Rattle.layout.specs.Line.{trimmed}
-use Rattle.layout.proofs.Lines.{trim-stop, trimmed-front}
 use Rattle.lines.specs.Lines.{linesOf, joinLines, bytesIn, select, nth, placeFrom}
-use Rattle.lines.proofs.Picking.{nth-past, place-past, placed}
-use Rattle.lines.proofs.Split.{bytes-in, parted, first}
-use Rattle.header.specs.Rules.{d, maxEpochs}
-use Rattle.header.specs.declared.types.Rules.{Rules}
+use Rattle.header.specs.Rules.{d}
 use Rattle.file.specs.Kinds.{isKind, ofKind}
 use Rattle.file.specs.Plain.{Plain, Sound}
 use Rattle.file.specs.Table.{firstIn, countOf, slotsIn}
-use Rattle.record.specs.declared.types.First.{First}
 use Rattle.scan.specs.Run.{nothing, scanOf, wholeOf}
+use Rattle.reader.specs.Reading.{linesTo, fileOf, identifiersOf}
+use Rattle.reader.specs.Questions.{textIn, noComment, commentLine, commentPlace, commentAt, commentAnswer, commentWords, indexOf, epochsOf, noRow, rowAt, rowPlace}
+use Rattle.header.specs.declared.types.Rules.{Rules}
+use Rattle.record.specs.declared.types.First.{First}
 use Rattle.scan.specs.declared.Tally.{Tally}
 use Rattle.scan.specs.declared.Front.{Front}
 use Rattle.scan.specs.declared.Front.the-variants as front
+use Rattle.reader.specs.declared.types.CommentAnswer.{CommentAnswer}
+use Rattle.reader.specs.declared.types.RowPlace.{RowPlace}
+use Rattle.laws.proofs.Bools.{both-true}
+use Rattle.laws.proofs.Lists.{rest-step, rest-none}
+use Rattle.layout.proofs.Lines.{trim-stop, trimmed-front}
+use Rattle.lines.proofs.Picking.{nth-past, place-past, placed}
+use Rattle.lines.proofs.Split.{bytes-in, parted, first}
 use Rattle.accepted.proofs.Accepts.{run-plain}
 use Rattle.accepted.proofs.Files.{bytes-counted, d-sound}
 use Rattle.accepted.proofs.Local.{whole-ends}
 use Rattle.plain.proofs.Selected.{satellites, epochs, kind-1}
 use Rattle.plain.proofs.Counts.{count-is, satellites-bounds, epochs-bounds, identifiers-room}
-use Rattle.reader.specs.Reading.{linesTo, fileOf, identifiersOf}
-use Rattle.reader.specs.Questions.{textIn, noComment, commentLine, commentPlace, commentAt, commentAnswer, commentWords, indexOf, epochsOf, noRow, rowAt, rowPlace}
-use Rattle.reader.specs.declared.types.CommentAnswer.{CommentAnswer}
-use Rattle.reader.specs.declared.types.RowPlace.{RowPlace}
 
 -- the bytes up to the last that is no blank
 pub cut-here : (s : List ℕ) (n m : ℕ) → n ≡ suc m → m < length s → (getD s m 0 ≡ 32 → ⊥) → trimmed s ≡ trimmed (take n s) → take n s ≡ trimmed s
@@ -85,6 +85,11 @@ pub comment-told : (rules : Rules) (lines : List (List ℕ)) (k place indent : �
     → place ≡ commentPlace rules lines k → line ≡ commentLine rules lines k → indent ≡ min 3 (length line) → text ≡ textIn line
     → _≡_ {A = CommentAnswer} (record { refusal = 0; line = 0; at = place + indent; length = length text }) (commentAt rules lines k)
 comment-told rules lines k place indent line text p l i t = rw (p, i, t, l)
+
+-- and it begins within the bytes
+pub text-within : (rules : Rules) (bytes : List ℕ) (k place indent : ℕ) (line : List ℕ)
+    → place ≡ commentPlace rules (linesOf bytes) k → line ≡ commentLine rules (linesOf bytes) k → indent ≡ min 3 (length line) → place + indent ≤ length bytes
+text-within rules bytes k place indent line p l i = omega (arith, ap length l, line-within (isKind rules 8) k bytes)
 
 -- the lines of an accepted file are those of a plain one
 pub front-plain : (rules : Rules) → Sound rules → (bytes : List ℕ) (t : Tally) → scanOf rules bytes ≡ front.File t → Plain rules (linesTo (t .end) bytes)

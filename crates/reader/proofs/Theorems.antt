@@ -1,38 +1,34 @@
 -- What the answers of the questions mean for an accepted file.
 -- Assumes nothing.
 use mathlib.Core.Path.{_≡_, sym, ap, _∙_, subst}
-use mathlib.Core.Bool.{true, false, cond, _&&_}
-use mathlib.Core.List.{List, [], _∷_, _++_}
+use mathlib.Core.Bool.{true, false}
+use mathlib.Core.List.{List, _∷_, _++_}
 use Prim.Native.Nat.{ℕ, _+_, _*_, _<_, _≤_, min}
 use native.Mathlib.Decide.{decLe}
 use native.Mathlib.Omega.{arith}
 use borrow.Author.Tests.{lt-ltb}
-use lib.Dec.{ltb}
 use lib.ListN.{length, getD, take, drop}
 use lib.Seq.{take-all, take-append-le, drop-append-le, drop-drop}
-use Rattle.laws.proofs.Bools.{and-both}
-use Rattle.laws.proofs.Lists.{rest-none}
-use Rattle.layout.specs.Line.{trimmed}
-use Rattle.layout.proofs.Lines.{trimmed-front, trimmed-shorter}
 use Rattle.lines.specs.Lines.{linesOf, nth, placeFrom}
-use Rattle.lines.proofs.Picking.{placed}
-use Rattle.lines.proofs.Split.{first}
 use Rattle.header.specs.Rules.{d}
 use Rattle.file.specs.Kinds.{isKind, ofKind}
 use Rattle.file.specs.Plain.{Plain, isRowLine}
 use Rattle.file.specs.Table.{countOf}
-use Rattle.file.proofs.Finding.{line-at-place}
-use Rattle.scan.specs.Run.{scanOf, wholeOf}
+use Rattle.reader.specs.Reading.{fileOf, identifiersOf}
+use Rattle.reader.specs.Questions.{textIn, commentLine, commentPlace, commentAnswer, commentWords, epochsOf, rowIndex, rowPlace}
 use Rattle.scan.specs.declared.Tally.{Tally}
 use Rattle.scan.specs.declared.Front.{Front}
 use Rattle.scan.specs.declared.Front.the-variants as front
+use Rattle.laws.proofs.Lists.{rest-none}
+use Rattle.layout.proofs.Lines.{trimmed-front, trimmed-shorter}
+use Rattle.lines.proofs.Picking.{placed}
+use Rattle.lines.proofs.Split.{first}
+use Rattle.file.proofs.Finding.{line-at-place}
 use Rattle.accepted.proofs.Used.{accepted-front}
 use Rattle.accepted.proofs.Local.{whole-ends}
-use Rattle.plain.proofs.Selected.{satellites, names}
+use Rattle.plain.proofs.Selected.{satellites}
 use Rattle.plain.proofs.Counts.{count-is, identifiers-are}
 use Rattle.plain.proofs.Rule.{EpochAt, the-rule, place-at}
-use Rattle.reader.specs.Reading.{linesTo, fileOf, identifiersOf}
-use Rattle.reader.specs.Questions.{textIn, commentLine, commentPlace, commentAnswer, commentWords, epochsOf, rowIndex, rowPlace}
 use Rattle.reader.proofs.Asking.{whole-plain, epochs-are}
 
 -- a text that begins at column 4 of a line, or at its end, is found there

@@ -1,14 +1,14 @@
 -- `reader::questions::comment` meets its contract: what was found says which case holds.
 -- Assumes nothing.
-use mathlib.Core.Path.{_≡_, refl, _∙_}
+use mathlib.Core.Path.{_≡_, refl}
 use mathlib.Core.List.{[]}
 use native.Mathlib.Omega.{arith}
 use borrow.Author.Needs.{needs}
 use denote.Ref.{now}
 use Rattle.header.specs.Rules.{d}
-use Rattle.scan.specs.declared.Front.the-variants as front
 use Rattle.reader.specs.Reading.{fileOf}
 use Rattle.reader.specs.Questions.{commentWords}
+use Rattle.scan.specs.declared.Front.the-variants as front
 use Rattle.reader.proofs.Asking.{found-as, words-as, words-there, no-words-there, file-within}
 use Rattle.reader.proofs.questions.comment.Statement.{statement}
 use Rattle.reader.proofs.questions.comment.Tie as tie

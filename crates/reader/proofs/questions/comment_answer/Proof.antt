@@ -1,12 +1,12 @@
 -- `reader::questions::comment_answer` meets its contract: what was found says which case holds.
 -- Assumes nothing.
-use mathlib.Core.Path.{_≡_, refl, _∙_}
+use mathlib.Core.Path.{_≡_}
 use native.Mathlib.Omega.{arith}
 use borrow.Author.Needs.{needs}
 use Rattle.header.specs.Rules.{d}
-use Rattle.scan.specs.declared.Front.the-variants as front
 use Rattle.reader.specs.Reading.{fileOf}
 use Rattle.reader.specs.Questions.{commentAnswer}
+use Rattle.scan.specs.declared.Front.the-variants as front
 use Rattle.reader.proofs.Asking.{found-as, comment-as, comment-there, no-comment-there, file-within}
 use Rattle.reader.proofs.questions.comment_answer.Statement.{statement}
 use Rattle.reader.proofs.questions.comment_answer.Tie as tie

@@ -1,6 +1,6 @@
 -- `reader::questions::comment_at` meets its contract: a line ends within the bytes, so the place of its text does not overflow.
 -- Assumes nothing.
-use mathlib.Core.Path.{_≡_, ap}
+use mathlib.Core.Path.{_≡_}
 use mathlib.Core.Logic.{⊎-elim}
 use Prim.Native.Nat.{min}
 use native.Mathlib.Omega.{arith}
@@ -8,8 +8,7 @@ use borrow.Author.Needs.{needs}
 use denote.Ref.{now}
 use lib.ListN.{length}
 use Rattle.lines.specs.Lines.{linesOf}
-use Rattle.file.specs.Kinds.{isKind}
-use Rattle.reader.proofs.Asking.{line-within, comment-told}
+use Rattle.reader.proofs.Asking.{text-within, comment-told}
 use Rattle.reader.proofs.questions.comment_at.Statement.{statement}
 use Rattle.reader.proofs.questions.comment_at.Tie as tie
 
@@ -22,7 +21,9 @@ add-t8 c =
     let joined = c .before .before in
     let lined = joined .before in
     let a = lined .before .before .before .args in
-    omega (arith, indented joined, lined .before .place-of .ensures, ap length (lined .line-of .ensures), line-within (isKind (a .rules) 8) (a .k) (a .bytes .now))
+    omega
+    (arith, text-within (a .rules) (a .bytes .now) (a .k) (lined .before .place-of .result) (joined .if1 .indent) (now (lined .line-of .result))
+    (lined .before .place-of .ensures) (lined .line-of .ensures) (indented joined))
 
 returns : tie.Need-returns
 returns c =

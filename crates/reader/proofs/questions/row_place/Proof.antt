@@ -1,12 +1,12 @@
 -- `reader::questions::row_place` meets its contract: the lines of an accepted file are within the bounds that `row_at` asks for.
 -- Assumes nothing.
-use mathlib.Core.Path.{_≡_, refl, _∙_}
+use mathlib.Core.Path.{_≡_}
 use native.Mathlib.Omega.{arith}
 use borrow.Author.Needs.{needs}
 use Rattle.header.specs.Rules.{d}
-use Rattle.scan.specs.declared.Front.the-variants as front
 use Rattle.reader.specs.Reading.{fileOf}
 use Rattle.reader.specs.Questions.{rowPlace}
+use Rattle.scan.specs.declared.Front.the-variants as front
 use Rattle.reader.proofs.Asking.{found-as, row-as, row-there, bounded-as, file-within}
 use Rattle.reader.proofs.questions.row_place.Statement.{statement}
 use Rattle.reader.proofs.questions.row_place.Tie as tie

@@ -3,8 +3,8 @@
 use mathlib.Core.Path.{sym, ap, _∙_}
 use native.Mathlib.Omega.{arith}
 use borrow.Author.Needs.{needs}
-use Rattle.laws.proofs.Lists.{rest-none, rest-part}
 use Rattle.layout.specs.Line.{trimmed}
+use Rattle.laws.proofs.Lists.{rest-none, rest-part}
 use Rattle.reader.proofs.questions.text_of.Statement.{statement}
 use Rattle.reader.proofs.questions.text_of.Tie as tie
 
