@@ -171,9 +171,9 @@ module _ (rules : Rules) (r : rules ≡ d) (bytes : List ℕ) (t : Tally) where
   unfolding commentWords
   words-there k s l h is line = is ∙ rw (line, r, lines-as, lt-ltb k (t .comments) h)
 
-  pub row-there : (epoch satellite : ℕ) (a : RowPlace) → a ≡ rowAt rules (linesTo (t .end - 0) bytes) epoch satellite → a ≡ rowPlace d bytes (front.File t) epoch satellite
+  pub row-found : (epoch satellite : ℕ) (a : RowPlace) → a ≡ rowAt rules (linesTo (t .end - 0) bytes) epoch satellite → a ≡ rowPlace d bytes (front.File t) epoch satellite
   unfolding rowPlace
-  row-there epoch satellite a is = is ∙ rw (r, lines-as)
+  row-found epoch satellite a is = is ∙ rw (r, lines-as)
 
   pub bounded-as : fileOf d bytes ≡ front.File t → (epochsOf rules (linesTo (t .end - 0) bytes) ≤ 100000) × (countOf rules (linesTo (t .end - 0) bytes) ≤ 255)
   bounded-as e = rw (r, lines-as) (bounded bytes t e)
