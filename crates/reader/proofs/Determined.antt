@@ -5,6 +5,11 @@ use denote.Ref.{now}
 use Rattle.reader.proofs.questions.comment_answer.Reads as comment-answer
 use Rattle.reader.proofs.questions.comment.Reads as comment
 use Rattle.reader.proofs.questions.row_place.Reads as row-place
+use Rattle.reader.proofs.judging.judge.Reads as judge
+use Rattle.reader.proofs.judging.judge_front.Reads as judge-front
+use Rattle.reader.proofs.delivery.read.Reads as read
+use Rattle.reader.proofs.delivery.read_front.Reads as read-front
+use Rattle.reader.proofs.questions.satellite_of.Reads as satellite-of
 
 pub comment-answer-determined : (κs : _) (a : _) (r r′ : _) (s s′ : _) → comment-answer.Post κs a r s → comment-answer.Post κs a r′ s′ → r ≡ r′
 comment-answer-determined κs a r r′ s s′ p q = p ∙ sym q
@@ -14,3 +19,24 @@ comment-determined κs a r r′ s s′ p q = p ∙ sym q
 
 pub row-place-determined : (κs : _) (a : _) (r r′ : _) (s s′ : _) → row-place.Post κs a r s → row-place.Post κs a r′ s′ → r ≡ r′
 row-place-determined κs a r r′ s s′ p q = p ∙ sym q
+
+pub judge-determined : (κs : _) (a : _) (r r′ : _) (s s′ : _) → judge.Post κs a r s → judge.Post κs a r′ s′ → r ≡ r′
+judge-determined κs a r r′ s s′ p q = p ∙ sym q
+
+pub judge-front-determined : (κs : _) (a : _) (r r′ : _) (s s′ : _) → judge-front.Post κs a r s → judge-front.Post κs a r′ s′ → r ≡ r′
+judge-front-determined κs a r r′ s s′ p q = p ∙ sym q
+
+pub satellite-of-determined : (κs : _) (a : _) (r r′ : _) (s s′ : _) → satellite-of.Post κs a r s → satellite-of.Post κs a r′ s′ → r ≡ r′
+satellite-of-determined κs a r r′ s s′ p q = p ∙ sym q
+
+-- the answer and the four lent lists
+pub read-determined : (κs : _) (a : _) (r r′ : _) (s s′ : _) → read.Post κs a r s → read.Post κs a r′ s′
+    → (r ≡ r′) × (now (s .1 .0) ≡ now (s′ .1 .0)) × (now (s .1 .1 .0) ≡ now (s′ .1 .1 .0)) × (now (s .1 .1 .1 .0) ≡ now (s′ .1 .1 .1 .0)) × (now (s .1 .1 .1 .1 .0) ≡ now (s′ .1 .1 .1 .1 .0))
+read-determined κs a r r′ s s′ p q =
+    (p .0 ∙ sym (q .0), p .1 .0 ∙ sym (q .1 .0), p .1 .1 .0 ∙ sym (q .1 .1 .0), p .1 .1 .1 .0 ∙ sym (q .1 .1 .1 .0), p .1 .1 .1 .1 ∙ sym (q .1 .1 .1 .1))
+
+-- the answer and the four lent lists
+pub read-front-determined : (κs : _) (a : _) (r r′ : _) (s s′ : _) → read-front.Post κs a r s → read-front.Post κs a r′ s′
+    → (r ≡ r′) × (now (s .1 .0) ≡ now (s′ .1 .0)) × (now (s .1 .1 .0) ≡ now (s′ .1 .1 .0)) × (now (s .1 .1 .1 .0) ≡ now (s′ .1 .1 .1 .0)) × (now (s .1 .1 .1 .1 .0) ≡ now (s′ .1 .1 .1 .1 .0))
+read-front-determined κs a r r′ s s′ p q =
+    (p .0 ∙ sym (q .0), p .1 .0 ∙ sym (q .1 .0), p .1 .1 .0 ∙ sym (q .1 .1 .0), p .1 .1 .1 .0 ∙ sym (q .1 .1 .1 .0), p .1 .1 .1 .1 ∙ sym (q .1 .1 .1 .1))
