@@ -53,9 +53,9 @@ float-exact true zero h = exact (pos 0) (omega arith)
 float-exact true (suc m) h = rw (le-leb (suc m) largest h, lt-ltb 0 (suc m) (omega arith)) (exact (negsuc m) (omega arith))
 float-exact false m h = rw (le-leb m largest h) (exact (pos m) (omega arith))
 
--- no number has neither sign nor size
-number-not-nan : (s : Signed) {v : Float} → HasSigned v s → v ≡ nan → ⊥
-number-not-nan s has is = subst (λ (f : Float). HasSigned f s) is has
+-- and it is a number
+pub float-is-number : (s : Signed) → s .magnitude ≤ largest → floatUnless false s ≡ nan → ⊥
+float-is-number s h is = subst (λ (f : Float). HasSigned f s) is (float-exact (s .negative) (s .magnitude) h)
 
 module _ (p : Row) where
   -- ABSENCE OF THE PLACE, whatever the clock: exactly where all three are zero
@@ -121,9 +121,14 @@ module _ (p : Row) where
     clock = λ h. rw h (float-exact (p .clock .negative) (p .clock .magnitude) (w .clock));
   }
 
-  -- so no number is given for a number
-  pub number-is-number : Within → floatRow p .«clock_absent» ≡ false → floatRow p .clock ≡ nan → ⊥
-  number-is-number w h = number-not-nan (p .clock) (row-exact w .clock h)
+  -- so that what is no number is absent
+  pub nan-is-absent : Within → (floatRow p .x ≡ nan → floatRow p .«place_absent» ≡ true) × (floatRow p .clock ≡ nan → floatRow p .«clock_absent» ≡ true)
+  unfolding floatRow
+  nan-is-absent w = (go (noPlace p) (p .x) (w .x), go (noClock p) (p .clock) (w .clock))
+    where
+      go : (b : Bool) (s : Signed) → s .magnitude ≤ largest → floatUnless b s ≡ nan → b ≡ true
+      go true s h is = refl
+      go false s h is = absurd (float-is-number s h is)
 
 -- two rows of one place have the same place as floats, whatever their clocks; and of one clock the same clock, whatever their places
 pub place-by-itself : (p q : Row) → p .x ≡ q .x → p .y ≡ q .y → p .z ≡ q .z
