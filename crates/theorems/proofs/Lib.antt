@@ -1,1 +1,3 @@
 pub mod Cases
+pub mod Accepting
+pub mod Reading
