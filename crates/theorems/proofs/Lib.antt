@@ -1,3 +1,4 @@
 pub mod Cases
 pub mod Accepting
 pub mod Reading
+pub mod Judging
