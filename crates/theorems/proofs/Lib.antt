@@ -2,3 +2,5 @@ pub mod Cases
 pub mod Accepting
 pub mod Reading
 pub mod Judging
+pub mod Correlations
+pub mod Room
