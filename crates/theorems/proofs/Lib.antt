@@ -4,3 +4,4 @@ pub mod Reading
 pub mod Judging
 pub mod Correlations
 pub mod Room
+pub mod Floats

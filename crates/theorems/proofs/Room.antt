@@ -171,6 +171,13 @@ module _ (whole : Bool) (bytes : List ℕ) where
       λ room. rw found (room-suffices bytes t (found-front whole bytes t found) i x c r room),
     )
 
+    -- What is filled has just so many places.
+    pub lists-long : (length (identifiersOf d (linesTo (t .end) bytes)) ≡ headerTo t .satellites)
+        × (length (exponentsOf d (linesTo (t .end) bytes)) ≡ headerTo t .satellites)
+        × (length (commentsIn d (linesTo (t .end) bytes)) ≡ 77 * headerTo t .comments)
+        × (length (rowsIn d (linesTo (t .end) bytes)) ≡ rowsNeeded (headerTo t))
+    lists-long = let e = found-front whole bytes t found in (identifiers-long bytes t e, exponents-long bytes t e, comments-long bytes t e, rows-long bytes t e)
+
     -- With that room the answer is 0,
     pub room-accepted : (i x c r : ℕ) → Room (headerTo t) i x c r → answer i x c r ≡ acceptedAs d bytes t
     unfolding delivered
