@@ -6,7 +6,7 @@ use mathlib.Core.Logic.{_↔_}
 use mathlib.Core.List.{List}
 use Prim.Native.Nat.{ℕ, zero, suc, _≤_, _<_, _^_}
 use native.Mathlib.Omega.{arith}
-use borrow.Author.Tests.{eqb-true, eq-eqb, lt-ltb, not-true}
+use borrow.Author.Tests.{eqb-true, eq-eqb, ne-eqb, lt-ltb, ltb-true, not-true}
 use lib.Dec.{eqb, ltb}
 use lib.IntN.{ℤ, pos, negsuc, negℤ, natAbs}
 use lib.Ieee.{Float, nan, ofInt, binary64}
@@ -29,6 +29,7 @@ use Rattle.reader.specs.Questions.{rowPlace}
 use Rattle.adjust.specs.Floats.{floatUnless, noPlace, noClock, floatRow, absentRow, rowAnswer}
 use Rattle.plain.proofs.Exact.{exactSigned, Bounded, row-bounded, stored-exact}
 use Rattle.theorems.proofs.Accepting.{whole-taken}
+use Rattle.theorems.proofs.Room.{found-numbered}
 use Rattle.theorems.proofs.Reading.{header, identifier, rowsOf, rowAt, There, the-row}
 use Rattle.record.specs.declared.types.Row.{Row}
 use Rattle.record.specs.declared.types.Signed.{Signed}
@@ -147,3 +148,52 @@ row-asked bytes (t, e) k j there =
     let some : ltb k (header bytes .epochs) ≡ true = lt-ltb k (header bytes .epochs) (there .epoch) in
     let one : ltb j (header bytes .satellites) ≡ true = lt-ltb j (header bytes .satellites) (there .satellite) in
     rw (e, whole-taken bytes t e, some, one, line-at-place (isKind d 10) (rowAt bytes k j) bytes)
+
+-- An epoch or a satellite that the file does not have: 13, line 0, and both absent.
+pub row-not-there : (bytes : List ℕ) → IsFile d bytes → (k j : ℕ) → (There bytes k j → ⊥) → asked bytes k j ≡ rowRefused 13 0
+unfolding rowAnswer rowPlace headerIn
+row-not-there bytes (t, e) k j missing = go (ltb k (header bytes .epochs)) (ltb j (header bytes .satellites)) refl refl
+  where
+    go : (a b : Bool) → ltb k (header bytes .epochs) ≡ a → ltb j (header bytes .satellites) ≡ b → asked bytes k j ≡ rowRefused 13 0
+    go true true some one =
+        absurd (missing (record { epoch = ltb-true k (header bytes .epochs) some; satellite = ltb-true j (header bytes .satellites) one }))
+    go true false some one = rw (e, whole-taken bytes t e, some, one)
+    go false b some one = rw (e, whole-taken bytes t e, some)
+
+-- A file that is refused: its own number and line come first, and both are absent.
+pub row-refused : (bytes : List ℕ) (number line column : ℕ) → fileOf d bytes ≡ front.Refused number line column
+    → (k j : ℕ) → asked bytes k j ≡ rowRefused number line
+unfolding rowAnswer rowPlace
+row-refused bytes number line column e k j =
+    let some = found-numbered true bytes number line column e in
+    let apart : eqb number 0 ≡ false = ne-eqb number 0 (λ zero. omega arith) in
+    rw (e, apart)
+
+-- So of every row of an accepted file.
+module _ (bytes : List ℕ) (accepted : IsFile d bytes) (k j : ℕ) (there : There bytes k j) where
+  -- what its P line holds
+  abbrev pub held : Row
+  held = rowOf false (nth (rowAt bytes k j) (rowsOf false bytes))
+
+  named : isRowLine d false (identifier bytes j) (nth (rowAt bytes k j) (rowsOf false bytes)) ≡ true
+  named = the-row bytes accepted k j there .names-it
+
+  -- Where its place is not marked absent, its three coordinates are exactly those of its P line.
+  pub asked-place : asked bytes k j .row .«place_absent» ≡ false
+      → Exactly (asked bytes k j .row .x) (exactSigned (held .x))
+      × Exactly (asked bytes k j .row .y) (exactSigned (held .y))
+      × Exactly (asked bytes k j .row .z) (exactSigned (held .z))
+  asked-place = rw (row-asked bytes accepted k j there) (place-exact (identifier bytes j) (nth (rowAt bytes k j) (rowsOf false bytes)) named)
+
+  -- Where its clock is not marked absent, it is exactly that of its P line.
+  pub asked-clock : asked bytes k j .row .«clock_absent» ≡ false → Exactly (asked bytes k j .row .clock) (exactSigned (held .clock))
+  asked-clock = rw (row-asked bytes accepted k j there) (clock-exact (identifier bytes j) (nth (rowAt bytes k j) (rowsOf false bytes)) named)
+
+  -- Its place is marked absent exactly when the three fields are zero, whatever the clock.
+  pub asked-no-place : (asked bytes k j .row .«place_absent» ≡ true)
+      ↔ ((exactSigned (held .x) ≡ pos 0) × (exactSigned (held .y) ≡ pos 0) × (exactSigned (held .z) ≡ pos 0))
+  asked-no-place = rw (row-asked bytes accepted k j there) (place-absent held)
+
+  -- Its clock is marked absent exactly at +999,999,999,999, whatever the place.
+  pub asked-no-clock : (asked bytes k j .row .«clock_absent» ≡ true) ↔ (exactSigned (held .clock) ≡ pos 999_999_999_999)
+  asked-no-clock = rw (row-asked bytes accepted k j there) (clock-absent held)

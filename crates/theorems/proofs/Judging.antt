@@ -1,7 +1,7 @@
 -- The front page for judging: which bytes are accepted, where a refusal stands and with which number, what stands after a file, and how a
 -- file is read line by line.
 -- Assumes nothing.
-use mathlib.Core.Path.{_≡_, refl, sym, ap, _∙_, subst}
+use mathlib.Core.Path.{_≡_, refl, sym, ap, ap₂, _∙_}
 use mathlib.Core.Bool.{Bool, true, false}
 use mathlib.Core.Logic.{_⊎_, inl, inr, _↔_}
 use mathlib.Core.List.{List, [], _++_}
@@ -17,7 +17,7 @@ use Rattle.lines.specs.Lines.{linesOf, joinLines, nth}
 use Rattle.file.specs.Plain.{Accepted}
 use Rattle.machine.specs.Step.{stepOf}
 use Rattle.scan.specs.Run.{wholeOf, IsFile, Going, atFirst}
-use Rattle.reader.specs.Reading.{linesTo, frontOf, fileOf, linesIn, judged, enough, delivered}
+use Rattle.reader.specs.Reading.{linesTo, frontOf, fileOf, linesIn, judged, enough, delivered, filled}
 use Rattle.accepted.proofs.Files.{d-exactly}
 use Rattle.accepted.proofs.Local as local
 use Rattle.accepted.proofs.Lowest.{Earns, lowest, none}
@@ -176,6 +176,17 @@ module _ (a b : List ℕ) (t : Tally) (accepted : frontOf d a ≡ front.File t) 
   unfolding enough
   enough-after i x c r = rw (front-after, accepted, taken)
 
+  -- Each list of the table that is lent is filled the same.
+  pub filled-after : {A : Type 0} (list : List (List ℕ) → List A) (i x c r : ℕ) (old : List A)
+      → filled (enough d (a ++ b) (frontOf d (a ++ b)) i x c r) (list (linesIn (a ++ b) (frontOf d (a ++ b)))) old
+      ≡ filled (enough d a (frontOf d a) i x c r) (list (linesIn a (frontOf d a))) old
+  filled-after list i x c r old =
+      ap₂ (λ (room : Bool) (ls : List (List ℕ)). filled room (list ls) old) (enough-after i x c r) lines-after
+
+-- An accepted file followed by anything is read from the front as it is read whole, and its length is told.
+pub file-then-anything : (a b : List ℕ) (t : Tally) → fileOf d a ≡ front.File t → (frontOf d (a ++ b) ≡ front.File t) × (t .end ≡ length a)
+file-then-anything a b t e = let w = local.whole-ends d a t e in (local.scan-local d a b t (w .0), w .1)
+
 -- No accepted file is the beginning of a longer accepted file.
 pub not-longer : (a b : List ℕ) → IsFile d a → IsFile d (a ++ b) → b ≡ []
 not-longer a b f g = local.not-longer d a b f g
@@ -190,6 +201,12 @@ front-whole bytes t e =
 -- reads the next line, for every k.
 pub stepping : (bytes : List ℕ) (k : ℕ) → AllGoOn bytes k → k ≤ length (linesOf bytes) → Stands d bytes k (after bytes k)
 stepping bytes k goes h = stands-behind d bytes k goes h
+
+-- So it is after each line of an accepted file but its last.
+pub stepping-file : (bytes : List ℕ) (t : Tally) → frontOf d bytes ≡ front.File t → (k : ℕ) → k < t .lines → Stands d bytes k (after bytes k)
+stepping-file bytes t e k h =
+    let ends = accepted-steps d bytes t e in
+    stepping bytes k (λ i below. ends .goes i (omega arith)) (omega (arith, ends .within))
 
 -- Each line of an accepted file but its last goes on, and the last ends the file at its last byte.
 pub stepping-ends : (bytes : List ℕ) (t : Tally) → frontOf d bytes ≡ front.File t → EndsAfter d bytes t (t .lines - 1)

@@ -17,7 +17,7 @@ use Rattle.file.specs.Table.{headerIn, rowLines, rowsIn}
 use Rattle.scan.specs.Run.{IsFile}
 use Rattle.reader.specs.Reading.{identifiersOf}
 use Rattle.plain.proofs.Bytes.{bytes-enough}
-use Rattle.plain.proofs.Counts.{identifiers-are, places-known-and-absent}
+use Rattle.plain.proofs.Counts.{identifiers-are, rows-many, rows-many-both, places-known-and-absent}
 use Rattle.plain.proofs.Different.{one-of-each}
 use Rattle.plain.proofs.Exact.{exactNumbers}
 use Rattle.plain.proofs.Places.{rowNumber, Has}
@@ -81,6 +81,13 @@ module _ (bytes : List ℕ) (accepted : IsFile d bytes) where
   -- In mode P there is no V row.
   pub motions-none : header bytes .velocity ≡ false → rowsOf true bytes ≡ []
   motions-none alone = no-motions p (sym (says-velocity p) ∙ alone)
+
+  -- In mode P the rows of the table are the P rows; in mode V they are P and V in turn, twice as many.
+  pub table-rows : header bytes .velocity ≡ false → length (rowLines d (linesOf bytes)) ≡ header bytes .satellites * header bytes .epochs
+  table-rows alone = rw (says-satellites p, says-epochs p) (rows-many p (sym (says-velocity p) ∙ alone))
+
+  pub table-rows-both : header bytes .velocity ≡ true → length (rowLines d (linesOf bytes)) ≡ 2 * (header bytes .satellites * header bytes .epochs)
+  table-rows-both both = rw (says-satellites p, says-epochs p) (rows-many-both p (sym (says-velocity p) ∙ both))
 
   -- The rows with a place and those without are all of them.
   pub with-and-without : length (select (absentIn d) (rowsOf false bytes)) + length (select (λ (l : List ℕ). not (absentIn d l)) (rowsOf false bytes))

@@ -10,7 +10,7 @@ use native.Mathlib.Omega.{arith}
 use borrow.Author.Tests.{leb-true, le-leb}
 use lib.Dec.{leb, eqb}
 use lib.ListN.{length, take, drop, length-append}
-use lib.Seq.{drop-at}
+use lib.Seq.{take-at, drop-at}
 use Rattle.laws.proofs.Bools.{and-left, and-right, and-both}
 use Rattle.header.specs.Rules.{d}
 use Rattle.lines.specs.Lent.{over}
@@ -57,7 +57,7 @@ found-front true bytes t e = whole-ends d bytes t e .0
 found-front false bytes t e = e
 
 -- a refusal that was found has a number
-found-numbered : (whole : Bool) (bytes : List ℕ) (number line column : ℕ) → foundIn whole bytes ≡ front.Refused number line column → 1 ≤ number
+pub found-numbered : (whole : Bool) (bytes : List ℕ) (number line column : ℕ) → foundIn whole bytes ≡ front.Refused number line column → 1 ≤ number
 found-numbered false bytes number line column e = refused-numbers bytes number line column e .0
 found-numbered true bytes number line column e = go (whole-refused bytes number line column e)
   where
@@ -224,9 +224,9 @@ module _ (whole : Bool) (bytes : List ℕ) where
 
   -- Where it is 0, the new elements stand from the first place on, and the places past them are as they were.
   pub success-fills : {A : Type 0} (i x c r : ℕ) (new old : List A) → answer i x c r .refusal ≡ 0
-      → (filled (fills i x c r) new old ≡ over new old) × (drop (length new) (filled (fills i x c r) new old) ≡ drop (length new) old)
+      → (take (length new) (filled (fills i x c r) new old) ≡ new) × (drop (length new) (filled (fills i x c r) new old) ≡ drop (length new) old)
   success-fills i x c r new old zero =
       let e = answer-decides i x c r .0 zero in (
-        ap (λ (b : Bool). filled b new old) e,
+        ap (λ (b : Bool). take (length new) (filled b new old)) e ∙ take-at new (drop (length new) old) (length new) refl,
         ap (λ (b : Bool). drop (length new) (filled b new old)) e ∙ drop-at new (drop (length new) old) (length new) refl,
       )
