@@ -1,0 +1,46 @@
+-- EP and EV lines are skipped. 01: "two accepted files that differ only after column 2 of such lines have the same table".
+-- Assumes nothing.
+use mathlib.Core.Path.{_≡_, refl, ap, ap₂, _∙_}
+use mathlib.Core.Bool.{Bool, true, false}
+use mathlib.Core.List.{List}
+use Prim.Native.Nat.{ℕ}
+use Rattle.header.specs.Rules.{d}
+use Rattle.lines.specs.Lines.{linesOf, joinLines}
+use Rattle.file.specs.Table.{countOf, headerIn, slotsIn, commentsIn, rowsIn}
+use Rattle.scan.specs.Run.{IsFile}
+use Rattle.accepted.proofs.Files.{plain-accepts, d-sound}
+use Rattle.plain.proofs.Notes.{AfterTwo, SameBut, SameTable, after-two}
+use Rattle.plain.proofs.Skipped.{same-plain}
+use Rattle.theorems.proofs.Accepting.{file-plain}
+use Rattle.header.specs.declared.types.Header.{Header}
+
+-- the lines of two files are the same but for what stands after column 2 of EP and EV lines
+abbrev pub OnlyAfterTwo : List ℕ → List ℕ → Type 0
+OnlyAfterTwo a b = AfterTwo d (linesOf a) (linesOf b)
+
+module _ (a b : List ℕ) (same : OnlyAfterTwo a b) where
+  both : SameTable d (linesOf a) (linesOf b)
+  both = after-two d (linesOf a) (linesOf b) same
+
+  -- Files that differ only after column 2 of EP and EV lines have the same header,
+  pub same-header : headerIn d (linesOf a) ≡ headerIn d (linesOf b)
+  same-header = both .header
+
+  -- the same identifiers (false) and exponents (true) of the satellites,
+  pub same-slots : (exponents : Bool) → slotsIn d exponents (countOf d (linesOf a)) (linesOf a) ≡ slotsIn d exponents (countOf d (linesOf b)) (linesOf b)
+  unfolding headerIn
+  same-slots exponents =
+      ap (λ (h : Header). slotsIn d exponents (h .satellites) (linesOf a)) same-header ∙ both .slots exponents (countOf d (linesOf b))
+
+  -- the same comments,
+  pub same-comments : commentsIn d (linesOf a) ≡ commentsIn d (linesOf b)
+  same-comments = both .comments
+
+  -- and the same rows.
+  pub same-rows : rowsIn d (linesOf a) ≡ rowsIn d (linesOf b)
+  same-rows = both .rows
+
+-- Where EP lines are replaced by EP lines and EV lines by EV lines, an accepted file stays accepted.
+pub still-accepted : (a : List ℕ) (lines : List (List ℕ)) → IsFile d a → SameBut d (linesOf a) lines → IsFile d (joinLines lines)
+still-accepted a lines accepted same =
+    plain-accepts d d-sound (joinLines lines) (lines, refl, same-plain d (linesOf a) lines same (file-plain a accepted))

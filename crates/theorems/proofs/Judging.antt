@@ -1,0 +1,213 @@
+-- The front page for judging: which bytes are accepted, where a refusal stands and with which number, what stands after a file, and how a
+-- file is read line by line.
+-- Assumes nothing.
+use mathlib.Core.Path.{_≡_, refl, sym, ap, ap₂, _∙_}
+use mathlib.Core.Bool.{Bool, true, false}
+use mathlib.Core.Logic.{_⊎_, inl, inr, _↔_}
+use mathlib.Core.List.{List, [], _++_}
+use Prim.Native.Nat.{ℕ, _+_, _-_, _≤_, _<_}
+use native.Mathlib.Nat.{le-antisymm}
+use native.Mathlib.Omega.{arith}
+use borrow.Author.Tests.{ltb-true}
+use lib.Dec.{ltb}
+use lib.ListN.{length, take}
+use lib.Seq.{take-append-le, length-take-le}
+use Rattle.header.specs.Rules.{d}
+use Rattle.lines.specs.Lines.{linesOf, joinLines, nth}
+use Rattle.file.specs.Plain.{Accepted}
+use Rattle.machine.specs.Step.{stepOf}
+use Rattle.scan.specs.Run.{wholeOf, IsFile, Going, atFirst}
+use Rattle.reader.specs.Reading.{linesTo, frontOf, fileOf, linesIn, judged, enough, delivered, filled}
+use Rattle.accepted.proofs.Files.{d-exactly}
+use Rattle.accepted.proofs.Local as local
+use Rattle.accepted.proofs.Lowest.{Earns, lowest, none}
+use Rattle.accepted.proofs.Refused as stop
+use Rattle.accepted.proofs.Refused.{EndsAfter, accepted-steps, refusal-numbered}
+use Rattle.accepted.proofs.Stepping.{GoesOn, GoOn, behind, Stands, stands-behind}
+use Rattle.accepted.proofs.Used.{accepted-front}
+use Rattle.machine.specs.declared.types.State.{State}
+use Rattle.machine.specs.declared.types.Verdict.{Verdict}
+use Rattle.machine.specs.declared.types.Verdict.the-variants as verdict
+use Rattle.reader.specs.declared.types.Reading.{Reading}
+use Rattle.scan.specs.declared.Tally.{Tally}
+use Rattle.scan.specs.declared.Front.{Front}
+use Rattle.scan.specs.declared.Front.the-variants as front
+
+-- The machine accepts exactly the files of the plain definition.
+pub accepts-exactly : (bytes : List ℕ) → IsFile d bytes ↔ Accepted d bytes
+accepts-exactly bytes = d-exactly bytes
+
+-- where one is after the first k lines of some bytes: the place, the state and the identifiers
+abbrev pub after : List ℕ → ℕ → Going
+after bytes k = behind d atFirst (linesOf bytes) k
+
+-- each of the first k lines is read without fault and does not end the file
+abbrev pub AllGoOn : List ℕ → ℕ → Type 0
+AllGoOn bytes k = GoOn d atFirst (linesOf bytes) k
+
+-- a number of the table "Numbers of the answers" that line k, counted from 0, earns where it stands
+abbrev pub Earned : List ℕ → ℕ → ℕ → Type 0
+Earned bytes k m = Earns d (after bytes k .state) (after bytes k .names) (nth k (linesOf bytes)) m
+
+-- what the machine says of that line
+abbrev said : List ℕ → ℕ → Verdict
+said bytes k = stepOf d (after bytes k .state) (after bytes k .names) (nth k (linesOf bytes))
+
+-- it is refused with a number that it earns, the lowest; or it earns none
+said-lowest : (bytes : List ℕ) (k m c : ℕ) → said bytes k ≡ verdict.Fault m c → Earned bytes k m × ((m′ : ℕ) → Earned bytes k m′ → m ≤ m′)
+said-lowest bytes k m c e = lowest d (after bytes k .state) (after bytes k .names) (nth k (linesOf bytes)) m c e
+
+said-none : (bytes : List ℕ) (k : ℕ) → ((m c : ℕ) → said bytes k ≡ verdict.Fault m c → ⊥) → (m : ℕ) → Earned bytes k m → ⊥
+said-none bytes k f = none d (after bytes k .state) (after bytes k .names) (nth k (linesOf bytes)) .1 f
+
+-- the line is the first faulty one, and the number the lowest that it earns; or the lines run out, which is 1
+pub record FirstFault (bytes : List ℕ) (number line : ℕ) : Type 0 where
+  pub k : ℕ
+  pub line-is : line ≡ k + 1
+  pub goes : AllGoOn bytes k
+  pub why :
+      ((k ≡ length (linesOf bytes)) × (number ≡ 1))
+      ⊎ ((k < length (linesOf bytes)) × Earned bytes k number × ((m : ℕ) → Earned bytes k m → number ≤ m))
+
+-- a line that goes on earns no number
+pub goes-clean : (bytes : List ℕ) (k i : ℕ) → AllGoOn bytes k → i < k → (m : ℕ) → Earned bytes i m → ⊥
+goes-clean bytes k i goes h =
+    let on = goes i h in
+    said-none bytes i (λ m c e. apart m c (on .0) (sym e ∙ on .1))
+  where
+    apart : (m c : ℕ) (s : State) → verdict.Fault m c ≡ verdict.Next s → ⊥
+    apart m c s e = let z : _≡_ {A = ℕ} 0 1 = cc in omega arith
+
+module _ (bytes : List ℕ) (number line : ℕ) where
+  -- A file is refused at its first faulty line, with the lowest number of that line.
+  pub refused-first : (column : ℕ) → frontOf d bytes ≡ front.Refused number line column → FirstFault bytes number line
+  refused-first column e = go (stop.refused-first d bytes number line column e)
+    where
+      go : stop.RefusedAt d bytes number line column → FirstFault bytes number line
+      go r = record { k = r .k; line-is = r .line-is; goes = r .goes; why = by (r .why) }
+        where
+          by : ((r .k ≡ length (linesOf bytes)) × (number ≡ 1) × (column ≡ 0))
+              ⊎ ((r .k < length (linesOf bytes)) × (said bytes (r .k) ≡ verdict.Fault number column))
+              → ((r .k ≡ length (linesOf bytes)) × (number ≡ 1))
+              ⊎ ((r .k < length (linesOf bytes)) × Earned bytes (r .k) number × ((m : ℕ) → Earned bytes (r .k) m → number ≤ m))
+          by (inl (n, m, c)) = inl (n, m)
+          by (inr (h, v)) =
+              let low = said-lowest bytes (r .k) number column v in
+              inr (h, low .0, low .1)
+
+  -- And where a line is the first faulty one, the file is refused there with the lowest number that it earns.
+  pub first-refused : FirstFault bytes number line → (column : ℕ) × (frontOf d bytes ≡ front.Refused number line column)
+  first-refused r = by (r .why)
+    where
+      by : ((r .k ≡ length (linesOf bytes)) × (number ≡ 1))
+          ⊎ ((r .k < length (linesOf bytes)) × Earned bytes (r .k) number × ((m : ℕ) → Earned bytes (r .k) m → number ≤ m))
+          → (column : ℕ) × (frontOf d bytes ≡ front.Refused number line column)
+      by (inl (n, m)) = (0, stop.first-refused d bytes number line 0 (record { k = r .k; line-is = r .line-is; goes = r .goes; why = inl (n, m, refl) }))
+      by (inr (h, earned, least)) = go (said bytes (r .k)) refl
+        where
+          clean : ((m c : ℕ) → said bytes (r .k) ≡ verdict.Fault m c → ⊥) → (column : ℕ) × (frontOf d bytes ≡ front.Refused number line column)
+          clean f = absurd (said-none bytes (r .k) f number earned)
+
+          go : (v : Verdict) → said bytes (r .k) ≡ v → (column : ℕ) × (frontOf d bytes ≡ front.Refused number line column)
+          go (verdict.Fault m c) e =
+              let low = said-lowest bytes (r .k) m c e in
+              let same : m ≡ number = le-antisymm (low .1 number earned) (least m (low .0)) in
+              (c, stop.first-refused d bytes number line c (record {
+                k = r .k;
+                line-is = r .line-is;
+                goes = r .goes;
+                why = inr (h, e ∙ ap (λ (x : ℕ). verdict.Fault x c) same);
+              }))
+          go (verdict.Next s) e = clean (λ m c f. let both : verdict.Fault m c ≡ verdict.Next s = sym f ∙ e in let z : _≡_ {A = ℕ} 0 1 = cc in omega arith)
+          go verdict.Finished e = clean (λ m c f. let both : verdict.Fault m c ≡ verdict.Finished = sym f ∙ e in let z : _≡_ {A = ℕ} 0 1 = cc in omega arith)
+
+-- The number of such a refusal is 1 to 10.
+pub refused-numbers : (bytes : List ℕ) (number line column : ℕ) → frontOf d bytes ≡ front.Refused number line column → (1 ≤ number) × (number ≤ 10)
+refused-numbers bytes number line column e = refusal-numbered d bytes number line column e
+
+-- A whole file is refused as the file at its front is; or bytes stand after the EOF line: 11, the line after EOF.
+pub whole-refused : (bytes : List ℕ) (number line column : ℕ) → fileOf d bytes ≡ front.Refused number line column
+    → (frontOf d bytes ≡ front.Refused number line column)
+    ⊎ ((t : Tally) × (frontOf d bytes ≡ front.File t) × (t .end < length bytes) × (number ≡ 11) × (line ≡ t .lines + 1))
+unfolding wholeOf
+whole-refused bytes number line column e = go (frontOf d bytes) refl
+  where
+    go : (f : Front) → frontOf d bytes ≡ f
+        → (frontOf d bytes ≡ front.Refused number line column)
+        ⊎ ((t : Tally) × (frontOf d bytes ≡ front.File t) × (t .end < length bytes) × (number ≡ 11) × (line ≡ t .lines + 1))
+    go (front.Refused m l c) is = inl (is ∙ rw is at e)
+    go (front.File t) is = by (ltb (t .end) (length bytes)) refl
+      where
+        by : (b : Bool) → ltb (t .end) (length bytes) ≡ b
+            → (frontOf d bytes ≡ front.Refused number line column)
+            ⊎ ((u : Tally) × (frontOf d bytes ≡ front.File u) × (u .end < length bytes) × (number ≡ 11) × (line ≡ u .lines + 1))
+        by true less =
+            let same : front.Refused 11 (t .lines + 1) 0 ≡ front.Refused number line column = rw (is, less) at e in
+            let m : 11 ≡ number = cc in
+            let l : t .lines + 1 ≡ line = cc in
+            inr (t, is, ltb-true (t .end) (length bytes) less, sym m, sym l)
+        by false all =
+            let both : front.File t ≡ front.Refused number line column = rw (is, all) at e in
+            let z : _≡_ {A = ℕ} 0 1 = cc in
+            absurd (omega arith)
+
+-- A file at the front of some bytes is at the front of those bytes and any after them: the same counts, the same lines.
+module _ (a b : List ℕ) (t : Tally) (accepted : frontOf d a ≡ front.File t) where
+  pub front-after : frontOf d (a ++ b) ≡ front.File t
+  front-after = local.scan-local d a b t accepted
+
+  taken : take (t .end) (a ++ b) ≡ take (t .end) a
+  taken = take-append-le (t .end) a b (accepted-front d a t accepted .within)
+
+  pub lines-after : linesIn (a ++ b) (frontOf d (a ++ b)) ≡ linesIn a (frontOf d a)
+  lines-after = rw (front-after, accepted, taken)
+
+  -- So judging answers the same, whatever stands after the file,
+  pub judged-after : judged d (a ++ b) (frontOf d (a ++ b)) ≡ judged d a (frontOf d a)
+  unfolding judged
+  judged-after = rw (front-after, accepted, taken)
+
+  -- and so does reading, whatever room is lent.
+  pub delivered-after : (i x c r : ℕ) → delivered d (a ++ b) (frontOf d (a ++ b)) i x c r ≡ delivered d a (frontOf d a) i x c r
+  unfolding delivered
+  delivered-after i x c r = rw (front-after, accepted, taken)
+
+  pub enough-after : (i x c r : ℕ) → enough d (a ++ b) (frontOf d (a ++ b)) i x c r ≡ enough d a (frontOf d a) i x c r
+  unfolding enough
+  enough-after i x c r = rw (front-after, accepted, taken)
+
+  -- Each list of the table that is lent is filled the same.
+  pub filled-after : {A : Type 0} (list : List (List ℕ) → List A) (i x c r : ℕ) (old : List A)
+      → filled (enough d (a ++ b) (frontOf d (a ++ b)) i x c r) (list (linesIn (a ++ b) (frontOf d (a ++ b)))) old
+      ≡ filled (enough d a (frontOf d a) i x c r) (list (linesIn a (frontOf d a))) old
+  filled-after list i x c r old =
+      ap₂ (λ (room : Bool) (ls : List (List ℕ)). filled room (list ls) old) (enough-after i x c r) lines-after
+
+-- An accepted file followed by anything is read from the front as it is read whole, and its length is told.
+pub file-then-anything : (a b : List ℕ) (t : Tally) → fileOf d a ≡ front.File t → (frontOf d (a ++ b) ≡ front.File t) × (t .end ≡ length a)
+file-then-anything a b t e = let w = local.whole-ends d a t e in (local.scan-local d a b t (w .0), w .1)
+
+-- No accepted file is the beginning of a longer accepted file.
+pub not-longer : (a b : List ℕ) → IsFile d a → IsFile d (a ++ b) → b ≡ []
+not-longer a b f g = local.not-longer d a b f g
+
+-- The length that is told of a file at the front is that of a whole file, which is read the same by itself.
+pub front-whole : (bytes : List ℕ) (t : Tally) → frontOf d bytes ≡ front.File t → fileOf d (take (t .end) bytes) ≡ front.File t
+front-whole bytes t e =
+    let a = accepted-front d bytes t e in
+    local.ends-whole d (take (t .end) bytes) t (local.scan-again d bytes t e) (sym (length-take-le (t .end) bytes (a .within)))
+
+-- STEPPING: after k lines that go on the place is the length of those lines, the state is the machine's after them, and there the line reader
+-- reads the next line, for every k.
+pub stepping : (bytes : List ℕ) (k : ℕ) → AllGoOn bytes k → k ≤ length (linesOf bytes) → Stands d bytes k (after bytes k)
+stepping bytes k goes h = stands-behind d bytes k goes h
+
+-- So it is after each line of an accepted file but its last.
+pub stepping-file : (bytes : List ℕ) (t : Tally) → frontOf d bytes ≡ front.File t → (k : ℕ) → k < t .lines → Stands d bytes k (after bytes k)
+stepping-file bytes t e k h =
+    let ends = accepted-steps d bytes t e in
+    stepping bytes k (λ i below. ends .goes i (omega arith)) (omega (arith, ends .within))
+
+-- Each line of an accepted file but its last goes on, and the last ends the file at its last byte.
+pub stepping-ends : (bytes : List ℕ) (t : Tally) → frontOf d bytes ≡ front.File t → EndsAfter d bytes t (t .lines - 1)
+stepping-ends bytes t e = accepted-steps d bytes t e
