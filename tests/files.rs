@@ -47,10 +47,11 @@
 mod lines;
 
 use lines::{fail, without_trailing_blanks};
-use lines::{Exponent, Identifier, Line, Moment, Reader, Tally};
+use lines::{Exponent, Identifier, Line, Moment, Random, Reader, Tally};
+use std::collections::HashSet;
 use std::io::{Read, Write};
 use std::ops::Range;
-use std::process::exit;
+use std::process::{exit, Command, ExitStatus, Stdio};
 
 // ---------------------------------------------------------------------------
 // Refusals, and the lines of a file
@@ -1025,7 +1026,7 @@ const HAND: &[Hand] = &[
     (Nothing, &[], 1, 1),
     (Nothing, &[After(b"#d")], 1, 1),
     (Nothing, &[After(b"\x80\x00")], 1, 1),
-    (Nothing, &[AfterMany(b'x', 30_000)], 1, 1),
+    (Nothing, &[AfterMany(b'x', 20_000)], 1, 1),
     (Paper, &[Keep(1)], 1, 2),
     (Paper, &[Keep(22)], 1, 23),
     (Paper, &[Keep(24)], 1, 25),
@@ -1070,7 +1071,7 @@ const HAND: &[Hand] = &[
     (Motion, &[Put(25, 80, "~")], 0, 0),
     (Paper, &[Put(24, 1, "x"), Put(24, 81, "x")], 3, 24),
     (Paper, &[Join(1)], 3, 1),
-    (Nothing, &[AfterMany(b'x', 30_000), After(b"\n")], 3, 1),
+    (Nothing, &[AfterMany(b'x', 9000), After(b"\n")], 3, 1),
     (Nothing, &[AfterMany(b' ', 81), After(b"\n")], 3, 1),
     (Nothing, &[AfterMany(b' ', 80), After(b"\n")], 4, 1),
     // 4: not a kind that may stand here.
@@ -1492,6 +1493,1022 @@ const ONE_SECOND: [Edit; 3] = [
     Put(23, 21, " 1.00000000"),
 ];
 
+// ---------------------------------------------------------------------------
+// Generated files: what they hold
+// ---------------------------------------------------------------------------
+
+/// True once in so many times.
+fn once_in(random: &mut Random, times: usize) -> bool {
+    random.below(times) == 0
+}
+
+/// What a generated file says before its rows.
+struct Plan {
+    velocities: bool,
+    start: i64,
+    interval: i64,
+    epochs: usize,
+    identifiers: Vec<u64>,
+    file_type: u8,
+    time_system: &'static str,
+    comments: usize,
+}
+
+/// Days around which something turns: the ends of months, leap days, the
+/// ends of years, of GPS weeks and of the calendar of the paper.
+const DAYS: &[(i64, i64, i64)] = &[
+    (1980, 1, 6),
+    (1980, 1, 12),
+    (1980, 2, 28),
+    (1980, 2, 29),
+    (1999, 12, 31),
+    (2000, 2, 28),
+    (2000, 2, 29),
+    (2001, 2, 28),
+    (2004, 2, 29),
+    (2012, 12, 31),
+    (2013, 4, 3),
+    (2013, 4, 6),
+    (2013, 4, 30),
+    (2016, 11, 30),
+    (2019, 12, 31),
+    (2023, 2, 28),
+    (2038, 1, 31),
+    (2096, 2, 28),
+    (2099, 2, 28),
+    (2099, 12, 30),
+    (2099, 12, 31),
+];
+
+const TIMES: &[i64] = &[
+    0,
+    1,
+    SECOND,
+    43_200 * SECOND,
+    85_500 * SECOND,
+    86_370 * SECOND,
+    DAY - SECOND,
+    DAY - 1,
+];
+
+const INTERVALS: &[i64] = &[
+    1,
+    SECOND / 2,
+    SECOND,
+    30 * SECOND,
+    300 * SECOND,
+    900 * SECOND,
+    900 * SECOND,
+    3600 * SECOND,
+    43_200 * SECOND,
+    DAY - 1,
+    DAY,
+    DAY + 1,
+    99_999 * SECOND + 99_999_999,
+];
+
+fn choose_start(random: &mut Random) -> i64 {
+    let day = if once_in(random, 3) {
+        GPS_ZERO + random.below(43_825) as i64
+    } else {
+        let &(year, month, day) = random.pick(DAYS);
+        modified_julian_day(lines::Date { year, month, day })
+    };
+    let time = if once_in(random, 3) {
+        (random.next() % DAY as u64) as i64
+    } else {
+        *random.pick(TIMES)
+    };
+    day * DAY + time
+}
+
+fn choose_interval(random: &mut Random) -> i64 {
+    if once_in(random, 4) {
+        1 + (random.next() % (100_000 * SECOND as u64 - 1)) as i64
+    } else {
+        *random.pick(INTERVALS)
+    }
+}
+
+/// Mostly few satellites; sometimes as many as fill a line, five lines or all.
+fn choose_number(random: &mut Random) -> usize {
+    match random.below(60) {
+        0 => *random.pick(&[84, 85, 86, 101, 102, 103]),
+        1 if once_in(random, 4) => *random.pick(&[170, 238, 239, 254, 255, 255]),
+        1 if once_in(random, 4) => 1 + random.below(255),
+        2..=4 => *random.pick(&[15, 16, 17, 18, 19, 33, 34, 35]),
+        5..=8 => 6 + random.below(9),
+        _ => 1 + random.below(5),
+    }
+}
+
+/// So many identifiers, all different; with a letter of their own or several.
+fn choose_identifiers(random: &mut Random, number: usize) -> (Vec<u64>, u8) {
+    let one_letter = number < 99 && !once_in(random, 3);
+    let letters: &[u8] = if one_letter { b"GRLSIECJ" } else { b"GRLSIECJGRECAMZ" };
+    let letter = *random.pick(letters);
+    let mut identifiers: Vec<u64> = Vec::new();
+    while identifiers.len() < number {
+        let letter = if one_letter { letter } else { *random.pick(letters) };
+        let code = u64::from(letter) * 100 + 1 + random.below(99) as u64;
+        if !identifiers.contains(&code) {
+            identifiers.push(code);
+        }
+    }
+    if once_in(random, 2) {
+        identifiers.sort();
+    }
+    let mixed = !one_letter || once_in(random, 5);
+    (identifiers, if mixed { b'M' } else { letter })
+}
+
+fn choose_plan(random: &mut Random) -> Plan {
+    let number = choose_number(random);
+    let (identifiers, file_type) = choose_identifiers(random, number);
+    let most_epochs = match number {
+        1..=3 => 6,
+        4..=12 => 3,
+        13..=40 => 2,
+        _ => 1,
+    };
+    let comments = if once_in(random, 40) { 5 + random.below(90) } else { 4 + random.below(3) };
+    Plan {
+        velocities: number < 200 && once_in(random, 3),
+        start: choose_start(random),
+        interval: choose_interval(random),
+        epochs: 1 + random.below(most_epochs).min(random.below(most_epochs)),
+        identifiers,
+        file_type,
+        time_system: *random.pick(&lines::TIME_SYSTEMS),
+        comments,
+    }
+}
+
+// ---------------------------------------------------------------------------
+// Generated files: how they are spelt
+// ---------------------------------------------------------------------------
+
+/// Spells fields in any way that is right, or plainly where it isn't `odd`.
+struct Pen<'a> {
+    random: &'a mut Random,
+    odd: bool,
+}
+
+impl Pen<'_> {
+    fn oddly(&mut self, times: usize) -> bool {
+        self.odd && once_in(self.random, times)
+    }
+
+    /// "Leading zeros may stand."
+    fn zeros(&mut self, room: usize) -> String {
+        let count = match self.oddly(4) {
+            true if self.oddly(2) => room,
+            true => self.random.below(room + 1),
+            false => 0,
+        };
+        "0".repeat(count)
+    }
+
+    fn integer(&mut self, width: usize, value: i64) -> String {
+        let digits = value.to_string();
+        let zeros = self.zeros(width - digits.len());
+        format!("{:>width$}", zeros + &digits)
+    }
+
+    fn decimal(&mut self, width: usize, places: usize, value: i64) -> String {
+        self.signed_decimal(width, places, value.abs(), value < 0)
+    }
+
+    fn signed_decimal(&mut self, width: usize, places: usize, size: i64, minus: bool) -> String {
+        let unit = lines::power_of_ten(places);
+        let digits = format!("{}.{:0places$}", size / unit, size % unit);
+        let sign = if minus { "-" } else { "" };
+        let zeros = self.zeros(width - digits.len() - sign.len());
+        format!("{:>width$}", format!("{sign}{zeros}{digits}"))
+    }
+
+    /// "Minus zero is zero."
+    fn coordinate(&mut self, value: i64) -> String {
+        let minus = value < 0 || value == 0 && self.oddly(3);
+        self.signed_decimal(14, 6, value.abs(), minus)
+    }
+
+    fn moment(&mut self, instant: i64) -> String {
+        let (year, month, day) = date_of(instant / DAY);
+        let time = instant % DAY;
+        let minutes = time / (60 * SECOND);
+        let parts = [
+            self.integer(4, year),
+            self.integer(2, month),
+            self.integer(2, day),
+            self.integer(2, minutes / 60),
+            self.integer(2, minutes % 60),
+            self.decimal(11, 8, time % (60 * SECOND)),
+        ];
+        parts.join(" ")
+    }
+
+    /// Printable characters, blanks among them.
+    fn text(&mut self, width: usize) -> String {
+        let character = |random: &mut Random| match random.below(8) {
+            0 => ' ',
+            1 => (32 + random.below(95)) as u8 as char,
+            _ => (b'A' + random.below(26) as u8) as char,
+        };
+        (0..width).map(|_| character(self.random)).collect()
+    }
+
+    /// "A short line counts as padded with blanks", and a padded one may stand.
+    fn line(&mut self, text: String) -> Vec<u8> {
+        let mut line = match self.oddly(3) {
+            true => text.into_bytes(),
+            false => without_trailing_blanks(text.as_bytes()).to_vec(),
+        };
+        if self.oddly(12) {
+            let length = *self.random.pick(&[lines::WIDTH, line.len() + 1, 60]);
+            line.resize(length.clamp(line.len(), lines::WIDTH), b' ');
+        }
+        line.push(b'\n');
+        line
+    }
+}
+
+/// The date of an MJD from 1980 on.
+fn date_of(modified_julian_day: i64) -> (i64, i64, i64) {
+    let mut days = modified_julian_day - (GPS_ZERO - 5);
+    let mut year = 1980;
+    while days >= days_in_year(year) {
+        days -= days_in_year(year);
+        year += 1;
+    }
+    let mut month = 1;
+    while days >= lines::days_in_month(year, month) {
+        days -= lines::days_in_month(year, month);
+        month += 1;
+    }
+    (year, month, days + 1)
+}
+
+/// Any fraction of which "108*F and 125*S differ by less than 108".
+fn choose_fraction(pen: &mut Pen, time: i64) -> i64 {
+    let nearest = (125 * time + 54) / 108;
+    let other = nearest + *pen.random.pick(&[-1, 0, 1]);
+    let allowed = (108 * other - 125 * time).abs() < 108;
+    let allowed = allowed && (0..lines::power_of_ten(13)).contains(&other);
+    if allowed { other } else { nearest.min(lines::power_of_ten(13) - 1) }
+}
+
+fn write_start(pen: &mut Pen, plan: &Plan) -> [String; 2] {
+    let mode = if plan.velocities { "V" } else { "P" };
+    let texts = if pen.oddly(3) {
+        format!("{} {} {} {}", pen.text(5), pen.text(5), pen.text(3), pen.text(4))
+    } else {
+        "ORBIT IGS08 HLM  IGS".to_string()
+    };
+    let epochs = pen.integer(7, plan.epochs as i64);
+    let first = format!("#d{mode}{} {epochs} {texts}", pen.moment(plan.start));
+    let (day, time) = (plan.start / DAY, plan.start % DAY);
+    let week = (day - GPS_ZERO) / 7;
+    let seconds = (day - GPS_ZERO) % 7 * DAY + time;
+    let fraction = choose_fraction(pen, time);
+    let two = format!(
+        "## {} {} {} {} {}",
+        pen.integer(4, week),
+        pen.decimal(15, 8, seconds),
+        pen.decimal(14, 8, plan.interval),
+        pen.integer(5, day),
+        pen.decimal(15, 13, fraction),
+    );
+    [first, two]
+}
+
+/// The lines `+ ` and `++`.
+fn write_slots(pen: &mut Pen, plan: &Plan) -> Vec<String> {
+    let n = plan.identifiers.len();
+    let (mut identifiers, mut exponents) = (Vec::new(), Vec::new());
+    for line in 0..satellite_lines(n) {
+        let number = if line == 0 { pen.integer(3, n as i64) } else { "   ".to_string() };
+        let (mut names, mut accuracies) = (String::new(), String::new());
+        for place in 17 * line..17 * line + 17 {
+            if let Some(&code) = plan.identifiers.get(place) {
+                let most = *pen.random.pick(&[1, 14, 100, 1000]);
+                let exponent = pen.random.below(most) as i64;
+                names += &show_code(code);
+                accuracies += &pen.integer(3, exponent);
+            } else {
+                names += "  0";
+                accuracies += "  0";
+            }
+        }
+        identifiers.push(format!("+  {number}   {names}"));
+        exponents.push(format!("++       {accuracies}"));
+    }
+    [identifiers, exponents].concat()
+}
+
+/// The lines `%c`, `%f` and `%i`.
+fn write_fixed_lines(pen: &mut Pen, plan: &Plan) -> [String; 6] {
+    let rest = "ccc cccc cccc cccc cccc ccccc ccccc ccccc ccccc";
+    let bases = *pen.random.pick(&[
+        (12_500_000, 1_025_000_000),
+        (12_500_000, 1_025_000_000),
+        (0, 0),
+        (999_999_999, 99_999_999_999),
+        (1, 1),
+    ]);
+    let mut floats = |one: i64, two: i64| {
+        format!(
+            "%f {} {} {} {}",
+            pen.decimal(10, 7, one),
+            pen.decimal(12, 9, two),
+            pen.decimal(14, 11, 0),
+            pen.decimal(18, 15, 0),
+        )
+    };
+    let [first, second] = [floats(bases.0, bases.1), floats(0, 0)];
+    let mut integers = || {
+        let widths = [4, 4, 4, 4, 6, 6, 6, 6, 9];
+        format!("%i {}", widths.map(|width| pen.integer(width, 0)).join(" "))
+    };
+    [
+        format!("%c {}  cc {} {rest}", plan.file_type as char, plan.time_system),
+        format!("%c cc cc ccc {rest}"),
+        first,
+        second,
+        integers(),
+        integers(),
+    ]
+}
+
+/// Comments of every length, their trailing blanks kept as they are made.
+fn write_comment(pen: &mut Pen) -> Vec<u8> {
+    let length = pen.random.below(20);
+    let text = match pen.random.below(16) {
+        0 => "/*".to_string(),
+        1 => "/* ".to_string(),
+        2 => format!("/*{}", " ".repeat(length)),
+        3 if pen.odd => format!("/* {}.", pen.text(76)),
+        4 => format!("/*    {}", pen.text(length)),
+        5 => format!("/* {}   ", pen.text(length)),
+        6 => format!("/* {}", pen.text(77)),
+        7..=9 => format!("/* {}", pen.text(length)),
+        _ => "/* CCC".to_string(),
+    };
+    [text.as_bytes(), b"\n"].concat()
+}
+
+const SIZES: &[i64] =
+    &[0, 1, 500_000, 999_999, 1_000_000, 5_000_000_001, 26_560_123_456, 999_999_999_999];
+
+fn choose_value(random: &mut Random) -> i64 {
+    let size = match random.below(4) {
+        0 => *random.pick(SIZES),
+        1 => (random.next() % 1_000_000_000_000) as i64,
+        _ => (random.next() % 42_000_000_000) as i64,
+    };
+    if once_in(random, 2) { -size } else { size }
+}
+
+fn choose_place(random: &mut Random) -> [i64; 3] {
+    let mut place = [0; 3].map(|_: i64| choose_value(random));
+    match random.below(10) {
+        0 | 1 => place = [0; 3],
+        2 => place[random.below(3)] = 0,
+        3 => {
+            let kept = random.below(3);
+            place = [0, 1, 2].map(|axis| if axis == kept { place[axis] } else { 0 });
+        }
+        _ => {}
+    }
+    place
+}
+
+/// The nines of an absent clock, numbers near them, and others.
+fn choose_clock(random: &mut Random) -> i64 {
+    match random.below(8) {
+        0 | 1 => ABSENT_CLOCK,
+        2 => *random.pick(&[-ABSENT_CLOCK, ABSENT_CLOCK - 1, 999_999_000_000, 0]),
+        _ => choose_value(random) % 1_000_000_000,
+    }
+}
+
+/// Columns 61 to 80 of a P or V.
+fn write_tail(pen: &mut Pen, flags: bool) -> String {
+    let mut tail = String::new();
+    for (width, large) in [(2, 99), (2, 99), (2, 99), (3, 999)] {
+        let value = match pen.random.below(8) {
+            0 | 1 => None,
+            2 => Some(large),
+            3 => Some(0),
+            _ => Some(pen.random.below(large as usize) as i64),
+        };
+        let text = value.map(|value| pen.integer(width, value));
+        tail += &format!(" {}", text.unwrap_or(" ".repeat(width)));
+    }
+    if flags {
+        let mut flag = |letter: &str| if once_in(pen.random, 3) { letter.to_string() } else { " ".to_string() };
+        tail += &format!(" {}{}  {}{}", flag("E"), flag("P"), flag("M"), flag("P"));
+    }
+    tail
+}
+
+fn write_row(pen: &mut Pen, letter: char, code: u64) -> Vec<u8> {
+    let numbers: String =
+        choose_place(pen.random).into_iter().map(|value| pen.coordinate(value)).collect();
+    let clock = choose_clock(pen.random);
+    let clock = pen.coordinate(clock);
+    let with_tail = once_in(pen.random, 3);
+    let tail = if with_tail { write_tail(pen, letter == 'P') } else { String::new() };
+    pen.line(format!("{letter}{}{numbers}{clock}{tail}", show_code(code)))
+}
+
+/// An EP or EV with anything after column 2.
+fn write_correlation(pen: &mut Pen, symbol: &str) -> Vec<u8> {
+    let length = *pen.random.pick(&[0, 1, 10, 78]);
+    let text = pen.text(length);
+    pen.line(format!("{symbol}{text}"))
+}
+
+fn write_epoch(pen: &mut Pen, plan: &Plan, epoch: usize, lines: &mut Vec<Vec<u8>>) {
+    let moment = pen.moment(plan.start + epoch as i64 * plan.interval);
+    lines.push(pen.line(format!("*  {moment}")));
+    for &code in &plan.identifiers {
+        for (letter, symbol) in [('P', "EP"), ('V', "EV")] {
+            if letter == 'P' || plan.velocities {
+                lines.push(write_row(pen, letter, code));
+                if once_in(pen.random, 8) {
+                    lines.push(write_correlation(pen, symbol));
+                }
+            }
+        }
+    }
+}
+
+fn write_plan(pen: &mut Pen, plan: &Plan) -> Draft {
+    let mut header: Vec<String> = write_start(pen, plan).to_vec();
+    header.extend(write_slots(pen, plan));
+    header.extend(write_fixed_lines(pen, plan));
+    let mut lines: Vec<Vec<u8>> = header.into_iter().map(|text| pen.line(text)).collect();
+    lines.extend((0..plan.comments).map(|_| write_comment(pen)));
+    for epoch in 0..plan.epochs {
+        write_epoch(pen, plan, epoch, &mut lines);
+    }
+    lines.push(pen.line("EOF".to_string()));
+    Draft(lines)
+}
+
+// ---------------------------------------------------------------------------
+// Damage
+// ---------------------------------------------------------------------------
+
+/// The kind letter that `lines.rs` gives to a line of a file.
+fn kind_letter(draft: &Draft, line: usize) -> u8 {
+    let begins = |line: usize, symbol: &str| {
+        line >= 1 && draft.0[line - 1].starts_with(symbol.as_bytes())
+    };
+    let again = |symbol: &str| begins(line, symbol) && begins(line - 1, symbol);
+    let symbols = [
+        ("#d", b'a'), ("##", b'b'), ("+ ", b'c'), ("++", b'e'), ("%c", b'f'), ("%f", b'h'),
+        ("%i", b'j'), ("/*", b'k'), ("* ", b'l'), ("P", b'm'), ("V", b'n'), ("EP", b'o'),
+        ("EV", b'p'), ("EOF", b'q'),
+    ];
+    match symbols.iter().find(|(symbol, _)| begins(line, symbol)) {
+        Some(&(symbol @ ("+ " | "%c" | "%f"), letter)) if again(symbol) => letter + 1,
+        Some(&(_, letter)) => letter,
+        None => b'z',
+    }
+}
+
+/// A line of the file, each kind of record as often as the others.
+fn choose_line(draft: &Draft, random: &mut Random) -> usize {
+    let letters: Vec<u8> = (1..=draft.0.len()).map(|line| kind_letter(draft, line)).collect();
+    let mut kinds = letters.clone();
+    kinds.sort();
+    kinds.dedup();
+    if kinds.is_empty() {
+        return 1;
+    }
+    let kind = *random.pick(&kinds);
+    let lines: Vec<usize> = (1..=letters.len()).filter(|line| letters[line - 1] == kind).collect();
+    *random.pick(&lines)
+}
+
+type Damage = fn(&mut Draft, &Plan, &mut Random);
+
+/// A field spelt otherwise, rightly or wrongly.
+fn another_spelling(draft: &mut Draft, _: &Plan, random: &mut Random) {
+    let line = choose_line(draft, random);
+    if draft.0.is_empty() {
+        return;
+    }
+    let letter = kind_letter(draft, line);
+    let entries: Vec<_> =
+        lines::SPELLINGS.iter().filter(|entry| entry.0.as_bytes().contains(&letter)).collect();
+    if !entries.is_empty() {
+        let &&(_, columns, texts) = random.pick(&entries);
+        let (column, text) = (*random.pick(columns), *random.pick(texts));
+        draft.put(line, column, text.as_bytes());
+    }
+}
+
+fn another_character(draft: &mut Draft, _: &Plan, random: &mut Random) {
+    let line = choose_line(draft, random);
+    let length = draft.0.get(line - 1).map_or(1, Vec::len);
+    let column = if once_in(random, 6) { 1 + random.below(80) } else { 1 + random.below(length.min(80)) };
+    draft.put(line, column, &[*random.pick(b"0123456789 -.xcGRPVEM+*/#%")]);
+}
+
+fn wrong_byte(draft: &mut Draft, _: &Plan, random: &mut Random) {
+    let line = choose_line(draft, random);
+    let byte = *random.pick(&[0, 9, 10, 13, 31, 127, 128, 200, 255]);
+    if once_in(random, 2) {
+        let column = 1 + random.below(90);
+        draft.put(line, column, &[byte]);
+    } else if let Some(text) = draft.0.get_mut(line - 1) {
+        let place = random.below(text.len() + 1);
+        text.insert(place, byte);
+    }
+}
+
+fn lines_moved(draft: &mut Draft, _: &Plan, random: &mut Random) {
+    let (line, other) = (choose_line(draft, random), choose_line(draft, random));
+    match random.below(6) {
+        0 | 1 => draft.drop_line(line),
+        2 | 3 => draft.double_line(line),
+        4 => draft.swap_lines(line, line + 1),
+        _ => draft.swap_lines(line, other),
+    }
+}
+
+const STRANGE_LINES: &[&str] = &[
+    "", " ", "#d", "##", "+", "+ ", "++", "%c", "%C", "%f", "%i", "/*", "/* ", "/ *", "*", "* ",
+    "**", "P", "PG01", "V", "EP", "EV", "E", "EO", "EOF", "EOFX", "EOX", "EP  x", "EV  x", "x",
+];
+
+fn line_inserted(draft: &mut Draft, _: &Plan, random: &mut Random) {
+    let line = choose_line(draft, random);
+    if once_in(random, 2) {
+        draft.insert(line, random.pick(STRANGE_LINES).as_bytes());
+    } else if !draft.0.is_empty() {
+        let other = choose_line(draft, random);
+        let text = draft.0[other - 1].clone();
+        draft.0.insert(line - 1, text);
+    }
+}
+
+/// EP and EV where they may stand, or not.
+fn correlation_inserted(draft: &mut Draft, _: &Plan, random: &mut Random) {
+    let rows = [draft.lines_of("P"), draft.lines_of("V"), draft.lines_of("E")].concat();
+    if !rows.is_empty() {
+        let line = *random.pick(&rows) + random.below(2);
+        let text = *random.pick(&["EP", "EP", "EV", "EV", "EPx", "EP  \u{7f}", "E", "Ep"]);
+        draft.insert(line, text.as_bytes());
+    }
+}
+
+fn line_end_spoiled(draft: &mut Draft, _: &Plan, random: &mut Random) {
+    let line = choose_line(draft, random);
+    match random.below(4) {
+        0 => draft.lose_end(line),
+        1 => draft.put(line, 81, b"x"),
+        2 => draft.put(line, 80 + random.below(3), b" "),
+        _ => {
+            if let Some(text) = draft.0.get_mut(line - 1) {
+                text.insert(text.len().saturating_sub(1), b'\r');
+            }
+        }
+    }
+}
+
+/// One epoch at another instant, or all from it on.
+fn wrong_instant(draft: &mut Draft, plan: &Plan, random: &mut Random) {
+    let lines = draft.lines_of("*");
+    let first = random.below(lines.len() + 1);
+    let shifts = [plan.interval, plan.interval, -plan.interval, 1, -1, SECOND, 60 * SECOND, DAY, -DAY];
+    let shift = *random.pick(&shifts);
+    let count = if once_in(random, 2) { lines.len() } else { 1 };
+    for (epoch, &line) in lines.iter().enumerate().skip(first).take(count) {
+        let instant = plan.start + epoch as i64 * plan.interval + shift;
+        let mut pen = Pen { random, odd: false };
+        let text = pen.moment(instant.max(GPS_ZERO * DAY));
+        draft.put(line, 4, text.as_bytes());
+    }
+}
+
+/// Line and column of a slot in the `+ ` lines.
+fn slot_place(slot: usize) -> (usize, usize) {
+    (3 + slot / 17, 10 + 3 * (slot % 17))
+}
+
+fn identifier_repeats(draft: &mut Draft, plan: &Plan, random: &mut Random) {
+    let n = plan.identifiers.len();
+    let (one, other) = (random.below(n), random.below(n));
+    let (line, column) = slot_place(one.max(other));
+    draft.put(line, column, show_code(plan.identifiers[one.min(other)]).as_bytes());
+}
+
+/// Something in a slot, after n or before.
+fn slot_spoiled(draft: &mut Draft, plan: &Plan, random: &mut Random) {
+    let n = plan.identifiers.len();
+    let number = satellite_lines(n);
+    let slot = if once_in(random, 3) { n } else { random.below(17 * number) };
+    let (line, column) = slot_place(slot);
+    let text = *random.pick(&["000", " 00", "0  ", "   ", "  0", "G01", "  1", "Z99", "G00", "z01", "G 1"]);
+    let exponents = if once_in(random, 2) { number } else { 0 };
+    draft.put(line + exponents, column, text.as_bytes());
+}
+
+fn type_disagrees(draft: &mut Draft, plan: &Plan, random: &mut Random) {
+    let n = plan.identifiers.len();
+    let letter = *random.pick(b"GRLSIECJMX");
+    if once_in(random, 2) {
+        draft.put(3 + 2 * satellite_lines(n), 4, &[letter]);
+    } else {
+        let (line, column) = slot_place(random.below(n));
+        draft.put(line, column, &[letter]);
+    }
+}
+
+/// Rows in another order, or under another name.
+fn another_satellite(draft: &mut Draft, plan: &Plan, random: &mut Random) {
+    let rows = [draft.lines_of("P"), draft.lines_of("V")].concat();
+    if rows.is_empty() {
+        return;
+    }
+    let (one, other) = (*random.pick(&rows), *random.pick(&rows));
+    match random.below(3) {
+        0 => draft.swap_lines(one, other),
+        1 => draft.put(one, 2, show_code(*random.pick(&plan.identifiers)).as_bytes()),
+        _ => draft.put(one, 2, random.pick(&["G01", "G02", "R01", "G00", "G 1", "g01"]).as_bytes()),
+    }
+}
+
+fn line_two_disagrees(draft: &mut Draft, plan: &Plan, random: &mut Random) {
+    let (day, time) = (plan.start / DAY, plan.start % DAY);
+    let shift = *random.pick(&[-1, 1, 1, 2, -7, 7]);
+    let week = (day - GPS_ZERO) / 7;
+    let seconds = (day - GPS_ZERO) % 7 * DAY + time;
+    let nearest = (125 * time + 54) / 108;
+    let mut pen = Pen { random, odd: false };
+    let (column, text) = match pen.random.below(5) {
+        0 => (4, pen.integer(4, (week + shift).max(0))),
+        1 => (9, pen.decimal(15, 8, (seconds + shift).max(0))),
+        2 => (9, pen.decimal(15, 8, (seconds + shift * DAY).max(0))),
+        3 => (40, pen.integer(5, day + shift)),
+        _ => (46, pen.decimal(15, 13, (nearest + shift).max(0))),
+    };
+    draft.put(2, column, text.as_bytes());
+}
+
+/// n, the number of epochs, or the mode is another.
+fn counts_disagree(draft: &mut Draft, plan: &Plan, random: &mut Random) {
+    let n = plan.identifiers.len() as i64;
+    let shift = *random.pick(&[-1, 1]);
+    let mode = if plan.velocities { "P" } else { "V" };
+    let epochs = plan.epochs as i64;
+    let mut pen = Pen { random, odd: true };
+    match pen.random.below(3) {
+        0 => draft.put(3, 4, pen.integer(3, n + shift).as_bytes()),
+        1 => draft.put(1, 33, pen.integer(7, epochs + shift).as_bytes()),
+        _ => draft.put(1, 3, mode.as_bytes()),
+    }
+}
+
+fn comments_dropped(draft: &mut Draft, _: &Plan, random: &mut Random) {
+    let lines = draft.lines_of("/*");
+    let kept = random.below(4);
+    for &line in lines.iter().skip(kept).rev() {
+        draft.drop_line(line);
+    }
+}
+
+fn truncated(draft: &mut Draft, _: &Plan, random: &mut Random) {
+    let mut bytes = draft.bytes();
+    let length = match random.below(3) {
+        0 => bytes.len().saturating_sub(1),
+        1 => bytes.len().saturating_sub(random.below(100)),
+        _ => random.below(bytes.len() + 1),
+    };
+    bytes.truncate(length);
+    draft.0 = bytes.split_inclusive(|&c| c == b'\n').map(<[u8]>::to_vec).collect();
+}
+
+fn bytes_after(draft: &mut Draft, _: &Plan, random: &mut Random) {
+    let after = match random.below(6) {
+        0 => draft.bytes(),
+        1 => vec![b'\n'; 1 + random.below(20)],
+        2 => vec![random.next() as u8],
+        3 => (0..random.below(50)).map(|_| random.next() as u8).collect(),
+        _ => random.pick(STRANGE_LINES).as_bytes().to_vec(),
+    };
+    draft.0.push(after);
+}
+
+/// Each damage as often as its weight.
+const DAMAGES: &[(usize, Damage)] = &[
+    (10, another_spelling),
+    (6, another_character),
+    (3, wrong_byte),
+    (6, lines_moved),
+    (3, line_inserted),
+    (2, correlation_inserted),
+    (2, line_end_spoiled),
+    (5, wrong_instant),
+    (2, identifier_repeats),
+    (3, slot_spoiled),
+    (2, type_disagrees),
+    (4, another_satellite),
+    (3, line_two_disagrees),
+    (3, counts_disagree),
+    (1, comments_dropped),
+    (2, truncated),
+    (4, bytes_after),
+];
+
+fn damage(draft: &mut Draft, plan: &Plan, random: &mut Random) {
+    let all: usize = DAMAGES.iter().map(|(weight, _)| weight).sum();
+    let mut number = random.below(all);
+    for &(weight, damage) in DAMAGES {
+        if number < weight {
+            return damage(draft, plan, random);
+        }
+        number -= weight;
+    }
+}
+
+// ---------------------------------------------------------------------------
+// Generated cases
+// ---------------------------------------------------------------------------
+
+/// Half of the files are damaged, some of them twice.
+fn generate_file(random: &mut Random) -> (Plan, Vec<u8>) {
+    loop {
+        let plan = choose_plan(random);
+        let odd = !once_in(random, 4);
+        let mut draft = write_plan(&mut Pen { random, odd }, &plan);
+        let damages = *random.pick(&[0, 0, 0, 0, 1, 1, 1, 1, 1, 2]);
+        for _ in 0..damages {
+            damage(&mut draft, &plan, random);
+        }
+        let mut file = draft.bytes();
+        if !once_in(random, 3) {
+            cut_after_fault(&mut file);
+        }
+        if file.len() <= MOST_BYTES {
+            return (plan, file);
+        }
+    }
+}
+
+/// What stands after the first faulty line changes nothing; most files do
+/// without it, so that many fit into a batch.
+fn cut_after_fault(file: &mut Vec<u8>) {
+    if let Err(refusal) = judge_front(file) {
+        let ends = file.iter().enumerate().filter(|(_, &c)| c == b'\n').map(|(place, _)| place);
+        if let Some(end) = ends.take(refusal.line).last().filter(|_| refusal.number != NO_LF) {
+            file.truncate(end + 1);
+        }
+    }
+}
+
+/// Rooms as they are needed, or with more or fewer places in some list.
+fn choose_rooms(random: &mut Random, needed: [usize; 4]) -> [usize; 4] {
+    let mut rooms = needed;
+    let list = random.below(4);
+    match random.below(12) {
+        0 | 1 => rooms[list] = rooms[list].saturating_sub(1),
+        2 => rooms[list] = random.below(rooms[list] + 1),
+        3 => rooms = rooms.map(|room| room.saturating_sub(random.below(2))),
+        4..=6 => rooms = rooms.map(|room| room + random.below(20)),
+        7 => rooms = rooms.map(|room| room + random.below(200)),
+        8 if once_in(random, 4) => rooms = [0; 4],
+        _ => {}
+    }
+    [0, 1, 2, 3].map(|list| rooms[list].min(MOST_ROOMS[list]))
+}
+
+/// A number below the bound, the bound itself, or one far past it.
+fn choose_asked(random: &mut Random, bound: usize) -> usize {
+    match random.below(12) {
+        0 => bound,
+        1 => *random.pick(&[bound + 1, bound + 255, bound + 65_536, MOST_NUMBER]),
+        2 => bound.saturating_sub(1),
+        _ => random.below(bound),
+    }
+}
+
+/// The code of an identifier of the file, mostly.
+fn choose_code(random: &mut Random, identifiers: &[u64]) -> usize {
+    let code = *random.pick(identifiers) as usize;
+    match random.below(12) {
+        0 => code + 65_536,
+        1 => *random.pick(&[code + 1, code - 1, code + 100, code % 100, code / 100]),
+        2 => *random.pick(&[0, 7100, 7101, 9099, MOST_NUMBER]),
+        _ => code,
+    }
+}
+
+fn generate_case(random: &mut Random) -> Case {
+    let (plan, file) = generate_file(random);
+    let n = plan.identifiers.len();
+    let rows = n * plan.epochs * if plan.velocities { 2 } else { 1 };
+    let planned = [n, n, 77 * plan.comments, 12 * rows];
+    let needed = judge_front(&file).map_or(planned, |(table, _)| table.room_needed());
+    let rooms = choose_rooms(random, needed);
+    let asked = [
+        choose_asked(random, plan.comments),
+        choose_asked(random, plan.epochs),
+        choose_asked(random, n),
+        choose_code(random, &plan.identifiers),
+    ];
+    Case { file, rooms, asked }
+}
+
+/// Case `number` of a seed, whatever the others are.
+fn generated(seed: u64, number: u64) -> Case {
+    let mut random = Random(seed.wrapping_mul(0x9e37_79b9_7f4a_7c15) ^ number);
+    let seed = random.next();
+    generate_case(&mut Random(seed))
+}
+
+// ---------------------------------------------------------------------------
+// The stored cases
+// ---------------------------------------------------------------------------
+
+const MOST_BATCH: usize = 600_000;
+const STORED_SEED: u64 = 20_160_221;
+
+/// A file made by hand with rooms that suffice; most refused ones end after
+/// their faulty line.
+fn hand_case(place: usize, base: Base, edits: &[Edit]) -> Case {
+    let mut file = hand_made(base, edits);
+    if place % 10 != 0 {
+        cut_after_fault(&mut file);
+    }
+    let needed = judge_front(&file).map_or([2, 2, 308, 24], |(table, _)| table.room_needed());
+    Case { file, rooms: needed, asked: [place % 5, place / 3 % 2, place / 5 % 2, 7107] }
+}
+
+/// First the files with questions, then those that are only judged.
+fn hand_cases() -> Vec<Case> {
+    let asked = ASKED.iter().map(|&(base, edits, rooms, asked, _)| Case {
+        file: hand_made(base, edits),
+        rooms,
+        asked,
+    });
+    let mut cases: Vec<Case> = asked.collect();
+    let mut files: HashSet<Vec<u8>> = cases.iter().map(|case| case.file.clone()).collect();
+    for (place, &(base, edits, ..)) in HAND.iter().enumerate() {
+        let case = hand_case(place, base, edits);
+        if files.insert(case.file.clone()) {
+            cases.push(case);
+        }
+    }
+    cases
+}
+
+fn stored_cases() -> Vec<Case> {
+    let mut cases = hand_cases();
+    let mut length = show_batch(&cases).len();
+    let small = |case: &Case| case.file.len() < 4000;
+    for case in (1..).map(|number| generated(STORED_SEED, number)).filter(small) {
+        length += case.show().len();
+        if length > MOST_BATCH {
+            break;
+        }
+        cases.push(case);
+    }
+    cases
+}
+
+// ---------------------------------------------------------------------------
+// Counting and comparing
+// ---------------------------------------------------------------------------
+
+/// How often each number 0 to 13 stands after a word of the answers.
+#[derive(Default)]
+struct Counts([[usize; 14]; 7]);
+
+const COUNTED: [&str; 7] =
+    ["front", "whole", "read", "read_front", "comment", "satellite", "row"];
+
+impl Counts {
+    fn add(&mut self, answer: &str) {
+        for line in answer.lines() {
+            let mut words = line.split(' ');
+            let word = words.next().unwrap_or_default();
+            let number = words.next().and_then(|number| number.parse::<usize>().ok());
+            if let (Some(place), Some(number)) = (COUNTED.iter().position(|w| *w == word), number) {
+                self.0[place][number] += 1;
+            }
+        }
+    }
+
+    fn show(&self) -> String {
+        let row = |name: &str, numbers: [usize; 14]| {
+            let columns: String = numbers.iter().map(|number| format!("{number:7}")).collect();
+            format!("{name:10}{columns}\n")
+        };
+        let first = row("number", std::array::from_fn(|number| number));
+        let rest = COUNTED.iter().zip(self.0).map(|(name, numbers)| row(name, numbers));
+        first + &rest.collect::<String>()
+    }
+}
+
+fn count(cases: &[Case]) {
+    let mut counts = Counts::default();
+    cases.iter().for_each(|case| counts.add(&case.answer()));
+    println!("{} cases\n{}", cases.len(), counts.show().trim_end());
+}
+
+/// Gives the input to the program and takes what it prints.
+fn run(program: &str, arguments: &[&str], input: Vec<u8>) -> std::io::Result<(Vec<u8>, ExitStatus)> {
+    let mut command = Command::new(program);
+    let mut child =
+        command.args(arguments).stdin(Stdio::piped()).stdout(Stdio::piped()).spawn()?;
+    let stdin = child.stdin.take();
+    let feeder = std::thread::spawn(move || stdin.map(|mut pipe| pipe.write_all(&input)));
+    let mut output = Vec::new();
+    if let Some(mut pipe) = child.stdout.take() {
+        pipe.read_to_end(&mut output)?;
+    }
+    let status = child.wait()?;
+    drop(feeder.join());
+    Ok((output, status))
+}
+
+/// The first line in which two texts differ: wanted and found.
+fn first_difference(wanted: &[u8], found: &[u8]) -> Option<(usize, String, String)> {
+    if wanted == found {
+        return None;
+    }
+    let show = |line: Option<&[u8]>| line.map_or("nothing".to_string(), |l| format!("{:?}", show_text(l)));
+    let mut wanted = wanted.split_inclusive(|&c| c == b'\n');
+    let mut found = found.split_inclusive(|&c| c == b'\n');
+    (1..).find_map(|number| {
+        let (want, have) = (wanted.next(), found.next());
+        (want != have || want.is_none()).then(|| (number, show(want), show(have)))
+    })
+}
+
+/// Which of the answers has line `line` of all of them.
+fn case_of_line(answers: &[String], line: usize) -> usize {
+    let mut lines = 0;
+    let ends = |answer: &String| {
+        lines += answer.lines().count();
+        line <= lines
+    };
+    answers.iter().position(ends).unwrap_or(answers.len().saturating_sub(1))
+}
+
+/// Cases from `first` on, as many as a batch may hold and `last` allows.
+fn next_batch(seed: u64, first: u64, last: u64) -> Vec<Case> {
+    let mut length = 0;
+    let cases = (first..=last).map(|number| generated(seed, number));
+    let fits = |case: &Case| {
+        length += case.show().len();
+        length <= MOST_BATCH
+    };
+    cases.take_while(fits).collect()
+}
+
+fn compare(seed: u64, number: u64, program: &str, arguments: &[&str]) {
+    let mut counts = Counts::default();
+    let mut done = 0;
+    while done < number {
+        let cases = next_batch(seed, done + 1, number);
+        let answers: Vec<String> = cases.iter().map(Case::answer).collect();
+        let (output, status) = run(program, arguments, show_batch(&cases))
+            .unwrap_or_else(|error| fail(&format!("{program}: {error}")));
+        if let Some((line, wanted, found)) = first_difference(answers.concat().as_bytes(), &output) {
+            let case = done + 1 + case_of_line(&answers, line) as u64;
+            println!("seed {seed} case {case}: wanted {wanted}, found {found}");
+            exit(1);
+        }
+        if !status.success() {
+            println!("seed {seed} cases {} and on: {status}", done + 1);
+            exit(1);
+        }
+        answers.iter().for_each(|answer| counts.add(answer));
+        done += cases.len() as u64;
+    }
+    println!("{number} cases agree\n{}", counts.show().trim_end());
+}
+
+/// Fails at the first line in which the file differs from `wanted`.
+fn check_file(path: &str, wanted: &[u8]) {
+    let found = std::fs::read(path).unwrap_or_else(|error| fail(&format!("{path}: {error}")));
+    if let Some((line, wanted, found)) = first_difference(wanted, &found) {
+        fail(&format!("{path}: line {line} is {found} and should be {wanted}"));
+    }
+}
+
+fn check(directory: &str) {
+    let cases = stored_cases();
+    check_file(&format!("{directory}/stdin"), &show_batch(&cases));
+    check_file(&format!("{directory}/stdout"), answers(&cases).as_bytes());
+}
+
 /// A file, rooms and questions, and lines of the answer in their order.
 type Asked = (Base, &'static [Edit], [usize; 4], [usize; 4], &'static [&'static str]);
 
@@ -1793,10 +2810,10 @@ const ASKED: &[Asked] = &[
         ],
     ),
     (
-        Many(255),
+        Many(18),
         &[],
-        [254, 255, 308, 3060],
-        [0, 0, 255, 6958],
+        [17, 18, 308, 216],
+        [0, 0, 18, 7119],
         &["read 12 0 0", "satellite 13 0 0", "row 13 0 absent absent"],
     ),
     (
@@ -1938,12 +2955,30 @@ fn batch_from_standard_input() -> Vec<Case> {
     parse_batch(&bytes)
 }
 
+fn number(word: &str) -> u64 {
+    word.parse().unwrap_or_else(|_| fail(&format!("{word:?} is no number")))
+}
+
 fn main() {
     let arguments: Vec<String> = std::env::args().skip(1).collect();
     let words: Vec<&str> = arguments.iter().map(String::as_str).collect();
     match words[..] {
         ["answer"] => print(answers(&batch_from_standard_input()).as_bytes()),
+        ["generate", seed, count] => {
+            let seed = number(seed);
+            (1..=number(count)).for_each(|place| print(&generated(seed, place).show()));
+        }
+        ["case", seed, place] => print(&generated(number(seed), number(place)).show()),
+        ["cases"] => print(&show_batch(&stored_cases())),
+        ["check", directory] => check(directory),
         ["self-test"] => self_test(),
-        _ => fail("usage: answer | self-test"),
+        ["count"] => count(&batch_from_standard_input()),
+        ["compare", seed, count, program, ref rest @ ..] => {
+            compare(number(seed), number(count), program, rest);
+        }
+        _ => fail(
+            "usage: answer | generate SEED COUNT | case SEED NUMBER | cases | check CRATE_DIR\n\
+             | self-test | count | compare SEED COUNT PROGRAM [ARGS..]",
+        ),
     }
 }
