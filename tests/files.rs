@@ -273,8 +273,7 @@ fn take_start(lines: &mut Lines, table: &mut Table) -> Result<(), Refusal> {
     table.velocities = first.mode == b"V";
     table.start = instant(&first.start);
     table.epochs = first.epochs as usize;
-    table.texts =
-        vec![first.data_used, first.coordinate_system, first.orbit_type, first.agency];
+    table.texts = vec![first.data_used, first.coordinate_system, first.orbit_type, first.agency];
     let agrees = |two: &lines::LineTwo| line_two_agrees(two, table.start);
     let two = lines.checked(lines::read_line_two, DISAGREES, agrees)?;
     table.interval = two.interval;
@@ -326,8 +325,7 @@ fn type_agrees(file_type: u8, identifiers: &[u64]) -> bool {
 
 /// Rules 5 and 6.
 fn take_fixed_lines(lines: &mut Lines, table: &mut Table) -> Result<(), Refusal> {
-    let agrees =
-        |line: &lines::FirstCharacters| type_agrees(line.file_type[0], &table.identifiers);
+    let agrees = |line: &lines::FirstCharacters| type_agrees(line.file_type[0], &table.identifiers);
     let characters = lines.checked(lines::read_first_characters, DISAGREES, agrees)?;
     table.file_type = characters.file_type[0];
     table.time_system = characters.time_system;
@@ -488,7 +486,8 @@ impl Lent {
     /// Sums over all places, filled or not.
     fn sums(&self) -> [u64; 4] {
         let step = |sum: u64, value: u64| sum.wrapping_mul(31).wrapping_add(value);
-        let of_row = |sum, &value: &i64| step(step(sum, value.unsigned_abs()), u64::from(value < 0));
+        let of_row =
+            |sum, &value: &i64| step(step(sum, value.unsigned_abs()), u64::from(value < 0));
         [
             self.identifiers.iter().fold(0, |sum, &value| step(sum, value)),
             self.exponents.iter().fold(0, |sum, &value| step(sum, value)),
@@ -637,11 +636,19 @@ fn show_text(text: &[u8]) -> String {
 
 fn show_place(row: &Row) -> String {
     let [x, y, z] = row.place;
-    if row.place_is_absent() { "absent".to_string() } else { format!("{x} {y} {z}") }
+    if row.place_is_absent() {
+        "absent".to_string()
+    } else {
+        format!("{x} {y} {z}")
+    }
 }
 
 fn show_clock(row: &Row) -> String {
-    if row.clock_is_absent() { "absent".to_string() } else { row.clock.to_string() }
+    if row.clock_is_absent() {
+        "absent".to_string()
+    } else {
+        row.clock.to_string()
+    }
 }
 
 /// "An exponent of 99 (or 999 for the clock) means too large."
@@ -655,7 +662,8 @@ fn show_exponent(exponent: i64, large: i64) -> String {
 
 fn show_row(row: &Row, table: &Table) -> String {
     let [x, y, z, clock] = row.exponents;
-    let exponents = [(x, 99), (y, 99), (z, 99), (clock, 999)].map(|(e, large)| show_exponent(e, large));
+    let exponents =
+        [(x, 99), (y, 99), (z, 99), (clock, 999)].map(|(e, large)| show_exponent(e, large));
     let flags = row.flags.iter().zip("EPMP".chars());
     let flags: String = flags.map(|(&flag, letter)| if flag == 1 { letter } else { '.' }).collect();
     format!(
@@ -823,7 +831,9 @@ const SECOND_FLOATS: &str = "%f  0.0000000  0.000000000  0.00000000000  0.000000
 const INTEGERS: &str = "%i    0    0    0    0      0      0      0      0         0";
 
 /// The 22 lines before the first epoch: those given are 1, 2, 3, 8 and 13.
-fn header([first, two, satellites, accuracies, characters]: [&'static str; 5]) -> Vec<&'static str> {
+fn header(
+    [first, two, satellites, accuracies, characters]: [&'static str; 5],
+) -> Vec<&'static str> {
     let mut lines = vec![first, two, satellites];
     lines.extend([NO_SATELLITES; 4]);
     lines.push(accuracies);
@@ -898,9 +908,8 @@ fn motion_file() -> Draft {
 
 /// The paper's file with `n` satellites, of which any number may be asked for.
 fn many_file(n: usize) -> Draft {
-    let identifier = |place: usize| {
-        format!("{}{:02}", b"GRECJISL"[place / 99] as char, place % 99 + 1)
-    };
+    let identifier =
+        |place: usize| format!("{}{:02}", b"GRECJISL"[place / 99] as char, place % 99 + 1);
     let slot = |place: usize, text: String| if place < n { text } else { "  0".to_string() };
     let mut draft = paper_file();
     let number = satellite_lines(n);
@@ -917,7 +926,10 @@ fn many_file(n: usize) -> Draft {
     let first_row = 3 + 2 * number + 11;
     draft.drop_line(first_row);
     for place in 0..n {
-        let text = format!("P{}{place:7}.000001     -0.500000      0.000000      1.000000", identifier(place));
+        let text = format!(
+            "P{}{place:7}.000001     -0.500000      0.000000      1.000000",
+            identifier(place)
+        );
         draft.insert(first_row + place, text.as_bytes());
     }
     draft
@@ -1010,8 +1022,8 @@ fn hand_made(base: Base, edits: &[Edit]) -> Vec<u8> {
 
 use Base::{Many, Motion, Night, Nothing, Paper, Talkative};
 use Edit::{
-    After, AfterItself, AfterMany, Byte, CarriageReturns, Double, Drop, Insert, Join, Keep, Line as Whole, Put,
-    Swap,
+    After, AfterItself, AfterMany, Byte, CarriageReturns, Double, Drop, Insert, Join, Keep,
+    Line as Whole, Put, Swap,
 };
 
 type Hand = (Base, &'static [Edit], u8, usize);
@@ -1268,6 +1280,10 @@ const HAND: &[Hand] = &[
     (Paper, &[Put(24, 47, "              ")], 6, 24),
     (Paper, &[Put(24, 62, "1 ")], 6, 24),
     (Paper, &[Put(24, 75, "P")], 6, 24),
+    (Paper, &[Put(24, 76, "E")], 6, 24),
+    (Paper, &[Put(24, 79, "P")], 6, 24),
+    (Paper, &[Put(24, 80, "M")], 6, 24),
+    (Paper, &[Put(24, 80, "p")], 6, 24),
     (Paper, &[Put(24, 2, "G08"), Put(24, 75, "x")], 6, 24),
     (Motion, &[Whole(26, "V")], 6, 26),
     (Motion, &[Put(26, 5, "     +0.000000")], 6, 26),
@@ -1487,11 +1503,8 @@ const HAND: &[Hand] = &[
 ];
 
 /// The paper's file begun one second later.
-const ONE_SECOND: [Edit; 3] = [
-    Put(1, 21, " 1.00000000"),
-    Put(2, 9, "259201.00000000"),
-    Put(23, 21, " 1.00000000"),
-];
+const ONE_SECOND: [Edit; 3] =
+    [Put(1, 21, " 1.00000000"), Put(2, 9, "259201.00000000"), Put(23, 21, " 1.00000000")];
 
 // ---------------------------------------------------------------------------
 // Generated files: what they hold
@@ -1540,16 +1553,8 @@ const DAYS: &[(i64, i64, i64)] = &[
     (2099, 12, 31),
 ];
 
-const TIMES: &[i64] = &[
-    0,
-    1,
-    SECOND,
-    43_200 * SECOND,
-    85_500 * SECOND,
-    86_370 * SECOND,
-    DAY - SECOND,
-    DAY - 1,
-];
+const TIMES: &[i64] =
+    &[0, 1, SECOND, 43_200 * SECOND, 85_500 * SECOND, 86_370 * SECOND, DAY - SECOND, DAY - 1];
 
 const INTERVALS: &[i64] = &[
     1,
@@ -1574,11 +1579,8 @@ fn choose_start(random: &mut Random) -> i64 {
         let &(year, month, day) = random.pick(DAYS);
         modified_julian_day(lines::Date { year, month, day })
     };
-    let time = if once_in(random, 3) {
-        (random.next() % DAY as u64) as i64
-    } else {
-        *random.pick(TIMES)
-    };
+    let time =
+        if once_in(random, 3) { (random.next() % DAY as u64) as i64 } else { *random.pick(TIMES) };
     day * DAY + time
 }
 
@@ -1755,7 +1757,11 @@ fn choose_fraction(pen: &mut Pen, time: i64) -> i64 {
     let other = nearest + *pen.random.pick(&[-1, 0, 1]);
     let allowed = (108 * other - 125 * time).abs() < 108;
     let allowed = allowed && (0..lines::power_of_ten(13)).contains(&other);
-    if allowed { other } else { nearest.min(lines::power_of_ten(13) - 1) }
+    if allowed {
+        other
+    } else {
+        nearest.min(lines::power_of_ten(13) - 1)
+    }
 }
 
 fn write_start(pen: &mut Pen, plan: &Plan) -> [String; 2] {
@@ -1866,7 +1872,11 @@ fn choose_value(random: &mut Random) -> i64 {
         1 => (random.next() % 1_000_000_000_000) as i64,
         _ => (random.next() % 42_000_000_000) as i64,
     };
-    if once_in(random, 2) { -size } else { size }
+    if once_in(random, 2) {
+        -size
+    } else {
+        size
+    }
 }
 
 fn choose_place(random: &mut Random) -> [i64; 3] {
@@ -1906,7 +1916,13 @@ fn write_tail(pen: &mut Pen, flags: bool) -> String {
         tail += &format!(" {}", text.unwrap_or(" ".repeat(width)));
     }
     if flags {
-        let mut flag = |letter: &str| if once_in(pen.random, 3) { letter.to_string() } else { " ".to_string() };
+        let mut flag = |letter: &str| {
+            if once_in(pen.random, 3) {
+                letter.to_string()
+            } else {
+                " ".to_string()
+            }
+        };
         tail += &format!(" {}{}  {}{}", flag("E"), flag("P"), flag("M"), flag("P"));
     }
     tail
@@ -1963,14 +1979,24 @@ fn write_plan(pen: &mut Pen, plan: &Plan) -> Draft {
 
 /// The kind letter that `lines.rs` gives to a line of a file.
 fn kind_letter(draft: &Draft, line: usize) -> u8 {
-    let begins = |line: usize, symbol: &str| {
-        line >= 1 && draft.0[line - 1].starts_with(symbol.as_bytes())
-    };
+    let begins =
+        |line: usize, symbol: &str| line >= 1 && draft.0[line - 1].starts_with(symbol.as_bytes());
     let again = |symbol: &str| begins(line, symbol) && begins(line - 1, symbol);
     let symbols = [
-        ("#d", b'a'), ("##", b'b'), ("+ ", b'c'), ("++", b'e'), ("%c", b'f'), ("%f", b'h'),
-        ("%i", b'j'), ("/*", b'k'), ("* ", b'l'), ("P", b'm'), ("V", b'n'), ("EP", b'o'),
-        ("EV", b'p'), ("EOF", b'q'),
+        ("#d", b'a'),
+        ("##", b'b'),
+        ("+ ", b'c'),
+        ("++", b'e'),
+        ("%c", b'f'),
+        ("%f", b'h'),
+        ("%i", b'j'),
+        ("/*", b'k'),
+        ("* ", b'l'),
+        ("P", b'm'),
+        ("V", b'n'),
+        ("EP", b'o'),
+        ("EV", b'p'),
+        ("EOF", b'q'),
     ];
     match symbols.iter().find(|(symbol, _)| begins(line, symbol)) {
         Some(&(symbol @ ("+ " | "%c" | "%f"), letter)) if again(symbol) => letter + 1,
@@ -1979,8 +2005,11 @@ fn kind_letter(draft: &Draft, line: usize) -> u8 {
     }
 }
 
-/// A line of the file, each kind of record as often as the others.
+/// A line of the file, mostly each kind of record as often as the others.
 fn choose_line(draft: &Draft, random: &mut Random) -> usize {
+    if once_in(random, 3) {
+        return 1 + random.below(draft.0.len().max(1));
+    }
     let letters: Vec<u8> = (1..=draft.0.len()).map(|line| kind_letter(draft, line)).collect();
     let mut kinds = letters.clone();
     kinds.sort();
@@ -2014,7 +2043,8 @@ fn another_spelling(draft: &mut Draft, _: &Plan, random: &mut Random) {
 fn another_character(draft: &mut Draft, _: &Plan, random: &mut Random) {
     let line = choose_line(draft, random);
     let length = draft.0.get(line - 1).map_or(1, Vec::len);
-    let column = if once_in(random, 6) { 1 + random.below(80) } else { 1 + random.below(length.min(80)) };
+    let column =
+        if once_in(random, 6) { 1 + random.below(80) } else { 1 + random.below(length.min(80)) };
     draft.put(line, column, &[*random.pick(b"0123456789 -.xcGRPVEM+*/#%")]);
 }
 
@@ -2084,7 +2114,8 @@ fn line_end_spoiled(draft: &mut Draft, _: &Plan, random: &mut Random) {
 fn wrong_instant(draft: &mut Draft, plan: &Plan, random: &mut Random) {
     let lines = draft.lines_of("*");
     let first = random.below(lines.len() + 1);
-    let shifts = [plan.interval, plan.interval, -plan.interval, 1, -1, SECOND, 60 * SECOND, DAY, -DAY];
+    let shifts =
+        [plan.interval, plan.interval, -plan.interval, 1, -1, SECOND, 60 * SECOND, DAY, -DAY];
     let shift = *random.pick(&shifts);
     let count = if once_in(random, 2) { lines.len() } else { 1 };
     for (epoch, &line) in lines.iter().enumerate().skip(first).take(count) {
@@ -2113,7 +2144,8 @@ fn slot_spoiled(draft: &mut Draft, plan: &Plan, random: &mut Random) {
     let number = satellite_lines(n);
     let slot = if once_in(random, 3) { n } else { random.below(17 * number) };
     let (line, column) = slot_place(slot);
-    let text = *random.pick(&["000", " 00", "0  ", "   ", "  0", "G01", "  1", "Z99", "G00", "z01", "G 1"]);
+    let text = *random
+        .pick(&["000", " 00", "0  ", "   ", "  0", "G01", "  1", "Z99", "G00", "z01", "G 1"]);
     let exponents = if once_in(random, 2) { number } else { 0 };
     draft.put(line + exponents, column, text.as_bytes());
 }
@@ -2167,9 +2199,13 @@ fn counts_disagree(draft: &mut Draft, plan: &Plan, random: &mut Random) {
     let mode = if plan.velocities { "P" } else { "V" };
     let epochs = plan.epochs as i64;
     let mut pen = Pen { random, odd: true };
-    match pen.random.below(3) {
+    match pen.random.below(6) {
         0 => draft.put(3, 4, pen.integer(3, n + shift).as_bytes()),
-        1 => draft.put(1, 33, pen.integer(7, epochs + shift).as_bytes()),
+        1 => {
+            draft.put(3, 4, pen.random.pick(&["  0", "255", "256", "999", " 85", " 86"]).as_bytes())
+        }
+        2 | 3 => draft.put(1, 33, pen.integer(7, epochs + shift).as_bytes()),
+        4 => draft.put(1, 33, pen.random.pick(&[" 100000", " 100001", "9999999"]).as_bytes()),
         _ => draft.put(1, 3, mode.as_bytes()),
     }
 }
@@ -2389,8 +2425,7 @@ fn stored_cases() -> Vec<Case> {
 #[derive(Default)]
 struct Counts([[usize; 14]; 7]);
 
-const COUNTED: [&str; 7] =
-    ["front", "whole", "read", "read_front", "comment", "satellite", "row"];
+const COUNTED: [&str; 7] = ["front", "whole", "read", "read_front", "comment", "satellite", "row"];
 
 impl Counts {
     fn add(&mut self, answer: &str) {
@@ -2422,10 +2457,13 @@ fn count(cases: &[Case]) {
 }
 
 /// Gives the input to the program and takes what it prints.
-fn run(program: &str, arguments: &[&str], input: Vec<u8>) -> std::io::Result<(Vec<u8>, ExitStatus)> {
+fn run(
+    program: &str,
+    arguments: &[&str],
+    input: Vec<u8>,
+) -> std::io::Result<(Vec<u8>, ExitStatus)> {
     let mut command = Command::new(program);
-    let mut child =
-        command.args(arguments).stdin(Stdio::piped()).stdout(Stdio::piped()).spawn()?;
+    let mut child = command.args(arguments).stdin(Stdio::piped()).stdout(Stdio::piped()).spawn()?;
     let stdin = child.stdin.take();
     let feeder = std::thread::spawn(move || stdin.map(|mut pipe| pipe.write_all(&input)));
     let mut output = Vec::new();
@@ -2442,7 +2480,8 @@ fn first_difference(wanted: &[u8], found: &[u8]) -> Option<(usize, String, Strin
     if wanted == found {
         return None;
     }
-    let show = |line: Option<&[u8]>| line.map_or("nothing".to_string(), |l| format!("{:?}", show_text(l)));
+    let show =
+        |line: Option<&[u8]>| line.map_or("nothing".to_string(), |l| format!("{:?}", show_text(l)));
     let mut wanted = wanted.split_inclusive(|&c| c == b'\n');
     let mut found = found.split_inclusive(|&c| c == b'\n');
     (1..).find_map(|number| {
@@ -2480,7 +2519,8 @@ fn compare(seed: u64, number: u64, program: &str, arguments: &[&str]) {
         let answers: Vec<String> = cases.iter().map(Case::answer).collect();
         let (output, status) = run(program, arguments, show_batch(&cases))
             .unwrap_or_else(|error| fail(&format!("{program}: {error}")));
-        if let Some((line, wanted, found)) = first_difference(answers.concat().as_bytes(), &output) {
+        if let Some((line, wanted, found)) = first_difference(answers.concat().as_bytes(), &output)
+        {
             let case = done + 1 + case_of_line(&answers, line) as u64;
             println!("seed {seed} case {case}: wanted {wanted}, found {found}");
             exit(1);
@@ -2621,7 +2661,13 @@ const ASKED: &[Asked] = &[
             "satellite 13 0 0",
         ],
     ),
-    (Paper, &[], [1, 1, 384, 17], [4, 0, 0, 0], &["read 0 0 1215", "comment 13 0 0 0 ||", "satellite 13 0 0"]),
+    (
+        Paper,
+        &[],
+        [1, 1, 384, 17],
+        [4, 0, 0, 0],
+        &["read 0 0 1215", "comment 13 0 0 0 ||", "satellite 13 0 0"],
+    ),
     // A room too few in each list: nothing is filled.
     (
         Paper,
@@ -2666,14 +2712,72 @@ const ASKED: &[Asked] = &[
         [999_999_999, 999_999_999, 999_999_999, 999_999_999],
         &["read 12 0 0", "comment 13 0 0 0 ||", "satellite 13 0 0", "row 13 0 absent absent"],
     ),
-    (Paper, &[], [0, 0, 0, 0], [0, 0, 0, 8207], &["read 12 0 0", "sums 0 0 0 0", "satellite 13 0 0"]),
-    (Night, &[], [2, 2, 308, 71], [0, 3, 0, 7107], &["read 12 0 0", "satellite 0 0 0", "row 13 0 absent absent"]),
-    (Night, &[], [2, 1, 308, 72], [0, 2, 2, 7124], &["read 12 0 0", "satellite 13 0 0", "row 13 0 absent absent"]),
-    (Night, &[], [1, 2, 308, 72], [0, 0, 1, 8207], &["read 12 0 0", "satellite 13 0 0", "row 0 0 absent absent"]),
-    (Night, &[], [9, 9, 400, 90], [0, 1, 0, 8224], &["read 0 0 1636", "satellite 0 0 1", "row 0 0 absent -1"]),
+    (
+        Paper,
+        &[],
+        [0, 0, 0, 0],
+        [0, 0, 0, 8207],
+        &["read 12 0 0", "sums 0 0 0 0", "satellite 13 0 0"],
+    ),
+    (
+        Night,
+        &[],
+        [2, 2, 308, 71],
+        [0, 3, 0, 7107],
+        &[
+            "read 12 0 0",
+            "sums 248864 248864 3351868396646214080 10776830758291807222",
+            "read_front 12 0 0",
+            "sums 248864 248864 3351868396646214080 10776830758291807222",
+            "satellite 0 0 0",
+            "row 13 0 absent absent",
+        ],
+    ),
+    (Night, &[], [2, 2, 308, 72], [0, 0, 2, 7107], &["row 13 0 absent absent"]),
+    (Night, &[], [2, 2, 308, 72], [0, 1, 3, 7107], &["row 13 0 absent absent"]),
+    (
+        Motion,
+        &[],
+        [2, 2, 308, 48],
+        [0, 1, 0, 7107],
+        &["satellite 13 0 0", "row 13 0 absent absent"],
+    ),
+    (
+        Night,
+        &[],
+        [2, 1, 308, 72],
+        [0, 2, 2, 7124],
+        &["read 12 0 0", "satellite 13 0 0", "row 13 0 absent absent"],
+    ),
+    (
+        Night,
+        &[],
+        [1, 2, 308, 72],
+        [0, 0, 1, 8207],
+        &["read 12 0 0", "satellite 13 0 0", "row 0 0 absent absent"],
+    ),
+    (
+        Night,
+        &[],
+        [9, 9, 400, 90],
+        [0, 1, 0, 8224],
+        &["read 0 0 1636", "satellite 0 0 1", "row 0 0 absent -1"],
+    ),
     (Night, &[], [2, 2, 308, 72], [0, 1, 1, 8225], &["read 0 0 1636", "row 0 0 0 0 1 absent"]),
-    (Night, &[], [2, 2, 308, 72], [0, 2, 0, 8223], &["read 0 0 1636", "row 0 0 -500000 0 0 999999000000"]),
-    (Motion, &[], [2, 2, 308, 47], [0, 0, 2, 7101], &["read 12 0 0", "satellite 0 0 0", "row 13 0 absent absent"]),
+    (
+        Night,
+        &[],
+        [2, 2, 308, 72],
+        [0, 2, 0, 8223],
+        &["read 0 0 1636", "row 0 0 -500000 0 0 999999000000"],
+    ),
+    (
+        Motion,
+        &[],
+        [2, 2, 308, 47],
+        [0, 0, 2, 7101],
+        &["read 12 0 0", "satellite 0 0 0", "row 13 0 absent absent"],
+    ),
     (Motion, &[], [2, 2, 308, 24], [0, 0, 0, 7101], &["read 12 0 0"]),
     (
         Motion,
@@ -2743,7 +2847,13 @@ const ASKED: &[Asked] = &[
         &[Whole(25, "EOFX")],
         [0, 0, 0, 0],
         [9, 9, 9, 9],
-        &["read 5 25 0", "read_front 5 25 0", "comment 5 25 0 0 ||", "satellite 5 25 0", "row 5 25 absent absent"],
+        &[
+            "read 5 25 0",
+            "read_front 5 25 0",
+            "comment 5 25 0 0 ||",
+            "satellite 5 25 0",
+            "row 5 25 absent absent",
+        ],
     ),
     // Comments: from column 4 on, trailing blanks cut, leading ones kept.
     (Paper, &[Put(20, 3, "    ")], [1, 1, 308, 12], [1, 0, 0, 7107], &["comment 0 0 1112 0 ||"]),
@@ -2763,7 +2873,13 @@ const ASKED: &[Asked] = &[
         [102, 0, 0, 7107],
         &["comments 103", "|COMMENT 102|", "comment 0 0 2521 11 |COMMENT 102|"],
     ),
-    (Talkative(103), &[], [1, 1, 7930, 12], [103, 0, 0, 7107], &["read 12 0 0", "comment 13 0 0 0 ||"]),
+    (
+        Talkative(103),
+        &[],
+        [1, 1, 7930, 12],
+        [103, 0, 0, 7107],
+        &["read 12 0 0", "comment 13 0 0 0 ||"],
+    ),
     // Minus zero is zero; the clock's nines with a leading zero are absent.
     (
         Paper,
@@ -2904,6 +3020,29 @@ fn test_lengths(tally: &mut Tally) {
     }
 }
 
+/// Undamaged files hold what was planned; only an epoch past the calendar of
+/// the paper refuses them.
+fn test_plans(tally: &mut Tally) {
+    let mut random = Random(STORED_SEED);
+    for place in 0..600 {
+        let plan = choose_plan(&mut random);
+        let draft = write_plan(&mut Pen { random: &mut random, odd: place % 2 == 0 }, &plan);
+        let last = plan.start + (plan.epochs as i64 - 1) * plan.interval;
+        let held = match judge(&draft.bytes()) {
+            Err(refusal) => refusal.number == 7 && last >= 88_069 * DAY,
+            Ok((table, _)) => {
+                last < 88_069 * DAY
+                    && table.velocities == plan.velocities
+                    && (table.start, table.interval) == (plan.start, plan.interval)
+                    && (table.epochs, table.comments.len()) == (plan.epochs, plan.comments)
+                    && (table.identifiers, table.file_type) == (plan.identifiers, plan.file_type)
+                    && table.time_system == plan.time_system.as_bytes()
+            }
+        };
+        tally.holds(held, || format!("{}", show_text(&draft.bytes())));
+    }
+}
+
 /// MJD of the paper's cases, of the ends of the calendar and of leap days.
 fn test_days(tally: &mut Tally) {
     for (year, month, day, wanted) in [
@@ -2931,6 +3070,7 @@ fn self_test() {
     test_days(&mut tally);
     let by_hand = tally.made;
     test_lengths(&mut tally);
+    test_plans(&mut tally);
     println!("{} comparisons, {by_hand} of them by hand, {} failed", tally.made, tally.failed);
     if tally.failed > 0 {
         exit(1);
