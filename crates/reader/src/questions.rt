@@ -8,7 +8,7 @@ ghost use Rattle.header.specs.Rules.{d};
 ghost use Rattle.file.specs.Table.{countOf};
 ghost use Rattle.reader.specs.Reading.{fileOf, identifiersOf};
 ghost use Rattle.reader.specs.Questions.{textIn, noComment, commentAt, commentAnswer, commentWords, indexOf, noSatellite, satelliteIn, satelliteAnswer, epochsOf, noRow, rowAt, rowPlace};
-use crate::judge;
+use crate::judging;
 use crate::types::CommentAnswer;
 use crate::types::RowPlace;
 use crate::types::SatelliteAnswer;
@@ -155,7 +155,7 @@ fn satellite_among(rules: Rules, bytes: &[u8], name: u64) -> SatelliteAnswer
     ensures { λ r. ⌜ r ≡ satelliteIn name (identifiersOf rules (linesOf (now (bytes .entry)))) ⌝ }
 {
     let mut names = [0u64; 255];
-    let n = judge::count_of(rules, bytes);
+    let n = judging::count_of(rules, bytes);
     store::fill_slots(rules, bytes, false, n, &mut names);
     let all = &names[..];
     if n < 255 {
@@ -181,8 +181,8 @@ fn row_at(rules: Rules, bytes: &[u8], epoch: u64, satellite: u64) -> RowPlace
     requires { ⌜ (epochsOf rules (linesOf (now bytes)) ≤ 100000) × (countOf rules (linesOf (now bytes)) ≤ 255) ⌝ }
     ensures { λ r. ⌜ r ≡ rowAt rules (linesOf (now (bytes .entry))) epoch satellite ⌝ }
 {
-    let first = judge::first_of(rules, bytes);
-    let n = judge::count_of(rules, bytes);
+    let first = judging::first_of(rules, bytes);
+    let n = judging::count_of(rules, bytes);
     if (epoch < first.epochs) & (satellite < n) {
         return RowPlace {
             refusal: 0,

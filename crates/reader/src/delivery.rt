@@ -4,7 +4,7 @@ ghost use lib.ListN.{length};
 ghost use Rattle.header.specs.Rules.{d};
 ghost use Rattle.file.specs.Table.{commentsIn, rowsIn};
 ghost use Rattle.reader.specs.Reading.{frontOf, fileOf, Accounted, roomFor, enough, delivered, linesIn, filled, identifiersOf, exponentsOf};
-use crate::judge;
+use crate::judging;
 use crate::types::Reading;
 use header::Rules;
 use scan::Front;
@@ -40,13 +40,13 @@ fn deliver(
             number,
             line,
             column: _,
-        } => judge::refused(number, line),
+        } => judging::refused(number, line),
         Front::File(tally) => {
             let end = tally.end;
             let used = &bytes[0..end];
-            let n = judge::count_of(rules, used);
+            let n = judging::count_of(rules, used);
             if !has_room(n, tally, identifiers.len(), exponents.len(), comments.len(), rows.len()) {
-                return judge::refused(12, 0);
+                return judging::refused(12, 0);
             }
             store::fill_slots(rules, used, false, n, identifiers);
             store::fill_slots(rules, used, true, n, exponents);
@@ -56,7 +56,7 @@ fn deliver(
                 refusal: 0,
                 line: 0,
                 length: end,
-                header: judge::header_of(rules, used, tally.comments),
+                header: judging::header_of(rules, used, tally.comments),
             }
         }
     }
