@@ -25,17 +25,32 @@ fn with_digit(n: u64, digit: u8) -> u64 {
     (n % 100_000_000_000) * 10 + (digit % 16) as u64
 }
 
+// 1 for a blank, 0 for another byte.
+fn is_blank(b: u8) -> usize
+    ensures { λ r. ⌜ r ≤ 1 ⌝ }
+{
+    if b == b' ' {
+        return 1;
+    }
+    0
+}
+
+// A number with one more digit where the byte is of this number and no blank.
+fn with_byte(n: u64, own: bool, b: u8) -> u64 {
+    if own & (b != b' ') {
+        return with_digit(n, b);
+    }
+    n
+}
+
 // The k-th number of a line, counted from 0: in `12 7` number 1 is 7, and number 2 is 0 as there is none.
 fn number(line: &[u8], k: usize) -> u64 {
     let mut value = 0;
     let mut blanks = 0;
     let mut i = 0;
     while i < line.len() {
-        if line[i] == b' ' {
-            blanks += 1;
-        } else if blanks == k {
-            value = with_digit(value, line[i]);
-        }
+        value = with_byte(value, blanks == k, line[i]);
+        blanks += is_blank(line[i]);
         i += 1;
     }
     value

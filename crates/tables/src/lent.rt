@@ -121,10 +121,10 @@ fn into_parts(
     into(
         file,
         front,
-        &mut identifiers[..i],
-        &mut exponents[..x],
-        &mut comments[..c],
-        &mut rows[..r],
+        &mut identifiers[0..i],
+        &mut exponents[0..x],
+        &mut comments[0..c],
+        &mut rows[0..r],
     );
 }
 

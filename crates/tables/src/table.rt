@@ -68,11 +68,19 @@ fn satellite(name: u64, exponent: u64) {
     print::text(b"\n");
 }
 
+// The k-th number of a list; 0 where there is none.
+fn number_in(numbers: &[u64], k: usize) -> u64 {
+    if k < numbers.len() {
+        return numbers[k];
+    }
+    0
+}
+
 // The first n satellites.
-fn satellites(n: u64, identifiers: &[u64], exponents: &[u64]) {
+fn satellites(n: usize, identifiers: &[u64], exponents: &[u64]) {
     let mut k = 0;
-    while ((k as u64) < n) & (k < identifiers.len()) & (k < exponents.len()) {
-        satellite(identifiers[k], exponents[k]);
+    while k < n {
+        satellite(number_in(identifiers, k), number_in(exponents, k));
         k += 1;
     }
 }
@@ -95,17 +103,24 @@ fn trimmed_length(s: &[u8]) -> usize
 fn comment(text: &[u8]) {
     let n = trimmed_length(text);
     print::text(b"|");
-    print::text(&text[..n]);
+    print::text(&text[0..n]);
     print::text(b"|\n");
 }
 
-// The first n comments, 77 bytes each.
-fn comments(n: u64, bytes: &[u8]) {
-    let mut k = 0;
-    while ((k as u64) < n) & (k < bytes.len() / 77) {
+// The k-th comment, where there is one: 77 bytes.
+fn comment_in(bytes: &[u8], k: usize) {
+    if k < bytes.len() / 77 {
         let from = k * 77;
         let to = from + 77;
         comment(&bytes[from..to]);
+    }
+}
+
+// The first n comments.
+fn comments(n: u64, bytes: &[u8]) {
+    let mut k = 0;
+    while k < n {
+        comment_in(bytes, k as usize);
         k += 1;
     }
 }
@@ -192,7 +207,7 @@ fn row(velocity: bool, identifiers: &[u64], rows: &[i64], k: usize)
     print::byte(letter(velocity, k));
     print::value((p / n) as u64);
     print::text(b" ");
-    print::identifier(identifiers[p % n]);
+    print::identifier(number_in(identifiers, p % n));
     held(rows, k);
 }
 
@@ -267,8 +282,8 @@ pub(crate) fn show(
     let n = crate::input::at_most(header.satellites, identifiers.len());
     front(header);
     named(b"satellites", header.satellites);
-    satellites(header.satellites, identifiers, exponents);
+    satellites(n, identifiers, exponents);
     named(b"comments", header.comments);
     comments(header.comments, comments_lent);
-    body(header, &identifiers[..n], rows);
+    body(header, &identifiers[0..n], rows);
 }
