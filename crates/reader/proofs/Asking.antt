@@ -1,17 +1,19 @@
 -- Laws of the questions, on plain values: a text without its trailing blanks, a name's number, where a line lies, and what bounds the lines
 -- of an accepted file. Assumes nothing.
-use mathlib.Core.Path.{_≡_, sym, ap, _∙_}
+use mathlib.Core.Path.{_≡_, sym, ap, ap₂, _∙_}
 use mathlib.Core.Bool.{Bool, true, false, _&&_}
-use mathlib.Core.List.{List, [], _∷_, append-nil}
+use mathlib.Core.List.{List, [], _∷_, _++_, append-nil}
 use Prim.Native.Nat.{ℕ, suc, _+_, _*_, _-_, _<_, _≤_, min}
 use native.Mathlib.Nat.{add-zero, sub-zero, mul-le-mul}
 use native.Mathlib.Decide.{decLt}
 use native.Mathlib.Omega.{arith}
 use borrow.Author.Tests.{eq-eqb, ne-eqb, lt-ltb, le-ltb, ltb-true}
 use lib.Dec.{ltb}
-use lib.ListN.{length, getD, take, drop, length-append, length-drop}
-use lib.Seq.{take-all, length-take-le}
+use lib.ListN.{length, getD, take, drop, length-append, length-drop, drop-of-length-le}
+use lib.Seq.{take-all, length-take-le, take-append-seam}
 use Rattle.layout.specs.Line.{trimmed}
+use Rattle.lines.specs.Lent.{laid}
+use Rattle.lines.proofs.Laying.{laid-fits}
 use Rattle.lines.specs.Lines.{linesOf, joinLines, bytesIn, select, nth, placeFrom}
 use Rattle.header.specs.Rules.{d}
 use Rattle.file.specs.Kinds.{isKind, ofKind}
@@ -19,7 +21,7 @@ use Rattle.file.specs.Plain.{Plain, Sound}
 use Rattle.file.specs.Table.{firstIn, countOf, slotsIn}
 use Rattle.scan.specs.Run.{nothing, scanOf, wholeOf}
 use Rattle.reader.specs.Reading.{linesTo, fileOf, identifiersOf}
-use Rattle.reader.specs.Questions.{textIn, noComment, commentLine, commentPlace, commentAt, commentAnswer, commentWords, indexOf, epochsOf, noRow, rowAt, rowPlace}
+use Rattle.reader.specs.Questions.{textIn, noComment, commentLine, commentPlace, commentAt, commentAnswer, commentWords, indexOf, satelliteIn, satelliteAnswer, epochsOf, noRow, rowAt, rowPlace}
 use Rattle.header.specs.declared.types.Rules.{Rules}
 use Rattle.record.specs.declared.types.First.{First}
 use Rattle.scan.specs.declared.Tally.{Tally}
@@ -27,6 +29,7 @@ use Rattle.scan.specs.declared.Front.{Front}
 use Rattle.scan.specs.declared.Front.the-variants as front
 use Rattle.reader.specs.declared.types.CommentAnswer.{CommentAnswer}
 use Rattle.reader.specs.declared.types.RowPlace.{RowPlace}
+use Rattle.reader.specs.declared.types.SatelliteAnswer.{SatelliteAnswer}
 use Rattle.laws.proofs.Bools.{both-true}
 use Rattle.laws.proofs.Lists.{rest-step, rest-none}
 use Rattle.layout.proofs.Lines.{trim-stop, trimmed-front}
@@ -114,6 +117,12 @@ module _ (bytes : List ℕ) (t : Tally) (e : wholeOf (length bytes) (scanOf d by
       let p = whole-plain in
       (omega (arith, epochs-are p, epochs-bounds p .1), omega (arith, count-is p, satellites-bounds p .1))
 
+  -- as many identifiers as the file says
+  pub identifiers-counted : length (identifiersOf d (linesTo (t .end) bytes)) ≡ countOf d (linesTo (t .end) bytes)
+  identifiers-counted =
+      let p = whole-plain in
+      ap (λ (n : ℕ). length (slotsIn d false n (linesTo (t .end) bytes))) (count-is p) ∙ identifiers-room p ∙ sym (count-is p)
+
   pub identifiers-bounded : length (identifiersOf d (linesTo (t .end) bytes)) ≤ 255
   identifiers-bounded =
       let p = whole-plain in
@@ -155,6 +164,9 @@ module _ (bytes : List ℕ) (f : Front) (e : fileOf d bytes ≡ f) where
   pub words-as : (k : ℕ) (s : List ℕ) → s ≡ commentWords d bytes f k → s ≡ commentWords d bytes (fileOf d bytes) k
   words-as k s is = is ∙ ap (λ (x : Front). commentWords d bytes x k) (sym e)
 
+  pub satellite-as : (name : ℕ) (a : SatelliteAnswer) → a ≡ satelliteAnswer d bytes f name → a ≡ satelliteAnswer d bytes (fileOf d bytes) name
+  satellite-as name a is = is ∙ ap (λ (x : Front). satelliteAnswer d bytes x name) (sym e)
+
   pub row-as : (epoch satellite : ℕ) (a : RowPlace) → a ≡ rowPlace d bytes f epoch satellite → a ≡ rowPlace d bytes (fileOf d bytes) epoch satellite
   row-as epoch satellite a is = is ∙ ap (λ (x : Front). rowPlace d bytes x epoch satellite) (sym e)
 
@@ -171,9 +183,17 @@ module _ (rules : Rules) (r : rules ≡ d) (bytes : List ℕ) (t : Tally) where
   unfolding commentWords
   words-there k s l h is line = is ∙ rw (line, r, lines-as, lt-ltb k (t .comments) h)
 
-  pub row-there : (epoch satellite : ℕ) (a : RowPlace) → a ≡ rowAt rules (linesTo (t .end - 0) bytes) epoch satellite → a ≡ rowPlace d bytes (front.File t) epoch satellite
+  pub row-found : (epoch satellite : ℕ) (a : RowPlace) → a ≡ rowAt rules (linesTo (t .end - 0) bytes) epoch satellite → a ≡ rowPlace d bytes (front.File t) epoch satellite
   unfolding rowPlace
-  row-there epoch satellite a is = is ∙ rw (r, lines-as)
+  row-found epoch satellite a is = is ∙ rw (r, lines-as)
+
+  pub satellite-found : (name : ℕ) (a : SatelliteAnswer) → a ≡ satelliteIn name (identifiersOf rules (linesTo (t .end - 0) bytes)) → a ≡ satelliteAnswer d bytes (front.File t) name
+  unfolding satelliteAnswer
+  satellite-found name a is = is ∙ rw (r, lines-as)
+
+  pub counted-as : fileOf d bytes ≡ front.File t
+      → (length (identifiersOf rules (linesTo (t .end - 0) bytes)) ≡ countOf rules (linesTo (t .end - 0) bytes)) × (countOf rules (linesTo (t .end - 0) bytes) ≤ 255)
+  counted-as e = rw (r, lines-as) (identifiers-counted bytes t e, bounded bytes t e .1)
 
   pub bounded-as : fileOf d bytes ≡ front.File t → (epochsOf rules (linesTo (t .end - 0) bytes) ≤ 100000) × (countOf rules (linesTo (t .end - 0) bytes) ≤ 255)
   bounded-as e = rw (r, lines-as) (bounded bytes t e)
@@ -189,3 +209,14 @@ no-words-there bytes t k h = rw (le-ltb k (t .comments) h)
 -- an accepted file ends within its bytes
 pub file-within : (bytes : List ℕ) (t : Tally) → fileOf d bytes ≡ front.File t → t .end ≤ length bytes
 file-within bytes t e = omega (arith, whole-ends d bytes t e .1)
+
+-- names laid over the front of others, as many as there are or fewer
+module _ (names old now : List ℕ) (is : now ≡ laid names old) (fits : length names ≤ length old) where
+  named : now ≡ names ++ drop (length names) old
+  named = is ∙ laid-fits names old fits
+
+  pub first-names : (n : ℕ) → n ≡ length names → take (n - 0) now ≡ names
+  first-names n e = ap₂ (λ (k : ℕ) (l : List ℕ). take k l) (sub-zero n ∙ e) named ∙ take-append-seam names (drop (length names) old)
+
+  pub all-names : length old ≤ length names → now ≡ names
+  all-names h = named ∙ ap (λ (l : List ℕ). names ++ l) (drop-of-length-le old h) ∙ append-nil names

@@ -8,7 +8,7 @@ use native.Mathlib.Omega.{arith}
 use borrow.Author.Tests.{leb-true}
 use lib.Dec.{leb}
 use lib.IntN.{ℤ}
-use lib.ListN.{length, take, length-take}
+use lib.ListN.{length, take, length-take, length-map}
 use lib.Seq.{take-all}
 use Rattle.laws.proofs.Bools.{and-left, and-right}
 use Rattle.lines.specs.Lent.{over, laid, flat}
@@ -55,10 +55,11 @@ comments-wide : (rules : Rules) (ls : List (List ℕ)) → length (commentsIn ru
 unfolding commentsIn
 comments-wide rules ls =
     length-flat 77 (map commentText (ofKind rules 8 ls)) (each-map (λ (part : List ℕ). length part ≡ 77) commentText comment-wide (ofKind rules 8 ls))
+    ∙ ap (λ (k : ℕ). k * 77) (length-map (ofKind rules 8 ls) commentText)
 
 -- as many whole parts as fit
-times-fit : (w k n : ℕ) → k ≤ n / w → k * w ≤ n
-times-fit w k n h = ?
+comments-within : (k n : ℕ) → k ≤ n / 77 → k * 77 ≤ n
+comments-within k n h = omega arith
 
 module _ (rules : Rules) (bytes : List ℕ) (f : Front) (i x c r : ℕ) where
   -- a refusal that was found
@@ -147,7 +148,7 @@ module _ (rules : Rules) (bytes : List ℕ) (f : Front) (i x c r : ℕ) where
               ap (λ (b : List ℕ). take (t .comments) (ofKind rules 8 (linesOf b))) (front-part (t .end) bytes)
               ∙ take-all (t .comments) (ofKind rules 8 lines) (omega (arith, counts .1))
           wide : length (commentsIn rules (linesIn bytes f)) ≤ length old
-          wide = omega (arith, size, ap (λ (g : Front). length (commentsIn rules (linesIn bytes g))) is, comments-wide rules lines, counts .1, times-fit 77 (t .comments) c comments-fit)
+          wide = omega (arith, size, ap (λ (g : Front). length (commentsIn rules (linesIn bytes g))) is, comments-wide rules lines, counts .1, comments-within (t .comments) c comments-fit)
 
       -- rows: all of them
       pub rows-delivered : (old now : List ℤ) → length old ≡ r
@@ -159,3 +160,13 @@ module _ (rules : Rules) (bytes : List ℕ) (f : Front) (i x c r : ℕ) where
           all =
               ap (λ (b : List ℕ). take (length old / rowWidth) (rowLines rules (linesOf b))) (front-part (t .end) bytes)
               ∙ take-all (length old / rowWidth) (rowLines rules lines) (omega (arith, ap (λ (k : ℕ). k / 12) size, counts .2, rows-fit))
+
+-- The same for rules and a front that are known by equations.
+module _ (bytes : List ℕ) (i x c r : ℕ) (rules rules′ : Rules) (f f′ : Front) (same : rules ≡ rules′) (found : f ≡ f′) where
+  pub answered : (v : Reading) → v ≡ delivered rules bytes f i x c r → v ≡ delivered rules′ bytes f′ i x c r
+  answered v e = e ∙ ap₂ (λ (k : Rules) (g : Front). delivered k bytes g i x c r) same found
+
+  pub listed : {A : Type 0} (new : Rules → List (List ℕ) → List A) (old now : List A)
+      → now ≡ filled (enough rules bytes f i x c r) (new rules (linesIn bytes f)) old
+      → now ≡ filled (enough rules′ bytes f′ i x c r) (new rules′ (linesIn bytes f′)) old
+  listed new old now e = e ∙ ap₂ (λ (k : Rules) (g : Front). filled (enough k bytes g i x c r) (new k (linesIn bytes g)) old) same found

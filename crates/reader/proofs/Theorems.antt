@@ -73,7 +73,7 @@ module _ (bytes : List ℕ) (t : Tally) (e : fileOf d bytes ≡ front.File t) wh
   -- THE ROW: at the place that is told begins the P line numbered epoch * n + satellite. It stands among the lines of that epoch and names
   -- that satellite of the header.
   module _ (epoch satellite : ℕ) (some : epoch < epochsOf d (linesOf bytes)) (one : satellite < countOf d (linesOf bytes)) where
-    abbrev told : ℕ
+    abbrev pub told : ℕ
     told = rowPlace d bytes (fileOf d bytes) epoch satellite .at
 
     place-told : told ≡ placeFrom (isKind d 10) (rowIndex d (linesOf bytes) epoch satellite) 0 (linesOf bytes)

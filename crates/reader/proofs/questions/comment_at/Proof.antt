@@ -21,9 +21,11 @@ add-t8 c =
     let joined = c .before .before in
     let lined = joined .before in
     let a = lined .before .before .before .args in
-    omega
-    (arith, text-within (a .rules) (a .bytes .now) (a .k) (lined .before .place-of .result) (joined .if1 .indent) (now (lined .line-of .result))
-    (lined .before .place-of .ensures) (lined .line-of .ensures) (indented joined))
+    omega (
+      arith,
+      text-within (a .rules) (a .bytes .now) (a .k) (lined .before .place-of .result) (joined .if1 .indent) (now (lined .line-of .result))
+          (lined .before .place-of .ensures) (lined .line-of .ensures) (indented joined),
+    )
 
 returns : tie.Need-returns
 returns c =

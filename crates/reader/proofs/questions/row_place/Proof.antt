@@ -7,7 +7,7 @@ use Rattle.header.specs.Rules.{d}
 use Rattle.reader.specs.Reading.{fileOf}
 use Rattle.reader.specs.Questions.{rowPlace}
 use Rattle.scan.specs.declared.Front.the-variants as front
-use Rattle.reader.proofs.Asking.{found-as, row-as, row-there, bounded-as, file-within}
+use Rattle.reader.proofs.Asking.{found-as, row-as, row-found, bounded-as, file-within}
 use Rattle.reader.proofs.questions.row_place.Statement.{statement}
 use Rattle.reader.proofs.questions.row_place.Tie as tie
 
@@ -46,7 +46,7 @@ returns-2 c =
     let start = started .before .before in
     let t = known .tally .given .0 .0 in
     row-as (start .args .file .now) (front.File t) (found-file known) (start .args .epoch) (start .args .satellite) (c .row-at .result)
-    (row-there (started .d .result) (started .d .ensures) (start .args .file .now) t (start .args .epoch) (start .args .satellite) (c .row-at .result) (c .row-at .ensures))
+    (row-found (started .d .result) (started .d .ensures) (start .args .file .now) t (start .args .epoch) (start .args .satellite) (c .row-at .result) (c .row-at .ensures))
 
 pub row-place-spec : {M : Type 1} → statement M
 row-place-spec =
