@@ -39,13 +39,13 @@ use std::process::exit;
 // ---------------------------------------------------------------------------
 
 /// "It has at most 80 characters."
-const WIDTH: usize = 80;
+pub(crate) const WIDTH: usize = 80;
 
 /// A line with its missing columns: "A short line counts as padded with blanks."
-struct Line([u8; WIDTH]);
+pub(crate) struct Line([u8; WIDTH]);
 
 impl Line {
-    fn padded(text: &[u8]) -> Line {
+    pub(crate) fn padded(text: &[u8]) -> Line {
         let mut columns = [b' '; WIDTH];
         columns[..text.len()].copy_from_slice(text);
         Line(columns)
@@ -56,7 +56,7 @@ impl Line {
         &self.0[first - 1..last]
     }
 
-    fn begins(&self, symbol: &str) -> bool {
+    pub(crate) fn begins(&self, symbol: &str) -> bool {
         self.0.starts_with(symbol.as_bytes())
     }
 }
@@ -64,9 +64,9 @@ impl Line {
 /// A refusal. The derived order is the order in which faults decide: the
 /// lowest number, and of several with that number the leftmost column.
 #[derive(Clone, Copy, PartialEq, Eq, PartialOrd, Ord, Debug)]
-struct Fault {
-    number: u8,
-    column: usize,
+pub(crate) struct Fault {
+    pub(crate) number: u8,
+    pub(crate) column: usize,
 }
 
 const WRONG_KIND: u8 = 4;
@@ -107,7 +107,7 @@ fn without_leading_blanks(field: &[u8]) -> &[u8] {
     &field[blanks..]
 }
 
-fn without_trailing_blanks(field: &[u8]) -> &[u8] {
+pub(crate) fn without_trailing_blanks(field: &[u8]) -> &[u8] {
     let blanks = field.iter().rev().take_while(|&&c| c == b' ').count();
     &field[..field.len() - blanks]
 }
@@ -132,13 +132,13 @@ fn read_decimal(field: &[u8], places: usize, minus_allowed: bool) -> Option<i64>
     Some(if negative { -magnitude } else { magnitude })
 }
 
-fn power_of_ten(places: usize) -> i64 {
+pub(crate) fn power_of_ten(places: usize) -> i64 {
     (0..places).fold(1, |power, _| 10 * power)
 }
 
 /// "a blank exponent is unknown (in P and V, not in `++`)"
 #[derive(Clone, Copy)]
-enum Exponent {
+pub(crate) enum Exponent {
     Known(i64),
     Unknown,
 }
@@ -152,9 +152,9 @@ fn read_exponent(field: &[u8]) -> Option<Exponent> {
 
 /// "Identifiers are a capital letter and 01 to 99."
 #[derive(Clone, Copy)]
-struct Identifier {
-    letter: u8,
-    number: i64,
+pub(crate) struct Identifier {
+    pub(crate) letter: u8,
+    pub(crate) number: i64,
 }
 
 /// A capital letter and two digits; 00 is left to the bounds.
@@ -167,13 +167,13 @@ fn read_identifier(field: &[u8]) -> Option<Identifier> {
 }
 
 #[derive(Clone, Copy)]
-struct Date {
-    year: i64,
-    month: i64,
-    day: i64,
+pub(crate) struct Date {
+    pub(crate) year: i64,
+    pub(crate) month: i64,
+    pub(crate) day: i64,
 }
 
-fn days_in_month(year: i64, month: i64) -> i64 {
+pub(crate) fn days_in_month(year: i64, month: i64) -> i64 {
     let leap = year % 4 == 0 && (year % 100 != 0 || year % 400 == 0);
     match month {
         2 if leap => 29,
@@ -210,15 +210,15 @@ enum Role {
     Field,
 }
 
-struct Reader {
+pub(crate) struct Reader {
     line: Line,
-    deciding: Option<Fault>,
+    pub(crate) deciding: Option<Fault>,
     roles: [Role; WIDTH],
     taken_twice: bool,
 }
 
 impl Reader {
-    fn new(text: &[u8]) -> Reader {
+    pub(crate) fn new(text: &[u8]) -> Reader {
         Reader {
             line: Line::padded(text),
             deciding: None,
@@ -374,58 +374,58 @@ impl Reader {
 // ---------------------------------------------------------------------------
 
 /// A date and a time of day; the seconds in 10^-8 s.
-struct Moment {
-    date: Date,
-    hour: i64,
-    minute: i64,
-    seconds: i64,
+pub(crate) struct Moment {
+    pub(crate) date: Date,
+    pub(crate) hour: i64,
+    pub(crate) minute: i64,
+    pub(crate) seconds: i64,
 }
 
-struct FirstLine {
-    mode: Vec<u8>,
-    start: Moment,
-    epochs: i64,
-    data_used: Vec<u8>,
-    coordinate_system: Vec<u8>,
-    orbit_type: Vec<u8>,
-    agency: Vec<u8>,
+pub(crate) struct FirstLine {
+    pub(crate) mode: Vec<u8>,
+    pub(crate) start: Moment,
+    pub(crate) epochs: i64,
+    pub(crate) data_used: Vec<u8>,
+    pub(crate) coordinate_system: Vec<u8>,
+    pub(crate) orbit_type: Vec<u8>,
+    pub(crate) agency: Vec<u8>,
 }
 
 /// Seconds of week and interval in 10^-8 s, the fraction in 10^-13 day.
-struct LineTwo {
-    week: i64,
-    seconds_of_week: i64,
-    interval: i64,
-    modified_julian_day: i64,
-    fraction: i64,
+pub(crate) struct LineTwo {
+    pub(crate) week: i64,
+    pub(crate) seconds_of_week: i64,
+    pub(crate) interval: i64,
+    pub(crate) modified_julian_day: i64,
+    pub(crate) fraction: i64,
 }
 
 /// A `+ ` line; only the first one has the number of satellites.
-struct Satellites {
-    number: Option<i64>,
-    identifiers: Vec<Identifier>,
+pub(crate) struct Satellites {
+    pub(crate) number: Option<i64>,
+    pub(crate) identifiers: Vec<Identifier>,
 }
 
-struct FirstCharacters {
-    file_type: Vec<u8>,
-    time_system: Vec<u8>,
+pub(crate) struct FirstCharacters {
+    pub(crate) file_type: Vec<u8>,
+    pub(crate) time_system: Vec<u8>,
 }
 
 /// The bases in 10^-7 and 10^-9.
-struct Bases {
-    position: i64,
-    clock: i64,
+pub(crate) struct Bases {
+    pub(crate) position: i64,
+    pub(crate) clock: i64,
 }
 
-struct Row {
-    identifier: Identifier,
-    numbers: [i64; 4],
-    exponents: [Exponent; 4],
+pub(crate) struct Row {
+    pub(crate) identifier: Identifier,
+    pub(crate) numbers: [i64; 4],
+    pub(crate) exponents: [Exponent; 4],
 }
 
-struct Position {
-    row: Row,
-    flags: [Vec<u8>; 4],
+pub(crate) struct Position {
+    pub(crate) row: Row,
+    pub(crate) flags: [Vec<u8>; 4],
 }
 
 enum Record {
@@ -450,9 +450,9 @@ enum Record {
 // Reading records: the columns of 000
 // ---------------------------------------------------------------------------
 
-const SLOTS: usize = 17;
-const MOST_SATELLITES: i64 = 255;
-const MOST_EPOCHS: i64 = 100_000;
+pub(crate) const SLOTS: usize = 17;
+pub(crate) const MOST_SATELLITES: i64 = 255;
+pub(crate) const MOST_EPOCHS: i64 = 100_000;
 
 /// The same columns in the first line and in the epoch header.
 fn read_moment(r: &mut Reader) -> Moment {
@@ -468,7 +468,7 @@ fn read_moment(r: &mut Reader) -> Moment {
 }
 
 /// SP3 First Line
-fn read_first_line(r: &mut Reader) -> FirstLine {
+pub(crate) fn read_first_line(r: &mut Reader) -> FirstLine {
     r.symbol("#d"); //                                      Columns 1-2    Version Symbol
     let mode = r.listed(3, 3, &["P", "V"]); //              Column 3       Pos or Vel Flag  A1
     let start = read_moment(r); //                          Columns 4-31
@@ -487,7 +487,7 @@ fn read_first_line(r: &mut Reader) -> FirstLine {
 }
 
 /// SP3 Line Two
-fn read_line_two(r: &mut Reader) -> LineTwo {
+pub(crate) fn read_line_two(r: &mut Reader) -> LineTwo {
     let a_week = 0..=604_800 * power_of_ten(8) - 1;
     let above_0 = 1..=i64::MAX;
     let below_1 = 0..=power_of_ten(13) - 1;
@@ -512,7 +512,7 @@ fn slot_columns(slot: usize) -> (usize, usize) {
 }
 
 /// SP3 Line Three
-fn read_first_satellites(r: &mut Reader) -> Satellites {
+pub(crate) fn read_first_satellites(r: &mut Reader) -> Satellites {
     r.symbol("+ "); //                                      Columns 1-2    Symbols
     r.unused(3, 3); //                                      Column 3       Unused
     let written = read_integer(r.line.columns(4, 6));
@@ -533,7 +533,7 @@ fn skip_slots(r: &mut Reader) -> Vec<Identifier> {
 }
 
 /// SP3 Line Four and on
-fn read_further_satellites(r: &mut Reader, left: usize) -> Satellites {
+pub(crate) fn read_further_satellites(r: &mut Reader, left: usize) -> Satellites {
     r.symbol("+ "); //                                      Columns 1-2    Symbols
     r.unused(3, 9); //                                      Columns 3-9    Unused
     let identifiers = read_identifiers(r, left);
@@ -556,7 +556,7 @@ fn read_identifiers(r: &mut Reader, left: usize) -> Vec<Identifier> {
 }
 
 /// SP3 Line Twelve and on: exponents (I3) in the first `left` slots.
-fn read_accuracies(r: &mut Reader, left: usize) -> Vec<i64> {
+pub(crate) fn read_accuracies(r: &mut Reader, left: usize) -> Vec<i64> {
     r.symbol("++"); //                                      Columns 1-2    Symbols
     r.unused(3, 9); //                                      Columns 3-9    Unused
     let mut exponents = Vec::new();
@@ -573,11 +573,11 @@ fn read_accuracies(r: &mut Reader, left: usize) -> Vec<i64> {
 }
 
 /// "G, M, R, L, S, I, E, C or J with a blank after it"
-const FILE_TYPES: [&str; 9] = ["G ", "M ", "R ", "L ", "S ", "I ", "E ", "C ", "J "];
-const TIME_SYSTEMS: [&str; 8] = ["GPS", "GLO", "GAL", "BDT", "TAI", "UTC", "IRN", "QZS"];
+pub(crate) const FILE_TYPES: [&str; 9] = ["G ", "M ", "R ", "L ", "S ", "I ", "E ", "C ", "J "];
+pub(crate) const TIME_SYSTEMS: [&str; 8] = ["GPS", "GLO", "GAL", "BDT", "TAI", "UTC", "IRN", "QZS"];
 
 /// SP3 Line Twenty one
-fn read_first_characters(r: &mut Reader) -> FirstCharacters {
+pub(crate) fn read_first_characters(r: &mut Reader) -> FirstCharacters {
     r.symbol("%c"); //                                      Columns 1-2    Symbols
     r.unused(3, 3); //                                      Column 3       Unused
     let file_type = r.listed(4, 5, &FILE_TYPES); //         Columns 4-5    File Type        A2
@@ -590,7 +590,7 @@ fn read_first_characters(r: &mut Reader) -> FirstCharacters {
 }
 
 /// SP3 Line Twenty two
-fn read_second_characters(r: &mut Reader) {
+pub(crate) fn read_second_characters(r: &mut Reader) {
     r.symbol("%c"); //        Columns 1-2    Symbols
     r.unused(3, 3); //        Column 3       Unused
     r.letters_c(4, 5); //     Columns 4-5    2 characters     A2
@@ -625,7 +625,7 @@ fn read_rest_of_characters(r: &mut Reader) {
 }
 
 /// SP3 Line Twenty three
-fn read_first_floats(r: &mut Reader) -> Bases {
+pub(crate) fn read_first_floats(r: &mut Reader) -> Bases {
     r.symbol("%f"); //                                      Columns 1-2    Symbols
     r.unused(3, 3); //                                      Column 3       Unused
     let position = r.decimal(4, 13, 7, 0..=i64::MAX); //    Columns 4-13   Base for Pos/Vel F10.7
@@ -636,7 +636,7 @@ fn read_first_floats(r: &mut Reader) -> Bases {
 }
 
 /// SP3 Line Twenty four
-fn read_second_floats(r: &mut Reader) {
+pub(crate) fn read_second_floats(r: &mut Reader) {
     r.symbol("%f"); //             Columns 1-2    Symbols
     r.unused(3, 3); //             Column 3       Unused
     r.decimal_zero(4, 13, 7); //   Columns 4-13   10-column float  F10.7
@@ -655,7 +655,7 @@ fn read_rest_of_floats(r: &mut Reader) {
 }
 
 /// SP3 Lines Twenty five and Twenty six
-fn read_integers(r: &mut Reader) {
+pub(crate) fn read_integers(r: &mut Reader) {
     r.symbol("%i"); //          Columns 1-2    Symbols
     r.unused(3, 3); //          Column 3       Unused
     r.integer_zero(4, 7); //    Columns 4-7    4-column int  I4
@@ -679,7 +679,7 @@ fn read_integers(r: &mut Reader) {
 }
 
 /// SP3 Lines Twenty seven to Thirty one
-fn read_comment(r: &mut Reader) -> Vec<u8> {
+pub(crate) fn read_comment(r: &mut Reader) -> Vec<u8> {
     r.symbol("/*"); //             Columns 1-2    Symbols
     r.unused(3, 3); //             Column 3       Unused
     let text = r.text(4, 80); //   Columns 4-80   Comment  A77
@@ -687,7 +687,7 @@ fn read_comment(r: &mut Reader) -> Vec<u8> {
 }
 
 /// SP3 Line Thirty two (The Epoch Header Record)
-fn read_epoch(r: &mut Reader) -> Moment {
+pub(crate) fn read_epoch(r: &mut Reader) -> Moment {
     r.symbol("* "); //                  Columns 1-2    Symbols
     r.unused(3, 3); //                  Column 3       Unused
     let moment = read_moment(r); //     Columns 4-31
@@ -718,7 +718,7 @@ fn read_row(r: &mut Reader) -> Row {
 }
 
 /// SP3 Line Thirty three (The Position and Clock Record)
-fn read_position(r: &mut Reader) -> Position {
+pub(crate) fn read_position(r: &mut Reader) -> Position {
     r.symbol("P"); //                                       Column 1       Symbol
     let row = read_row(r); //                               Columns 2-73
     r.unused(74, 74); //                                    Column 74      Unused
@@ -732,7 +732,7 @@ fn read_position(r: &mut Reader) -> Position {
 }
 
 /// SP3 Line Twenty six in Example 2
-fn read_velocity(r: &mut Reader) -> Row {
+pub(crate) fn read_velocity(r: &mut Reader) -> Row {
     r.symbol("V"); //               Column 1       Symbol
     let row = read_row(r); //       Columns 2-73
     r.unused(74, 80); //            Columns 74-80  Unused
@@ -740,13 +740,13 @@ fn read_velocity(r: &mut Reader) -> Row {
 }
 
 /// "EP and EV records are accepted in their places and skipped."
-fn read_correlation(r: &mut Reader, symbol: &str) {
+pub(crate) fn read_correlation(r: &mut Reader, symbol: &str) {
     r.symbol(symbol); //            Columns 1-2    Symbols
     r.text(3, 80);
 }
 
 /// SP3 "Last" Line (The End-of-File marker)
-fn read_end(r: &mut Reader) {
+pub(crate) fn read_end(r: &mut Reader) {
     r.symbol("EOF"); //             Columns 1-3    End of File
     r.unused(4, 80);
 }
@@ -1312,7 +1312,7 @@ fn overlap(one: &Spoiler, other: &Spoiler) -> bool {
 // ---------------------------------------------------------------------------
 
 /// Kind letters, columns, and texts put there; a text is set at the left.
-const SPELLINGS: &[(&str, &[usize], &[&str])] = &[
+pub(crate) const SPELLINGS: &[(&str, &[usize], &[&str])] = &[
     // Mode.
     ("a", &[3], &["P", "V", "v", "p", "M", " "]),
     // Dates. Months and leap days are added by `dates`.
@@ -1871,10 +1871,10 @@ fn add_kinds(cases: &mut Cases) {
 }
 
 /// A small generator of numbers (splitmix64).
-struct Random(u64);
+pub(crate) struct Random(pub(crate) u64);
 
 impl Random {
-    fn next(&mut self) -> u64 {
+    pub(crate) fn next(&mut self) -> u64 {
         self.0 = self.0.wrapping_add(0x9e37_79b9_7f4a_7c15);
         let mut z = self.0;
         z = (z ^ (z >> 30)).wrapping_mul(0xbf58_476d_1ce4_e5b9);
@@ -1882,11 +1882,11 @@ impl Random {
         z ^ (z >> 31)
     }
 
-    fn below(&mut self, bound: usize) -> usize {
+    pub(crate) fn below(&mut self, bound: usize) -> usize {
         (self.next() % bound as u64) as usize
     }
 
-    fn pick<'a, T>(&mut self, list: &'a [T]) -> &'a T {
+    pub(crate) fn pick<'a, T>(&mut self, list: &'a [T]) -> &'a T {
         &list[self.below(list.len())]
     }
 }
@@ -2086,9 +2086,9 @@ const BY_HAND: &[(&str, &str)] = &[
 
 /// Counts comparisons and tells those that fail.
 #[derive(Default)]
-struct Tally {
-    made: usize,
-    failed: usize,
+pub(crate) struct Tally {
+    pub(crate) made: usize,
+    pub(crate) failed: usize,
 }
 
 impl Tally {
@@ -2099,7 +2099,7 @@ impl Tally {
         });
     }
 
-    fn holds(&mut self, condition: bool, message: impl Fn() -> String) {
+    pub(crate) fn holds(&mut self, condition: bool, message: impl Fn() -> String) {
         self.made += 1;
         if !condition {
             self.failed += 1;
@@ -2180,7 +2180,7 @@ fn self_test() {
 // The program
 // ---------------------------------------------------------------------------
 
-fn fail(message: &str) -> ! {
+pub(crate) fn fail(message: &str) -> ! {
     eprintln!("{message}");
     exit(1)
 }

@@ -1,0 +1,3124 @@
+//! A judge of whole SP3-d files, written only from the documents.
+//!
+//! It says of a stretch of bytes whether it is an SP3-d file, which number of
+//! the paper's table refuses it and at which line, what its table holds, what
+//! is laid into lent rooms, and what the questions about a file are answered.
+//! It also makes the files on which another implementation is compared with
+//! it. It shares no code with that implementation; single lines are judged by
+//! `lines.rs`, from the same documents.
+//!
+//! Build: `rustc -O --edition 2021 -o BIN tests/files.rs`
+//!
+//! * `BIN answer < batch`      prints the answers to a batch of cases;
+//! * `BIN generate SEED COUNT` prints a batch of that many generated cases;
+//! * `BIN case SEED NUMBER`    prints one of them, counted from 1;
+//! * `BIN cases`               prints the stored batch;
+//! * `BIN check CRATE_DIR`     compares `CRATE_DIR/stdin` with the stored batch
+//!   and `CRATE_DIR/stdout` with the answers to it;
+//! * `BIN self-test`           compares the judge with answers worked out by hand;
+//! * `BIN count < batch`       counts the answers by their numbers;
+//! * `BIN compare SEED COUNT PROGRAM [ARGS..]` gives generated batches to the
+//!   program and compares what it prints with the answers, byte for byte.
+//!
+//! A batch is cases one after the other. A case is a line of nine numbers,
+//! `LENGTH I X C R K E S N`, and directly after its LF the LENGTH bytes of a
+//! file. I, X, C and R are the rooms lent for identifiers, exponents, bytes of
+//! comments and numbers of rows; K is the comment asked for, E and S the epoch
+//! and the satellite, N the identifier (G07 is 7107). The answer to a case:
+//!
+//! ```text
+//! case LENGTH
+//! front R LINE LENGTH           one file at the front of the bytes
+//! whole R LINE LENGTH           the bytes as one file
+//! read R LINE LENGTH            read whole into the lent rooms
+//! sums A B C D                  of everything lent, filled or not
+//! (the table, where `read` gave 0)
+//! read_front R LINE LENGTH
+//! sums A B C D
+//! comment R LINE AT LENGTH |TEXT|
+//! satellite R LINE NUMBER
+//! row R LINE X Y Z CLOCK        `absent` in place of X Y Z or of CLOCK
+//! ```
+//!
+//! "The paper" is 01-scope.md, "000" is the SP3-d document.
+
+#[allow(dead_code)]
+#[path = "lines.rs"]
+mod lines;
+
+use lines::{fail, without_trailing_blanks};
+use lines::{Exponent, Identifier, Line, Moment, Random, Reader, Tally};
+use std::collections::HashSet;
+use std::io::{Read, Write};
+use std::ops::Range;
+use std::process::{exit, Command, ExitStatus, Stdio};
+
+// ---------------------------------------------------------------------------
+// Refusals, and the lines of a file
+// ---------------------------------------------------------------------------
+
+/// A number of the paper's table and the line, counted from 1; 0 for none.
+#[derive(Clone, Copy, PartialEq, Eq, Debug)]
+struct Refusal {
+    number: u8,
+    line: usize,
+}
+
+/// "no LF is left before the file's EOF line is complete"
+const NO_LF: u8 = 1;
+/// "a byte outside 32-126 in the line"
+const WRONG_BYTE: u8 = 2;
+/// "more than 80 characters"
+const TOO_LONG: u8 = 3;
+/// "line 2 disagrees with the start; ..; an identifier repeats; the file type disagrees"
+const DISAGREES: u8 = 8;
+/// "an epoch stands at the wrong instant"
+const WRONG_INSTANT: u8 = 9;
+/// "a P or V names another satellite than the header has here"
+const OTHER_SATELLITE: u8 = 10;
+/// "whole file: bytes stand after the EOF line"
+const BYTES_AFTER: u8 = 11;
+/// "lent room is too small"
+const NO_ROOM: Refusal = Refusal { number: 12, line: 0 };
+/// "what is asked by number isn't there"
+const NOT_THERE: Refusal = Refusal { number: 13, line: 0 };
+
+/// The bytes, where the next line begins, and how many lines lie before it.
+struct Lines<'a> {
+    bytes: &'a [u8],
+    place: usize,
+    taken: usize,
+}
+
+impl<'a> Lines<'a> {
+    fn new(bytes: &'a [u8]) -> Lines<'a> {
+        Lines { bytes, place: 0, taken: 0 }
+    }
+
+    /// "A line is the bytes up to the next LF." None where no LF is left.
+    fn following(&self) -> Option<&'a [u8]> {
+        let rest = &self.bytes[self.place..];
+        let length = rest.iter().position(|&c| c == b'\n')?;
+        Some(&rest[..length])
+    }
+
+    /// Whether the line that follows is of the kind with this symbol.
+    fn next_is(&self, symbol: &str) -> bool {
+        let text = self.following().unwrap_or_default();
+        Line::padded(&text[..text.len().min(lines::WIDTH)]).begins(symbol)
+    }
+
+    fn refuse<T>(&self, number: u8) -> Result<T, Refusal> {
+        Err(Refusal { number, line: self.taken })
+    }
+
+    /// The line that follows, if it may be a line at all (1, 2, 3).
+    fn take(&mut self) -> Result<&'a [u8], Refusal> {
+        self.taken += 1;
+        let Some(text) = self.following() else {
+            return self.refuse(NO_LF);
+        };
+        if !text.iter().all(|c| (32..=126).contains(c)) {
+            return self.refuse(WRONG_BYTE);
+        }
+        if text.len() > lines::WIDTH {
+            return self.refuse(TOO_LONG);
+        }
+        self.place += text.len() + 1;
+        Ok(text)
+    }
+
+    /// The record that must stand here (4 to 8 by its own columns), and
+    /// `number` where what it holds isn't `right` here: "in a line the lowest".
+    fn checked<T>(
+        &mut self,
+        read: impl FnOnce(&mut Reader) -> T,
+        number: u8,
+        right: impl FnOnce(&T) -> bool,
+    ) -> Result<T, Refusal> {
+        let mut reader = Reader::new(self.take()?);
+        let record = read(&mut reader);
+        match reader.deciding {
+            Some(fault) => self.refuse(fault.number),
+            None if !right(&record) => self.refuse(number),
+            None => Ok(record),
+        }
+    }
+
+    fn record<T>(&mut self, read: impl FnOnce(&mut Reader) -> T) -> Result<T, Refusal> {
+        self.checked(read, 0, |_| true)
+    }
+}
+
+// ---------------------------------------------------------------------------
+// Instants: whole numbers of 10^-8 s since MJD 0
+// ---------------------------------------------------------------------------
+
+const SECOND: i64 = 100_000_000;
+const DAY: i64 = 86_400 * SECOND;
+/// "44244 represents GPS zero time -- January 6, 1980"
+const GPS_ZERO: i64 = 44_244;
+
+/// MJD of a date from 1980 on: whole years, whole months, days.
+fn modified_julian_day(date: lines::Date) -> i64 {
+    let days_before_year: i64 = (1980..date.year).map(days_in_year).sum();
+    let days_before_month: i64 = (1..date.month).map(|m| lines::days_in_month(date.year, m)).sum();
+    GPS_ZERO - 5 + days_before_year + days_before_month + date.day - 1
+}
+
+fn days_in_year(year: i64) -> i64 {
+    (1..=12).map(|month| lines::days_in_month(year, month)).sum()
+}
+
+fn time_of_day(moment: &Moment) -> i64 {
+    (3600 * moment.hour + 60 * moment.minute) * SECOND + moment.seconds
+}
+
+fn instant(moment: &Moment) -> i64 {
+    modified_julian_day(moment.date) * DAY + time_of_day(moment)
+}
+
+/// Rule 2: line two says again when the first line's start is.
+fn line_two_agrees(two: &lines::LineTwo, start: i64) -> bool {
+    let (day, time) = (start / DAY, start % DAY);
+    let (week, day_of_week) = ((day - GPS_ZERO) / 7, (day - GPS_ZERO) % 7);
+    two.week == week
+        && two.seconds_of_week == day_of_week * DAY + time
+        && two.modified_julian_day == day
+        && (108 * two.fraction - 125 * time).abs() < 108
+}
+
+// ---------------------------------------------------------------------------
+// The table of a file
+// ---------------------------------------------------------------------------
+
+/// "An absent clock or rate is held as its twelve nines."
+const ABSENT_CLOCK: i64 = 999_999_999_999;
+/// How an unknown exponent is held.
+const UNKNOWN: i64 = 1000;
+
+struct Row {
+    letter: char,
+    epoch: usize,
+    satellite: usize,
+    place: [i64; 3],
+    clock: i64,
+    exponents: [i64; 4],
+    flags: [i64; 4],
+}
+
+impl Row {
+    /// "A place or velocity is absent exactly when all three are zero."
+    fn place_is_absent(&self) -> bool {
+        self.place == [0, 0, 0]
+    }
+
+    /// "A clock or rate is absent exactly at +999,999,999,999."
+    fn clock_is_absent(&self) -> bool {
+        self.clock == ABSENT_CLOCK
+    }
+
+    /// The twelve numbers of a row.
+    fn held(&self) -> Vec<i64> {
+        let parts = [&self.place[..], &[self.clock], &self.exponents, &self.flags];
+        parts.concat()
+    }
+}
+
+/// Comments are held as the stretches of the file where their texts lie.
+#[derive(Default)]
+struct Table {
+    velocities: bool,
+    start: i64,
+    epochs: usize,
+    interval: i64,
+    texts: Vec<Vec<u8>>,
+    identifiers: Vec<u64>,
+    accuracies: Vec<u64>,
+    file_type: u8,
+    time_system: Vec<u8>,
+    bases: [i64; 2],
+    comments: Vec<Range<usize>>,
+    rows: Vec<Row>,
+}
+
+impl Table {
+    fn satellites(&self) -> usize {
+        self.identifiers.len()
+    }
+
+    /// Identifiers, exponents, bytes of comments, numbers of rows.
+    fn room_needed(&self) -> [usize; 4] {
+        let n = self.satellites();
+        [n, n, 77 * self.comments.len(), 12 * self.rows.len()]
+    }
+}
+
+/// An identifier as one number: G07 is 7107.
+fn code(identifier: &Identifier) -> u64 {
+    u64::from(identifier.letter) * 100 + identifier.number as u64
+}
+
+fn show_code(code: u64) -> String {
+    format!("{}{:02}", (code / 100) as u8 as char, code % 100)
+}
+
+// ---------------------------------------------------------------------------
+// Records in order
+// ---------------------------------------------------------------------------
+
+/// Rules 1 and 2.
+fn take_start(lines: &mut Lines, table: &mut Table) -> Result<(), Refusal> {
+    let first = lines.record(lines::read_first_line)?;
+    table.velocities = first.mode == b"V";
+    table.start = instant(&first.start);
+    table.epochs = first.epochs as usize;
+    table.texts = vec![first.data_used, first.coordinate_system, first.orbit_type, first.agency];
+    let agrees = |two: &lines::LineTwo| line_two_agrees(two, table.start);
+    let two = lines.checked(lines::read_line_two, DISAGREES, agrees)?;
+    table.interval = two.interval;
+    Ok(())
+}
+
+/// "exactly n / 17 rounded up, or five where that is less than five"
+fn satellite_lines(n: usize) -> usize {
+    n.div_ceil(lines::SLOTS).max(5)
+}
+
+/// "Identifiers are .. all different": those of this line among all so far.
+fn all_new(known: &[u64], line: &lines::Satellites) -> bool {
+    let mut all = known.to_vec();
+    all.extend(line.identifiers.iter().map(code));
+    (known.len()..all.len()).all(|place| !all[..place].contains(&all[place]))
+}
+
+/// Rule 3: identifiers.
+fn take_identifiers(lines: &mut Lines, table: &mut Table) -> Result<usize, Refusal> {
+    let first = |r: &mut Reader| lines::read_first_satellites(r);
+    let line = lines.checked(first, DISAGREES, |line| all_new(&[], line))?;
+    let n = line.number.unwrap_or_default() as usize;
+    table.identifiers.extend(line.identifiers.iter().map(code));
+    for _ in 1..satellite_lines(n) {
+        let left = n - table.satellites();
+        let further = |r: &mut Reader| lines::read_further_satellites(r, left);
+        let line = lines.checked(further, DISAGREES, |line| all_new(&table.identifiers, line))?;
+        table.identifiers.extend(line.identifiers.iter().map(code));
+    }
+    Ok(n)
+}
+
+/// Rules 3 and 4.
+fn take_satellites(lines: &mut Lines, table: &mut Table) -> Result<(), Refusal> {
+    let n = take_identifiers(lines, table)?;
+    for _ in 0..satellite_lines(n) {
+        let left = n - table.accuracies.len();
+        let exponents = lines.record(|r| lines::read_accuracies(r, left))?;
+        table.accuracies.extend(exponents.iter().map(|&exponent| exponent as u64));
+    }
+    Ok(())
+}
+
+/// "A type other than M needs all identifiers to begin with it."
+fn type_agrees(file_type: u8, identifiers: &[u64]) -> bool {
+    file_type == b'M' || identifiers.iter().all(|code| code / 100 == u64::from(file_type))
+}
+
+/// Rules 5 and 6.
+fn take_fixed_lines(lines: &mut Lines, table: &mut Table) -> Result<(), Refusal> {
+    let agrees = |line: &lines::FirstCharacters| type_agrees(line.file_type[0], &table.identifiers);
+    let characters = lines.checked(lines::read_first_characters, DISAGREES, agrees)?;
+    table.file_type = characters.file_type[0];
+    table.time_system = characters.time_system;
+    lines.record(lines::read_second_characters)?;
+    let bases = lines.record(lines::read_first_floats)?;
+    table.bases = [bases.position, bases.clock];
+    lines.record(lines::read_second_floats)?;
+    lines.record(lines::read_integers)?;
+    lines.record(lines::read_integers)
+}
+
+/// Where the text of a comment lies in its line: from column 4 on without
+/// trailing blanks; at the end of a line that is shorter.
+fn comment_text(line: &[u8]) -> Range<usize> {
+    let first = line.len().min(3);
+    first..without_trailing_blanks(line).len().max(first)
+}
+
+/// Rule 7: "Four or more comments".
+fn take_comments(lines: &mut Lines, table: &mut Table) -> Result<(), Refusal> {
+    while table.comments.len() < 4 || lines.next_is("/*") {
+        let begin = lines.place;
+        lines.record(lines::read_comment)?;
+        let text = comment_text(&lines.bytes[begin..lines.place - 1]);
+        table.comments.push(begin + text.start..begin + text.end);
+    }
+    Ok(())
+}
+
+/// Rule 8: "epoch k, counted from 0, is the start plus k times the interval, exactly".
+fn take_epochs(lines: &mut Lines, table: &mut Table) -> Result<(), Refusal> {
+    for epoch in 0..table.epochs {
+        let wanted = table.start + epoch as i64 * table.interval;
+        lines.checked(lines::read_epoch, WRONG_INSTANT, |moment| instant(moment) == wanted)?;
+        for satellite in 0..table.satellites() {
+            take_satellite(lines, table, epoch, satellite)?;
+        }
+    }
+    Ok(())
+}
+
+/// Rule 9: "P, then one EP at most; in mode V then V, and one EV at most".
+fn take_satellite(
+    lines: &mut Lines,
+    table: &mut Table,
+    epoch: usize,
+    satellite: usize,
+) -> Result<(), Refusal> {
+    let here = table.identifiers[satellite];
+    let named = |line: &lines::Position| code(&line.row.identifier) == here;
+    let line = lines.checked(lines::read_position, OTHER_SATELLITE, named)?;
+    let flags = line.flags.map(|flag| i64::from(flag != b" "));
+    table.rows.push(make_row('P', epoch, satellite, &line.row, flags));
+    take_correlation(lines, "EP")?;
+    if table.velocities {
+        let named = |row: &lines::Row| code(&row.identifier) == here;
+        let row = lines.checked(lines::read_velocity, OTHER_SATELLITE, named)?;
+        table.rows.push(make_row('V', epoch, satellite, &row, [0; 4]));
+        take_correlation(lines, "EV")?;
+    }
+    Ok(())
+}
+
+/// "EP and EV records are accepted in their places and skipped."
+fn take_correlation(lines: &mut Lines, symbol: &str) -> Result<(), Refusal> {
+    if lines.next_is(symbol) {
+        lines.record(|r| lines::read_correlation(r, symbol))?;
+    }
+    Ok(())
+}
+
+fn make_row(
+    letter: char,
+    epoch: usize,
+    satellite: usize,
+    row: &lines::Row,
+    flags: [i64; 4],
+) -> Row {
+    let [x, y, z, clock] = row.numbers;
+    let exponents = row.exponents.map(|exponent| match exponent {
+        Exponent::Known(value) => value,
+        Exponent::Unknown => UNKNOWN,
+    });
+    Row { letter, epoch, satellite, place: [x, y, z], clock, exponents, flags }
+}
+
+// ---------------------------------------------------------------------------
+// Judging and reading
+// ---------------------------------------------------------------------------
+
+/// What an accepted file holds, and its length in bytes; or its refusal.
+type Judged = Result<(Table, usize), Refusal>;
+
+/// One file at the front of a stretch: the records 1 to 10 in order.
+fn judge_front(stretch: &[u8]) -> Judged {
+    let (table, lines) = take_records(stretch)?;
+    Ok((table, lines.place))
+}
+
+fn take_records(stretch: &[u8]) -> Result<(Table, Lines<'_>), Refusal> {
+    let mut lines = Lines::new(stretch);
+    let mut table = Table::default();
+    take_start(&mut lines, &mut table)?;
+    take_satellites(&mut lines, &mut table)?;
+    take_fixed_lines(&mut lines, &mut table)?;
+    take_comments(&mut lines, &mut table)?;
+    take_epochs(&mut lines, &mut table)?;
+    lines.record(lines::read_end)?;
+    Ok((table, lines))
+}
+
+/// The bytes as one file: 11 if any follow, "and the line is the one after EOF".
+fn judge(file: &[u8]) -> Judged {
+    let (table, lines) = take_records(file)?;
+    if lines.place < file.len() {
+        return Err(Refusal { number: BYTES_AFTER, line: lines.taken + 1 });
+    }
+    Ok((table, lines.place))
+}
+
+/// The lists that are lent for a reading.
+struct Lent {
+    identifiers: Vec<u64>,
+    exponents: Vec<u64>,
+    comments: Vec<u8>,
+    rows: Vec<i64>,
+}
+
+impl Lent {
+    /// Rooms of these lengths, with a mark in every place.
+    fn marked([identifiers, exponents, comments, rows]: [usize; 4]) -> Lent {
+        Lent {
+            identifiers: vec![7777; identifiers],
+            exponents: vec![7777; exponents],
+            comments: vec![b'#'; comments],
+            rows: vec![-7; rows],
+        }
+    }
+
+    fn rooms(&self) -> [usize; 4] {
+        [self.identifiers.len(), self.exponents.len(), self.comments.len(), self.rows.len()]
+    }
+
+    fn fill(&mut self, table: &Table, file: &[u8]) {
+        let n = table.satellites();
+        self.identifiers[..n].copy_from_slice(&table.identifiers);
+        self.exponents[..n].copy_from_slice(&table.accuracies);
+        for (place, stretch) in self.comments.chunks_mut(77).zip(&table.comments) {
+            let text = &file[stretch.clone()];
+            place.fill(b' ');
+            place[..text.len()].copy_from_slice(text);
+        }
+        for (place, row) in self.rows.chunks_mut(12).zip(&table.rows) {
+            place.copy_from_slice(&row.held());
+        }
+    }
+
+    /// Sums over all places, filled or not.
+    fn sums(&self) -> [u64; 4] {
+        let step = |sum: u64, value: u64| sum.wrapping_mul(31).wrapping_add(value);
+        let of_row =
+            |sum, &value: &i64| step(step(sum, value.unsigned_abs()), u64::from(value < 0));
+        [
+            self.identifiers.iter().fold(0, |sum, &value| step(sum, value)),
+            self.exponents.iter().fold(0, |sum, &value| step(sum, value)),
+            self.comments.iter().fold(0, |sum, &value| step(sum, u64::from(value))),
+            self.rows.iter().fold(0, of_row),
+        ]
+    }
+}
+
+/// Lays an accepted file into the lent lists; "12 comes after all other checks".
+/// Gives the length of the file.
+fn lay(judged: &Judged, file: &[u8], lent: &mut Lent) -> Result<usize, Refusal> {
+    let (table, length) = judged.as_ref().map_err(|refusal| *refusal)?;
+    let short = lent.rooms().iter().zip(table.room_needed()).any(|(&room, need)| room < need);
+    if short {
+        return Err(NO_ROOM);
+    }
+    lent.fill(table, file);
+    Ok(*length)
+}
+
+fn read(file: &[u8], lent: &mut Lent) -> Result<usize, Refusal> {
+    lay(&judge(file), file, lent)
+}
+
+fn read_front(stretch: &[u8], lent: &mut Lent) -> Result<usize, Refusal> {
+    lay(&judge_front(stretch), stretch, lent)
+}
+
+// ---------------------------------------------------------------------------
+// Questions: "A question about a file gives the file's own refusal first."
+// ---------------------------------------------------------------------------
+
+fn comment_answer(file: &[u8], k: usize) -> Result<Range<usize>, Refusal> {
+    let (table, _) = judge(file)?;
+    table.comments.get(k).cloned().ok_or(NOT_THERE)
+}
+
+fn satellite_of(file: &[u8], code: u64) -> Result<usize, Refusal> {
+    let (table, _) = judge(file)?;
+    table.identifiers.iter().position(|&other| other == code).ok_or(NOT_THERE)
+}
+
+/// "in mode V too this is the P row"
+fn row(file: &[u8], epoch: usize, satellite: usize) -> Result<Row, Refusal> {
+    let (table, _) = judge(file)?;
+    let asked = |row: &Row| (row.letter, row.epoch, row.satellite) == ('P', epoch, satellite);
+    table.rows.into_iter().find(asked).ok_or(NOT_THERE)
+}
+
+// ---------------------------------------------------------------------------
+// Cases and their answers
+// ---------------------------------------------------------------------------
+
+#[derive(Clone, Default)]
+struct Case {
+    file: Vec<u8>,
+    /// I, X, C, R
+    rooms: [usize; 4],
+    /// K, E, S, N
+    asked: [usize; 4],
+}
+
+/// The program under test has arrays of these lengths.
+const MOST_BYTES: usize = 40_000;
+const MOST_ROOMS: [usize; 4] = [300, 300, 8000, 8000];
+const MOST_NUMBER: usize = 999_999_999;
+
+impl Case {
+    /// The case as it stands in a batch.
+    fn show(&self) -> Vec<u8> {
+        let numbers = [&[self.file.len()], &self.rooms[..], &self.asked[..]].concat();
+        let within = self.file.len() <= MOST_BYTES
+            && self.rooms.iter().zip(MOST_ROOMS).all(|(&room, most)| room <= most)
+            && self.asked.iter().all(|&number| number <= MOST_NUMBER);
+        assert!(within, "a case is too large: {numbers:?}");
+        let words: Vec<String> = numbers.iter().map(usize::to_string).collect();
+        let mut shown = words.join(" ").into_bytes();
+        shown.push(b'\n');
+        shown.extend(&self.file);
+        shown
+    }
+
+    fn answer(&self) -> String {
+        let file = &self.file[..];
+        let front = judge_front(file);
+        let whole = judge(file);
+        let mut out = format!("case {}\n", file.len());
+        out += &format!("front {}\n", told(&length_of(&front)));
+        out += &format!("whole {}\n", told(&length_of(&whole)));
+        let mut lent = Lent::marked(self.rooms);
+        let answer = read(file, &mut lent);
+        out += &format!("read {}\n{}", told(&answer), show_sums(&lent));
+        if let (Ok(_), Ok((table, _))) = (&answer, &whole) {
+            out += &show_table(table, file);
+        }
+        let mut lent = Lent::marked(self.rooms);
+        let answer = read_front(file, &mut lent);
+        out += &format!("read_front {}\n{}", told(&answer), show_sums(&lent));
+        out + &self.show_questions()
+    }
+
+    fn show_questions(&self) -> String {
+        let (file, [k, epoch, satellite, code]) = (&self.file[..], self.asked);
+        let comment = show_comment(comment_answer(file, k), file);
+        let satellite_number = told(&satellite_of(file, code as u64));
+        let row = show_row_answer(row(file, epoch, satellite));
+        format!("comment {comment}\nsatellite {satellite_number}\nrow {row}\n")
+    }
+}
+
+fn length_of(judged: &Judged) -> Result<usize, Refusal> {
+    judged.as_ref().map(|(_, length)| *length).map_err(|refusal| *refusal)
+}
+
+/// The refusal, its line, and a number that is 0 beside a refusal.
+fn told(answer: &Result<usize, Refusal>) -> String {
+    match answer {
+        Ok(number) => format!("0 0 {number}"),
+        Err(refusal) => format!("{} {} 0", refusal.number, refusal.line),
+    }
+}
+
+fn show_sums(lent: &Lent) -> String {
+    let [identifiers, exponents, comments, rows] = lent.sums();
+    format!("sums {identifiers} {exponents} {comments} {rows}\n")
+}
+
+fn show_comment(answer: Result<Range<usize>, Refusal>, file: &[u8]) -> String {
+    match answer {
+        Ok(at) => format!("0 0 {} {} |{}|", at.start, at.len(), show_text(&file[at.clone()])),
+        Err(refusal) => format!("{} {} 0 0 ||", refusal.number, refusal.line),
+    }
+}
+
+fn show_row_answer(answer: Result<Row, Refusal>) -> String {
+    match answer {
+        Ok(row) => format!("0 0 {} {}", show_place(&row), show_clock(&row)),
+        Err(refusal) => format!("{} {} absent absent", refusal.number, refusal.line),
+    }
+}
+
+fn show_text(text: &[u8]) -> String {
+    String::from_utf8_lossy(text).into_owned()
+}
+
+fn show_place(row: &Row) -> String {
+    let [x, y, z] = row.place;
+    if row.place_is_absent() {
+        "absent".to_string()
+    } else {
+        format!("{x} {y} {z}")
+    }
+}
+
+fn show_clock(row: &Row) -> String {
+    if row.clock_is_absent() {
+        "absent".to_string()
+    } else {
+        row.clock.to_string()
+    }
+}
+
+/// "An exponent of 99 (or 999 for the clock) means too large."
+fn show_exponent(exponent: i64, large: i64) -> String {
+    match exponent {
+        UNKNOWN => "unknown".to_string(),
+        _ if exponent == large => "large".to_string(),
+        _ => exponent.to_string(),
+    }
+}
+
+fn show_row(row: &Row, table: &Table) -> String {
+    let [x, y, z, clock] = row.exponents;
+    let exponents =
+        [(x, 99), (y, 99), (z, 99), (clock, 999)].map(|(e, large)| show_exponent(e, large));
+    let flags = row.flags.iter().zip("EPMP".chars());
+    let flags: String = flags.map(|(&flag, letter)| if flag == 1 { letter } else { '.' }).collect();
+    format!(
+        "{} {} {} {} {} {} {flags}\n",
+        row.letter,
+        row.epoch,
+        show_code(table.identifiers[row.satellite]),
+        show_place(row),
+        show_clock(row),
+        exponents.join(" "),
+    )
+}
+
+fn show_header(table: &Table) -> String {
+    let texts: String = table.texts.iter().map(|text| show_text(text) + "|").collect();
+    let mut out = format!("mode {}\n", if table.velocities { 'V' } else { 'P' });
+    out += &format!("start8 {}\n", table.start);
+    out += &format!("epochs {}\n", table.epochs);
+    out += &format!("interval8 {}\n", table.interval);
+    out += &format!("texts |{texts}\n");
+    out += &format!("type {}\n", table.file_type as char);
+    out += &format!("time {}\n", show_text(&table.time_system));
+    out + &format!("bases {} {}\n", table.bases[0], table.bases[1])
+}
+
+fn show_table(table: &Table, file: &[u8]) -> String {
+    let mut out = show_header(table);
+    out += &format!("satellites {}\n", table.satellites());
+    for (&identifier, accuracy) in table.identifiers.iter().zip(&table.accuracies) {
+        out += &format!("{} {accuracy}\n", show_code(identifier));
+    }
+    out += &format!("comments {}\n", table.comments.len());
+    for text in &table.comments {
+        out += &format!("|{}|\n", show_text(&file[text.clone()]));
+    }
+    for row in &table.rows {
+        out += &show_row(row, table);
+    }
+    let absent = table.rows.iter().filter(|row| row.place_is_absent()).count();
+    let known = table.rows.len() - absent;
+    out + &format!("rows {} known {known} absent {absent}\n", table.rows.len())
+}
+
+// ---------------------------------------------------------------------------
+// Batches
+// ---------------------------------------------------------------------------
+
+/// The nine numbers of a case, and how many bytes their line has with its LF.
+fn parse_numbers(bytes: &[u8]) -> Option<([usize; 9], usize)> {
+    let length = bytes.iter().position(|&c| c == b'\n')?;
+    let words = std::str::from_utf8(&bytes[..length]).ok()?.split(' ');
+    let numbers: Option<Vec<usize>> = words.map(|word| word.parse().ok()).collect();
+    Some((numbers?.try_into().ok()?, length + 1))
+}
+
+fn parse_batch(mut bytes: &[u8]) -> Vec<Case> {
+    let mut cases = Vec::new();
+    while !bytes.is_empty() {
+        let place = cases.len() + 1;
+        let Some((numbers, line)) = parse_numbers(bytes) else {
+            fail(&format!("case {place} has no nine numbers"));
+        };
+        let [length, i, x, c, r, k, e, s, n] = numbers;
+        let Some(file) = bytes.get(line..line + length) else {
+            fail(&format!("case {place} ends too early"));
+        };
+        cases.push(Case { file: file.to_vec(), rooms: [i, x, c, r], asked: [k, e, s, n] });
+        bytes = &bytes[line + length..];
+    }
+    cases
+}
+
+fn show_batch(cases: &[Case]) -> Vec<u8> {
+    cases.iter().flat_map(Case::show).collect()
+}
+
+fn answers(cases: &[Case]) -> String {
+    cases.iter().map(Case::answer).collect()
+}
+
+// ---------------------------------------------------------------------------
+// Drafts: files as lines that can be altered
+// ---------------------------------------------------------------------------
+
+/// Lines with their LF; bytes after the EOF line are one more.
+#[derive(Clone, Default)]
+struct Draft(Vec<Vec<u8>>);
+
+impl Draft {
+    fn of(lines: &[&str]) -> Draft {
+        Draft(lines.iter().map(|line| format!("{line}\n").into_bytes()).collect())
+    }
+
+    fn bytes(&self) -> Vec<u8> {
+        self.0.concat()
+    }
+
+    /// Puts bytes into line `line` at column `column`, both counted from 1;
+    /// the line is lengthened by blanks where needed.
+    fn put(&mut self, line: usize, column: usize, bytes: &[u8]) {
+        let Some(text) = self.0.get_mut(line - 1) else {
+            return;
+        };
+        let ended = text.last() == Some(&b'\n');
+        if ended {
+            text.pop();
+        }
+        let end = column - 1 + bytes.len();
+        if text.len() < end {
+            text.resize(end, b' ');
+        }
+        text[column - 1..end].copy_from_slice(bytes);
+        if ended {
+            text.push(b'\n');
+        }
+    }
+
+    /// Puts a whole line before line `line`.
+    fn insert(&mut self, line: usize, text: &[u8]) {
+        let place = (line - 1).min(self.0.len());
+        self.0.insert(place, [text, b"\n"].concat());
+    }
+
+    fn drop_line(&mut self, line: usize) {
+        if line <= self.0.len() {
+            self.0.remove(line - 1);
+        }
+    }
+
+    fn double_line(&mut self, line: usize) {
+        if let Some(text) = self.0.get(line - 1).cloned() {
+            self.0.insert(line, text);
+        }
+    }
+
+    fn swap_lines(&mut self, one: usize, other: usize) {
+        if one.max(other) <= self.0.len() {
+            self.0.swap(one - 1, other - 1);
+        }
+    }
+
+    /// Takes the last byte of a line away: its LF.
+    fn lose_end(&mut self, line: usize) {
+        if let Some(text) = self.0.get_mut(line - 1) {
+            text.pop();
+        }
+    }
+
+    /// Numbers of the lines that begin with the symbol.
+    fn lines_of(&self, symbol: &str) -> Vec<usize> {
+        let begins = |line: &usize| self.0[line - 1].starts_with(symbol.as_bytes());
+        (1..=self.0.len()).filter(begins).collect()
+    }
+}
+
+// ---------------------------------------------------------------------------
+// Files made by hand
+// ---------------------------------------------------------------------------
+
+const NO_SATELLITES: &str = "+          0  0  0  0  0  0  0  0  0  0  0  0  0  0  0  0  0";
+const NO_ACCURACIES: &str = "++         0  0  0  0  0  0  0  0  0  0  0  0  0  0  0  0  0";
+const SECOND_CHARACTERS: &str = "%c cc cc ccc ccc cccc cccc cccc cccc ccccc ccccc ccccc ccccc";
+const FIRST_FLOATS: &str = "%f  1.2500000  1.025000000  0.00000000000  0.000000000000000";
+const SECOND_FLOATS: &str = "%f  0.0000000  0.000000000  0.00000000000  0.000000000000000";
+const INTEGERS: &str = "%i    0    0    0    0      0      0      0      0         0";
+
+/// The 22 lines before the first epoch: those given are 1, 2, 3, 8 and 13.
+fn header(
+    [first, two, satellites, accuracies, characters]: [&'static str; 5],
+) -> Vec<&'static str> {
+    let mut lines = vec![first, two, satellites];
+    lines.extend([NO_SATELLITES; 4]);
+    lines.push(accuracies);
+    lines.extend([NO_ACCURACIES; 4]);
+    lines.extend([characters, SECOND_CHARACTERS, FIRST_FLOATS, SECOND_FLOATS]);
+    lines.extend([INTEGERS, INTEGERS, "/* ONE ROW", "/*", "/*", "/*"]);
+    lines
+}
+
+/// The paper's "One file whole", 25 lines.
+fn paper_file() -> Draft {
+    let mut lines = header([
+        "#dP2013  4  3  0  0  0.00000000       1 ORBIT WGS84 BCT PORT",
+        "## 1734 259200.00000000   900.00000000 56385 0.0000000000000",
+        "+    1   G07  0  0  0  0  0  0  0  0  0  0  0  0  0  0  0  0",
+        NO_ACCURACIES,
+        "%c G  cc GPS ccc cccc cccc cccc cccc ccccc ccccc ccccc ccccc",
+    ]);
+    lines.extend([
+        "*  2013  4  3  0  0  0.00000000",
+        "PG07   5000.000001     -0.500000      0.000000 999999.999999",
+        "EOF",
+    ]);
+    Draft::of(&lines)
+}
+
+/// Two satellites and three epochs across midnight at the end of a year; 32 lines.
+fn night_file() -> Draft {
+    let mut lines = header([
+        "#dP2012 12 31 23 45  0.00000000       3 u+U   IGS08 FIT  NGS",
+        "## 1721 171900.00000000   900.00000000 56292 0.9895833333333",
+        "+    2   G07R24  0  0  0  0  0  0  0  0  0  0  0  0  0  0  0",
+        "++         5 13  0  0  0  0  0  0  0  0  0  0  0  0  0  0  0",
+        "%c M  cc UTC ccc cccc cccc cccc cccc ccccc ccccc ccccc ccccc",
+    ]);
+    lines.extend([
+        "*  2012 12 31 23 45  0.00000000",
+        "PG07  15000.000000 -20000.500000      0.000000    123.456789",
+        "PR24      0.000000      0.000000      0.000000 999999.999999",
+        "*  2013  1  1  0  0  0.00000000",
+        "PG07      0.000000      0.000000      0.000000     -0.000001 18 18 18 219 EP  MP",
+        "PR24      0.000000      0.000000      0.000001 999999.999999 99 99 99 999",
+        "*  2013  1  1  0 15  0.00000000",
+        "PG07     -0.500000     -0.000000      0.000000 999999.000000",
+        "PR24 999999.999999-999999.999999 999999.999999-999999.999999  0     9   7     M",
+        "EOF",
+    ]);
+    Draft::of(&lines)
+}
+
+/// Mode V with an EP and an EV, from the document's Example 2; 30 lines.
+fn motion_file() -> Draft {
+    let mut lines = header([
+        "#dV2001  8  8  0  0  0.00000000       1 ORBIT IGS97 HLM MGEX",
+        "## 1126 259200.00000000   900.00000000 52129 0.0000000000000",
+        "+    2   G01G02  0  0  0  0  0  0  0  0  0  0  0  0  0  0  0",
+        "++         7  8  0  0  0  0  0  0  0  0  0  0  0  0  0  0  0",
+        "%c G  cc GPS ccc cccc cccc cccc cccc ccccc ccccc ccccc ccccc",
+    ]);
+    lines.extend([
+        "*  2001  8  8  0  0  0.00000000",
+        "PG01 -11044.805800 -10475.672350  21929.418200    189.163300 18 18 18 219",
+        "EP    55   55   55     222  1234567 -1234567  5999999      -30       21 -1230000",
+        "VG01  20298.880364 -18462.044804   1381.387685     -4.534317 14 14 14 191",
+        "EV    22   22   22     111  1234567  1234567  1234567  1234567  1234567  1234567",
+        "PG02 -12593.593500  10170.327650 -20354.534400    -55.976000 18 18 18 219     M",
+        "VG02      0.000000      0.000000      0.000000 999999.999999",
+        "EOF",
+    ]);
+    Draft::of(&lines)
+}
+
+/// The paper's file with `n` satellites, of which any number may be asked for.
+fn many_file(n: usize) -> Draft {
+    let identifier =
+        |place: usize| format!("{}{:02}", b"GRECJISL"[place / 99] as char, place % 99 + 1);
+    let slot = |place: usize, text: String| if place < n { text } else { "  0".to_string() };
+    let mut draft = paper_file();
+    let number = satellite_lines(n);
+    draft.0.splice(2..12, std::iter::empty());
+    for line in 0..number {
+        let places = 17 * line..17 * line + 17;
+        let identifiers: String = places.clone().map(|p| slot(p, identifier(p))).collect();
+        let exponents: String = places.map(|p| slot(p, format!("{:3}", p * 7 % 1000))).collect();
+        draft.insert(3 + line, format!("+        {identifiers}").as_bytes());
+        draft.insert(4 + 2 * line, format!("++       {exponents}").as_bytes());
+    }
+    draft.put(3, 4, format!("{n:3}").as_bytes());
+    draft.put(3 + 2 * number, 4, b"M");
+    let first_row = 3 + 2 * number + 11;
+    draft.drop_line(first_row);
+    for place in 0..n {
+        let text = format!(
+            "P{}{place:7}.000001     -0.500000      0.000000      1.000000",
+            identifier(place)
+        );
+        draft.insert(first_row + place, text.as_bytes());
+    }
+    draft
+}
+
+/// The paper's file with `count` comments, `/* COMMENT 0` and so on.
+fn talkative_file(count: usize) -> Draft {
+    let mut draft = paper_file();
+    draft.0.splice(18..22, std::iter::empty());
+    for number in 0..count {
+        draft.insert(19 + number, format!("/* COMMENT {number}").as_bytes());
+    }
+    draft
+}
+
+/// What a file made by hand begins with.
+#[derive(Clone, Copy, Debug)]
+enum Base {
+    Nothing,
+    Paper,
+    Night,
+    Motion,
+    Many(usize),
+    Talkative(usize),
+}
+
+/// What is done to it then; lines and columns are counted from 1.
+#[derive(Clone, Copy, Debug)]
+enum Edit {
+    Put(usize, usize, &'static str),
+    Byte(usize, usize, u8),
+    Line(usize, &'static str),
+    Insert(usize, &'static str),
+    Drop(usize),
+    Double(usize),
+    Swap(usize, usize),
+    /// The LF of this line is taken away.
+    Join(usize),
+    /// Only so many lines stay.
+    Keep(usize),
+    After(&'static [u8]),
+    AfterMany(u8, usize),
+    AfterItself,
+    /// CR before the LF of each line.
+    CarriageReturns,
+}
+
+fn base_file(base: Base) -> Draft {
+    match base {
+        Base::Nothing => Draft::default(),
+        Base::Paper => paper_file(),
+        Base::Night => night_file(),
+        Base::Motion => motion_file(),
+        Base::Many(n) => many_file(n),
+        Base::Talkative(count) => talkative_file(count),
+    }
+}
+
+fn apply(draft: &mut Draft, edit: Edit) {
+    match edit {
+        Edit::Put(line, column, text) => draft.put(line, column, text.as_bytes()),
+        Edit::Byte(line, column, byte) => draft.put(line, column, &[byte]),
+        Edit::Line(line, text) => draft.0[line - 1] = format!("{text}\n").into_bytes(),
+        Edit::Insert(line, text) => draft.insert(line, text.as_bytes()),
+        Edit::Drop(line) => draft.drop_line(line),
+        Edit::Double(line) => draft.double_line(line),
+        Edit::Swap(one, other) => draft.swap_lines(one, other),
+        Edit::Join(line) => draft.lose_end(line),
+        Edit::Keep(count) => draft.0.truncate(count),
+        Edit::After(bytes) => draft.0.push(bytes.to_vec()),
+        Edit::AfterMany(byte, count) => draft.0.push(vec![byte; count]),
+        Edit::AfterItself => draft.0.push(draft.bytes()),
+        Edit::CarriageReturns => {
+            for line in &mut draft.0 {
+                line.insert(line.len() - 1, b'\r');
+            }
+        }
+    }
+}
+
+fn hand_made(base: Base, edits: &[Edit]) -> Vec<u8> {
+    let mut draft = base_file(base);
+    edits.iter().for_each(|&edit| apply(&mut draft, edit));
+    draft.bytes()
+}
+
+// ---------------------------------------------------------------------------
+// Answers worked out by hand
+// ---------------------------------------------------------------------------
+
+use Base::{Many, Motion, Night, Nothing, Paper, Talkative};
+use Edit::{
+    After, AfterItself, AfterMany, Byte, CarriageReturns, Double, Drop, Insert, Join, Keep,
+    Line as Whole, Put, Swap,
+};
+
+type Hand = (Base, &'static [Edit], u8, usize);
+
+/// A file, and its refusal and line as a whole file by the documents.
+const HAND: &[Hand] = &[
+    // 0: the files as they stand.
+    (Paper, &[], 0, 0),
+    (Night, &[], 0, 0),
+    (Motion, &[], 0, 0),
+    // 1: no LF is left. "No bytes: 1, line 1."
+    (Nothing, &[], 1, 1),
+    (Nothing, &[After(b"#d")], 1, 1),
+    (Nothing, &[After(b"\x80\x00")], 1, 1),
+    (Nothing, &[AfterMany(b'x', 20_000)], 1, 1),
+    (Paper, &[Keep(1)], 1, 2),
+    (Paper, &[Keep(22)], 1, 23),
+    (Paper, &[Keep(24)], 1, 25),
+    (Paper, &[Join(25)], 1, 25),
+    (Paper, &[Whole(25, "EOFX"), Join(25)], 1, 25),
+    (Paper, &[Whole(25, "\u{7f}"), Join(25)], 1, 25),
+    (Paper, &[Keep(24), After(b"EO")], 1, 25),
+    (Paper, &[Keep(24), AfterMany(b'P', 90)], 1, 25),
+    (Motion, &[Keep(25), After(b"VG01")], 1, 26),
+    // A fault in an earlier line comes before it.
+    (Paper, &[Join(25), Put(24, 61, "x")], 5, 24),
+    // 2: a byte outside 32-126, anywhere in the line, before 3, 4 and 5.
+    (Paper, &[CarriageReturns], 2, 1),
+    (Paper, &[Byte(25, 4, b'\r')], 2, 25),
+    (Paper, &[Byte(24, 40, 0x80)], 2, 24),
+    (Paper, &[Byte(24, 1, 0xff)], 2, 24),
+    (Paper, &[Byte(24, 2, 0)], 2, 24),
+    (Paper, &[Byte(24, 81, 127)], 2, 24),
+    (Paper, &[Byte(24, 200, 9)], 2, 24),
+    (Paper, &[Byte(19, 4, 31)], 2, 19),
+    (Paper, &[Byte(19, 4, 32)], 0, 0),
+    (Paper, &[Byte(19, 4, 126)], 0, 0),
+    (Paper, &[Byte(19, 4, 127)], 2, 19),
+    (Paper, &[Byte(19, 80, 9)], 2, 19),
+    (Paper, &[Byte(1, 61, 0)], 2, 1),
+    (Paper, &[Whole(14, "x"), Byte(14, 3, 200)], 2, 14),
+    (Motion, &[Byte(25, 60, 200)], 2, 25),
+    (Motion, &[Byte(27, 3, 31)], 2, 27),
+    (Nothing, &[AfterMany(b'x', 9000), After(b"\x1f\n")], 2, 1),
+    // 3: "80 and 81 characters", before 4 and 5.
+    (Paper, &[Put(24, 80, " ")], 0, 0),
+    (Paper, &[Put(24, 80, "P")], 0, 0),
+    (Paper, &[Put(24, 81, " ")], 3, 24),
+    (Paper, &[Put(24, 81, "x")], 3, 24),
+    (Paper, &[Put(1, 80, " ")], 0, 0),
+    (Paper, &[Put(1, 81, " ")], 3, 1),
+    (Paper, &[Put(19, 80, "x")], 0, 0),
+    (Paper, &[Put(19, 81, "x")], 3, 19),
+    (Paper, &[Put(25, 80, " ")], 0, 0),
+    (Paper, &[Put(25, 81, " ")], 3, 25),
+    (Motion, &[Put(25, 81, " ")], 3, 25),
+    (Motion, &[Put(25, 80, "~")], 0, 0),
+    (Paper, &[Put(24, 1, "x"), Put(24, 81, "x")], 3, 24),
+    (Paper, &[Join(1)], 3, 1),
+    (Nothing, &[AfterMany(b'x', 9000), After(b"\n")], 3, 1),
+    (Nothing, &[AfterMany(b' ', 81), After(b"\n")], 3, 1),
+    (Nothing, &[AfterMany(b' ', 80), After(b"\n")], 4, 1),
+    // 4: not a kind that may stand here.
+    (Nothing, &[AfterMany(b'\n', 1)], 4, 1),
+    (Nothing, &[AfterMany(b'\n', 5000)], 4, 1),
+    (Nothing, &[After(b"EOF\n")], 4, 1),
+    (Paper, &[Drop(1)], 4, 1),
+    (Paper, &[Double(1)], 4, 2),
+    (Paper, &[Swap(1, 2)], 4, 1),
+    (Paper, &[Put(1, 2, "c")], 4, 1),
+    (Paper, &[Put(1, 2, "D")], 4, 1),
+    (Paper, &[Insert(1, "")], 4, 1),
+    (Paper, &[Insert(1, "/* FIRST")], 4, 1),
+    (Paper, &[Drop(2)], 4, 2),
+    (Paper, &[Double(2)], 4, 3),
+    (Paper, &[Keep(1), After(b"EOF\n")], 4, 2),
+    // "Reading `+ ` lines until `++` comes, and not by n."
+    (Paper, &[Drop(7)], 4, 7),
+    (Paper, &[Double(7)], 4, 8),
+    (Paper, &[Swap(7, 8)], 4, 7),
+    (Paper, &[Swap(3, 8)], 4, 3),
+    (Paper, &[Drop(12)], 4, 12),
+    (Paper, &[Double(12)], 4, 13),
+    (Paper, &[Swap(12, 13)], 4, 12),
+    (Paper, &[Put(4, 2, "x")], 4, 4),
+    (Paper, &[Drop(7), Drop(7)], 4, 7),
+    (Paper, &[Double(7), Double(13)], 4, 8),
+    (Many(85), &[], 0, 0),
+    (Many(86), &[], 0, 0),
+    (Many(255), &[], 0, 0),
+    (Many(85), &[Double(7), Keep(12)], 4, 8),
+    (Many(86), &[Drop(8), Keep(12)], 4, 8),
+    (Many(86), &[Double(8), Keep(12)], 4, 9),
+    (Many(86), &[Insert(9, NO_SATELLITES), Keep(12)], 4, 9),
+    (Many(86), &[Drop(14), Keep(16)], 4, 14),
+    (Many(102), &[Put(3, 4, "103"), Keep(12)], 4, 9),
+    (Many(255), &[Drop(17), Keep(20)], 4, 17),
+    (Paper, &[Put(13, 2, "C")], 4, 13),
+    (Paper, &[Drop(14)], 4, 14),
+    (Paper, &[Double(14)], 4, 15),
+    (Paper, &[Swap(14, 15)], 4, 14),
+    (Paper, &[Drop(16)], 4, 16),
+    (Paper, &[Double(16)], 4, 17),
+    (Paper, &[Put(15, 2, "F")], 4, 15),
+    (Paper, &[Drop(18)], 4, 18),
+    (Paper, &[Double(18)], 4, 19),
+    (Paper, &[Put(17, 2, "I")], 4, 17),
+    // "three comments (4)"
+    (Paper, &[Drop(22)], 4, 22),
+    (Paper, &[Drop(22), Drop(21)], 4, 21),
+    (Talkative(0), &[], 4, 19),
+    (Talkative(3), &[], 4, 22),
+    (Talkative(4), &[], 0, 0),
+    (Talkative(5), &[], 0, 0),
+    (Talkative(103), &[], 0, 0),
+    (Paper, &[Put(20, 1, "//")], 4, 20),
+    (Paper, &[Put(20, 2, " ")], 4, 20),
+    (Paper, &[Insert(23, "")], 4, 23),
+    (Paper, &[Insert(23, "EOF")], 4, 23),
+    (Paper, &[Insert(23, "EOFX")], 4, 23),
+    (Paper, &[Insert(24, "/*")], 4, 24),
+    (Paper, &[Insert(25, "/*")], 4, 25),
+    (Paper, &[Insert(23, INTEGERS)], 4, 23),
+    // Epochs: too few, too many, EOF too early.
+    (Paper, &[Drop(23)], 4, 23),
+    (Paper, &[Double(23)], 4, 24),
+    (Paper, &[Put(23, 2, "x")], 4, 23),
+    (Paper, &[Put(23, 2, "*")], 4, 23),
+    (Paper, &[Put(1, 33, "      2")], 4, 25),
+    (Paper, &[Put(1, 33, " 100000")], 4, 25),
+    (Paper, &[Insert(25, "*")], 4, 25),
+    (Paper, &[Insert(25, "*  2013  4  3  0 15  0.00000000")], 4, 25),
+    (Night, &[Put(1, 39, "2")], 4, 29),
+    (Night, &[Put(1, 39, "4")], 4, 32),
+    (Night, &[Drop(26)], 4, 26),
+    (Night, &[Insert(26, "EOF")], 4, 26),
+    (Night, &[Keep(28), After(b"EOF\n")], 4, 29),
+    (Night, &[Keep(27), After(b"EOF\n")], 4, 28),
+    // Rows.
+    (Paper, &[Drop(24)], 4, 24),
+    (Paper, &[Double(24)], 4, 25),
+    (Paper, &[Put(24, 1, "p")], 4, 24),
+    (Paper, &[Put(24, 1, "V")], 4, 24),
+    (Paper, &[Put(1, 3, "V")], 4, 25),
+    (Paper, &[Insert(25, "VG07      0.000000      0.000000      0.000000 999999.999999")], 4, 25),
+    (Night, &[Drop(25)], 4, 25),
+    (Night, &[Double(25)], 4, 26),
+    (Night, &[Drop(31)], 4, 31),
+    (Motion, &[Put(1, 3, "P")], 4, 26),
+    (Motion, &[Drop(26)], 4, 26),
+    (Motion, &[Drop(26), Drop(26)], 4, 26),
+    (Motion, &[Drop(29)], 4, 29),
+    (Motion, &[Double(26)], 4, 27),
+    (Motion, &[Double(29)], 4, 30),
+    (Motion, &[Drop(24)], 4, 24),
+    // EP and EV.
+    (Paper, &[Insert(25, "EP")], 0, 0),
+    (Paper, &[Insert(25, "EPx ~ anything 77")], 0, 0),
+    (Paper, &[Insert(25, "EP"), Insert(26, "EP")], 4, 26),
+    (Paper, &[Insert(25, "EV")], 4, 25),
+    (Paper, &[Insert(25, "EP"), Insert(26, "EV")], 4, 26),
+    (Paper, &[Insert(24, "EP")], 4, 24),
+    (Paper, &[Insert(23, "EP")], 4, 23),
+    (Paper, &[Insert(25, "E")], 4, 25),
+    (Paper, &[Insert(25, "Ep")], 4, 25),
+    (Paper, &[Insert(25, "EQ")], 4, 25),
+    (Paper, &[Insert(25, "EO")], 4, 25),
+    (Motion, &[Drop(25)], 0, 0),
+    (Motion, &[Drop(27)], 0, 0),
+    (Motion, &[Drop(27), Drop(25)], 0, 0),
+    (Motion, &[Double(25)], 4, 26),
+    (Motion, &[Double(27)], 4, 28),
+    (Motion, &[Swap(25, 26)], 4, 26),
+    (Motion, &[Swap(26, 27)], 4, 26),
+    (Motion, &[Swap(25, 27)], 4, 25),
+    (Motion, &[Insert(29, "EP")], 0, 0),
+    (Motion, &[Insert(29, "EV")], 4, 29),
+    (Motion, &[Insert(30, "EV")], 0, 0),
+    (Motion, &[Insert(30, "EP")], 4, 30),
+    (Night, &[Insert(25, "EP"), Insert(29, "EP")], 0, 0),
+    (Night, &[Insert(24, "EP")], 4, 24),
+    (Night, &[Insert(26, "EV")], 4, 26),
+    // EOF.
+    (Paper, &[Whole(25, "EOX")], 4, 25),
+    (Paper, &[Whole(25, "EO")], 4, 25),
+    (Paper, &[Whole(25, "eof")], 4, 25),
+    (Paper, &[Whole(25, " EOF")], 4, 25),
+    (Paper, &[Insert(25, "")], 4, 25),
+    (Paper, &[Whole(25, "EOFX")], 5, 25),
+    (Paper, &[Put(25, 80, "x")], 5, 25),
+    (Paper, &[Put(25, 5, " ")], 0, 0),
+    // 5: an unused column, or a placeholder.
+    (Paper, &[Put(1, 32, "x")], 5, 1),
+    (Paper, &[Put(1, 46, "x")], 5, 1),
+    (Paper, &[Put(1, 61, "x")], 5, 1),
+    (Paper, &[Put(1, 3, "v"), Put(1, 61, "x")], 5, 1),
+    (Paper, &[Put(2, 3, "x")], 5, 2),
+    (Paper, &[Put(2, 61, "0")], 5, 2),
+    (Paper, &[Put(3, 9, "x")], 5, 3),
+    (Paper, &[Put(3, 4, "  x"), Put(3, 8, "0")], 5, 3),
+    (Paper, &[Put(4, 6, "0")], 5, 4),
+    (Paper, &[Put(8, 3, "0")], 5, 8),
+    (Paper, &[Put(13, 7, "CC")], 5, 13),
+    (Paper, &[Put(13, 4, "X "), Put(13, 60, "x")], 5, 13),
+    (Paper, &[Put(14, 4, "G ")], 5, 14),
+    (Paper, &[Put(14, 10, "GPS")], 5, 14),
+    (Paper, &[Put(15, 28, "-0.00000000000")], 5, 15),
+    (Paper, &[Put(15, 43, " 0.000000000000001")], 5, 15),
+    (Paper, &[Put(16, 4, " 1.2500000")], 5, 16),
+    (Paper, &[Put(16, 4, "          ")], 5, 16),
+    (Paper, &[Put(16, 4, "00.0000000")], 0, 0),
+    (Paper, &[Put(17, 4, "   1")], 5, 17),
+    (Paper, &[Put(18, 52, "         ")], 5, 18),
+    (Paper, &[Put(18, 52, "000000000")], 0, 0),
+    (Paper, &[Put(19, 3, "x")], 5, 19),
+    (Paper, &[Join(22)], 5, 22),
+    (Paper, &[Put(23, 32, "x")], 5, 23),
+    (Paper, &[Put(24, 61, "x")], 5, 24),
+    (Paper, &[Put(24, 2, "G08"), Put(24, 77, "x")], 5, 24),
+    (Paper, &[Join(24)], 5, 24),
+    (Motion, &[Put(26, 75, "E")], 5, 26),
+    (Motion, &[Put(26, 80, "P")], 5, 26),
+    // 6: malformed fields, letters, file types and time systems.
+    (Paper, &[Put(1, 3, "v")], 6, 1),
+    (Paper, &[Put(1, 33, "       ")], 6, 1),
+    (Paper, &[Put(1, 4, "2013  4  x")], 6, 1),
+    (Paper, &[Put(2, 4, "    ")], 6, 2),
+    (Paper, &[Put(2, 25, " -900.00000000")], 6, 2),
+    (Paper, &[Put(3, 4, "   ")], 6, 3),
+    (Paper, &[Put(3, 4, "1  ")], 6, 3),
+    (Paper, &[Put(3, 4, " -1")], 6, 3),
+    (Paper, &[Put(3, 4, "  x"), Put(3, 10, "x00000")], 6, 3),
+    (Paper, &[Put(3, 4, "  2")], 6, 3),
+    (Paper, &[Put(3, 10, "  0")], 6, 3),
+    (Paper, &[Put(3, 10, "G 7")], 6, 3),
+    (Paper, &[Put(3, 10, "g07")], 6, 3),
+    (Paper, &[Put(3, 10, "007")], 6, 3),
+    (Paper, &[Put(3, 4, "256")], 6, 3),
+    (Paper, &[Put(8, 10, "   ")], 6, 8),
+    (Paper, &[Put(8, 10, " -1")], 6, 8),
+    (Paper, &[Put(13, 4, "X ")], 6, 13),
+    (Paper, &[Put(13, 4, "GG")], 6, 13),
+    (Paper, &[Put(13, 4, " G")], 6, 13),
+    (Paper, &[Put(13, 10, "gps")], 6, 13),
+    (Paper, &[Put(13, 4, "R  cc GPX")], 6, 13),
+    (Paper, &[Put(15, 4, "-1.2500000")], 6, 15),
+    (Paper, &[Put(15, 15, "            ")], 6, 15),
+    (Paper, &[Whole(23, "*")], 6, 23),
+    (Paper, &[Put(23, 4, "2013 13  x")], 6, 23),
+    (Paper, &[Whole(24, "P")], 6, 24),
+    (Paper, &[Put(24, 2, "G 7")], 6, 24),
+    (Paper, &[Put(24, 5, "       .500000")], 6, 24),
+    (Paper, &[Put(24, 5, "1000000.000000       .500000")], 6, 24),
+    (Paper, &[Put(24, 47, "              ")], 6, 24),
+    (Paper, &[Put(24, 62, "1 ")], 6, 24),
+    (Paper, &[Put(24, 75, "P")], 6, 24),
+    (Paper, &[Put(24, 76, "E")], 6, 24),
+    (Paper, &[Put(24, 79, "P")], 6, 24),
+    (Paper, &[Put(24, 80, "M")], 6, 24),
+    (Paper, &[Put(24, 80, "p")], 6, 24),
+    (Paper, &[Put(24, 2, "G08"), Put(24, 75, "x")], 6, 24),
+    (Motion, &[Whole(26, "V")], 6, 26),
+    (Motion, &[Put(26, 5, "     +0.000000")], 6, 26),
+    // 7: outside the bounds. "256 satellites (7)"
+    (Paper, &[Put(1, 33, "      0")], 7, 1),
+    (Paper, &[Put(1, 33, " 100001")], 7, 1),
+    (Paper, &[Put(1, 33, "9999999")], 7, 1),
+    (Paper, &[Put(1, 4, "1980  1  5")], 7, 1),
+    (Paper, &[Put(1, 4, "2001  2 29")], 7, 1),
+    (Paper, &[Put(1, 4, "2100  1  1")], 7, 1),
+    (Paper, &[Put(1, 4, "2013  0  3")], 7, 1),
+    (Paper, &[Put(1, 15, "24")], 7, 1),
+    (Paper, &[Put(1, 18, "60")], 7, 1),
+    (Paper, &[Put(1, 21, "60.00000000")], 7, 1),
+    (Paper, &[Put(2, 9, "604800.00000000")], 7, 2),
+    (Paper, &[Put(2, 25, "    0.00000000")], 7, 2),
+    (Paper, &[Put(2, 4, "9999"), Put(2, 46, "1.0000000000000")], 7, 2),
+    (Many(256), &[Keep(40)], 7, 3),
+    (Many(255), &[Put(3, 4, "256"), Keep(40)], 7, 3),
+    (Many(255), &[Put(3, 4, "999"), Keep(40)], 7, 3),
+    (Many(256), &[Put(3, 58, "  0"), Keep(40)], 6, 3),
+    (Paper, &[Put(3, 4, "  0")], 7, 3),
+    (Paper, &[Put(3, 4, "000"), Put(3, 10, "  0")], 7, 3),
+    (Paper, &[Put(3, 10, "G00")], 7, 3),
+    (Night, &[Put(3, 13, "G00"), Put(3, 16, "G07")], 7, 3),
+    (Night, &[Put(26, 4, "2012 12 32")], 7, 26),
+    (Night, &[Put(26, 4, "2012 12 31 24  0  0.00000000")], 7, 26),
+    (Night, &[Put(26, 4, "2012 12 31 23 60  0.00000000")], 7, 26),
+    (Night, &[Put(26, 4, "2012 12 31 23 59 60.00000000")], 7, 26),
+    (Paper, &[Put(24, 2, "G00")], 7, 24),
+    (Paper, &[Put(24, 5, "1000000.000000")], 7, 24),
+    (Paper, &[Put(24, 47, "9999999.999999")], 7, 24),
+    (Paper, &[Put(24, 2, "G08"), Put(24, 5, "1000000.000000")], 7, 24),
+    (Motion, &[Put(26, 2, "G00")], 7, 26),
+    // 8: line two disagrees with the start.
+    (Paper, &[Put(1, 4, "1980  1  6")], 8, 2),
+    (Paper, &[Put(1, 4, "2099 12 31")], 8, 2),
+    (Paper, &[Put(2, 4, "1735")], 8, 2),
+    (Paper, &[Put(2, 4, "1733")], 8, 2),
+    (Paper, &[Put(2, 4, "9999")], 8, 2),
+    (Paper, &[Put(2, 9, "259200.00000001")], 8, 2),
+    (Paper, &[Put(2, 9, "259199.99999999")], 8, 2),
+    (Paper, &[Put(2, 9, "     0.00000000")], 8, 2),
+    (Paper, &[Put(2, 40, "56384")], 8, 2),
+    (Paper, &[Put(2, 40, "56386")], 8, 2),
+    (Paper, &[Put(2, 46, "0.0000000000001")], 8, 2),
+    (Paper, &[Put(2, 46, "0.9999999999999")], 8, 2),
+    (Paper, &[Put(2, 4, "1735"), Put(3, 3, "x")], 8, 2),
+    (Night, &[Put(2, 46, "0.9895833333332")], 8, 2),
+    (Night, &[Put(2, 46, "0.9895833333334")], 0, 0),
+    (Night, &[Put(2, 46, "0.9895833333335")], 8, 2),
+    // A slot after n isn't `  0`.
+    (Paper, &[Put(3, 13, "000")], 8, 3),
+    (Paper, &[Put(3, 13, " 00")], 8, 3),
+    (Paper, &[Put(3, 13, "0  ")], 8, 3),
+    (Paper, &[Put(3, 13, "   ")], 8, 3),
+    (Paper, &[Put(3, 13, "G08")], 8, 3),
+    (Paper, &[Put(3, 58, "g08")], 8, 3),
+    (Night, &[Put(3, 4, "  1")], 8, 3),
+    (Paper, &[Put(7, 10, "G08")], 8, 7),
+    (Paper, &[Whole(4, "+")], 8, 4),
+    (Paper, &[Put(8, 13, "  1")], 8, 8),
+    (Paper, &[Put(8, 13, "000")], 8, 8),
+    (Paper, &[Put(8, 58, "   ")], 8, 8),
+    (Paper, &[Put(12, 58, "  7")], 8, 12),
+    (Paper, &[Whole(9, "++")], 8, 9),
+    // An identifier repeats: the line of the later one.
+    (Night, &[Put(3, 13, "G07")], 8, 3),
+    (Night, &[Put(3, 13, "G07"), Put(3, 3, "x")], 5, 3),
+    (Many(20), &[], 0, 0),
+    (Many(20), &[Put(4, 10, "G01"), Keep(9)], 8, 4),
+    (Many(20), &[Put(4, 16, "G18"), Keep(9)], 8, 4),
+    (Many(20), &[Put(4, 16, "G17"), Put(4, 10, "G 9"), Keep(9)], 6, 4),
+    (Many(255), &[Put(17, 58, "  1"), Keep(20)], 6, 17),
+    (Many(255), &[Put(17, 58, "G01"), Keep(20)], 8, 17),
+    (Many(255), &[Put(17, 58, "Z99"), Keep(60)], 1, 61),
+    // The file type disagrees.
+    (Paper, &[Put(13, 4, "R ")], 8, 13),
+    (Paper, &[Put(13, 4, "M ")], 0, 0),
+    (Paper, &[Put(3, 10, "A01")], 8, 13),
+    (Night, &[Put(13, 4, "G ")], 8, 13),
+    (Night, &[Put(13, 4, "R ")], 8, 13),
+    (Many(20), &[Put(3 + 10, 4, "G ")], 0, 0),
+    (Many(20), &[Put(13, 4, "G "), Put(4, 16, "E20"), Keep(16)], 8, 13),
+    // 9: the wrong instant. "an epoch that is one interval late after midnight"
+    (Paper, &[Put(23, 21, " 0.00000001")], 9, 23),
+    (Paper, &[Put(23, 4, "2013  4  4")], 9, 23),
+    (Paper, &[Put(23, 15, " 0 15")], 9, 23),
+    (Paper, &[Put(23, 4, "2013  4  2 23 59 59.99999999")], 9, 23),
+    (Night, &[Put(26, 18, "15")], 9, 26),
+    (Night, &[Put(26, 18, "15"), Put(29, 18, "30")], 9, 26),
+    (Night, &[Put(29, 18, "30")], 9, 29),
+    (Night, &[Put(26, 4, "2012 12 31")], 9, 26),
+    (Night, &[Put(26, 4, "2013 12 31")], 9, 26),
+    (Night, &[Put(26, 4, "2012  1  1")], 9, 26),
+    (Night, &[Put(26, 4, "2013  1  2")], 9, 26),
+    (Night, &[Put(29, 4, "2012 12 31")], 9, 29),
+    (Night, &[Put(29, 18, " 0")], 9, 29),
+    (Night, &[Swap(26, 29)], 9, 26),
+    (Night, &[Put(2, 25, "  899.99999999")], 9, 26),
+    (Night, &[Put(2, 25, "  900.00000001")], 9, 26),
+    (Night, &[Put(2, 25, "00900.00000000")], 0, 0),
+    // 10: another satellite than the header has here.
+    (Paper, &[Put(24, 2, "G08")], 10, 24),
+    (Paper, &[Put(24, 2, "R07")], 10, 24),
+    (Paper, &[Put(3, 10, "A01"), Put(13, 4, "M ")], 10, 24),
+    (Night, &[Swap(24, 25)], 10, 24),
+    (Night, &[Swap(30, 31)], 10, 30),
+    (Night, &[Drop(24)], 10, 24),
+    (Night, &[Double(24)], 10, 25),
+    (Motion, &[Put(26, 2, "G02")], 10, 26),
+    (Motion, &[Swap(26, 29)], 10, 26),
+    (Motion, &[Put(29, 2, "G01")], 10, 29),
+    // 11: bytes after the EOF line, not examined.
+    (Paper, &[After(b"\n")], 11, 26),
+    (Paper, &[After(b"\x00")], 11, 26),
+    (Paper, &[After(b"EOF\n")], 11, 26),
+    (Paper, &[After(b"EP\n")], 11, 26),
+    (Paper, &[AfterMany(b'\n', 4000)], 11, 26),
+    (Paper, &[AfterMany(0xff, 4000)], 11, 26),
+    (Paper, &[Double(25)], 11, 26),
+    (Paper, &[AfterItself], 11, 26),
+    (Night, &[AfterItself], 11, 33),
+    (Motion, &[After(b" ")], 11, 31),
+    // The paper's dates: 1, 2, 3, 4; the last day.
+    (
+        Paper,
+        &[
+            Put(1, 4, "2012 10  1"),
+            Put(2, 4, "1708  86400.00000000"),
+            Put(2, 40, "56201"),
+            Put(23, 4, "2012 10  1"),
+        ],
+        0,
+        0,
+    ),
+    (
+        Paper,
+        &[
+            Put(1, 4, "1980  1  6"),
+            Put(2, 4, "   0      0.00000000"),
+            Put(2, 40, "44244"),
+            Put(23, 4, "1980  1  6"),
+        ],
+        0,
+        0,
+    ),
+    (
+        Paper,
+        &[
+            Put(1, 4, "2000  2 29"),
+            Put(2, 4, "1051 172800.00000000"),
+            Put(2, 40, "51603"),
+            Put(23, 4, "2000  2 29"),
+        ],
+        0,
+        0,
+    ),
+    (
+        Paper,
+        &[
+            Put(1, 4, "2099 12 31 23 59 59.99999999"),
+            Put(2, 4, "6260 431999.99999999"),
+            Put(2, 40, "88068 0.9999999999999"),
+            Put(23, 4, "2099 12 31 23 59 59.99999999"),
+        ],
+        0,
+        0,
+    ),
+    // Its right second epoch is past the bound; another one isn't right.
+    (
+        Paper,
+        &[
+            Put(1, 4, "2099 12 31 23 45  0.00000000       2"),
+            Put(2, 4, "6260 431100.00000000"),
+            Put(2, 40, "88068 0.9895833333333"),
+            Put(23, 4, "2099 12 31 23 45  0.00000000"),
+            Insert(25, "*  2100  1  1  0  0  0.00000000"),
+        ],
+        7,
+        25,
+    ),
+    (
+        Paper,
+        &[
+            Put(1, 4, "2099 12 31 23 45  0.00000000       2"),
+            Put(2, 4, "6260 431100.00000000"),
+            Put(2, 40, "88068 0.9895833333333"),
+            Put(23, 4, "2099 12 31 23 45  0.00000000"),
+            Insert(25, "*  2099 12 31  0  0  0.00000000"),
+        ],
+        9,
+        25,
+    ),
+    // Its case 11: the fraction of 00:00:01.
+    (Paper, &[ONE_SECOND[0], ONE_SECOND[1], ONE_SECOND[2], Put(2, 46, "0.0000115740740")], 0, 0),
+    (Paper, &[ONE_SECOND[0], ONE_SECOND[1], ONE_SECOND[2], Put(2, 46, "0.0000115740741")], 0, 0),
+    (Paper, &[ONE_SECOND[0], ONE_SECOND[1], ONE_SECOND[2], Put(2, 46, "0.0000115740742")], 8, 2),
+    (Paper, &[ONE_SECOND[0], ONE_SECOND[1], ONE_SECOND[2], Put(2, 46, "0.0000115740739")], 8, 2),
+    // Odd and right spellings.
+    (Paper, &[Put(24, 19, "    -00.500000")], 0, 0),
+    (Paper, &[Put(24, 5, "-000000.000000     -0.000000-000000.000000-999999.999999")], 0, 0),
+    (Paper, &[Put(24, 47, "0999999.999999")], 0, 0),
+    (Paper, &[Put(24, 47, " 999999.000000")], 0, 0),
+    (Paper, &[Put(24, 5, "      0.000000      0.000000      0.000000     12.734450")], 0, 0),
+    (Paper, &[Put(24, 5, "      0.000000      0.000000      0.000000 999999.999999")], 0, 0),
+    (Paper, &[Put(24, 61, "    00 99 999 E    P")], 0, 0),
+    (Paper, &[Put(1, 41, "                    ")], 0, 0),
+    (Paper, &[Put(1, 9, "04 03 00 00 00.00000000 0000001")], 0, 0),
+    (Paper, &[Put(2, 25, "    0.00000001")], 0, 0),
+    (Paper, &[Put(2, 25, "99999.99999999")], 0, 0),
+    (Paper, &[Put(3, 4, "001")], 0, 0),
+    (Paper, &[Put(8, 10, "999")], 0, 0),
+    (Paper, &[Put(8, 10, "000")], 0, 0),
+    (Paper, &[Put(15, 4, "00.0000000 99.999999999")], 0, 0),
+    (Paper, &[Put(20, 80, " "), Put(21, 3, " "), Put(22, 4, "   x   y")], 0, 0),
+];
+
+/// The paper's file begun one second later.
+const ONE_SECOND: [Edit; 3] =
+    [Put(1, 21, " 1.00000000"), Put(2, 9, "259201.00000000"), Put(23, 21, " 1.00000000")];
+
+// ---------------------------------------------------------------------------
+// Generated files: what they hold
+// ---------------------------------------------------------------------------
+
+/// True once in so many times.
+fn once_in(random: &mut Random, times: usize) -> bool {
+    random.below(times) == 0
+}
+
+/// What a generated file says before its rows.
+struct Plan {
+    velocities: bool,
+    start: i64,
+    interval: i64,
+    epochs: usize,
+    identifiers: Vec<u64>,
+    file_type: u8,
+    time_system: &'static str,
+    comments: usize,
+}
+
+/// Days around which something turns: the ends of months, leap days, the
+/// ends of years, of GPS weeks and of the calendar of the paper.
+const DAYS: &[(i64, i64, i64)] = &[
+    (1980, 1, 6),
+    (1980, 1, 12),
+    (1980, 2, 28),
+    (1980, 2, 29),
+    (1999, 12, 31),
+    (2000, 2, 28),
+    (2000, 2, 29),
+    (2001, 2, 28),
+    (2004, 2, 29),
+    (2012, 12, 31),
+    (2013, 4, 3),
+    (2013, 4, 6),
+    (2013, 4, 30),
+    (2016, 11, 30),
+    (2019, 12, 31),
+    (2023, 2, 28),
+    (2038, 1, 31),
+    (2096, 2, 28),
+    (2099, 2, 28),
+    (2099, 12, 30),
+    (2099, 12, 31),
+];
+
+const TIMES: &[i64] =
+    &[0, 1, SECOND, 43_200 * SECOND, 85_500 * SECOND, 86_370 * SECOND, DAY - SECOND, DAY - 1];
+
+const INTERVALS: &[i64] = &[
+    1,
+    SECOND / 2,
+    SECOND,
+    30 * SECOND,
+    300 * SECOND,
+    900 * SECOND,
+    900 * SECOND,
+    3600 * SECOND,
+    43_200 * SECOND,
+    DAY - 1,
+    DAY,
+    DAY + 1,
+    99_999 * SECOND + 99_999_999,
+];
+
+fn choose_start(random: &mut Random) -> i64 {
+    let day = if once_in(random, 3) {
+        GPS_ZERO + random.below(43_825) as i64
+    } else {
+        let &(year, month, day) = random.pick(DAYS);
+        modified_julian_day(lines::Date { year, month, day })
+    };
+    let time =
+        if once_in(random, 3) { (random.next() % DAY as u64) as i64 } else { *random.pick(TIMES) };
+    day * DAY + time
+}
+
+fn choose_interval(random: &mut Random) -> i64 {
+    if once_in(random, 4) {
+        1 + (random.next() % (100_000 * SECOND as u64 - 1)) as i64
+    } else {
+        *random.pick(INTERVALS)
+    }
+}
+
+/// Mostly few satellites; sometimes as many as fill a line, five lines or all.
+fn choose_number(random: &mut Random) -> usize {
+    match random.below(60) {
+        0 => *random.pick(&[84, 85, 86, 101, 102, 103]),
+        1 if once_in(random, 4) => *random.pick(&[170, 238, 239, 254, 255, 255]),
+        1 if once_in(random, 4) => 1 + random.below(255),
+        2..=4 => *random.pick(&[15, 16, 17, 18, 19, 33, 34, 35]),
+        5..=8 => 6 + random.below(9),
+        _ => 1 + random.below(5),
+    }
+}
+
+/// So many identifiers, all different; with a letter of their own or several.
+fn choose_identifiers(random: &mut Random, number: usize) -> (Vec<u64>, u8) {
+    let one_letter = number < 99 && !once_in(random, 3);
+    let letters: &[u8] = if one_letter { b"GRLSIECJ" } else { b"GRLSIECJGRECAMZ" };
+    let letter = *random.pick(letters);
+    let mut identifiers: Vec<u64> = Vec::new();
+    while identifiers.len() < number {
+        let letter = if one_letter { letter } else { *random.pick(letters) };
+        let code = u64::from(letter) * 100 + 1 + random.below(99) as u64;
+        if !identifiers.contains(&code) {
+            identifiers.push(code);
+        }
+    }
+    if once_in(random, 2) {
+        identifiers.sort();
+    }
+    let mixed = !one_letter || once_in(random, 5);
+    (identifiers, if mixed { b'M' } else { letter })
+}
+
+fn choose_plan(random: &mut Random) -> Plan {
+    let number = choose_number(random);
+    let (identifiers, file_type) = choose_identifiers(random, number);
+    let most_epochs = match number {
+        1..=3 => 6,
+        4..=12 => 3,
+        13..=40 => 2,
+        _ => 1,
+    };
+    let comments = if once_in(random, 40) { 5 + random.below(90) } else { 4 + random.below(3) };
+    Plan {
+        velocities: number < 200 && once_in(random, 3),
+        start: choose_start(random),
+        interval: choose_interval(random),
+        epochs: 1 + random.below(most_epochs).min(random.below(most_epochs)),
+        identifiers,
+        file_type,
+        time_system: *random.pick(&lines::TIME_SYSTEMS),
+        comments,
+    }
+}
+
+// ---------------------------------------------------------------------------
+// Generated files: how they are spelt
+// ---------------------------------------------------------------------------
+
+/// Spells fields in any way that is right, or plainly where it isn't `odd`.
+struct Pen<'a> {
+    random: &'a mut Random,
+    odd: bool,
+}
+
+impl Pen<'_> {
+    fn oddly(&mut self, times: usize) -> bool {
+        self.odd && once_in(self.random, times)
+    }
+
+    /// "Leading zeros may stand."
+    fn zeros(&mut self, room: usize) -> String {
+        let count = match self.oddly(4) {
+            true if self.oddly(2) => room,
+            true => self.random.below(room + 1),
+            false => 0,
+        };
+        "0".repeat(count)
+    }
+
+    fn integer(&mut self, width: usize, value: i64) -> String {
+        let digits = value.to_string();
+        let zeros = self.zeros(width - digits.len());
+        format!("{:>width$}", zeros + &digits)
+    }
+
+    fn decimal(&mut self, width: usize, places: usize, value: i64) -> String {
+        self.signed_decimal(width, places, value.abs(), value < 0)
+    }
+
+    fn signed_decimal(&mut self, width: usize, places: usize, size: i64, minus: bool) -> String {
+        let unit = lines::power_of_ten(places);
+        let digits = format!("{}.{:0places$}", size / unit, size % unit);
+        let sign = if minus { "-" } else { "" };
+        let zeros = self.zeros(width - digits.len() - sign.len());
+        format!("{:>width$}", format!("{sign}{zeros}{digits}"))
+    }
+
+    /// "Minus zero is zero."
+    fn coordinate(&mut self, value: i64) -> String {
+        let minus = value < 0 || value == 0 && self.oddly(3);
+        self.signed_decimal(14, 6, value.abs(), minus)
+    }
+
+    fn moment(&mut self, instant: i64) -> String {
+        let (year, month, day) = date_of(instant / DAY);
+        let time = instant % DAY;
+        let minutes = time / (60 * SECOND);
+        let parts = [
+            self.integer(4, year),
+            self.integer(2, month),
+            self.integer(2, day),
+            self.integer(2, minutes / 60),
+            self.integer(2, minutes % 60),
+            self.decimal(11, 8, time % (60 * SECOND)),
+        ];
+        parts.join(" ")
+    }
+
+    /// Printable characters, blanks among them.
+    fn text(&mut self, width: usize) -> String {
+        let character = |random: &mut Random| match random.below(8) {
+            0 => ' ',
+            1 => (32 + random.below(95)) as u8 as char,
+            _ => (b'A' + random.below(26) as u8) as char,
+        };
+        (0..width).map(|_| character(self.random)).collect()
+    }
+
+    /// "A short line counts as padded with blanks", and a padded one may stand.
+    fn line(&mut self, text: String) -> Vec<u8> {
+        let mut line = match self.oddly(3) {
+            true => text.into_bytes(),
+            false => without_trailing_blanks(text.as_bytes()).to_vec(),
+        };
+        if self.oddly(12) {
+            let length = *self.random.pick(&[lines::WIDTH, line.len() + 1, 60]);
+            line.resize(length.clamp(line.len(), lines::WIDTH), b' ');
+        }
+        line.push(b'\n');
+        line
+    }
+}
+
+/// The date of an MJD from 1980 on.
+fn date_of(modified_julian_day: i64) -> (i64, i64, i64) {
+    let mut days = modified_julian_day - (GPS_ZERO - 5);
+    let mut year = 1980;
+    while days >= days_in_year(year) {
+        days -= days_in_year(year);
+        year += 1;
+    }
+    let mut month = 1;
+    while days >= lines::days_in_month(year, month) {
+        days -= lines::days_in_month(year, month);
+        month += 1;
+    }
+    (year, month, days + 1)
+}
+
+/// Any fraction of which "108*F and 125*S differ by less than 108".
+fn choose_fraction(pen: &mut Pen, time: i64) -> i64 {
+    let nearest = (125 * time + 54) / 108;
+    let other = nearest + *pen.random.pick(&[-1, 0, 1]);
+    let allowed = (108 * other - 125 * time).abs() < 108;
+    let allowed = allowed && (0..lines::power_of_ten(13)).contains(&other);
+    if allowed {
+        other
+    } else {
+        nearest.min(lines::power_of_ten(13) - 1)
+    }
+}
+
+fn write_start(pen: &mut Pen, plan: &Plan) -> [String; 2] {
+    let mode = if plan.velocities { "V" } else { "P" };
+    let texts = if pen.oddly(3) {
+        format!("{} {} {} {}", pen.text(5), pen.text(5), pen.text(3), pen.text(4))
+    } else {
+        "ORBIT IGS08 HLM  IGS".to_string()
+    };
+    let epochs = pen.integer(7, plan.epochs as i64);
+    let first = format!("#d{mode}{} {epochs} {texts}", pen.moment(plan.start));
+    let (day, time) = (plan.start / DAY, plan.start % DAY);
+    let week = (day - GPS_ZERO) / 7;
+    let seconds = (day - GPS_ZERO) % 7 * DAY + time;
+    let fraction = choose_fraction(pen, time);
+    let two = format!(
+        "## {} {} {} {} {}",
+        pen.integer(4, week),
+        pen.decimal(15, 8, seconds),
+        pen.decimal(14, 8, plan.interval),
+        pen.integer(5, day),
+        pen.decimal(15, 13, fraction),
+    );
+    [first, two]
+}
+
+/// The lines `+ ` and `++`.
+fn write_slots(pen: &mut Pen, plan: &Plan) -> Vec<String> {
+    let n = plan.identifiers.len();
+    let (mut identifiers, mut exponents) = (Vec::new(), Vec::new());
+    for line in 0..satellite_lines(n) {
+        let number = if line == 0 { pen.integer(3, n as i64) } else { "   ".to_string() };
+        let (mut names, mut accuracies) = (String::new(), String::new());
+        for place in 17 * line..17 * line + 17 {
+            if let Some(&code) = plan.identifiers.get(place) {
+                let most = *pen.random.pick(&[1, 14, 100, 1000]);
+                let exponent = pen.random.below(most) as i64;
+                names += &show_code(code);
+                accuracies += &pen.integer(3, exponent);
+            } else {
+                names += "  0";
+                accuracies += "  0";
+            }
+        }
+        identifiers.push(format!("+  {number}   {names}"));
+        exponents.push(format!("++       {accuracies}"));
+    }
+    [identifiers, exponents].concat()
+}
+
+/// The lines `%c`, `%f` and `%i`.
+fn write_fixed_lines(pen: &mut Pen, plan: &Plan) -> [String; 6] {
+    let rest = "ccc cccc cccc cccc cccc ccccc ccccc ccccc ccccc";
+    let bases = *pen.random.pick(&[
+        (12_500_000, 1_025_000_000),
+        (12_500_000, 1_025_000_000),
+        (0, 0),
+        (999_999_999, 99_999_999_999),
+        (1, 1),
+    ]);
+    let mut floats = |one: i64, two: i64| {
+        format!(
+            "%f {} {} {} {}",
+            pen.decimal(10, 7, one),
+            pen.decimal(12, 9, two),
+            pen.decimal(14, 11, 0),
+            pen.decimal(18, 15, 0),
+        )
+    };
+    let [first, second] = [floats(bases.0, bases.1), floats(0, 0)];
+    let mut integers = || {
+        let widths = [4, 4, 4, 4, 6, 6, 6, 6, 9];
+        format!("%i {}", widths.map(|width| pen.integer(width, 0)).join(" "))
+    };
+    [
+        format!("%c {}  cc {} {rest}", plan.file_type as char, plan.time_system),
+        format!("%c cc cc ccc {rest}"),
+        first,
+        second,
+        integers(),
+        integers(),
+    ]
+}
+
+/// Comments of every length, their trailing blanks kept as they are made.
+fn write_comment(pen: &mut Pen) -> Vec<u8> {
+    let length = pen.random.below(20);
+    let text = match pen.random.below(16) {
+        0 => "/*".to_string(),
+        1 => "/* ".to_string(),
+        2 => format!("/*{}", " ".repeat(length)),
+        3 if pen.odd => format!("/* {}.", pen.text(76)),
+        4 => format!("/*    {}", pen.text(length)),
+        5 => format!("/* {}   ", pen.text(length)),
+        6 => format!("/* {}", pen.text(77)),
+        7..=9 => format!("/* {}", pen.text(length)),
+        _ => "/* CCC".to_string(),
+    };
+    [text.as_bytes(), b"\n"].concat()
+}
+
+const SIZES: &[i64] =
+    &[0, 1, 500_000, 999_999, 1_000_000, 5_000_000_001, 26_560_123_456, 999_999_999_999];
+
+fn choose_value(random: &mut Random) -> i64 {
+    let size = match random.below(4) {
+        0 => *random.pick(SIZES),
+        1 => (random.next() % 1_000_000_000_000) as i64,
+        _ => (random.next() % 42_000_000_000) as i64,
+    };
+    if once_in(random, 2) {
+        -size
+    } else {
+        size
+    }
+}
+
+fn choose_place(random: &mut Random) -> [i64; 3] {
+    let mut place = [0; 3].map(|_: i64| choose_value(random));
+    match random.below(10) {
+        0 | 1 => place = [0; 3],
+        2 => place[random.below(3)] = 0,
+        3 => {
+            let kept = random.below(3);
+            place = [0, 1, 2].map(|axis| if axis == kept { place[axis] } else { 0 });
+        }
+        _ => {}
+    }
+    place
+}
+
+/// The nines of an absent clock, numbers near them, and others.
+fn choose_clock(random: &mut Random) -> i64 {
+    match random.below(8) {
+        0 | 1 => ABSENT_CLOCK,
+        2 => *random.pick(&[-ABSENT_CLOCK, ABSENT_CLOCK - 1, 999_999_000_000, 0]),
+        _ => choose_value(random) % 1_000_000_000,
+    }
+}
+
+/// Columns 61 to 80 of a P or V.
+fn write_tail(pen: &mut Pen, flags: bool) -> String {
+    let mut tail = String::new();
+    for (width, large) in [(2, 99), (2, 99), (2, 99), (3, 999)] {
+        let value = match pen.random.below(8) {
+            0 | 1 => None,
+            2 => Some(large),
+            3 => Some(0),
+            _ => Some(pen.random.below(large as usize) as i64),
+        };
+        let text = value.map(|value| pen.integer(width, value));
+        tail += &format!(" {}", text.unwrap_or(" ".repeat(width)));
+    }
+    if flags {
+        let mut flag = |letter: &str| {
+            if once_in(pen.random, 3) {
+                letter.to_string()
+            } else {
+                " ".to_string()
+            }
+        };
+        tail += &format!(" {}{}  {}{}", flag("E"), flag("P"), flag("M"), flag("P"));
+    }
+    tail
+}
+
+fn write_row(pen: &mut Pen, letter: char, code: u64) -> Vec<u8> {
+    let numbers: String =
+        choose_place(pen.random).into_iter().map(|value| pen.coordinate(value)).collect();
+    let clock = choose_clock(pen.random);
+    let clock = pen.coordinate(clock);
+    let with_tail = once_in(pen.random, 3);
+    let tail = if with_tail { write_tail(pen, letter == 'P') } else { String::new() };
+    pen.line(format!("{letter}{}{numbers}{clock}{tail}", show_code(code)))
+}
+
+/// An EP or EV with anything after column 2.
+fn write_correlation(pen: &mut Pen, symbol: &str) -> Vec<u8> {
+    let length = *pen.random.pick(&[0, 1, 10, 78]);
+    let text = pen.text(length);
+    pen.line(format!("{symbol}{text}"))
+}
+
+fn write_epoch(pen: &mut Pen, plan: &Plan, epoch: usize, lines: &mut Vec<Vec<u8>>) {
+    let moment = pen.moment(plan.start + epoch as i64 * plan.interval);
+    lines.push(pen.line(format!("*  {moment}")));
+    for &code in &plan.identifiers {
+        for (letter, symbol) in [('P', "EP"), ('V', "EV")] {
+            if letter == 'P' || plan.velocities {
+                lines.push(write_row(pen, letter, code));
+                if once_in(pen.random, 8) {
+                    lines.push(write_correlation(pen, symbol));
+                }
+            }
+        }
+    }
+}
+
+fn write_plan(pen: &mut Pen, plan: &Plan) -> Draft {
+    let mut header: Vec<String> = write_start(pen, plan).to_vec();
+    header.extend(write_slots(pen, plan));
+    header.extend(write_fixed_lines(pen, plan));
+    let mut lines: Vec<Vec<u8>> = header.into_iter().map(|text| pen.line(text)).collect();
+    lines.extend((0..plan.comments).map(|_| write_comment(pen)));
+    for epoch in 0..plan.epochs {
+        write_epoch(pen, plan, epoch, &mut lines);
+    }
+    lines.push(pen.line("EOF".to_string()));
+    Draft(lines)
+}
+
+// ---------------------------------------------------------------------------
+// Damage
+// ---------------------------------------------------------------------------
+
+/// The kind letter that `lines.rs` gives to a line of a file.
+fn kind_letter(draft: &Draft, line: usize) -> u8 {
+    let begins =
+        |line: usize, symbol: &str| line >= 1 && draft.0[line - 1].starts_with(symbol.as_bytes());
+    let again = |symbol: &str| begins(line, symbol) && begins(line - 1, symbol);
+    let symbols = [
+        ("#d", b'a'),
+        ("##", b'b'),
+        ("+ ", b'c'),
+        ("++", b'e'),
+        ("%c", b'f'),
+        ("%f", b'h'),
+        ("%i", b'j'),
+        ("/*", b'k'),
+        ("* ", b'l'),
+        ("P", b'm'),
+        ("V", b'n'),
+        ("EP", b'o'),
+        ("EV", b'p'),
+        ("EOF", b'q'),
+    ];
+    match symbols.iter().find(|(symbol, _)| begins(line, symbol)) {
+        Some(&(symbol @ ("+ " | "%c" | "%f"), letter)) if again(symbol) => letter + 1,
+        Some(&(_, letter)) => letter,
+        None => b'z',
+    }
+}
+
+/// A line of the file, mostly each kind of record as often as the others.
+fn choose_line(draft: &Draft, random: &mut Random) -> usize {
+    if once_in(random, 3) {
+        return 1 + random.below(draft.0.len().max(1));
+    }
+    let letters: Vec<u8> = (1..=draft.0.len()).map(|line| kind_letter(draft, line)).collect();
+    let mut kinds = letters.clone();
+    kinds.sort();
+    kinds.dedup();
+    if kinds.is_empty() {
+        return 1;
+    }
+    let kind = *random.pick(&kinds);
+    let lines: Vec<usize> = (1..=letters.len()).filter(|line| letters[line - 1] == kind).collect();
+    *random.pick(&lines)
+}
+
+type Damage = fn(&mut Draft, &Plan, &mut Random);
+
+/// A field spelt otherwise, rightly or wrongly.
+fn another_spelling(draft: &mut Draft, _: &Plan, random: &mut Random) {
+    let line = choose_line(draft, random);
+    if draft.0.is_empty() {
+        return;
+    }
+    let letter = kind_letter(draft, line);
+    let entries: Vec<_> =
+        lines::SPELLINGS.iter().filter(|entry| entry.0.as_bytes().contains(&letter)).collect();
+    if !entries.is_empty() {
+        let &&(_, columns, texts) = random.pick(&entries);
+        let (column, text) = (*random.pick(columns), *random.pick(texts));
+        draft.put(line, column, text.as_bytes());
+    }
+}
+
+fn another_character(draft: &mut Draft, _: &Plan, random: &mut Random) {
+    let line = choose_line(draft, random);
+    let length = draft.0.get(line - 1).map_or(1, Vec::len);
+    let column =
+        if once_in(random, 6) { 1 + random.below(80) } else { 1 + random.below(length.min(80)) };
+    draft.put(line, column, &[*random.pick(b"0123456789 -.xcGRPVEM+*/#%")]);
+}
+
+fn wrong_byte(draft: &mut Draft, _: &Plan, random: &mut Random) {
+    let line = choose_line(draft, random);
+    let byte = *random.pick(&[0, 9, 10, 13, 31, 127, 128, 200, 255]);
+    if once_in(random, 2) {
+        let column = 1 + random.below(90);
+        draft.put(line, column, &[byte]);
+    } else if let Some(text) = draft.0.get_mut(line - 1) {
+        let place = random.below(text.len() + 1);
+        text.insert(place, byte);
+    }
+}
+
+fn lines_moved(draft: &mut Draft, _: &Plan, random: &mut Random) {
+    let (line, other) = (choose_line(draft, random), choose_line(draft, random));
+    match random.below(6) {
+        0 | 1 => draft.drop_line(line),
+        2 | 3 => draft.double_line(line),
+        4 => draft.swap_lines(line, line + 1),
+        _ => draft.swap_lines(line, other),
+    }
+}
+
+const STRANGE_LINES: &[&str] = &[
+    "", " ", "#d", "##", "+", "+ ", "++", "%c", "%C", "%f", "%i", "/*", "/* ", "/ *", "*", "* ",
+    "**", "P", "PG01", "V", "EP", "EV", "E", "EO", "EOF", "EOFX", "EOX", "EP  x", "EV  x", "x",
+];
+
+fn line_inserted(draft: &mut Draft, _: &Plan, random: &mut Random) {
+    let line = choose_line(draft, random);
+    if once_in(random, 2) {
+        draft.insert(line, random.pick(STRANGE_LINES).as_bytes());
+    } else if !draft.0.is_empty() {
+        let other = choose_line(draft, random);
+        let text = draft.0[other - 1].clone();
+        draft.0.insert(line - 1, text);
+    }
+}
+
+/// EP and EV where they may stand, or not.
+fn correlation_inserted(draft: &mut Draft, _: &Plan, random: &mut Random) {
+    let rows = [draft.lines_of("P"), draft.lines_of("V"), draft.lines_of("E")].concat();
+    if !rows.is_empty() {
+        let line = *random.pick(&rows) + random.below(2);
+        let text = *random.pick(&["EP", "EP", "EV", "EV", "EPx", "EP  \u{7f}", "E", "Ep"]);
+        draft.insert(line, text.as_bytes());
+    }
+}
+
+fn line_end_spoiled(draft: &mut Draft, _: &Plan, random: &mut Random) {
+    let line = choose_line(draft, random);
+    match random.below(4) {
+        0 => draft.lose_end(line),
+        1 => draft.put(line, 81, b"x"),
+        2 => draft.put(line, 80 + random.below(3), b" "),
+        _ => {
+            if let Some(text) = draft.0.get_mut(line - 1) {
+                text.insert(text.len().saturating_sub(1), b'\r');
+            }
+        }
+    }
+}
+
+/// One epoch at another instant, or all from it on.
+fn wrong_instant(draft: &mut Draft, plan: &Plan, random: &mut Random) {
+    let lines = draft.lines_of("*");
+    let first = random.below(lines.len() + 1);
+    let shifts =
+        [plan.interval, plan.interval, -plan.interval, 1, -1, SECOND, 60 * SECOND, DAY, -DAY];
+    let shift = *random.pick(&shifts);
+    let count = if once_in(random, 2) { lines.len() } else { 1 };
+    for (epoch, &line) in lines.iter().enumerate().skip(first).take(count) {
+        let instant = plan.start + epoch as i64 * plan.interval + shift;
+        let mut pen = Pen { random, odd: false };
+        let text = pen.moment(instant.max(GPS_ZERO * DAY));
+        draft.put(line, 4, text.as_bytes());
+    }
+}
+
+/// Line and column of a slot in the `+ ` lines.
+fn slot_place(slot: usize) -> (usize, usize) {
+    (3 + slot / 17, 10 + 3 * (slot % 17))
+}
+
+fn identifier_repeats(draft: &mut Draft, plan: &Plan, random: &mut Random) {
+    let n = plan.identifiers.len();
+    let (one, other) = (random.below(n), random.below(n));
+    let (line, column) = slot_place(one.max(other));
+    draft.put(line, column, show_code(plan.identifiers[one.min(other)]).as_bytes());
+}
+
+/// Something in a slot, after n or before.
+fn slot_spoiled(draft: &mut Draft, plan: &Plan, random: &mut Random) {
+    let n = plan.identifiers.len();
+    let number = satellite_lines(n);
+    let slot = if once_in(random, 3) { n } else { random.below(17 * number) };
+    let (line, column) = slot_place(slot);
+    let text = *random
+        .pick(&["000", " 00", "0  ", "   ", "  0", "G01", "  1", "Z99", "G00", "z01", "G 1"]);
+    let exponents = if once_in(random, 2) { number } else { 0 };
+    draft.put(line + exponents, column, text.as_bytes());
+}
+
+fn type_disagrees(draft: &mut Draft, plan: &Plan, random: &mut Random) {
+    let n = plan.identifiers.len();
+    let letter = *random.pick(b"GRLSIECJMX");
+    if once_in(random, 2) {
+        draft.put(3 + 2 * satellite_lines(n), 4, &[letter]);
+    } else {
+        let (line, column) = slot_place(random.below(n));
+        draft.put(line, column, &[letter]);
+    }
+}
+
+/// Rows in another order, or under another name.
+fn another_satellite(draft: &mut Draft, plan: &Plan, random: &mut Random) {
+    let rows = [draft.lines_of("P"), draft.lines_of("V")].concat();
+    if rows.is_empty() {
+        return;
+    }
+    let (one, other) = (*random.pick(&rows), *random.pick(&rows));
+    match random.below(3) {
+        0 => draft.swap_lines(one, other),
+        1 => draft.put(one, 2, show_code(*random.pick(&plan.identifiers)).as_bytes()),
+        _ => draft.put(one, 2, random.pick(&["G01", "G02", "R01", "G00", "G 1", "g01"]).as_bytes()),
+    }
+}
+
+fn line_two_disagrees(draft: &mut Draft, plan: &Plan, random: &mut Random) {
+    let (day, time) = (plan.start / DAY, plan.start % DAY);
+    let shift = *random.pick(&[-1, 1, 1, 2, -7, 7]);
+    let week = (day - GPS_ZERO) / 7;
+    let seconds = (day - GPS_ZERO) % 7 * DAY + time;
+    let nearest = (125 * time + 54) / 108;
+    let mut pen = Pen { random, odd: false };
+    let (column, text) = match pen.random.below(5) {
+        0 => (4, pen.integer(4, (week + shift).max(0))),
+        1 => (9, pen.decimal(15, 8, (seconds + shift).max(0))),
+        2 => (9, pen.decimal(15, 8, (seconds + shift * DAY).max(0))),
+        3 => (40, pen.integer(5, day + shift)),
+        _ => (46, pen.decimal(15, 13, (nearest + shift).max(0))),
+    };
+    draft.put(2, column, text.as_bytes());
+}
+
+/// n, the number of epochs, or the mode is another.
+fn counts_disagree(draft: &mut Draft, plan: &Plan, random: &mut Random) {
+    let n = plan.identifiers.len() as i64;
+    let shift = *random.pick(&[-1, 1]);
+    let mode = if plan.velocities { "P" } else { "V" };
+    let epochs = plan.epochs as i64;
+    let mut pen = Pen { random, odd: true };
+    match pen.random.below(6) {
+        0 => draft.put(3, 4, pen.integer(3, n + shift).as_bytes()),
+        1 => {
+            draft.put(3, 4, pen.random.pick(&["  0", "255", "256", "999", " 85", " 86"]).as_bytes())
+        }
+        2 | 3 => draft.put(1, 33, pen.integer(7, epochs + shift).as_bytes()),
+        4 => draft.put(1, 33, pen.random.pick(&[" 100000", " 100001", "9999999"]).as_bytes()),
+        _ => draft.put(1, 3, mode.as_bytes()),
+    }
+}
+
+fn comments_dropped(draft: &mut Draft, _: &Plan, random: &mut Random) {
+    let lines = draft.lines_of("/*");
+    let kept = random.below(4);
+    for &line in lines.iter().skip(kept).rev() {
+        draft.drop_line(line);
+    }
+}
+
+fn truncated(draft: &mut Draft, _: &Plan, random: &mut Random) {
+    let mut bytes = draft.bytes();
+    let length = match random.below(3) {
+        0 => bytes.len().saturating_sub(1),
+        1 => bytes.len().saturating_sub(random.below(100)),
+        _ => random.below(bytes.len() + 1),
+    };
+    bytes.truncate(length);
+    draft.0 = bytes.split_inclusive(|&c| c == b'\n').map(<[u8]>::to_vec).collect();
+}
+
+fn bytes_after(draft: &mut Draft, _: &Plan, random: &mut Random) {
+    let after = match random.below(6) {
+        0 => draft.bytes(),
+        1 => vec![b'\n'; 1 + random.below(20)],
+        2 => vec![random.next() as u8],
+        3 => (0..random.below(50)).map(|_| random.next() as u8).collect(),
+        _ => random.pick(STRANGE_LINES).as_bytes().to_vec(),
+    };
+    draft.0.push(after);
+}
+
+/// Each damage as often as its weight.
+const DAMAGES: &[(usize, Damage)] = &[
+    (10, another_spelling),
+    (6, another_character),
+    (3, wrong_byte),
+    (6, lines_moved),
+    (3, line_inserted),
+    (2, correlation_inserted),
+    (2, line_end_spoiled),
+    (5, wrong_instant),
+    (2, identifier_repeats),
+    (3, slot_spoiled),
+    (2, type_disagrees),
+    (4, another_satellite),
+    (3, line_two_disagrees),
+    (3, counts_disagree),
+    (1, comments_dropped),
+    (2, truncated),
+    (4, bytes_after),
+];
+
+fn damage(draft: &mut Draft, plan: &Plan, random: &mut Random) {
+    let all: usize = DAMAGES.iter().map(|(weight, _)| weight).sum();
+    let mut number = random.below(all);
+    for &(weight, damage) in DAMAGES {
+        if number < weight {
+            return damage(draft, plan, random);
+        }
+        number -= weight;
+    }
+}
+
+// ---------------------------------------------------------------------------
+// Generated cases
+// ---------------------------------------------------------------------------
+
+/// Half of the files are damaged, some of them twice.
+fn generate_file(random: &mut Random) -> (Plan, Vec<u8>) {
+    loop {
+        let plan = choose_plan(random);
+        let odd = !once_in(random, 4);
+        let mut draft = write_plan(&mut Pen { random, odd }, &plan);
+        let damages = *random.pick(&[0, 0, 0, 0, 1, 1, 1, 1, 1, 2]);
+        for _ in 0..damages {
+            damage(&mut draft, &plan, random);
+        }
+        let mut file = draft.bytes();
+        if !once_in(random, 3) {
+            cut_after_fault(&mut file);
+        }
+        if file.len() <= MOST_BYTES {
+            return (plan, file);
+        }
+    }
+}
+
+/// What stands after the first faulty line changes nothing; most files do
+/// without it, so that many fit into a batch.
+fn cut_after_fault(file: &mut Vec<u8>) {
+    if let Err(refusal) = judge_front(file) {
+        let ends = file.iter().enumerate().filter(|(_, &c)| c == b'\n').map(|(place, _)| place);
+        if let Some(end) = ends.take(refusal.line).last().filter(|_| refusal.number != NO_LF) {
+            file.truncate(end + 1);
+        }
+    }
+}
+
+/// Rooms as they are needed, or with more or fewer places in some list.
+fn choose_rooms(random: &mut Random, needed: [usize; 4]) -> [usize; 4] {
+    let mut rooms = needed;
+    let list = random.below(4);
+    match random.below(12) {
+        0 | 1 => rooms[list] = rooms[list].saturating_sub(1),
+        2 => rooms[list] = random.below(rooms[list] + 1),
+        3 => rooms = rooms.map(|room| room.saturating_sub(random.below(2))),
+        4..=6 => rooms = rooms.map(|room| room + random.below(20)),
+        7 => rooms = rooms.map(|room| room + random.below(200)),
+        8 if once_in(random, 4) => rooms = [0; 4],
+        _ => {}
+    }
+    [0, 1, 2, 3].map(|list| rooms[list].min(MOST_ROOMS[list]))
+}
+
+/// A number below the bound, the bound itself, or one far past it.
+fn choose_asked(random: &mut Random, bound: usize) -> usize {
+    match random.below(12) {
+        0 => bound,
+        1 => *random.pick(&[bound + 1, bound + 255, bound + 65_536, MOST_NUMBER]),
+        2 => bound.saturating_sub(1),
+        _ => random.below(bound),
+    }
+}
+
+/// The code of an identifier of the file, mostly.
+fn choose_code(random: &mut Random, identifiers: &[u64]) -> usize {
+    let code = *random.pick(identifiers) as usize;
+    match random.below(12) {
+        0 => code + 65_536,
+        1 => *random.pick(&[code + 1, code - 1, code + 100, code % 100, code / 100]),
+        2 => *random.pick(&[0, 7100, 7101, 9099, MOST_NUMBER]),
+        _ => code,
+    }
+}
+
+fn generate_case(random: &mut Random) -> Case {
+    let (plan, file) = generate_file(random);
+    let n = plan.identifiers.len();
+    let rows = n * plan.epochs * if plan.velocities { 2 } else { 1 };
+    let planned = [n, n, 77 * plan.comments, 12 * rows];
+    let needed = judge_front(&file).map_or(planned, |(table, _)| table.room_needed());
+    let rooms = choose_rooms(random, needed);
+    let asked = [
+        choose_asked(random, plan.comments),
+        choose_asked(random, plan.epochs),
+        choose_asked(random, n),
+        choose_code(random, &plan.identifiers),
+    ];
+    Case { file, rooms, asked }
+}
+
+/// Case `number` of a seed, whatever the others are.
+fn generated(seed: u64, number: u64) -> Case {
+    let mut random = Random(seed.wrapping_mul(0x9e37_79b9_7f4a_7c15) ^ number);
+    let seed = random.next();
+    generate_case(&mut Random(seed))
+}
+
+// ---------------------------------------------------------------------------
+// The stored cases
+// ---------------------------------------------------------------------------
+
+const MOST_BATCH: usize = 600_000;
+const STORED_SEED: u64 = 20_160_221;
+
+/// A file made by hand with rooms that suffice; most refused ones end after
+/// their faulty line.
+fn hand_case(place: usize, base: Base, edits: &[Edit]) -> Case {
+    let mut file = hand_made(base, edits);
+    if place % 10 != 0 {
+        cut_after_fault(&mut file);
+    }
+    let needed = judge_front(&file).map_or([2, 2, 308, 24], |(table, _)| table.room_needed());
+    Case { file, rooms: needed, asked: [place % 5, place / 3 % 2, place / 5 % 2, 7107] }
+}
+
+/// First the files with questions, then those that are only judged.
+fn hand_cases() -> Vec<Case> {
+    let asked = ASKED.iter().map(|&(base, edits, rooms, asked, _)| Case {
+        file: hand_made(base, edits),
+        rooms,
+        asked,
+    });
+    let mut cases: Vec<Case> = asked.collect();
+    let mut files: HashSet<Vec<u8>> = cases.iter().map(|case| case.file.clone()).collect();
+    for (place, &(base, edits, ..)) in HAND.iter().enumerate() {
+        let case = hand_case(place, base, edits);
+        if files.insert(case.file.clone()) {
+            cases.push(case);
+        }
+    }
+    cases
+}
+
+fn stored_cases() -> Vec<Case> {
+    let mut cases = hand_cases();
+    let mut length = show_batch(&cases).len();
+    let small = |case: &Case| case.file.len() < 4000;
+    for case in (1..).map(|number| generated(STORED_SEED, number)).filter(small) {
+        length += case.show().len();
+        if length > MOST_BATCH {
+            break;
+        }
+        cases.push(case);
+    }
+    cases
+}
+
+// ---------------------------------------------------------------------------
+// Counting and comparing
+// ---------------------------------------------------------------------------
+
+/// How often each number 0 to 13 stands after a word of the answers.
+#[derive(Default)]
+struct Counts([[usize; 14]; 7]);
+
+const COUNTED: [&str; 7] = ["front", "whole", "read", "read_front", "comment", "satellite", "row"];
+
+impl Counts {
+    fn add(&mut self, answer: &str) {
+        for line in answer.lines() {
+            let mut words = line.split(' ');
+            let word = words.next().unwrap_or_default();
+            let number = words.next().and_then(|number| number.parse::<usize>().ok());
+            if let (Some(place), Some(number)) = (COUNTED.iter().position(|w| *w == word), number) {
+                self.0[place][number] += 1;
+            }
+        }
+    }
+
+    fn show(&self) -> String {
+        let row = |name: &str, numbers: [usize; 14]| {
+            let columns: String = numbers.iter().map(|number| format!("{number:7}")).collect();
+            format!("{name:10}{columns}\n")
+        };
+        let first = row("number", std::array::from_fn(|number| number));
+        let rest = COUNTED.iter().zip(self.0).map(|(name, numbers)| row(name, numbers));
+        first + &rest.collect::<String>()
+    }
+}
+
+fn count(cases: &[Case]) {
+    let mut counts = Counts::default();
+    cases.iter().for_each(|case| counts.add(&case.answer()));
+    println!("{} cases\n{}", cases.len(), counts.show().trim_end());
+}
+
+/// Gives the input to the program and takes what it prints.
+fn run(
+    program: &str,
+    arguments: &[&str],
+    input: Vec<u8>,
+) -> std::io::Result<(Vec<u8>, ExitStatus)> {
+    let mut command = Command::new(program);
+    let mut child = command.args(arguments).stdin(Stdio::piped()).stdout(Stdio::piped()).spawn()?;
+    let stdin = child.stdin.take();
+    let feeder = std::thread::spawn(move || stdin.map(|mut pipe| pipe.write_all(&input)));
+    let mut output = Vec::new();
+    if let Some(mut pipe) = child.stdout.take() {
+        pipe.read_to_end(&mut output)?;
+    }
+    let status = child.wait()?;
+    drop(feeder.join());
+    Ok((output, status))
+}
+
+/// The first line in which two texts differ: wanted and found.
+fn first_difference(wanted: &[u8], found: &[u8]) -> Option<(usize, String, String)> {
+    if wanted == found {
+        return None;
+    }
+    let show =
+        |line: Option<&[u8]>| line.map_or("nothing".to_string(), |l| format!("{:?}", show_text(l)));
+    let mut wanted = wanted.split_inclusive(|&c| c == b'\n');
+    let mut found = found.split_inclusive(|&c| c == b'\n');
+    (1..).find_map(|number| {
+        let (want, have) = (wanted.next(), found.next());
+        (want != have || want.is_none()).then(|| (number, show(want), show(have)))
+    })
+}
+
+/// Which of the answers has line `line` of all of them.
+fn case_of_line(answers: &[String], line: usize) -> usize {
+    let mut lines = 0;
+    let ends = |answer: &String| {
+        lines += answer.lines().count();
+        line <= lines
+    };
+    answers.iter().position(ends).unwrap_or(answers.len().saturating_sub(1))
+}
+
+/// Cases from `first` on, as many as a batch may hold and `last` allows.
+fn next_batch(seed: u64, first: u64, last: u64) -> Vec<Case> {
+    let mut length = 0;
+    let cases = (first..=last).map(|number| generated(seed, number));
+    let fits = |case: &Case| {
+        length += case.show().len();
+        length <= MOST_BATCH
+    };
+    cases.take_while(fits).collect()
+}
+
+fn compare(seed: u64, number: u64, program: &str, arguments: &[&str]) {
+    let mut counts = Counts::default();
+    let mut done = 0;
+    while done < number {
+        let cases = next_batch(seed, done + 1, number);
+        let answers: Vec<String> = cases.iter().map(Case::answer).collect();
+        let (output, status) = run(program, arguments, show_batch(&cases))
+            .unwrap_or_else(|error| fail(&format!("{program}: {error}")));
+        if let Some((line, wanted, found)) = first_difference(answers.concat().as_bytes(), &output)
+        {
+            let case = done + 1 + case_of_line(&answers, line) as u64;
+            println!("seed {seed} case {case}: wanted {wanted}, found {found}");
+            exit(1);
+        }
+        if !status.success() {
+            println!("seed {seed} cases {} and on: {status}", done + 1);
+            exit(1);
+        }
+        answers.iter().for_each(|answer| counts.add(answer));
+        done += cases.len() as u64;
+    }
+    println!("{number} cases agree\n{}", counts.show().trim_end());
+}
+
+/// Fails at the first line in which the file differs from `wanted`.
+fn check_file(path: &str, wanted: &[u8]) {
+    let found = std::fs::read(path).unwrap_or_else(|error| fail(&format!("{path}: {error}")));
+    if let Some((line, wanted, found)) = first_difference(wanted, &found) {
+        fail(&format!("{path}: line {line} is {found} and should be {wanted}"));
+    }
+}
+
+fn check(directory: &str) {
+    let cases = stored_cases();
+    check_file(&format!("{directory}/stdin"), &show_batch(&cases));
+    check_file(&format!("{directory}/stdout"), answers(&cases).as_bytes());
+}
+
+/// A file, rooms and questions, and lines of the answer in their order.
+type Asked = (Base, &'static [Edit], [usize; 4], [usize; 4], &'static [&'static str]);
+
+/// The paper's file needs rooms of 1, 1, 308 and 12 places and has 1,215 bytes;
+/// `night` 2, 2, 308, 72 and 1,636; `motion` 2, 2, 308, 48 and 1,605.
+const ASKED: &[Asked] = &[
+    // Everything there.
+    (
+        Paper,
+        &[],
+        [1, 1, 308, 12],
+        [0, 0, 0, 7107],
+        &[
+            "case 1215",
+            "front 0 0 1215",
+            "whole 0 0 1215",
+            "read 0 0 1215",
+            "sums 7107 0 10666195931946167104 6493920291858928513",
+            "mode P",
+            "start8 487166400000000000",
+            "epochs 1",
+            "interval8 90000000000",
+            "texts |ORBIT|WGS84|BCT|PORT|",
+            "type G",
+            "time GPS",
+            "bases 12500000 1025000000",
+            "satellites 1",
+            "G07 0",
+            "comments 4",
+            "|ONE ROW|",
+            "||",
+            "||",
+            "||",
+            "P 0 G07 5000000001 -500000 0 absent unknown unknown unknown unknown ....",
+            "rows 1 known 1 absent 0",
+            "read_front 0 0 1215",
+            "sums 7107 0 10666195931946167104 6493920291858928513",
+            "comment 0 0 1101 7 |ONE ROW|",
+            "satellite 0 0 0",
+            "row 0 0 5000000001 -500000 0 absent",
+        ],
+    ),
+    (
+        Night,
+        &[],
+        [2, 2, 308, 72],
+        [3, 2, 1, 8224],
+        &[
+            "case 1636",
+            "whole 0 0 1636",
+            "read 0 0 1636",
+            "sums 228541 168 10666195931946167104 11658872387325528406",
+            "mode P",
+            "start8 486371430000000000",
+            "epochs 3",
+            "interval8 90000000000",
+            "texts |u+U  |IGS08|FIT| NGS|",
+            "type M",
+            "time UTC",
+            "satellites 2",
+            "G07 5",
+            "R24 13",
+            "P 0 G07 15000000000 -20000500000 0 123456789 unknown unknown unknown unknown ....",
+            "P 0 R24 absent absent unknown unknown unknown unknown ....",
+            "P 1 G07 absent -1 18 18 18 219 EPMP",
+            "P 1 R24 0 0 1 absent large large large large ....",
+            "P 2 G07 -500000 0 0 999999000000 unknown unknown unknown unknown ....",
+            "P 2 R24 999999999999 -999999999999 999999999999 -999999999999 0 unknown 9 7 ..M.",
+            "rows 6 known 4 absent 2",
+            "comment 0 0 1117 0 ||",
+            "satellite 0 0 1",
+            "row 0 0 999999999999 -999999999999 999999999999 -999999999999",
+        ],
+    ),
+    (
+        Motion,
+        &[],
+        [2, 2, 308, 48],
+        [1, 0, 1, 7102],
+        &[
+            "read 0 0 1605",
+            "sums 227233 225 10666195931946167104 7672082360279656442",
+            "mode V",
+            "start8 450394560000000000",
+            "texts |ORBIT|IGS97|HLM|MGEX|",
+            "G01 7",
+            "G02 8",
+            "P 0 G01 -11044805800 -10475672350 21929418200 189163300 18 18 18 219 ....",
+            "V 0 G01 20298880364 -18462044804 1381387685 -4534317 14 14 14 191 ....",
+            "P 0 G02 -12593593500 10170327650 -20354534400 -55976000 18 18 18 219 ..M.",
+            "V 0 G02 absent absent unknown unknown unknown unknown ....",
+            "rows 4 known 3 absent 1",
+            "comment 0 0 1111 0 ||",
+            "satellite 0 0 1",
+            "row 0 0 -12593593500 10170327650 -20354534400 -55976000",
+        ],
+    ),
+    // A room more in each list: its places stay as they were.
+    (
+        Paper,
+        &[],
+        [2, 2, 309, 13],
+        [3, 0, 0, 7106],
+        &[
+            "read 0 0 1215",
+            "sums 228094 7777 17057424637268802787 5657903562601855003",
+            "read_front 0 0 1215",
+            "sums 228094 7777 17057424637268802787 5657903562601855003",
+            "comment 0 0 1117 0 ||",
+            "satellite 13 0 0",
+        ],
+    ),
+    (
+        Paper,
+        &[],
+        [1, 1, 384, 17],
+        [4, 0, 0, 0],
+        &["read 0 0 1215", "comment 13 0 0 0 ||", "satellite 13 0 0"],
+    ),
+    // A room too few in each list: nothing is filled.
+    (
+        Paper,
+        &[],
+        [0, 1, 308, 12],
+        [5, 1, 0, 7107 + 65_536],
+        &[
+            "front 0 0 1215",
+            "whole 0 0 1215",
+            "read 12 0 0",
+            "sums 0 7777 3351868396646214080 15290735238439783736",
+            "read_front 12 0 0",
+            "sums 0 7777 3351868396646214080 15290735238439783736",
+            "comment 13 0 0 0 ||",
+            "satellite 13 0 0",
+            "row 13 0 absent absent",
+        ],
+    ),
+    (
+        Paper,
+        &[],
+        [1, 0, 308, 12],
+        [1, 0, 1, 100],
+        &[
+            "read 12 0 0",
+            "sums 7777 0 3351868396646214080 15290735238439783736",
+            "comment 0 0 1111 0 ||",
+            "row 13 0 absent absent",
+        ],
+    ),
+    (
+        Paper,
+        &[],
+        [1, 1, 307, 12],
+        [2, 1, 1, 7100],
+        &["read 12 0 0", "comment 0 0 1114 0 ||", "satellite 13 0 0", "row 13 0 absent absent"],
+    ),
+    (
+        Paper,
+        &[],
+        [1, 1, 308, 11],
+        [999_999_999, 999_999_999, 999_999_999, 999_999_999],
+        &["read 12 0 0", "comment 13 0 0 0 ||", "satellite 13 0 0", "row 13 0 absent absent"],
+    ),
+    (
+        Paper,
+        &[],
+        [0, 0, 0, 0],
+        [0, 0, 0, 8207],
+        &["read 12 0 0", "sums 0 0 0 0", "satellite 13 0 0"],
+    ),
+    (
+        Night,
+        &[],
+        [2, 2, 308, 71],
+        [0, 3, 0, 7107],
+        &[
+            "read 12 0 0",
+            "sums 248864 248864 3351868396646214080 10776830758291807222",
+            "read_front 12 0 0",
+            "sums 248864 248864 3351868396646214080 10776830758291807222",
+            "satellite 0 0 0",
+            "row 13 0 absent absent",
+        ],
+    ),
+    (Night, &[], [2, 2, 308, 72], [0, 0, 2, 7107], &["row 13 0 absent absent"]),
+    (Night, &[], [2, 2, 308, 72], [0, 1, 3, 7107], &["row 13 0 absent absent"]),
+    (
+        Motion,
+        &[],
+        [2, 2, 308, 48],
+        [0, 1, 0, 7107],
+        &["satellite 13 0 0", "row 13 0 absent absent"],
+    ),
+    (
+        Night,
+        &[],
+        [2, 1, 308, 72],
+        [0, 2, 2, 7124],
+        &["read 12 0 0", "satellite 13 0 0", "row 13 0 absent absent"],
+    ),
+    (
+        Night,
+        &[],
+        [1, 2, 308, 72],
+        [0, 0, 1, 8207],
+        &["read 12 0 0", "satellite 13 0 0", "row 0 0 absent absent"],
+    ),
+    (
+        Night,
+        &[],
+        [9, 9, 400, 90],
+        [0, 1, 0, 8224],
+        &["read 0 0 1636", "satellite 0 0 1", "row 0 0 absent -1"],
+    ),
+    (Night, &[], [2, 2, 308, 72], [0, 1, 1, 8225], &["read 0 0 1636", "row 0 0 0 0 1 absent"]),
+    (
+        Night,
+        &[],
+        [2, 2, 308, 72],
+        [0, 2, 0, 8223],
+        &["read 0 0 1636", "row 0 0 -500000 0 0 999999000000"],
+    ),
+    (
+        Motion,
+        &[],
+        [2, 2, 308, 47],
+        [0, 0, 2, 7101],
+        &["read 12 0 0", "satellite 0 0 0", "row 13 0 absent absent"],
+    ),
+    (Motion, &[], [2, 2, 308, 24], [0, 0, 0, 7101], &["read 12 0 0"]),
+    (
+        Motion,
+        &[],
+        [3, 3, 308, 59],
+        [0, 0, 0, 7103],
+        &[
+            "read 0 0 1605",
+            "satellite 13 0 0",
+            "row 0 0 -11044805800 -10475672350 21929418200 189163300",
+        ],
+    ),
+    // 11 before 12 and 13; the front is read all the same.
+    (
+        Paper,
+        &[After(b"x")],
+        [1, 1, 308, 12],
+        [0, 0, 0, 7107],
+        &[
+            "case 1216",
+            "front 0 0 1215",
+            "whole 11 26 0",
+            "read 11 26 0",
+            "sums 7777 7777 3351868396646214080 15290735238439783736",
+            "read_front 0 0 1215",
+            "sums 7107 0 10666195931946167104 6493920291858928513",
+            "comment 11 26 0 0 ||",
+            "satellite 11 26 0",
+            "row 11 26 absent absent",
+        ],
+    ),
+    (
+        Paper,
+        &[After(b"\n")],
+        [0, 1, 308, 12],
+        [4, 1, 1, 0],
+        &[
+            "front 0 0 1215",
+            "whole 11 26 0",
+            "read 11 26 0",
+            "read_front 12 0 0",
+            "comment 11 26 0 0 ||",
+            "satellite 11 26 0",
+            "row 11 26 absent absent",
+        ],
+    ),
+    // The file's own refusal before 12 and 13; "filling the table before a later line is refused".
+    (
+        Paper,
+        &[Drop(25)],
+        [1, 1, 308, 12],
+        [0, 0, 0, 7107],
+        &[
+            "front 1 25 0",
+            "whole 1 25 0",
+            "read 1 25 0",
+            "sums 7777 7777 3351868396646214080 15290735238439783736",
+            "read_front 1 25 0",
+            "sums 7777 7777 3351868396646214080 15290735238439783736",
+            "comment 1 25 0 0 ||",
+            "satellite 1 25 0",
+            "row 1 25 absent absent",
+        ],
+    ),
+    (
+        Paper,
+        &[Whole(25, "EOFX")],
+        [0, 0, 0, 0],
+        [9, 9, 9, 9],
+        &[
+            "read 5 25 0",
+            "read_front 5 25 0",
+            "comment 5 25 0 0 ||",
+            "satellite 5 25 0",
+            "row 5 25 absent absent",
+        ],
+    ),
+    // Comments: from column 4 on, trailing blanks cut, leading ones kept.
+    (Paper, &[Put(20, 3, "    ")], [1, 1, 308, 12], [1, 0, 0, 7107], &["comment 0 0 1112 0 ||"]),
+    (Paper, &[Put(20, 3, " ")], [1, 1, 308, 12], [1, 0, 0, 7107], &["comment 0 0 1112 0 ||"]),
+    (
+        Paper,
+        &[Put(20, 4, "  a |b|   ")],
+        [1, 1, 308, 12],
+        [1, 0, 0, 7107],
+        &["|  a |b||", "comment 0 0 1112 7 |  a |b||"],
+    ),
+    (Paper, &[Put(20, 80, "z")], [1, 1, 308, 12], [2, 0, 0, 7107], &["comment 0 0 1192 0 ||"]),
+    (
+        Talkative(103),
+        &[],
+        [1, 1, 7931, 12],
+        [102, 0, 0, 7107],
+        &["comments 103", "|COMMENT 102|", "comment 0 0 2521 11 |COMMENT 102|"],
+    ),
+    (
+        Talkative(103),
+        &[],
+        [1, 1, 7930, 12],
+        [103, 0, 0, 7107],
+        &["read 12 0 0", "comment 13 0 0 0 ||"],
+    ),
+    // Minus zero is zero; the clock's nines with a leading zero are absent.
+    (
+        Paper,
+        &[Put(24, 5, "-000000.000000     -0.000000-000000.000000-999999.999999")],
+        [1, 1, 308, 12],
+        [0, 0, 0, 7107],
+        &[
+            "P 0 G07 absent -999999999999 unknown unknown unknown unknown ....",
+            "rows 1 known 0 absent 1",
+            "row 0 0 absent -999999999999",
+        ],
+    ),
+    (
+        Paper,
+        &[Put(24, 47, "0999999.999999    00 99 999 E    P")],
+        [1, 1, 308, 12],
+        [0, 0, 0, 7107],
+        &["P 0 G07 5000000001 -500000 0 absent unknown 0 large large E..P"],
+    ),
+    (
+        Paper,
+        &[Put(24, 47, "     -0.000000 99 09  7  99  P")],
+        [1, 1, 308, 12],
+        [0, 0, 0, 7107],
+        &["P 0 G07 5000000001 -500000 0 0 large 9 7 99 .P.."],
+    ),
+    // Many satellites; two letters with the same number are two satellites.
+    (
+        Many(255),
+        &[],
+        [255, 255, 308, 3060],
+        [0, 0, 254, 6957],
+        &[
+            "read 0 0 17929",
+            "satellites 255",
+            "G01 0",
+            "G99 686",
+            "R01 693",
+            "E57 778",
+            "P 0 E57 254000001 -500000 0 1000000 unknown unknown unknown unknown ....",
+            "rows 255 known 255 absent 0",
+            "satellite 0 0 254",
+            "row 0 0 254000001 -500000 0 1000000",
+        ],
+    ),
+    (
+        Many(18),
+        &[],
+        [17, 18, 308, 216],
+        [0, 0, 18, 7119],
+        &["read 12 0 0", "satellite 13 0 0", "row 13 0 absent absent"],
+    ),
+    (
+        Many(86),
+        &[],
+        [86, 86, 308, 1032],
+        [0, 0, 85, 7186],
+        &["satellites 86", "G86 595", "satellite 0 0 85", "row 0 0 85000001 -500000 0 1000000"],
+    ),
+];
+
+// ---------------------------------------------------------------------------
+// Self-test
+// ---------------------------------------------------------------------------
+
+/// The numbers of an answer: 0 and 0 where it isn't a refusal.
+fn numbers<T>(answer: &Result<T, Refusal>) -> (u8, usize) {
+    answer.as_ref().map_or_else(|refusal| (refusal.number, refusal.line), |_| (0, 0))
+}
+
+fn test_hand(tally: &mut Tally) {
+    for &(base, edits, number, line) in HAND {
+        let file = hand_made(base, edits);
+        let (whole, front) = (numbers(&judge(&file)), numbers(&judge_front(&file)));
+        let wanted_front = if number == BYTES_AFTER { (0, 0) } else { (number, line) };
+        tally.holds(whole == (number, line), || {
+            format!("{base:?} {edits:?}\n  wanted {number} {line}\n  given  {whole:?}")
+        });
+        tally.holds(front == wanted_front, || format!("{base:?} {edits:?} front {front:?}"));
+    }
+}
+
+/// Whether the wanted lines stand in the answer in this order.
+fn missing_line<'a>(answer: &str, wanted: &[&'a str]) -> Option<&'a str> {
+    let mut lines = answer.lines();
+    wanted.iter().copied().find(|wanted| !lines.any(|line| line == *wanted))
+}
+
+fn test_asked(tally: &mut Tally) {
+    for &(base, edits, rooms, asked, wanted) in ASKED {
+        let case = Case { file: hand_made(base, edits), rooms, asked };
+        let answer = case.answer();
+        let missing = missing_line(&answer, wanted);
+        tally.holds(missing.is_none(), || {
+            format!("{base:?} {edits:?}\n  wanted {missing:?}\n  given {answer}")
+        });
+        tally.made += wanted.len() - 1;
+    }
+}
+
+/// Each file type with each letter, and each time system.
+fn test_types(tally: &mut Tally) {
+    for letter in "GMRLSIECJ".chars() {
+        for other in "GRLSIECJAMZ".chars() {
+            let mut draft = paper_file();
+            draft.put(3, 10, format!("{other}07").as_bytes());
+            draft.put(13, 4, format!("{letter} ").as_bytes());
+            draft.put(24, 2, format!("{other}07").as_bytes());
+            let wanted = if letter == 'M' || letter == other { (0, 0) } else { (8, 13) };
+            let given = numbers(&judge(&draft.bytes()));
+            tally.holds(given == wanted, || format!("type {letter} of {other}07: {given:?}"));
+        }
+    }
+    for system in ["GPS", "GLO", "GAL", "BDT", "TAI", "UTC", "IRN", "QZS"] {
+        let mut draft = paper_file();
+        draft.put(13, 10, system.as_bytes());
+        tally.holds(judge(&draft.bytes()).is_ok(), || format!("time system {system}"));
+    }
+}
+
+/// "No accepted file is the beginning of a longer accepted file": what is cut
+/// off gives 1 in the unfinished line, what is added gives 11.
+fn test_lengths(tally: &mut Tally) {
+    for base in [Paper, Night, Motion] {
+        let file = base_file(base).bytes();
+        for length in 0..file.len() {
+            let line = 1 + file[..length].iter().filter(|&&c| c == b'\n').count();
+            let given = numbers(&judge(&file[..length]));
+            tally.holds(given == (1, line), || format!("{base:?} cut to {length}: {given:?}"));
+        }
+        let line = 1 + file.iter().filter(|&&c| c == b'\n').count();
+        for byte in 0..=255 {
+            let longer = [&file[..], &[byte]].concat();
+            let given = (numbers(&judge(&longer)), length_of(&judge_front(&longer)));
+            let wanted = ((11, line), Ok(file.len()));
+            tally.holds(given == wanted, || format!("{base:?} and {byte}: {given:?}"));
+        }
+    }
+}
+
+/// Undamaged files hold what was planned; only an epoch past the calendar of
+/// the paper refuses them.
+fn test_plans(tally: &mut Tally) {
+    let mut random = Random(STORED_SEED);
+    for place in 0..600 {
+        let plan = choose_plan(&mut random);
+        let draft = write_plan(&mut Pen { random: &mut random, odd: place % 2 == 0 }, &plan);
+        let last = plan.start + (plan.epochs as i64 - 1) * plan.interval;
+        let held = match judge(&draft.bytes()) {
+            Err(refusal) => refusal.number == 7 && last >= 88_069 * DAY,
+            Ok((table, _)) => {
+                last < 88_069 * DAY
+                    && table.velocities == plan.velocities
+                    && (table.start, table.interval) == (plan.start, plan.interval)
+                    && (table.epochs, table.comments.len()) == (plan.epochs, plan.comments)
+                    && (table.identifiers, table.file_type) == (plan.identifiers, plan.file_type)
+                    && table.time_system == plan.time_system.as_bytes()
+            }
+        };
+        tally.holds(held, || format!("{}", show_text(&draft.bytes())));
+    }
+}
+
+/// MJD of the paper's cases, of the ends of the calendar and of leap days.
+fn test_days(tally: &mut Tally) {
+    for (year, month, day, wanted) in [
+        (1980, 1, 6, 44_244),
+        (1980, 2, 29, 44_298),
+        (1980, 3, 1, 44_299),
+        (2000, 1, 1, 51_544),
+        (2000, 2, 29, 51_603),
+        (2001, 8, 8, 52_129),
+        (2012, 10, 1, 56_201),
+        (2012, 12, 31, 56_292),
+        (2013, 4, 3, 56_385),
+        (2099, 12, 31, 88_068),
+    ] {
+        let given = modified_julian_day(lines::Date { year, month, day });
+        tally.holds(given == wanted, || format!("{year} {month} {day}: {given}"));
+    }
+}
+
+fn self_test() {
+    let mut tally = Tally::default();
+    test_hand(&mut tally);
+    test_asked(&mut tally);
+    test_types(&mut tally);
+    test_days(&mut tally);
+    let by_hand = tally.made;
+    test_lengths(&mut tally);
+    test_plans(&mut tally);
+    println!("{} comparisons, {by_hand} of them by hand, {} failed", tally.made, tally.failed);
+    if tally.failed > 0 {
+        exit(1);
+    }
+}
+
+// ---------------------------------------------------------------------------
+// The program
+// ---------------------------------------------------------------------------
+
+fn print(bytes: &[u8]) {
+    if let Err(error) = std::io::stdout().write_all(bytes) {
+        fail(&format!("standard output: {error}"));
+    }
+}
+
+fn batch_from_standard_input() -> Vec<Case> {
+    let mut bytes = Vec::new();
+    if let Err(error) = std::io::stdin().read_to_end(&mut bytes) {
+        fail(&format!("standard input: {error}"));
+    }
+    parse_batch(&bytes)
+}
+
+fn number(word: &str) -> u64 {
+    word.parse().unwrap_or_else(|_| fail(&format!("{word:?} is no number")))
+}
+
+fn main() {
+    let arguments: Vec<String> = std::env::args().skip(1).collect();
+    let words: Vec<&str> = arguments.iter().map(String::as_str).collect();
+    match words[..] {
+        ["answer"] => print(answers(&batch_from_standard_input()).as_bytes()),
+        ["generate", seed, count] => {
+            let seed = number(seed);
+            (1..=number(count)).for_each(|place| print(&generated(seed, place).show()));
+        }
+        ["case", seed, place] => print(&generated(number(seed), number(place)).show()),
+        ["cases"] => print(&show_batch(&stored_cases())),
+        ["check", directory] => check(directory),
+        ["self-test"] => self_test(),
+        ["count"] => count(&batch_from_standard_input()),
+        ["compare", seed, count, program, ref rest @ ..] => {
+            compare(number(seed), number(count), program, rest);
+        }
+        _ => fail(
+            "usage: answer | generate SEED COUNT | case SEED NUMBER | cases | check CRATE_DIR\n\
+             | self-test | count | compare SEED COUNT PROGRAM [ARGS..]",
+        ),
+    }
+}
