@@ -167,13 +167,13 @@ pub record Plain (rules : Rules) (lines : List (List ℕ)) : Type 0 where
   pub epochs : List (List ℕ)
   pub last : List ℕ
   pub lines-are :
-    lines
-    ≡ first
-    ∷ second
-    ∷ count
-    ∷ (slots
-    ++ (accuracies
-    ++ (descriptor ∷ characters ∷ bases ∷ floats ∷ integers ∷ integers′ ∷ (comments ++ (epochs ++ (last ∷ []))))))
+      lines
+      ≡ first
+      ∷ second
+      ∷ count
+      ∷ (slots
+      ++ (accuracies
+      ++ (descriptor ∷ characters ∷ bases ∷ floats ∷ integers ∷ integers′ ∷ (comments ++ (epochs ++ (last ∷ []))))))
   pub is-first : isFirstLine rules first ≡ true
   pub is-second : isSecondLine rules (instantIn (firstOf rules (padded first) .start)) second ≡ true
   pub is-count : isCountLine rules count ≡ true
@@ -191,14 +191,14 @@ pub record Plain (rules : Rules) (lines : List (List ℕ)) : Type 0 where
   pub are-comments : everyLine (isCommentLine rules) comments ≡ true
   pub comments-many : within (rules .«fewest_comments») (rules .«most_comments») (length comments) ≡ true
   pub are-epochs :
-    Epochs
-    rules
-    (eqb (firstOf rules (padded first) .mode) 86)
-    (namesOf (satellitesOf rules (padded count) .count) (count ∷ slots))
-    (secondOf (padded second) .interval8)
-    (firstOf rules (padded first) .epochs)
-    (instantIn (firstOf rules (padded first) .start))
-    epochs
+      Epochs
+      rules
+      (eqb (firstOf rules (padded first) .mode) 86)
+      (namesOf (satellitesOf rules (padded count) .count) (count ∷ slots))
+      (secondOf (padded second) .interval8)
+      (firstOf rules (padded first) .epochs)
+      (instantIn (firstOf rules (padded first) .start))
+      epochs
   pub is-last : isLastLine rules last ≡ true
 
 -- the bytes of an accepted file

@@ -12,7 +12,7 @@ use Rattle.layout.specs.Line.{padded}
 use Rattle.lines.specs.Lent.{flat}
 use Rattle.lines.specs.Lines.{select}
 use Rattle.record.specs.Opening.{firstOf, secondOf}
-use Rattle.record.specs.SlotLines.{countIn, moreOf}
+use Rattle.record.specs.SlotLines.{satellitesOf, moreOf}
 use Rattle.record.specs.Descriptors.{descriptorOf, baseOf}
 use Rattle.record.specs.Plain.{commentOf}
 use Rattle.record.specs.Rows.{rowOf}
@@ -41,18 +41,28 @@ headerFrom f interval8 n d b comments = record {
   bases = b .bases;
 }
 
+-- the first line of a kind, padded to 80 columns
+abbrev pub paddedFirst : Rules → ℕ → List (List ℕ) → List ℕ
+paddedFirst rules kind lines = padded (firstOfKind rules kind lines)
+
+abbrev pub firstIn : Rules → List (List ℕ) → First
+firstIn rules lines = firstOf rules (paddedFirst rules 1 lines)
+
 abbrev pub countOf : Rules → List (List ℕ) → ℕ
-countOf rules lines = countIn rules (padded (firstOfKind rules 3 lines))
+countOf rules lines = satellitesOf rules (paddedFirst rules 3 lines) .count
+
+abbrev pub headerWith : Rules → List (List ℕ) → ℕ → Header
+headerWith rules lines comments =
+    headerFrom
+    (firstIn rules lines)
+    (secondOf (paddedFirst rules 2 lines) .interval8)
+    (countOf rules lines)
+    (descriptorOf (paddedFirst rules 5 lines))
+    (baseOf (paddedFirst rules 6 lines))
+    comments
 
 unfoldable pub headerIn : Rules → List (List ℕ) → Header
-headerIn rules lines =
-    headerFrom
-    (firstOf rules (padded (firstOfKind rules 1 lines)))
-    (secondOf (padded (firstOfKind rules 2 lines)) .interval8)
-    (countOf rules lines)
-    (descriptorOf (padded (firstOfKind rules 5 lines)))
-    (baseOf (padded (firstOfKind rules 6 lines)))
-    (length (ofKind rules 8 lines))
+headerIn rules lines = headerWith rules lines (length (ofKind rules 8 lines))
 
 -- the numbers in the seventeen slots of a `+ ` or `++` line: identifiers, or accuracy exponents
 abbrev pub slotNumbers : Bool → List ℕ → List ℕ

@@ -12,3 +12,4 @@ pub mod Deciding
 pub mod Repeats
 pub mod ReadBack
 pub mod Determined
+pub mod Numbers

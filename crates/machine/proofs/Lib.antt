@@ -1,3 +1,4 @@
 pub mod Checking
 pub mod Stating
 pub mod Stepping
+pub mod Determined

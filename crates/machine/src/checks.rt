@@ -28,9 +28,9 @@ pub(crate) fn first_unprintable(line: &[u8]) -> usize
     i
 }
 
-// The instant of a date and time, or 0 where there is none.
-pub(crate) fn instant_in(m: Moment) -> u64
-    ensures { λ r. ⌜ r ≡ instantIn m ⌝ }
+// The instant of a date and time in 10^-8 s since MJD 0, or 0 where there is none: second 60 is none.
+pub fn instant_in(m: Moment) -> u64
+    ensures result { λ r. ⌜ r ≡ instantIn m ⌝ }
 {
     let Instant::At(instant) = calendar::instant(
         m.year,

@@ -5,6 +5,7 @@ mod next;
 mod step;
 mod types;
 
+pub use checks::instant_in;
 pub use faults::kind_number;
 pub use step::read_line;
 pub use step::start;

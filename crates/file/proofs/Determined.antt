@@ -1,0 +1,20 @@
+-- Any two outcomes that a contract allows agree, in the result and in every byte of a line that is handed back.
+-- Assumes nothing.
+use mathlib.Core.Path.{_≡_, sym, _∙_}
+use denote.Ref.{now}
+use Rattle.file.proofs.kind_in.Reads as kind-in
+use Rattle.file.proofs.place_of.Reads as place-of
+use Rattle.file.proofs.line_at.Reads as line-at
+use Rattle.file.proofs.line_of.Reads as line-of
+
+pub kind-in-determined : (κs : _) (a : _) (r r′ : _) (s s′ : _) → kind-in.Post κs a r s → kind-in.Post κs a r′ s′ → r ≡ r′
+kind-in-determined κs a r r′ s s′ p q = p ∙ sym q
+
+pub place-of-determined : (κs : _) (a : _) (r r′ : _) (s s′ : _) → place-of.Post κs a r s → place-of.Post κs a r′ s′ → r ≡ r′
+place-of-determined κs a r r′ s s′ p q = p ∙ sym q
+
+pub line-at-determined : (κs : _) (a : _) (r r′ : _) (s s′ : _) → line-at.Post κs a r s → line-at.Post κs a r′ s′ → now r ≡ now r′
+line-at-determined κs a r r′ s s′ p q = p ∙ sym q
+
+pub line-of-determined : (κs : _) (a : _) (r r′ : _) (s s′ : _) → line-of.Post κs a r s → line-of.Post κs a r′ s′ → now r ≡ now r′
+line-of-determined κs a r r′ s s′ p q = p ∙ sym q

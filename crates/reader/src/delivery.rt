@@ -1,0 +1,102 @@
+// Reading into lent memory: judge first, then ask for room, then fill.
+ghost use mathlib.Core.Path.{_≡_};
+ghost use lib.ListN.{length};
+ghost use Rattle.header.specs.Rules.{d};
+ghost use Rattle.file.specs.Table.{commentsIn, rowsIn};
+ghost use Rattle.reader.specs.Reading.{frontOf, fileOf, Accounted, roomFor, enough, delivered, linesIn, filled, identifiersOf, exponentsOf};
+use crate::judging;
+use crate::types::Reading;
+use header::Rules;
+use scan::Front;
+use scan::Tally;
+
+// Whether so much room is enough: whole comments and whole rows count.
+fn has_room(n: u64, tally: Tally, i: usize, x: usize, c: usize, r: usize) -> bool
+    ensures { λ s. ⌜ s ≡ roomFor n tally i x c r ⌝ }
+{
+    ((n <= i as u64) & (n <= x as u64))
+        & ((tally.comments <= (c / 77) as u64) & (tally.rows <= (r / store::ROW_WIDTH) as u64))
+}
+
+// Fills the lists from a file that was judged, where they have room.
+fn deliver(
+    rules: Rules,
+    bytes: &[u8],
+    found: Front,
+    identifiers: &mut [u64],
+    exponents: &mut [u64],
+    comments: &mut [u8],
+    rows: &mut [i64],
+) -> Reading
+    requires { ⌜ Accounted rules (now bytes) found ⌝ }
+    ensures { λ r. ⌜ r ≡ delivered rules (now (bytes .entry)) found (length (now (identifiers .entry))) (length (now (exponents .entry))) (length (now (comments .entry))) (length (now (rows .entry))) ⌝ }
+    ensures { λ _. ⌜ now (identifiers .exit) ≡ filled (enough rules (now (bytes .entry)) found (length (now (identifiers .entry))) (length (now (exponents .entry))) (length (now (comments .entry))) (length (now (rows .entry)))) (identifiersOf rules (linesIn (now (bytes .entry)) found)) (now (identifiers .entry)) ⌝ }
+    ensures { λ _. ⌜ now (exponents .exit) ≡ filled (enough rules (now (bytes .entry)) found (length (now (identifiers .entry))) (length (now (exponents .entry))) (length (now (comments .entry))) (length (now (rows .entry)))) (exponentsOf rules (linesIn (now (bytes .entry)) found)) (now (exponents .entry)) ⌝ }
+    ensures { λ _. ⌜ now (comments .exit) ≡ filled (enough rules (now (bytes .entry)) found (length (now (identifiers .entry))) (length (now (exponents .entry))) (length (now (comments .entry))) (length (now (rows .entry)))) (commentsIn rules (linesIn (now (bytes .entry)) found)) (now (comments .entry)) ⌝ }
+    ensures { λ _. ⌜ now (rows .exit) ≡ filled (enough rules (now (bytes .entry)) found (length (now (identifiers .entry))) (length (now (exponents .entry))) (length (now (comments .entry))) (length (now (rows .entry)))) (rowsIn rules (linesIn (now (bytes .entry)) found)) (now (rows .entry)) ⌝ }
+{
+    match found {
+        Front::Refused {
+            number,
+            line,
+            column: _,
+        } => judging::refused(number, line),
+        Front::File(tally) => {
+            let end = tally.end;
+            let used = &bytes[0..end];
+            let n = judging::count_of(rules, used);
+            if !has_room(n, tally, identifiers.len(), exponents.len(), comments.len(), rows.len()) {
+                return judging::refused(12, 0);
+            }
+            store::fill_slots(rules, used, false, n, identifiers);
+            store::fill_slots(rules, used, true, n, exponents);
+            store::fill_comments(rules, used, tally.comments, comments);
+            store::fill_rows(rules, used, rows);
+            Reading {
+                refusal: 0,
+                line: 0,
+                length: end,
+                header: judging::header_of(rules, used, tally.comments),
+            }
+        }
+    }
+}
+
+// Reads one whole file: identifiers, exponents, comments (77 bytes each, filled up with blanks) and rows (twelve numbers each) into the first places
+// of the lent lists. Too little room anywhere is 12 with line 0; on every refusal the lists are as they were.
+pub fn read(
+    file: &[u8],
+    identifiers: &mut [u64],
+    exponents: &mut [u64],
+    comments: &mut [u8],
+    rows: &mut [i64],
+) -> Reading
+    ensures result { λ r. ⌜ r ≡ delivered d (now (file .entry)) (fileOf d (now (file .entry))) (length (now (identifiers .entry))) (length (now (exponents .entry))) (length (now (comments .entry))) (length (now (rows .entry))) ⌝ }
+    ensures identifiers { λ _. ⌜ now (identifiers .exit) ≡ filled (enough d (now (file .entry)) (fileOf d (now (file .entry))) (length (now (identifiers .entry))) (length (now (exponents .entry))) (length (now (comments .entry))) (length (now (rows .entry)))) (identifiersOf d (linesIn (now (file .entry)) (fileOf d (now (file .entry))))) (now (identifiers .entry)) ⌝ }
+    ensures exponents { λ _. ⌜ now (exponents .exit) ≡ filled (enough d (now (file .entry)) (fileOf d (now (file .entry))) (length (now (identifiers .entry))) (length (now (exponents .entry))) (length (now (comments .entry))) (length (now (rows .entry)))) (exponentsOf d (linesIn (now (file .entry)) (fileOf d (now (file .entry))))) (now (exponents .entry)) ⌝ }
+    ensures comments { λ _. ⌜ now (comments .exit) ≡ filled (enough d (now (file .entry)) (fileOf d (now (file .entry))) (length (now (identifiers .entry))) (length (now (exponents .entry))) (length (now (comments .entry))) (length (now (rows .entry)))) (commentsIn d (linesIn (now (file .entry)) (fileOf d (now (file .entry))))) (now (comments .entry)) ⌝ }
+    ensures rows { λ _. ⌜ now (rows .exit) ≡ filled (enough d (now (file .entry)) (fileOf d (now (file .entry))) (length (now (identifiers .entry))) (length (now (exponents .entry))) (length (now (comments .entry))) (length (now (rows .entry)))) (rowsIn d (linesIn (now (file .entry)) (fileOf d (now (file .entry))))) (now (rows .entry)) ⌝ }
+{
+    let rules = Rules::d();
+    let found = scan::scan_whole(rules, file);
+    deliver(rules, file, found, identifiers, exponents, comments, rows)
+}
+
+// The same for one file at the front of a stretch, whose length is told.
+pub fn read_front(
+    stretch: &[u8],
+    identifiers: &mut [u64],
+    exponents: &mut [u64],
+    comments: &mut [u8],
+    rows: &mut [i64],
+) -> Reading
+    ensures result { λ r. ⌜ r ≡ delivered d (now (stretch .entry)) (frontOf d (now (stretch .entry))) (length (now (identifiers .entry))) (length (now (exponents .entry))) (length (now (comments .entry))) (length (now (rows .entry))) ⌝ }
+    ensures identifiers { λ _. ⌜ now (identifiers .exit) ≡ filled (enough d (now (stretch .entry)) (frontOf d (now (stretch .entry))) (length (now (identifiers .entry))) (length (now (exponents .entry))) (length (now (comments .entry))) (length (now (rows .entry)))) (identifiersOf d (linesIn (now (stretch .entry)) (frontOf d (now (stretch .entry))))) (now (identifiers .entry)) ⌝ }
+    ensures exponents { λ _. ⌜ now (exponents .exit) ≡ filled (enough d (now (stretch .entry)) (frontOf d (now (stretch .entry))) (length (now (identifiers .entry))) (length (now (exponents .entry))) (length (now (comments .entry))) (length (now (rows .entry)))) (exponentsOf d (linesIn (now (stretch .entry)) (frontOf d (now (stretch .entry))))) (now (exponents .entry)) ⌝ }
+    ensures comments { λ _. ⌜ now (comments .exit) ≡ filled (enough d (now (stretch .entry)) (frontOf d (now (stretch .entry))) (length (now (identifiers .entry))) (length (now (exponents .entry))) (length (now (comments .entry))) (length (now (rows .entry)))) (commentsIn d (linesIn (now (stretch .entry)) (frontOf d (now (stretch .entry))))) (now (comments .entry)) ⌝ }
+    ensures rows { λ _. ⌜ now (rows .exit) ≡ filled (enough d (now (stretch .entry)) (frontOf d (now (stretch .entry))) (length (now (identifiers .entry))) (length (now (exponents .entry))) (length (now (comments .entry))) (length (now (rows .entry)))) (rowsIn d (linesIn (now (stretch .entry)) (frontOf d (now (stretch .entry))))) (now (rows .entry)) ⌝ }
+{
+    let rules = Rules::d();
+    let found = scan::scan_front(rules, stretch);
+    deliver(rules, stretch, found, identifiers, exponents, comments, rows)
+}
