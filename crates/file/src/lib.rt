@@ -20,7 +20,12 @@ fn byte_at(line: &[u8], i: usize) -> u8
 pub fn kind_in(rules: Rules, line: &[u8]) -> u64
     ensures result { λ r. ⌜ r ≡ kindIn rules (now (line .entry)) ⌝ }
 {
-    let kind = record::kind::kind_by(rules.letter, byte_at(line, 0), byte_at(line, 1), byte_at(line, 2));
+    let kind = record::kind::kind_by(
+        rules.letter,
+        byte_at(line, 0),
+        byte_at(line, 1),
+        byte_at(line, 2),
+    );
     machine::kind_number(kind)
 }
 

@@ -31,8 +31,16 @@ fn count_line(rules: Rules, tally: Tally, line: &[u8]) -> Tally
     ensures { λ r. ⌜ r ≡ counted rules tally (now (line .entry)) ⌝ }
 {
     let kind = file::kind_in(rules, line);
-    let comments = if kind == 8 { tally.comments + 1 } else { tally.comments };
-    let rows = if (kind == 10) | (kind == 11) { tally.rows + 1 } else { tally.rows };
+    let comments = if kind == 8 {
+        tally.comments + 1
+    } else {
+        tally.comments
+    };
+    let rows = if (kind == 10) | (kind == 11) {
+        tally.rows + 1
+    } else {
+        tally.rows
+    };
     Tally {
         lines: tally.lines + 1,
         end: tally.end + line.len() + 1,

@@ -42,13 +42,13 @@ loop-again c =
     let found = told .before .before .if1 .left in
     ⊎-elim
     (λ w.
-      rw (w .2)
-      (seeking-later inv (ended .line-end .result) (ended .line-end .ensures) found
-      (eq-eqb _ (a .kind) (sym (told .kind-in .ensures) ∙ w .0 .taken)) (w .1 .left)))
+    rw (w .2)
+    (seeking-later inv (ended .line-end .result) (ended .line-end .ensures) found
+    (eq-eqb _ (a .kind) (sym (told .kind-in .ensures) ∙ w .0 .taken)) (w .1 .left)))
     (λ w.
-      rw (w .1)
-      (seeking-other inv (ended .line-end .result) (ended .line-end .ensures) found
-      (ne-eqb _ (a .kind) (λ e. w .0 .left (told .kind-in .ensures ∙ e)))))
+    rw (w .1)
+    (seeking-other inv (ended .line-end .result) (ended .line-end .ensures) found
+    (ne-eqb _ (a .kind) (λ e. w .0 .left (told .kind-in .ensures ∙ e)))))
     (c .if2 .came)
 
 pub place-of-spec : {M : Type 1} → statement M

@@ -1,0 +1,5 @@
+pub mod Filling
+pub mod Storing
+pub mod Told
+pub mod Theorems
+pub mod Determined
