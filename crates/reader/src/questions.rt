@@ -149,9 +149,9 @@ fn satellite_in(name: u64, names: &[u64]) -> SatelliteAnswer
     no_satellite(13, 0)
 }
 
-// The number of a name among the identifiers of some lines, of which there are at most 255.
+// The number of a name among the identifiers of some lines, as many as they say and at most 255.
 fn satellite_among(rules: Rules, bytes: &[u8], name: u64) -> SatelliteAnswer
-    requires { ⌜ length (identifiersOf rules (linesOf (now bytes))) ≤ 255 ⌝ }
+    requires { ⌜ (length (identifiersOf rules (linesOf (now bytes))) ≡ countOf rules (linesOf (now bytes))) × (countOf rules (linesOf (now bytes)) ≤ 255) ⌝ }
     ensures { λ r. ⌜ r ≡ satelliteIn name (identifiersOf rules (linesOf (now (bytes .entry)))) ⌝ }
 {
     let mut names = [0u64; 255];

@@ -4,7 +4,7 @@ use mathlib.Core.Path.{_≡_, refl, sym, ap, ap₂, _∙_}
 use mathlib.Core.Bool.{Bool, true, false, _||_}
 use mathlib.Core.Logic.{_⊎_, inl, inr}
 use mathlib.Core.List.{List, [], _∷_, _++_, map}
-use Prim.Native.Nat.{ℕ, zero, suc, _+_, _-_, _*_, _/_, _<_, _≤_, zero-le}
+use Prim.Native.Nat.{ℕ, zero, suc, _+_, _-_, _/_, _<_, _≤_, zero-le}
 use native.Mathlib.Nat.{div-eq-of-lt, div-eq-sub-div, div-mul-le-self}
 use native.Mathlib.Decide.{decLe}
 use native.Mathlib.Omega.{arith}
@@ -13,7 +13,7 @@ use borrow.Rule.Slice.PartMut.{putMid}
 use lib.Dec.{leb}
 use lib.IntN.{ℤ}
 use lib.ListN.{length, take, drop, length-take, length-drop, length-map}
-use lib.Seq.{take-append-le, take-append-add, take-nil, take-all}
+use lib.Seq.{take-nil, take-all}
 use Rattle.layout.specs.Layout.{slotsFrom}
 use Rattle.layout.specs.Line.{padded}
 use Rattle.layout.proofs.Lines.{padded-length}
@@ -22,7 +22,7 @@ use Rattle.lines.specs.Lines.{lineLength, linesOf, select}
 use Rattle.lines.proofs.Ends.{neither, no-line, first-line}
 use Rattle.lines.proofs.Laying.{Laying, laying-none, laying-as, laying-block, laying-full, laying-all, laid-fits, laid-none}
 use Rattle.lines.proofs.Picking.{select-none, select-first, select-other, length-flat}
-use Rattle.lines.proofs.Each.{Each, each-map}
+use Rattle.lines.proofs.Each.{each-map}
 use Rattle.record.specs.SlotLines.{moreOf}
 use Rattle.header.specs.declared.types.Rules.{Rules}
 use Rattle.record.specs.declared.types.Row.{Row}

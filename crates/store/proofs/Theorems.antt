@@ -2,27 +2,24 @@
 -- twelve nines with no minus, whatever the place.
 -- Assumes nothing.
 use mathlib.Core.Path.{_≡_, refl, sym, _∙_, ap}
-use mathlib.Core.List.{List, [], _∷_, _++_}
+use mathlib.Core.List.{List, [], _++_}
 use mathlib.Core.Bool.{Bool, true, false, cond, not, _&&_}
-use Prim.Native.Nat.{ℕ, zero, suc, _+_, _*_, _/_, _<_, _≤_, zero-le}
+use Prim.Native.Nat.{ℕ, _+_, _*_, _/_, _<_, _≤_}
 use native.Mathlib.Omega.{arith}
-use borrow.Author.Tests.{le-leb, lt-ltb, ltb-true, ltb-false, eqb-true, ne-eqb}
+use borrow.Author.Tests.{le-leb, lt-ltb, ltb-false, ne-eqb}
 use lib.Dec.{eqb, leb, ltb}
 use lib.IntN.{ℤ, pos, natAbs}
 use lib.ListN.{length, drop, getD, length-append}
 use lib.Seq.{getD-append-add}
 use Rattle.field.specs.Sign.{largest, signedInt, isNegative}
 use Rattle.field.proofs.Signs.{magnitude-back, sign-back}
-use Rattle.laws.proofs.Bools.{and-false}
 use Rattle.lines.specs.Lent.{over}
 use Rattle.record.specs.Absence.{placeAbsent, clockAbsent}
 use Rattle.record.specs.declared.types.Row.{Row}
 use Rattle.record.specs.declared.types.Signed.{Signed}
 use Rattle.file.specs.Table.{storedInt, storedSigned, storedCount, storedMark, markNumber, rowNumbers, rowWidth}
 use Rattle.store.specs.Stored.{isThere, numberAt, placeIn, clockIn, deviationOf, deviationIn, flagIn}
-use Rattle.store.specs.declared.types.Place.{Place}
 use Rattle.store.specs.declared.types.Place.the-variants as place
-use Rattle.store.specs.declared.types.ClockRead.{ClockRead}
 use Rattle.store.specs.declared.types.ClockRead.the-variants as clock
 use Rattle.store.specs.declared.types.Flag.the-variants as flag
 
@@ -39,9 +36,6 @@ stored-whole negative m h = rw (le-leb m largest h) refl
 
 stored-size : (negative : Bool) (m : ℕ) → m ≤ largest → natAbs (storedInt negative m) ≡ m
 stored-size negative m h = ap natAbs (stored-whole negative m h) ∙ magnitude-back negative m
-
-stored-sign : (negative : Bool) (m : ℕ) → m ≤ largest → isNegative (storedInt negative m) ≡ (negative && ltb 0 m)
-stored-sign negative m h = ap isNegative (stored-whole negative m h) ∙ sign-back negative m
 
 -- zero has no sign, and twelve nines are not zero
 sign-kept : (negative : Bool) (m : ℕ) → clockAbsent (negative && ltb 0 m) m ≡ clockAbsent negative m

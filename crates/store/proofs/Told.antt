@@ -1,8 +1,6 @@
 -- Each answer is known by its number and values: two that are told alike are one.
 -- Assumes nothing.
 use mathlib.Core.Path.{_≡_, refl}
-use mathlib.Core.Bool.{Bool, true, false}
-use Prim.Native.Nat.{ℕ}
 use lib.IntN.{ℤ, pos, negsuc, natAbs}
 use Rattle.field.specs.Sign.{isNegative}
 use Rattle.store.specs.Stored.{signNumber, toldPlace, toldClock, toldDeviation, toldFlag}

@@ -1,7 +1,7 @@
 -- `store::fill::fill_comments` meets its contract. The invariant and the loop's turn are in `Filling`: the comments of the lines left are still to be laid.
 -- Assumes nothing.
 use Prim.Native.Nat.{_-_, _<_}
-use mathlib.Core.Path.{_≡_, refl, sym, _∙_}
+use mathlib.Core.Path.{refl, sym, _∙_}
 use mathlib.Core.List.{map}
 use mathlib.Core.Logic.{⊎-elim}
 use borrow.Author.Needs.{needs}
@@ -56,13 +56,15 @@ loop-again c =
     let found = told .before .before .if2 .left in
     ⊎-elim
     (λ w.
-      rw (w .6, w .7, w .8)
-      (comments-more (inv .1) (ended .line-end .result) (ended .line-end .ensures) found
-      (eq-eqb _ 8 (sym (told .kind-in .ensures) ∙ w .0 .taken)) (inv .0) (w .2 .ensures) (w .5 .left)))
+    rw (w .6, w .7, w .8)
+    (comments-more (inv .1) (ended .line-end .result) (ended .line-end .ensures) found
+    (eq-eqb _ 8 (sym (told .kind-in .ensures) ∙ w .0 .taken)) (inv .0) (w .2 .ensures) (w .5 .left)))
     (λ w.
-      rw (w .1, w .2, w .3)
-      (inv .0, filling-other (inv .1) (ended .line-end .result) (ended .line-end .ensures) found
-      (ne-eqb _ 8 (λ e. w .0 .left (told .kind-in .ensures ∙ e)))))
+    rw (w .1, w .2, w .3) (
+      inv .0,
+      filling-other (inv .1) (ended .line-end .result) (ended .line-end .ensures) found
+          (ne-eqb _ 8 (λ e. w .0 .left (told .kind-in .ensures ∙ e))),
+    ))
     (c .if3 .came)
 
 pub fill-comments-spec : {M : Type 1} → statement M

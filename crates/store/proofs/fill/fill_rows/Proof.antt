@@ -1,7 +1,7 @@
 -- `store::fill::fill_rows` meets its contract. The invariant and the loop's turn are in `Filling`: the rows left that have room are still to be laid.
 -- Assumes nothing.
 use Prim.Native.Nat.{ℕ, _-_}
-use mathlib.Core.Path.{_≡_, sym, ap, _∙_}
+use mathlib.Core.Path.{sym, ap, _∙_}
 use mathlib.Core.Bool.{Bool, _||_}
 use mathlib.Core.Logic.{⊎-elim}
 use borrow.Author.Needs.{needs}
@@ -53,14 +53,14 @@ loop-again c =
     let line = take (ended .line-end .result - at-loop .loop .at) (drop (at-loop .loop .at) (a .bytes .now)) in
     ⊎-elim
     (λ w.
-      rw (w .6, w .7)
-      (rows-more (a .rules) (a .bytes .now) (a .out .now) (at-loop .loop .out) (at-loop .loop .at) (at-loop .loop .stored) (at-loop .loop .inv)
-      (ended .line-end .result) (ended .line-end .ensures) found (sym (ap isRowKind (told .kind-in .ensures)) ∙ w .0 .taken) (w .1 .left)
-      (w .2 .result) (w .2 .ensures ∙ ap (λ (kind : ℕ). rowOf (eqb kind 11) line) (told .kind-in .ensures)) (w .4 .ensures)))
+    rw (w .6, w .7)
+    (rows-more (a .rules) (a .bytes .now) (a .out .now) (at-loop .loop .out) (at-loop .loop .at) (at-loop .loop .stored) (at-loop .loop .inv)
+    (ended .line-end .result) (ended .line-end .ensures) found (sym (ap isRowKind (told .kind-in .ensures)) ∙ w .0 .taken) (w .1 .left)
+    (w .2 .result) (w .2 .ensures ∙ ap (λ (kind : ℕ). rowOf (eqb kind 11) line) (told .kind-in .ensures)) (w .4 .ensures)))
     (λ w.
-      rw (w .1, w .2)
-      (filling-other (at-loop .loop .inv) (ended .line-end .result) (ended .line-end .ensures) found
-      (sym (ap isRowKind (told .kind-in .ensures)) ∙ w .0 .left)))
+    rw (w .1, w .2)
+    (filling-other (at-loop .loop .inv) (ended .line-end .result) (ended .line-end .ensures) found
+    (sym (ap isRowKind (told .kind-in .ensures)) ∙ w .0 .left)))
     (c .if2 .came)
 
 pub fill-rows-spec : {M : Type 1} → statement M

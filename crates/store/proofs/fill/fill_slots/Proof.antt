@@ -1,7 +1,7 @@
 -- `store::fill::fill_slots` meets its contract. The invariant and the loop's turn are in `Filling`: the slots of the lines left are still to be laid.
 -- Assumes nothing.
 use Prim.Native.Nat.{_-_}
-use mathlib.Core.Path.{_≡_, sym, ap, _∙_}
+use mathlib.Core.Path.{sym, ap, _∙_}
 use mathlib.Core.Logic.{⊎-elim}
 use native.Mathlib.Omega.{arith}
 use borrow.Author.Needs.{needs}
@@ -61,13 +61,13 @@ loop-again c =
     let found = told .before .before .if2 .left in
     ⊎-elim
     (λ w.
-      rw (w .6, w .7, w .8)
-      (slots-more (a .accuracies) inv (ended .line-end .result) (ended .line-end .ensures) found
-      (eq-eqb _ (joined .if1 .kind) (sym (told .kind-in .ensures) ∙ w .0 .taken)) (w .2 .ensures) (w .5 .left)))
+    rw (w .6, w .7, w .8)
+    (slots-more (a .accuracies) inv (ended .line-end .result) (ended .line-end .ensures) found
+    (eq-eqb _ (joined .if1 .kind) (sym (told .kind-in .ensures) ∙ w .0 .taken)) (w .2 .ensures) (w .5 .left)))
     (λ w.
-      rw (w .1, w .2, w .3)
-      (filling-other inv (ended .line-end .result) (ended .line-end .ensures) found
-      (ne-eqb _ (joined .if1 .kind) (λ e. w .0 .left (told .kind-in .ensures ∙ e)))))
+    rw (w .1, w .2, w .3)
+    (filling-other inv (ended .line-end .result) (ended .line-end .ensures) found
+    (ne-eqb _ (joined .if1 .kind) (λ e. w .0 .left (told .kind-in .ensures ∙ e)))))
     (c .if3 .came)
 
 pub fill-slots-spec : {M : Type 1} → statement M

@@ -1,0 +1,7 @@
+-- Any two outcomes that a contract allows agree.
+-- Assumes nothing.
+use mathlib.Core.Path.{_≡_, sym, _∙_}
+use Rattle.adjust.proofs.row.Reads as row
+
+pub row-determined : (κs : _) (a : _) (r r′ : _) (s s′ : _) → row.Post κs a r s → row.Post κs a r′ s′ → r ≡ r′
+row-determined κs a r r′ s s′ p q = p ∙ sym q

@@ -1,0 +1,3 @@
+pub mod Floating
+pub mod Theorems
+pub mod Determined

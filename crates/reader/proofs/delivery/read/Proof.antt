@@ -1,0 +1,33 @@
+-- `reader::delivery::read` meets its contract.
+-- Assumes nothing.
+use Rattle.file.specs.Table.{commentsIn, rowsIn}
+use Rattle.header.specs.Rules.{d}
+use Rattle.header.specs.declared.types.Rules.{Rules}
+use Rattle.reader.proofs.Delivering.{answered, listed}
+use Rattle.reader.proofs.Found.{accounted-whole}
+use Rattle.reader.specs.Reading.{exponentsOf, fileOf, identifiersOf}
+use borrow.Author.Needs.{needs}
+use lib.ListN.{length}
+use mathlib.Core.Path.{_∙_, _≡_, ap, sym}
+use Rattle.reader.proofs.delivery.read.Statement.{statement}
+use Rattle.reader.proofs.delivery.read.Tie as tie
+
+deliver-requires : tie.Need-deliver-requires
+deliver-requires c κs = accounted-whole _ _ _ (sym (c .before .before .before .before .scan-whole .ensures))
+
+returns : tie.Need-returns
+returns c = 
+    let done = c .before .before .before .before .before .before .before in
+    let scanned = done .before .before .before .before .before in
+    let ruled = scanned .before in
+    let a = ruled .before .before .before .before .before .args in
+    let same : scanned .scan-whole .result ≡ fileOf d (a .file .now) = scanned .scan-whole .ensures ∙ ap (λ (k : Rules). fileOf k (a .file .now)) (ruled .d .ensures) in
+    let p = done .deliver .ensures in
+    (answered (a .file .now) (length (a .identifiers .now)) (length (a .exponents .now)) (length (a .comments .now)) (length (a .rows .now)) (ruled .d .result) d (scanned .scan-whole .result) (fileOf d (a .file .now)) (ruled .d .ensures) same (done .deliver .result) (p .0),
+    (listed (a .file .now) (length (a .identifiers .now)) (length (a .exponents .now)) (length (a .comments .now)) (length (a .rows .now)) (ruled .d .result) d (scanned .scan-whole .result) (fileOf d (a .file .now)) (ruled .d .ensures) same identifiersOf (a .identifiers .now) _ (p .1 .0),
+    (listed (a .file .now) (length (a .identifiers .now)) (length (a .exponents .now)) (length (a .comments .now)) (length (a .rows .now)) (ruled .d .result) d (scanned .scan-whole .result) (fileOf d (a .file .now)) (ruled .d .ensures) same exponentsOf (a .exponents .now) _ (p .1 .1 .0),
+    (listed (a .file .now) (length (a .identifiers .now)) (length (a .exponents .now)) (length (a .comments .now)) (length (a .rows .now)) (ruled .d .result) d (scanned .scan-whole .result) (fileOf d (a .file .now)) (ruled .d .ensures) same commentsIn (a .comments .now) _ (p .1 .1 .1 .0),
+    listed (a .file .now) (length (a .identifiers .now)) (length (a .exponents .now)) (length (a .comments .now)) (length (a .rows .now)) (ruled .d .result) d (scanned .scan-whole .result) (fileOf d (a .file .now)) (ruled .d .ensures) same rowsIn (a .rows .now) _ (p .1 .1 .1 .1)))))
+
+pub read-spec : {M : Type 1} → statement M
+read-spec = tie.close (tie.spec (λ c κs. search needs) (λ c κs. search needs) deliver-requires (λ c. search needs) (λ c. search needs) (λ c. search needs) (λ c. search needs) returns)
