@@ -1,0 +1,47 @@
+# A file in mode P for bench/reader.sh: `awk -v epochs=96 -v satellites=32 -f reader_file.awk`. It begins on 2013-04-03 and has an epoch each 900 s,
+# so at most 96 of them; every place, clock and exponent is known, rows have all their 80 columns, and flags stand in some of them.
+function random(below) {
+    seed = (seed * 16807) % 2147483647
+    return seed % below
+}
+
+function coordinate(size) {
+    return sprintf("%14.6f", (random(2 * size * 1000) - size * 1000) / 1000 + random(1000) / 1000000)
+}
+
+function letter(c, times) { return random(times) ? " " : c }
+
+# lines of 17 slots, at least five
+function slots(symbol, count, exponents, j, i, k) {
+    for (j = 0; j < 5 || 17 * j < satellites; j++) {
+        printf "%-3s%3s   ", symbol, (j == 0 && count ? satellites : "")
+        for (i = 0; i < 17; i++) {
+            k = 17 * j + i
+            printf "%3s", (k < satellites ? (exponents ? 2 + random(9) : sprintf("G%02d", k + 1)) : 0)
+        }
+        printf "\n"
+    }
+}
+
+BEGIN {
+    seed = 20130403
+    printf "#dP2013  4  3  0  0  0.00000000 %7d ORBIT WGS84 BCT PORT\n", epochs
+    print "## 1734 259200.00000000   900.00000000 56385 0.0000000000000"
+    slots("+", 1, 0)
+    slots("++", 0, 1)
+    print "%c G  cc GPS ccc cccc cccc cccc cccc ccccc ccccc ccccc ccccc"
+    print "%c cc cc ccc ccc cccc cccc cccc cccc ccccc ccccc ccccc ccccc"
+    print "%f  1.2500000  1.025000000  0.00000000000  0.000000000000000"
+    print "%f  0.0000000  0.000000000  0.00000000000  0.000000000000000"
+    for (j = 0; j < 2; j++) print "%i    0    0    0    0      0      0      0      0         0"
+    for (j = 0; j < 4; j++) print "/* PLACES AND CLOCKS MADE BY A GENERATOR FOR COUNTING INSTRUCTIONS"
+    for (e = 0; e < epochs; e++) {
+        printf "*  2013  4  3 %2d %2d  0.00000000\n", int(e / 4), 15 * (e % 4)
+        for (k = 1; k <= satellites; k++) {
+            printf "PG%02d%s%s%s%s", k, coordinate(26000), coordinate(26000), coordinate(26000), coordinate(800)
+            printf " %2d %2d %2d %3d", random(20), random(20), random(20), random(250)
+            printf " %s%s  %s%s\n", letter("E", 40), letter("P", 2), letter("M", 40), letter("P", 2)
+        }
+    }
+    print "EOF"
+}
