@@ -40,7 +40,7 @@ module _ (rules : Rules) (s : State) (names line : List ℕ) where
 
   -- none: the line padded, its kind, and the columns that it may have
   module _ (printable : every isPrintable line ≡ true) (pad : List ℕ) (pad-is : pad ≡ padded line) (kind : LineKind)
-    (told : toldKind kind ≡ toldKind (kindOf rules pad)) (most : ℕ) (most-is : most ≡ longest rules kind) where
+      (told : toldKind kind ≡ toldKind (kindOf rules pad)) (most : ℕ) (most-is : most ≡ longest rules kind) where
     kind-is : kind ≡ kindOf rules (padded line)
     kind-is = toldKind-one kind (kindOf rules pad) told ∙ ap (kindOf rules) pad-is
 

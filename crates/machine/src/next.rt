@@ -236,7 +236,10 @@ pub(crate) fn after_line(kind: LineKind, rules: Rules, state: State, line: &[u8;
         LineKind::Comment => {
             Verdict::Next(comments_due(less(state.lines, 1), less(state.comments, 1), state))
         }
-        LineKind::First => Verdict::Next(after_first(record::opening::read_first(rules, line), state)),
+        LineKind::First => Verdict::Next(after_first(
+            record::opening::read_first(rules, line),
+            state,
+        )),
         LineKind::Second => {
             let second = record::opening::read_second(line);
             Verdict::Next(after_second(second.interval8, state))

@@ -77,12 +77,18 @@ fn store_names(rules: Rules, state: State, names: &mut [u64], line: &[u8; 80])
     if state.satellites == 0 {
         let first = record::slots::read_satellites(rules, line);
         let all = first.names;
-        lines::lay_numbers(&mut names[from..], faults::front_of(&all, first.count as usize));
+        lines::lay_numbers(
+            &mut names[from..],
+            faults::front_of(&all, first.count as usize),
+        );
         return;
     }
     let more = record::slots::read_slots(line, false, state.left);
     let all = more.values;
-    lines::lay_numbers(&mut names[from..], faults::front_of(&all, state.left as usize));
+    lines::lay_numbers(
+        &mut names[from..],
+        faults::front_of(&all, state.left as usize),
+    );
 }
 
 // The names after a line without fault: a `+ ` line brings some.
@@ -98,13 +104,7 @@ fn keep_names(rules: Rules, state: State, names: &mut [u64], line: &[u8])
 
 // The plain line reader: what the line at a place does, and where the next begins. A `+ ` line leaves its identifiers in `names`. No LF from
 // the place on: no line.
-pub fn read_line(
-    rules: Rules,
-    bytes: &[u8],
-    at: usize,
-    state: State,
-    names: &mut [u64],
-) -> LineRead
+pub fn read_line(rules: Rules, bytes: &[u8], at: usize, state: State, names: &mut [u64]) -> LineRead
     ensures result { λ r. ⌜ r ≡ lineRead rules (now (bytes .entry)) at state (now (names .entry)) ⌝ }
     ensures lent { λ _. ⌜ now (names .exit) ≡ lineNames rules (now (bytes .entry)) at state (now (names .entry)) ⌝ }
 {

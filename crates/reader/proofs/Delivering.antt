@@ -74,7 +74,7 @@ module _ (rules : Rules) (bytes : List ℕ) (f : Front) (i x c r : ℕ) where
 
   -- a file: so many satellites, and whether there is room
   module _ (t : Tally) (is : f ≡ front.File t) (accounted : Accounted rules bytes f) (n : ℕ) (count : n ≡ countOf rules (linesOf (take (t .end - 0) bytes)))
-    (room : Bool) (asked : room ≡ roomFor n t i x c r) where
+      (room : Bool) (asked : room ≡ roomFor n t i x c r) where
     abbrev lines : List (List ℕ)
     lines = linesTo (t .end) bytes
 
@@ -130,8 +130,10 @@ module _ (rules : Rules) (bytes : List ℕ) (f : Front) (i x c r : ℕ) where
         where
           same-lines : linesOf (take (t .end - 0) bytes) ≡ linesIn bytes f
           same-lines = ap linesOf (front-part (t .end) bytes) ∙ sym (ap (linesIn bytes) is)
+
           same-count : n ≡ countOf rules (linesIn bytes f)
           same-count = n-is ∙ sym (ap (λ (g : Front). countOf rules (linesIn bytes g)) is)
+
           fewer : n ≤ length old → length (slotsIn rules accuracies (countOf rules (linesIn bytes f)) (linesIn bytes f)) ≤ length old
           fewer h = omega (arith, same-count, slots-fewer rules accuracies (countOf rules (linesIn bytes f)) (linesIn bytes f))
 
@@ -147,6 +149,7 @@ module _ (rules : Rules) (bytes : List ℕ) (f : Front) (i x c r : ℕ) where
           all =
               ap (λ (b : List ℕ). take (t .comments) (ofKind rules 8 (linesOf b))) (front-part (t .end) bytes)
               ∙ take-all (t .comments) (ofKind rules 8 lines) (omega (arith, counts .1))
+
           wide : length (commentsIn rules (linesIn bytes f)) ≤ length old
           wide = omega (arith, size, ap (λ (g : Front). length (commentsIn rules (linesIn bytes g))) is, comments-wide rules lines, counts .1, comments-within (t .comments) c comments-fit)
 

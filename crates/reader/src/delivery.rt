@@ -45,7 +45,14 @@ fn deliver(
             let end = tally.end;
             let used = &bytes[0..end];
             let n = judging::count_of(rules, used);
-            if !has_room(n, tally, identifiers.len(), exponents.len(), comments.len(), rows.len()) {
+            if !has_room(
+                n,
+                tally,
+                identifiers.len(),
+                exponents.len(),
+                comments.len(),
+                rows.len(),
+            ) {
                 return judging::refused(12, 0);
             }
             store::fill_slots(rules, used, false, n, identifiers);
@@ -98,5 +105,13 @@ pub fn read_front(
 {
     let rules = Rules::d();
     let found = scan::scan_front(rules, stretch);
-    deliver(rules, stretch, found, identifiers, exponents, comments, rows)
+    deliver(
+        rules,
+        stretch,
+        found,
+        identifiers,
+        exponents,
+        comments,
+        rows,
+    )
 }

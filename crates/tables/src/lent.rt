@@ -134,5 +134,13 @@ pub(crate) fn read(case: Case, file: &[u8], front: bool) {
     let mut exponents = [7777u64; 300];
     let mut comments = [b'#'; 8000];
     let mut rows = [-7i64; 8000];
-    into_parts(case, file, front, &mut identifiers, &mut exponents, &mut comments, &mut rows);
+    into_parts(
+        case,
+        file,
+        front,
+        &mut identifiers,
+        &mut exponents,
+        &mut comments,
+        &mut rows,
+    );
 }

@@ -268,7 +268,10 @@ fn body(header: Header, identifiers: &[u64], rows: &[i64]) {
     if identifiers.len() == 0 {
         return;
     }
-    counts(rows, all_rows(header.velocity, header.epochs, identifiers, rows));
+    counts(
+        rows,
+        all_rows(header.velocity, header.epochs, identifiers, rows),
+    );
 }
 
 // The whole table.

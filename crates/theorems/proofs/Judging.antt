@@ -111,13 +111,15 @@ module _ (bytes : List ℕ) (number line : ℕ) where
           go : (v : Verdict) → said bytes (r .k) ≡ v → (column : ℕ) × (frontOf d bytes ≡ front.Refused number line column)
           go (verdict.Fault m c) e =
               let low = said-lowest bytes (r .k) m c e in
-              let same : m ≡ number = le-antisymm (low .1 number earned) (least m (low .0)) in
-              (c, stop.first-refused d bytes number line c (record {
-                k = r .k;
-                line-is = r .line-is;
-                goes = r .goes;
-                why = inr (h, e ∙ ap (λ (x : ℕ). verdict.Fault x c) same);
-              }))
+              let same : m ≡ number = le-antisymm (low .1 number earned) (least m (low .0)) in (
+                c,
+                stop.first-refused d bytes number line c (record {
+                  k = r .k;
+                  line-is = r .line-is;
+                  goes = r .goes;
+                  why = inr (h, e ∙ ap (λ (x : ℕ). verdict.Fault x c) same);
+                }),
+              )
           go (verdict.Next s) e = clean (λ m c f. let both : verdict.Fault m c ≡ verdict.Next s = sym f ∙ e in let z : _≡_ {A = ℕ} 0 1 = cc in omega arith)
           go verdict.Finished e = clean (λ m c f. let both : verdict.Fault m c ≡ verdict.Finished = sym f ∙ e in let z : _≡_ {A = ℕ} 0 1 = cc in omega arith)
 

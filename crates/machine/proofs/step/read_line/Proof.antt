@@ -7,12 +7,12 @@ use Rattle.machine.proofs.step.read_line.Statement.{statement}
 use Rattle.machine.proofs.step.read_line.Tie as tie
 
 returns : tie.Need-returns
-returns c = 
+returns c =
     let a = c .before .before .before .before .args in
     none-left (a .rules) (a .bytes .now) (a .at) (a .state) (a .names .now) (c .before .line-end .result) (c .before .line-end .ensures) (c .if1 .taken)
 
 returns-2 : tie.Need-returns-2
-returns-2 c = 
+returns-2 c =
     let judged = c .before .before .before in
     let ended = judged .before .before .before .before in
     let a = ended .before .before .before .args in
@@ -21,7 +21,7 @@ returns-2 c =
     (rw (c .before .number .given .1) at read, rw (c .before .number .given .1) at kept)
 
 returns-3 : tie.Need-returns-3
-returns-3 c = 
+returns-3 c =
     let judged = c .before .before in
     let ended = judged .before .before .before .before in
     let a = ended .before .before .before .args in
@@ -30,7 +30,7 @@ returns-3 c =
     (rw (c .enum-told .given .1) at read, rw (c .enum-told .given .1) at kept)
 
 returns-4 : tie.Need-returns-4
-returns-4 c = 
+returns-4 c =
     let judged = c .before .before .before .before .before .before .before in
     let ended = judged .before .before .before .before in
     let a = ended .before .before .before .args in

@@ -8,13 +8,13 @@ use Rattle.machine.proofs.step.step_line.Statement.{statement}
 use Rattle.machine.proofs.step.step_line.Tie as tie
 
 returns : tie.Need-returns
-returns c = 
+returns c =
     let judged = c .before .before in
     let a = judged .before .before .before .args in
     unprintable (a .rules) (a .state) (a .names .now) (a .line .now) (c .first-unprintable .result) (sym (judged .is-printable .ensures) ∙ not-true _ (c .before .if1 .taken)) (c .first-unprintable .ensures)
 
 returns-2 : tie.Need-returns-2
-returns-2 c = 
+returns-2 c =
     let kinded = c .before .before in
     let padding = kinded .before .before in
     let judged = padding .before .before in
@@ -22,7 +22,7 @@ returns-2 c =
     too-long (a .rules) (a .state) (a .names .now) (a .line .now) (sym (judged .is-printable .ensures) ∙ not-false _ (padding .before .if1 .left)) (padding .pad .result) (padding .pad .ensures) (kinded .kind-of .result) (kinded .kind-of .ensures) (c .before .longest-line .result) (c .before .longest-line .ensures) (c .if2 .taken)
 
 returns-3 : tie.Need-returns-3
-returns-3 c = 
+returns-3 c =
     let measured = c .before .before .before in
     let kinded = measured .before in
     let padding = kinded .before .before in

@@ -14,7 +14,7 @@ returns : tie.Need-returns
 returns c = names-full (c .before .before .before .args .rules) (c .before .before .before .args .state) (c .before .before .before .args .names .now) (c .before .before .before .args .line .now) (c .before .seen-so-far .result) (c .before .seen-so-far .ensures) (c .if1 .taken)
 
 returns-2 : tie.Need-returns-2
-returns-2 c = 
+returns-2 c =
     let laying = c .before .before in
     let reading = laying .before .before .before .before .before in
     let seen = reading .before .before .before .before in
@@ -24,7 +24,7 @@ returns-2 c =
     (omega (arith, reading .before .before .before .if1 .left)) (laying .lay-numbers .ensures)
 
 returns-3 : tie.Need-returns-3
-returns-3 c = 
+returns-3 c =
     let laying = c .before .before in
     let reading = laying .before .before .before .before .before in
     let seen = reading .before .before .before .before in

@@ -18,7 +18,7 @@ part-used-end : tie.Need-part-used-end
 part-used-end c = file-within (c .before .before .before .before .before .before .before .args .rules) (c .before .before .before .before .before .before .before .args .bytes .now) (c .before .before .before .before .before .before .before .args .found) (c .before .found2 .given .0 .0) (c .before .found2 .given .1) (c .before .before .before .before .before .before .before .pre)
 
 returns : tie.Need-returns
-returns c = 
+returns c =
     let roomed = c .before .before in
     let counted = roomed .before in
     let found = counted .before .before .before in
@@ -31,7 +31,7 @@ returns c =
     (c .refused2 .ensures ∙ short-delivered (a .rules) (a .bytes .now) (a .found) (length (a .identifiers .now)) (length (a .exponents .now)) (length (a .comments .now)) (length (a .rows .now)) t (found .found2 .given .1) (found .before .before .before .before .before .before .pre) (counted .count-of .result) (counted .count-of .ensures) (roomed .has-room .result) (roomed .has-room .ensures) short, (left-alone {A = ℕ} still (identifiersOf (a .rules) lines) (a .identifiers .now) none, (left-alone {A = ℕ} still (exponentsOf (a .rules) lines) (a .exponents .now) none, (left-alone {A = ℕ} still (commentsIn (a .rules) lines) (a .comments .now) none, left-alone {A = ℤ} still (rowsIn (a .rules) lines) (a .rows .now) none))))
 
 returns-2 : tie.Need-returns-2
-returns-2 c = 
+returns-2 c =
     let a = c .before .before .before .before .before .before .before .before .args in
     let found = c .before .before .found in
     let number = found .given .0 .0 in
@@ -43,18 +43,25 @@ returns-2 c =
     (c .refused .ensures ∙ refusal-delivered (a .rules) (a .bytes .now) (a .found) (length (a .identifiers .now)) (length (a .exponents .now)) (length (a .comments .now)) (length (a .rows .now)) number line column (found .given .1), (left-alone {A = ℕ} still (identifiersOf (a .rules) lines) (a .identifiers .now) none, (left-alone {A = ℕ} still (exponentsOf (a .rules) lines) (a .exponents .now) none, (left-alone {A = ℕ} still (commentsIn (a .rules) lines) (a .comments .now) none, left-alone {A = ℤ} still (rowsIn (a .rules) lines) (a .rows .now) none))))
 
 returns-3 : tie.Need-returns-3
-returns-3 c = 
+returns-3 c =
     let roomed = c .before .before .before .before .before .before .before .before .before .before .before .before .before .before .before .before .before in
     let counted = roomed .before in
     let found = counted .before .before .before in
     let a = found .before .before .before .before .before .before .args in
     let t = found .found2 .given .0 .0 in
-    let roomy = not-false _ (c .before .before .before .before .before .before .before .before .before .before .before .before .before .before .before .before .if1 .left) in
-    (file-delivered (a .rules) (a .bytes .now) (a .found) (length (a .identifiers .now)) (length (a .exponents .now)) (length (a .comments .now)) (length (a .rows .now)) t (found .found2 .given .1) (found .before .before .before .before .before .before .pre) (counted .count-of .result) (counted .count-of .ensures) (roomed .has-room .result) (roomed .has-room .ensures) roomy (c .header-of .result) (c .header-of .ensures),
-    (slots-delivered (a .rules) (a .bytes .now) (a .found) (length (a .identifiers .now)) (length (a .exponents .now)) (length (a .comments .now)) (length (a .rows .now)) t (found .found2 .given .1) (found .before .before .before .before .before .before .pre) (counted .count-of .result) (counted .count-of .ensures) (roomed .has-room .result) (roomed .has-room .ensures) roomy false (a .identifiers .now) _ (names-fit (a .rules) (a .bytes .now) (a .found) (length (a .identifiers .now)) (length (a .exponents .now)) (length (a .comments .now)) (length (a .rows .now)) t (found .found2 .given .1) (found .before .before .before .before .before .before .pre) (counted .count-of .result) (counted .count-of .ensures) (roomed .has-room .result) (roomed .has-room .ensures) roomy) (c .before .before .before .before .before .before .before .before .before .before .before .before .before .before .fill-slots .ensures),
-    (slots-delivered (a .rules) (a .bytes .now) (a .found) (length (a .identifiers .now)) (length (a .exponents .now)) (length (a .comments .now)) (length (a .rows .now)) t (found .found2 .given .1) (found .before .before .before .before .before .before .pre) (counted .count-of .result) (counted .count-of .ensures) (roomed .has-room .result) (roomed .has-room .ensures) roomy true (a .exponents .now) _ (exponents-fit (a .rules) (a .bytes .now) (a .found) (length (a .identifiers .now)) (length (a .exponents .now)) (length (a .comments .now)) (length (a .rows .now)) t (found .found2 .given .1) (found .before .before .before .before .before .before .pre) (counted .count-of .result) (counted .count-of .ensures) (roomed .has-room .result) (roomed .has-room .ensures) roomy) (c .before .before .before .before .before .before .before .before .before .before .fill-slots2 .ensures),
-    (comments-delivered (a .rules) (a .bytes .now) (a .found) (length (a .identifiers .now)) (length (a .exponents .now)) (length (a .comments .now)) (length (a .rows .now)) t (found .found2 .given .1) (found .before .before .before .before .before .before .pre) (counted .count-of .result) (counted .count-of .ensures) (roomed .has-room .result) (roomed .has-room .ensures) roomy (a .comments .now) _ refl (c .before .before .before .before .before .before .fill-comments .ensures),
-    rows-delivered (a .rules) (a .bytes .now) (a .found) (length (a .identifiers .now)) (length (a .exponents .now)) (length (a .comments .now)) (length (a .rows .now)) t (found .found2 .given .1) (found .before .before .before .before .before .before .pre) (counted .count-of .result) (counted .count-of .ensures) (roomed .has-room .result) (roomed .has-room .ensures) roomy (a .rows .now) _ refl (c .before .before .fill-rows .ensures)))))
+    let roomy = not-false _ (c .before .before .before .before .before .before .before .before .before .before .before .before .before .before .before .before .if1 .left) in (
+      file-delivered (a .rules) (a .bytes .now) (a .found) (length (a .identifiers .now)) (length (a .exponents .now)) (length (a .comments .now)) (length (a .rows .now)) t (found .found2 .given .1) (found .before .before .before .before .before .before .pre) (counted .count-of .result) (counted .count-of .ensures) (roomed .has-room .result) (roomed .has-room .ensures) roomy (c .header-of .result) (c .header-of .ensures),
+      (
+        slots-delivered (a .rules) (a .bytes .now) (a .found) (length (a .identifiers .now)) (length (a .exponents .now)) (length (a .comments .now)) (length (a .rows .now)) t (found .found2 .given .1) (found .before .before .before .before .before .before .pre) (counted .count-of .result) (counted .count-of .ensures) (roomed .has-room .result) (roomed .has-room .ensures) roomy false (a .identifiers .now) _ (names-fit (a .rules) (a .bytes .now) (a .found) (length (a .identifiers .now)) (length (a .exponents .now)) (length (a .comments .now)) (length (a .rows .now)) t (found .found2 .given .1) (found .before .before .before .before .before .before .pre) (counted .count-of .result) (counted .count-of .ensures) (roomed .has-room .result) (roomed .has-room .ensures) roomy) (c .before .before .before .before .before .before .before .before .before .before .before .before .before .before .fill-slots .ensures),
+        (
+          slots-delivered (a .rules) (a .bytes .now) (a .found) (length (a .identifiers .now)) (length (a .exponents .now)) (length (a .comments .now)) (length (a .rows .now)) t (found .found2 .given .1) (found .before .before .before .before .before .before .pre) (counted .count-of .result) (counted .count-of .ensures) (roomed .has-room .result) (roomed .has-room .ensures) roomy true (a .exponents .now) _ (exponents-fit (a .rules) (a .bytes .now) (a .found) (length (a .identifiers .now)) (length (a .exponents .now)) (length (a .comments .now)) (length (a .rows .now)) t (found .found2 .given .1) (found .before .before .before .before .before .before .pre) (counted .count-of .result) (counted .count-of .ensures) (roomed .has-room .result) (roomed .has-room .ensures) roomy) (c .before .before .before .before .before .before .before .before .before .before .fill-slots2 .ensures),
+          (
+            comments-delivered (a .rules) (a .bytes .now) (a .found) (length (a .identifiers .now)) (length (a .exponents .now)) (length (a .comments .now)) (length (a .rows .now)) t (found .found2 .given .1) (found .before .before .before .before .before .before .pre) (counted .count-of .result) (counted .count-of .ensures) (roomed .has-room .result) (roomed .has-room .ensures) roomy (a .comments .now) _ refl (c .before .before .before .before .before .before .fill-comments .ensures),
+            rows-delivered (a .rules) (a .bytes .now) (a .found) (length (a .identifiers .now)) (length (a .exponents .now)) (length (a .comments .now)) (length (a .rows .now)) t (found .found2 .given .1) (found .before .before .before .before .before .before .pre) (counted .count-of .result) (counted .count-of .ensures) (roomed .has-room .result) (roomed .has-room .ensures) roomy (a .rows .now) _ refl (c .before .before .fill-rows .ensures),
+          ),
+        ),
+      ),
+    )
 
 pub deliver-spec : {M : Type 1} → statement M
 deliver-spec = tie.close (tie.spec (λ c. search needs) (λ c κs. search needs) (λ c. search needs) (λ c. search needs) (λ c. search needs) part-used-end (λ c κs. search needs) (λ c κs. search needs) (λ c κs. search needs) returns (λ c κs. search needs) (λ c κs. search needs) (λ c κs. search needs) (λ c κs. search needs) (λ c κs. search needs) returns-2 (λ c. search needs) (λ c. search needs) (λ c. search needs) (λ c. search needs) returns-3)

@@ -16,18 +16,25 @@ deliver-requires : tie.Need-deliver-requires
 deliver-requires c κs = accounted-front _ _ _ (sym (c .before .before .before .before .scan-front .ensures))
 
 returns : tie.Need-returns
-returns c = 
+returns c =
     let done = c .before .before .before .before .before .before .before in
     let scanned = done .before .before .before .before .before in
     let ruled = scanned .before in
     let a = ruled .before .before .before .before .before .args in
     let same : scanned .scan-front .result ≡ frontOf d (a .stretch .now) = scanned .scan-front .ensures ∙ ap (λ (k : Rules). frontOf k (a .stretch .now)) (ruled .d .ensures) in
-    let p = done .deliver .ensures in
-    (answered (a .stretch .now) (length (a .identifiers .now)) (length (a .exponents .now)) (length (a .comments .now)) (length (a .rows .now)) (ruled .d .result) d (scanned .scan-front .result) (frontOf d (a .stretch .now)) (ruled .d .ensures) same (done .deliver .result) (p .0),
-    (listed (a .stretch .now) (length (a .identifiers .now)) (length (a .exponents .now)) (length (a .comments .now)) (length (a .rows .now)) (ruled .d .result) d (scanned .scan-front .result) (frontOf d (a .stretch .now)) (ruled .d .ensures) same identifiersOf (a .identifiers .now) _ (p .1 .0),
-    (listed (a .stretch .now) (length (a .identifiers .now)) (length (a .exponents .now)) (length (a .comments .now)) (length (a .rows .now)) (ruled .d .result) d (scanned .scan-front .result) (frontOf d (a .stretch .now)) (ruled .d .ensures) same exponentsOf (a .exponents .now) _ (p .1 .1 .0),
-    (listed (a .stretch .now) (length (a .identifiers .now)) (length (a .exponents .now)) (length (a .comments .now)) (length (a .rows .now)) (ruled .d .result) d (scanned .scan-front .result) (frontOf d (a .stretch .now)) (ruled .d .ensures) same commentsIn (a .comments .now) _ (p .1 .1 .1 .0),
-    listed (a .stretch .now) (length (a .identifiers .now)) (length (a .exponents .now)) (length (a .comments .now)) (length (a .rows .now)) (ruled .d .result) d (scanned .scan-front .result) (frontOf d (a .stretch .now)) (ruled .d .ensures) same rowsIn (a .rows .now) _ (p .1 .1 .1 .1)))))
+    let p = done .deliver .ensures in (
+      answered (a .stretch .now) (length (a .identifiers .now)) (length (a .exponents .now)) (length (a .comments .now)) (length (a .rows .now)) (ruled .d .result) d (scanned .scan-front .result) (frontOf d (a .stretch .now)) (ruled .d .ensures) same (done .deliver .result) (p .0),
+      (
+        listed (a .stretch .now) (length (a .identifiers .now)) (length (a .exponents .now)) (length (a .comments .now)) (length (a .rows .now)) (ruled .d .result) d (scanned .scan-front .result) (frontOf d (a .stretch .now)) (ruled .d .ensures) same identifiersOf (a .identifiers .now) _ (p .1 .0),
+        (
+          listed (a .stretch .now) (length (a .identifiers .now)) (length (a .exponents .now)) (length (a .comments .now)) (length (a .rows .now)) (ruled .d .result) d (scanned .scan-front .result) (frontOf d (a .stretch .now)) (ruled .d .ensures) same exponentsOf (a .exponents .now) _ (p .1 .1 .0),
+          (
+            listed (a .stretch .now) (length (a .identifiers .now)) (length (a .exponents .now)) (length (a .comments .now)) (length (a .rows .now)) (ruled .d .result) d (scanned .scan-front .result) (frontOf d (a .stretch .now)) (ruled .d .ensures) same commentsIn (a .comments .now) _ (p .1 .1 .1 .0),
+            listed (a .stretch .now) (length (a .identifiers .now)) (length (a .exponents .now)) (length (a .comments .now)) (length (a .rows .now)) (ruled .d .result) d (scanned .scan-front .result) (frontOf d (a .stretch .now)) (ruled .d .ensures) same rowsIn (a .rows .now) _ (p .1 .1 .1 .1),
+          ),
+        ),
+      ),
+    )
 
 pub read-front-spec : {M : Type 1} → statement M
 read-front-spec = tie.close (tie.spec (λ c κs. search needs) (λ c κs. search needs) deliver-requires (λ c. search needs) (λ c. search needs) (λ c. search needs) (λ c. search needs) returns)
