@@ -2,7 +2,7 @@
 -- Assumes nothing.
 use mathlib.Core.Path.{_≡_, refl, sym, _∙_, ap}
 use mathlib.Core.List.{List, [], _∷_}
-use mathlib.Core.Bool.{Bool, true, false, cond}
+use mathlib.Core.Bool.{Bool, true, false}
 use Prim.Native.Nat.{ℕ, zero, suc, _≤_}
 use native.Mathlib.Omega.{arith}
 use borrow.Author.Tests.{leb-true, eq-eqb, ne-eqb}
@@ -72,7 +72,7 @@ module _ (negative : Bool) (m : ℕ) (r : Number) (e : toldNumber r ≡ numberAn
   pub float-is : (v : ℤ) {f : Float} → r ≡ number.Value v → f ≡ ofInt binary64 (toZ w64 (ofZ w64 v)) → f ≡ ofInt binary64 (storedInt negative m)
   float-is v is made =
       let kept : toZ w64 (ofZ w64 v) ≡ storedInt negative m =
-        ap (λ (z : ℤ). toZ w64 (ofZ w64 z)) (stored-is v is) ∙ toZ-ofZ w64 (storedInt negative m) (stored-fits negative m) in
+      ap (λ (z : ℤ). toZ w64 (ofZ w64 z)) (stored-is v is) ∙ toZ-ofZ w64 (storedInt negative m) (stored-fits negative m) in
       made ∙ ap (ofInt binary64) kept
 
   pub float-none : {f : Float} → r ≡ number.OutOfBounds → f ≡ ofInt binary64 (pos 0) → f ≡ ofInt binary64 (storedInt negative m)
