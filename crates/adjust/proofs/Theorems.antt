@@ -1,14 +1,14 @@
 -- What the adjustment gets. 01: "The adjustment asks for a row of an accepted file and gets its three coordinates and the clock as f64 in the
 -- same units, exactly, or the word absent in place of either; in mode V too this is the P row."
 -- Assumes nothing.
-use mathlib.Core.Path.{_≡_, refl, sym, ap, subst, _∙_}
-use mathlib.Core.Bool.{Bool, true, false, cond, _&&_, false≢true}
+use mathlib.Core.Path.{_≡_, refl, subst}
+use mathlib.Core.Bool.{Bool, true, false, _&&_}
 use mathlib.Core.List.{List}
-use Prim.Native.Nat.{ℕ, zero, suc, _+_, _*_, _≤_, _<_, _^_}
+use Prim.Native.Nat.{ℕ, zero, suc, _+_, _*_, _≤_, _<_}
 use native.Mathlib.Omega.{arith}
 use borrow.Author.Tests.{le-leb, lt-ltb, eq-eqb, ne-eqb}
-use lib.Dec.{eqb, leb, ltb}
-use lib.IntN.{ℤ, pos, negsuc, negℤ, natAbs}
+use lib.Dec.{ltb}
+use lib.IntN.{ℤ, pos, negsuc, natAbs}
 use lib.Ieee.{Float, nan, ofInt, binary64}
 use lib.Ieee.Exact.{HasValue}
 use lib.Ieee.Back.{round-whole}
@@ -22,7 +22,6 @@ use Rattle.file.specs.Table.{storedInt, countOf}
 use Rattle.record.specs.declared.types.Signed.{Signed}
 use Rattle.record.specs.declared.types.Row.{Row}
 use Rattle.scan.specs.declared.Tally.{Tally}
-use Rattle.scan.specs.declared.Front.{Front}
 use Rattle.scan.specs.declared.Front.the-variants as front
 use Rattle.reader.specs.Reading.{fileOf}
 use Rattle.reader.specs.Questions.{epochsOf, rowPlace}
@@ -30,7 +29,6 @@ use Rattle.reader.specs.declared.types.RowPlace.{RowPlace}
 use Rattle.reader.proofs.Theorems.{row-not-refused, row-numbered}
 use Rattle.record.proofs.Absent.{place-absent, clock-absent}
 use Rattle.adjust.specs.Floats.{floatUnless, noPlace, noClock, floatRow, absentRow, rowAnswer}
-use Rattle.adjust.specs.declared.RowAnswer.{RowAnswer}
 
 -- a float has exactly an integer's sign and size
 abbrev pub Exactly : Float → ℤ → Type 0
