@@ -2,6 +2,7 @@
 -- Assumes nothing.
 use mathlib.Core.Path.{_≡_, sym, _∙_}
 use denote.Ref.{now}
+use Rattle.machine.proofs.Told.{toldVerdict-one, toldRead-one}
 use Rattle.machine.proofs.checks.instant_in.Reads as instant-in
 use Rattle.machine.proofs.faults.kind_number.Reads as kind-number
 use Rattle.machine.proofs.step.start.Reads as start
@@ -18,8 +19,8 @@ pub start-determined : (κs : _) (a : _) (r r′ : _) (s s′ : _) → start.Pos
 start-determined κs a r r′ s s′ p q = p ∙ sym q
 
 pub step-line-determined : (κs : _) (a : _) (r r′ : _) (s s′ : _) → step-line.Post κs a r s → step-line.Post κs a r′ s′ → r ≡ r′
-step-line-determined κs a r r′ s s′ p q = p ∙ sym q
+step-line-determined κs a r r′ s s′ p q = toldVerdict-one r r′ (p ∙ sym q)
 
 pub read-line-determined : (κs : _) (a : _) (r r′ : _) (s s′ : _) → read-line.Post κs a r s → read-line.Post κs a r′ s′
     → (r ≡ r′) × (now (s .1 .1 .1 .1 .0) ≡ now (s′ .1 .1 .1 .1 .0))
-read-line-determined κs a r r′ s s′ p q = (p .0 ∙ sym (q .0), p .1 ∙ sym (q .1))
+read-line-determined κs a r r′ s s′ p q = (toldRead-one r r′ (p .0 ∙ sym (q .0)), p .1 ∙ sym (q .1))

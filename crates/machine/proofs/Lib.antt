@@ -1,4 +1,5 @@
 pub mod Checking
 pub mod Stating
 pub mod Stepping
+pub mod Told
 pub mod Determined

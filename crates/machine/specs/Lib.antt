@@ -3,3 +3,4 @@ pub mod State
 pub mod Faults
 pub mod Next
 pub mod Step
+pub mod Told

@@ -1,6 +1,7 @@
 // What a line does at its place: the plain line reader.
 ghost use mathlib.Core.Path.{_≡_};
 ghost use Rattle.machine.specs.State.{startState, namesAfter};
+ghost use Rattle.machine.specs.Told.{toldVerdict, toldRead};
 ghost use Rattle.machine.specs.Step.{judgedLine, stepOf, namesBrought, lineRead, lineNames};
 use crate::checks;
 use crate::faults;
@@ -46,7 +47,7 @@ fn judge_line(kind: LineKind, rules: Rules, state: State, names: &[u64], line: &
 
 // What a line does where the header's identifiers so far are `names`: CR in column 61 is 2 at column 61, 81 blanks are 3 at column 81.
 pub fn step_line(rules: Rules, state: State, names: &[u64], line: &[u8]) -> Verdict
-    ensures result { λ r. ⌜ r ≡ stepOf rules state (now (names .entry)) (now (line .entry)) ⌝ }
+    ensures result { λ r. ⌜ toldVerdict r ≡ toldVerdict (stepOf rules state (now (names .entry)) (now (line .entry))) ⌝ }
 {
     if !layout::is_printable(line) {
         return Verdict::Fault {
@@ -105,7 +106,7 @@ fn keep_names(rules: Rules, state: State, names: &mut [u64], line: &[u8])
 // The plain line reader: what the line at a place does, and where the next begins. A `+ ` line leaves its identifiers in `names`. No LF from
 // the place on: no line.
 pub fn read_line(rules: Rules, bytes: &[u8], at: usize, state: State, names: &mut [u64]) -> LineRead
-    ensures result { λ r. ⌜ r ≡ lineRead rules (now (bytes .entry)) at state (now (names .entry)) ⌝ }
+    ensures result { λ r. ⌜ toldRead r ≡ toldRead (lineRead rules (now (bytes .entry)) at state (now (names .entry))) ⌝ }
     ensures lent { λ _. ⌜ now (names .exit) ≡ lineNames rules (now (bytes .entry)) at state (now (names .entry)) ⌝ }
 {
     let end = lines::line_end(bytes, at);

@@ -2,6 +2,7 @@
 ghost use mathlib.Core.Path.{_≡_};
 ghost use Prim.Native.Nat.{_+_, _<_, _^_};
 ghost use lib.ListN.{length};
+ghost use Rattle.scan.specs.Told.{toldFront};
 ghost use Rattle.scan.specs.Run.{counted, scanOf, wholeOf};
 use header::Rules;
 use machine::LineRead;
@@ -51,7 +52,7 @@ fn count_line(rules: Rules, tally: Tally, line: &[u8]) -> Tally
 
 // The file at the front of the bytes, judged line by line: no bytes are refused with 1 at line 1.
 pub fn scan_front(rules: Rules, bytes: &[u8]) -> Front
-    ensures result { λ r. ⌜ r ≡ scanOf rules (now (bytes .entry)) ⌝ }
+    ensures result { λ r. ⌜ toldFront r ≡ toldFront (scanOf rules (now (bytes .entry))) ⌝ }
 {
     let mut names = [0u64; 255];
     let mut state = machine::start();
@@ -95,7 +96,7 @@ pub fn scan_front(rules: Rules, bytes: &[u8]) -> Front
 
 // The file that the bytes are from first to last: bytes after its EOF line are refused with 11 at the line after it.
 pub fn scan_whole(rules: Rules, bytes: &[u8]) -> Front
-    ensures result { λ r. ⌜ r ≡ wholeOf (length (now (bytes .entry))) (scanOf rules (now (bytes .entry))) ⌝ }
+    ensures result { λ r. ⌜ toldFront r ≡ toldFront (wholeOf (length (now (bytes .entry))) (scanOf rules (now (bytes .entry)))) ⌝ }
 {
     match scan_front(rules, bytes) {
         Front::Refused {

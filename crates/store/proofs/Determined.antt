@@ -2,6 +2,7 @@
 -- Assumes nothing.
 use mathlib.Core.Path.{_≡_, sym, _∙_}
 use denote.Ref.{now}
+use Rattle.store.proofs.Told.{toldPlace-one, toldClock-one, toldDeviation-one, toldFlag-one}
 use Rattle.store.proofs.fill.fill_slots.Reads as slots
 use Rattle.store.proofs.fill.fill_comments.Reads as comments
 use Rattle.store.proofs.fill.fill_rows.Reads as rows
@@ -20,13 +21,13 @@ pub fill-rows-determined : (κs : _) (a : _) (r r′ : _) (s s′ : _) → rows.
 fill-rows-determined κs a r r′ s s′ p q = p ∙ sym q
 
 pub place-of-determined : (κs : _) (a : _) (r r′ : _) (s s′ : _) → place-of.Post κs a r s → place-of.Post κs a r′ s′ → r ≡ r′
-place-of-determined κs a r r′ s s′ p q = p ∙ sym q
+place-of-determined κs a r r′ s s′ p q = toldPlace-one r r′ (p ∙ sym q)
 
 pub clock-of-determined : (κs : _) (a : _) (r r′ : _) (s s′ : _) → clock-of.Post κs a r s → clock-of.Post κs a r′ s′ → r ≡ r′
-clock-of-determined κs a r r′ s s′ p q = p ∙ sym q
+clock-of-determined κs a r r′ s s′ p q = toldClock-one r r′ (p ∙ sym q)
 
 pub exponent-of-determined : (κs : _) (a : _) (r r′ : _) (s s′ : _) → exponent-of.Post κs a r s → exponent-of.Post κs a r′ s′ → r ≡ r′
-exponent-of-determined κs a r r′ s s′ p q = p ∙ sym q
+exponent-of-determined κs a r r′ s s′ p q = toldDeviation-one r r′ (p ∙ sym q)
 
 pub flag-of-determined : (κs : _) (a : _) (r r′ : _) (s s′ : _) → flag-of.Post κs a r s → flag-of.Post κs a r′ s′ → r ≡ r′
-flag-of-determined κs a r r′ s s′ p q = p ∙ sym q
+flag-of-determined κs a r r′ s s′ p q = toldFlag-one r r′ (p ∙ sym q)

@@ -4,7 +4,7 @@ ghost use Prim.Native.Nat.{_≤_};
 ghost use lib.ListN.{length};
 ghost use Rattle.lines.specs.Lent.{over};
 ghost use Rattle.file.specs.Table.{storedInt, storedSigned, storedMark, rowNumbers};
-ghost use Rattle.store.specs.Stored.{isThere, placeIn, clockIn, deviationIn, flagIn};
+ghost use Rattle.store.specs.Stored.{isThere, placeIn, clockIn, deviationIn, flagIn, toldPlace, toldClock, toldDeviation, toldFlag};
 use crate::types::ClockRead;
 use crate::types::Deviation;
 use crate::types::Flag;
@@ -73,7 +73,7 @@ fn is_there(rows: &[i64], k: usize) -> bool
 
 // The place or velocity of the k-th row: absent exactly where all three are zero, whatever the clock.
 pub fn place_of(rows: &[i64], k: usize) -> Place
-    ensures result { λ r. ⌜ r ≡ placeIn (now (rows .entry)) k ⌝ }
+    ensures result { λ r. ⌜ toldPlace r ≡ toldPlace (placeIn (now (rows .entry)) k) ⌝ }
 {
     if !is_there(rows, k) {
         return Place::NotThere;
@@ -95,7 +95,7 @@ pub fn place_of(rows: &[i64], k: usize) -> Place
 
 // The clock or rate of the k-th row: absent exactly at twelve nines, whatever the place.
 pub fn clock_of(rows: &[i64], k: usize) -> ClockRead
-    ensures result { λ r. ⌜ r ≡ clockIn (now (rows .entry)) k ⌝ }
+    ensures result { λ r. ⌜ toldClock r ≡ toldClock (clockIn (now (rows .entry)) k) ⌝ }
 {
     if !is_there(rows, k) {
         return ClockRead::NotThere;
@@ -110,7 +110,7 @@ pub fn clock_of(rows: &[i64], k: usize) -> ClockRead
 
 // The exponent of x, y, z or clock (0 to 3) of the k-th row.
 pub fn exponent_of(rows: &[i64], k: usize, which: usize) -> Deviation
-    ensures result { λ r. ⌜ r ≡ deviationIn (now (rows .entry)) k which ⌝ }
+    ensures result { λ r. ⌜ toldDeviation r ≡ toldDeviation (deviationIn (now (rows .entry)) k which) ⌝ }
 {
     if !(is_there(rows, k) & (which <= 3)) {
         return Deviation::NotThere;
@@ -127,7 +127,7 @@ pub fn exponent_of(rows: &[i64], k: usize, which: usize) -> Deviation
 
 // The flag of column 75, 76, 79 or 80 (0 to 3) of the k-th row: clock event, clock predicted, maneuver, orbit predicted.
 pub fn flag_of(rows: &[i64], k: usize, which: usize) -> Flag
-    ensures result { λ r. ⌜ r ≡ flagIn (now (rows .entry)) k which ⌝ }
+    ensures result { λ r. ⌜ toldFlag r ≡ toldFlag (flagIn (now (rows .entry)) k which) ⌝ }
 {
     if !(is_there(rows, k) & (which <= 3)) {
         return Flag::NotThere;

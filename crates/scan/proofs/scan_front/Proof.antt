@@ -1,10 +1,12 @@
 -- `scan::scan_front` meets its contract. The loop's invariant and its turn are in `Turn`.
 -- Assumes nothing.
-use mathlib.Core.Path.{_≡_}
+use mathlib.Core.Path.{_≡_, ap}
 use Prim.Native.Nat.{_-_}
 use borrow.Author.Needs.{needs}
 use lib.ListN.{length}
 use Rattle.machine.specs.declared.types.LineRead.{LineRead}
+use Rattle.machine.proofs.Told.{toldRead-one}
+use Rattle.scan.specs.Told.{toldFront}
 use Rattle.scan.proofs.Turn.{Going, going-first, Turned, turned}
 use Rattle.scan.proofs.scan_front.Statement.{statement}
 use Rattle.scan.proofs.scan_front.Tie as tie
@@ -26,18 +28,18 @@ after-read c w e =
     let here = c .before .before .before in
     let a = here .before .before .before .args in
     turned (a .rules) (a .bytes .now) (here .loop .names) (here .loop .state) (here .loop .tally) (here .loop .inv)
-    (c .read-line .last .1 .1 .1 .1 .0) (c .read-line .result) w (c .read-line .ensures .0) (c .read-line .ensures .1) e
+    (c .read-line .last .1 .1 .1 .1 .0) (c .read-line .result) w (toldRead-one _ _ (c .read-line .ensures .0)) (c .read-line .ensures .1) e
 
 returns : tie.Need-returns Inv-loop μ-loop
-returns c = after-read (c .before .before .before) _ (c .enum-told .given .1)
+returns c = ap toldFront (after-read (c .before .before .before) _ (c .enum-told .given .1))
 
 returns-2 : tie.Need-returns-2 Inv-loop μ-loop
-returns-2 c = let known = c .before in after-read (known .before .before .before) _ (known .number .given .1)
+returns-2 c = let known = c .before in ap toldFront (after-read (known .before .before .before) _ (known .number .given .1))
 
 returns-3 : tie.Need-returns-3 Inv-loop μ-loop
 returns-3 c =
     let known = c .before .before .before in
-    after-read (known .before .before .before) _ (known .end .given .1) .finished (c .count-line .result) (c .count-line .ensures)
+    ap toldFront (after-read (known .before .before .before) _ (known .end .given .1) .finished (c .count-line .result) (c .count-line .ensures))
 
 loop-less : tie.Need-loop-less Inv-loop μ-loop
 loop-less c =

@@ -3,7 +3,8 @@
 use Rattle.machine.proofs.Stepping.{short-enough, too-long, unprintable}
 use borrow.Author.Needs.{needs}
 use borrow.Author.Tests.{not-false, not-true}
-use mathlib.Core.Path.{_∙_, sym}
+use mathlib.Core.Path.{_∙_, ap, sym}
+use Rattle.machine.specs.Told.{toldVerdict}
 use Rattle.machine.proofs.step.step_line.Statement.{statement}
 use Rattle.machine.proofs.step.step_line.Tie as tie
 
@@ -11,7 +12,8 @@ returns : tie.Need-returns
 returns c =
     let judged = c .before .before in
     let a = judged .before .before .before .args in
-    unprintable (a .rules) (a .state) (a .names .now) (a .line .now) (c .first-unprintable .result) (sym (judged .is-printable .ensures) ∙ not-true _ (c .before .if1 .taken)) (c .first-unprintable .ensures)
+    ap toldVerdict
+    (unprintable (a .rules) (a .state) (a .names .now) (a .line .now) (c .first-unprintable .result) (sym (judged .is-printable .ensures) ∙ not-true _ (c .before .if1 .taken)) (c .first-unprintable .ensures))
 
 returns-2 : tie.Need-returns-2
 returns-2 c =
@@ -19,7 +21,8 @@ returns-2 c =
     let padding = kinded .before .before in
     let judged = padding .before .before in
     let a = judged .before .before .before .args in
-    too-long (a .rules) (a .state) (a .names .now) (a .line .now) (sym (judged .is-printable .ensures) ∙ not-false _ (padding .before .if1 .left)) (padding .pad .result) (padding .pad .ensures) (kinded .kind-of .result) (kinded .kind-of .ensures) (c .before .longest-line .result) (c .before .longest-line .ensures) (c .if2 .taken)
+    ap toldVerdict
+    (too-long (a .rules) (a .state) (a .names .now) (a .line .now) (sym (judged .is-printable .ensures) ∙ not-false _ (padding .before .if1 .left)) (padding .pad .result) (padding .pad .ensures) (kinded .kind-of .result) (kinded .kind-of .ensures) (c .before .longest-line .result) (c .before .longest-line .ensures) (c .if2 .taken))
 
 returns-3 : tie.Need-returns-3
 returns-3 c =
@@ -28,7 +31,8 @@ returns-3 c =
     let padding = kinded .before .before in
     let judged = padding .before .before in
     let a = judged .before .before .before .args in
-    short-enough (a .rules) (a .state) (a .names .now) (a .line .now) (sym (judged .is-printable .ensures) ∙ not-false _ (padding .before .if1 .left)) (padding .pad .result) (padding .pad .ensures) (kinded .kind-of .result) (kinded .kind-of .ensures) (measured .longest-line .result) (measured .longest-line .ensures) (c .judge-line .result) (c .before .before .if2 .left) (c .judge-line .ensures)
+    ap toldVerdict
+    (short-enough (a .rules) (a .state) (a .names .now) (a .line .now) (sym (judged .is-printable .ensures) ∙ not-false _ (padding .before .if1 .left)) (padding .pad .result) (padding .pad .ensures) (kinded .kind-of .result) (kinded .kind-of .ensures) (measured .longest-line .result) (measured .longest-line .ensures) (c .judge-line .result) (c .before .before .if2 .left) (c .judge-line .ensures))
 
 pub step-line-spec : {M : Type 1} → statement M
 step-line-spec = tie.close (tie.spec (λ c κs. search needs) (λ c κs. search needs) returns (λ c κs. search needs) (λ c κs. search needs) (λ c κs. search needs) (λ c. search needs) returns-2 (λ c κs. search needs) returns-3)

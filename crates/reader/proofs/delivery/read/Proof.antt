@@ -7,13 +7,14 @@ use Rattle.reader.proofs.Delivering.{answered, listed}
 use Rattle.reader.proofs.Found.{accounted-whole}
 use Rattle.reader.specs.Reading.{exponentsOf, fileOf, identifiersOf}
 use borrow.Author.Needs.{needs}
+use Rattle.scan.proofs.Told.{toldFront-one}
 use lib.ListN.{length}
 use mathlib.Core.Path.{_∙_, _≡_, ap, sym}
 use Rattle.reader.proofs.delivery.read.Statement.{statement}
 use Rattle.reader.proofs.delivery.read.Tie as tie
 
 deliver-requires : tie.Need-deliver-requires
-deliver-requires c κs = accounted-whole _ _ _ (sym (c .before .before .before .before .scan-whole .ensures))
+deliver-requires c κs = accounted-whole _ _ _ (sym (toldFront-one _ _ (c .before .before .before .before .scan-whole .ensures)))
 
 returns : tie.Need-returns
 returns c =
@@ -21,7 +22,7 @@ returns c =
     let scanned = done .before .before .before .before .before in
     let ruled = scanned .before in
     let a = ruled .before .before .before .before .before .args in
-    let same : scanned .scan-whole .result ≡ fileOf d (a .file .now) = scanned .scan-whole .ensures ∙ ap (λ (k : Rules). fileOf k (a .file .now)) (ruled .d .ensures) in
+    let same : scanned .scan-whole .result ≡ fileOf d (a .file .now) = toldFront-one _ _ (scanned .scan-whole .ensures) ∙ ap (λ (k : Rules). fileOf k (a .file .now)) (ruled .d .ensures) in
     let p = done .deliver .ensures in (
       answered (a .file .now) (length (a .identifiers .now)) (length (a .exponents .now)) (length (a .comments .now)) (length (a .rows .now)) (ruled .d .result) d (scanned .scan-whole .result) (fileOf d (a .file .now)) (ruled .d .ensures) same (done .deliver .result) (p .0),
       (

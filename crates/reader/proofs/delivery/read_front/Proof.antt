@@ -7,13 +7,14 @@ use Rattle.reader.proofs.Delivering.{answered, listed}
 use Rattle.reader.proofs.Found.{accounted-front}
 use Rattle.reader.specs.Reading.{exponentsOf, frontOf, identifiersOf}
 use borrow.Author.Needs.{needs}
+use Rattle.scan.proofs.Told.{toldFront-one}
 use lib.ListN.{length}
 use mathlib.Core.Path.{_∙_, _≡_, ap, sym}
 use Rattle.reader.proofs.delivery.read_front.Statement.{statement}
 use Rattle.reader.proofs.delivery.read_front.Tie as tie
 
 deliver-requires : tie.Need-deliver-requires
-deliver-requires c κs = accounted-front _ _ _ (sym (c .before .before .before .before .scan-front .ensures))
+deliver-requires c κs = accounted-front _ _ _ (sym (toldFront-one _ _ (c .before .before .before .before .scan-front .ensures)))
 
 returns : tie.Need-returns
 returns c =
@@ -21,7 +22,7 @@ returns c =
     let scanned = done .before .before .before .before .before in
     let ruled = scanned .before in
     let a = ruled .before .before .before .before .before .args in
-    let same : scanned .scan-front .result ≡ frontOf d (a .stretch .now) = scanned .scan-front .ensures ∙ ap (λ (k : Rules). frontOf k (a .stretch .now)) (ruled .d .ensures) in
+    let same : scanned .scan-front .result ≡ frontOf d (a .stretch .now) = toldFront-one _ _ (scanned .scan-front .ensures) ∙ ap (λ (k : Rules). frontOf k (a .stretch .now)) (ruled .d .ensures) in
     let p = done .deliver .ensures in (
       answered (a .stretch .now) (length (a .identifiers .now)) (length (a .exponents .now)) (length (a .comments .now)) (length (a .rows .now)) (ruled .d .result) d (scanned .scan-front .result) (frontOf d (a .stretch .now)) (ruled .d .ensures) same (done .deliver .result) (p .0),
       (

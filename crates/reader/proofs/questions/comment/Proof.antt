@@ -4,6 +4,7 @@ use mathlib.Core.Path.{_≡_, refl}
 use mathlib.Core.List.{[]}
 use native.Mathlib.Omega.{arith}
 use borrow.Author.Needs.{needs}
+use Rattle.scan.proofs.Told.{toldFront-one}
 use denote.Ref.{now}
 use Rattle.header.specs.Rules.{d}
 use Rattle.reader.specs.Reading.{fileOf}
@@ -18,7 +19,7 @@ found-file : (c : tie.After-tally) → fileOf d (c .before .before .before .befo
 found-file c =
     let ran = c .before .before in
     found-as (ran .before .d .result) (ran .before .before .before .args .file .now) (ran .scan-whole .result) (front.File (c .tally .given .0 .0))
-    (ran .before .d .ensures) (ran .scan-whole .ensures) (c .tally .given .1)
+    (ran .before .d .ensures) (toldFront-one _ _ (ran .scan-whole .ensures)) (c .tally .given .1)
 
 part-line-of-end : tie.Need-part-line-of-end
 part-line-of-end c =
@@ -41,7 +42,7 @@ returns-2 c =
     let ran = known .before .before in
     let start = ran .before .before .before in
     words-as (start .args .file .now) _
-    (found-as (ran .before .d .result) (start .args .file .now) (ran .scan-whole .result) _ (ran .before .d .ensures) (ran .scan-whole .ensures) (known .enum-told .given .1))
+    (found-as (ran .before .d .result) (start .args .file .now) (ran .scan-whole .result) _ (ran .before .d .ensures) (toldFront-one _ _ (ran .scan-whole .ensures)) (known .enum-told .given .1))
     (start .args .k) [] refl
 
 returns-3 : tie.Need-returns-3

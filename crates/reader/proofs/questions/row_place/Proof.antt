@@ -3,6 +3,7 @@
 use mathlib.Core.Path.{_≡_}
 use native.Mathlib.Omega.{arith}
 use borrow.Author.Needs.{needs}
+use Rattle.scan.proofs.Told.{toldFront-one}
 use Rattle.header.specs.Rules.{d}
 use Rattle.reader.specs.Reading.{fileOf}
 use Rattle.reader.specs.Questions.{rowPlace}
@@ -16,7 +17,7 @@ found-file : (c : tie.After-tally) → fileOf d (c .before .before .before .befo
 found-file c =
     let ran = c .before .before in
     found-as (ran .before .d .result) (ran .before .before .before .args .file .now) (ran .scan-whole .result) (front.File (c .tally .given .0 .0))
-    (ran .before .d .ensures) (ran .scan-whole .ensures) (c .tally .given .1)
+    (ran .before .d .ensures) (toldFront-one _ _ (ran .scan-whole .ensures)) (c .tally .given .1)
 
 part-row-at-end : tie.Need-part-row-at-end
 part-row-at-end c =
@@ -36,7 +37,7 @@ returns c =
     let ran = known .before .before in
     let start = ran .before .before .before in
     row-as (start .args .file .now) _
-    (found-as (ran .before .d .result) (start .args .file .now) (ran .scan-whole .result) _ (ran .before .d .ensures) (ran .scan-whole .ensures) (known .number .given .1))
+    (found-as (ran .before .d .result) (start .args .file .now) (ran .scan-whole .result) _ (ran .before .d .ensures) (toldFront-one _ _ (ran .scan-whole .ensures)) (known .number .given .1))
     (start .args .epoch) (start .args .satellite) (c .no-row .result) (c .no-row .ensures)
 
 returns-2 : tie.Need-returns-2

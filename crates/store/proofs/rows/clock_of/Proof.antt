@@ -1,6 +1,6 @@
 -- `store::rows::clock_of` meets its contract.
 -- Assumes nothing.
-use mathlib.Core.Path.{_≡_, sym, _∙_}
+use mathlib.Core.Path.{_≡_, sym, _∙_, ap}
 use mathlib.Core.Bool.{true, false}
 use Prim.Native.Nat.{_+_, _*_, _<_}
 use native.Mathlib.Omega.{arith}
@@ -8,7 +8,7 @@ use borrow.Author.Needs.{needs}
 use borrow.Author.Tests.{not-true, not-false}
 use lib.ListN.{length}
 use Rattle.file.specs.Table.{rowWidth}
-use Rattle.store.specs.Stored.{isThere}
+use Rattle.store.specs.Stored.{isThere, toldClock}
 use Rattle.store.proofs.Storing.{row-within, no-clock, clock-is}
 use Rattle.store.proofs.rows.clock_of.Statement.{statement}
 use Rattle.store.proofs.rows.clock_of.Tie as tie
@@ -22,21 +22,24 @@ within c = row-within (length (c .before .before .args .rows .now)) (c .before .
 returns : tie.Need-returns
 returns c =
     let start = c .before .before in
-    no-clock (start .args .rows .now) (start .args .k) (sym (c .before .is-there .ensures) ∙ not-true _ (c .if1 .taken))
+    ap toldClock
+    (no-clock (start .args .rows .now) (start .args .k) (sym (c .before .is-there .ensures) ∙ not-true _ (c .if1 .taken)))
 
 returns-2 : tie.Need-returns-2
 returns-2 c =
     let read = c .before .before .before .before in
     let start = read .before .before .before in
-    clock-is (start .args .rows .now) (start .args .k) (there (read .before)) true (read .clock .given) (c .before .before .before .is-negative .ensures)
-    (c .before .before .magnitude-of .ensures) (c .before .clock-absent .ensures) (c .if2 .taken)
+    ap toldClock
+    (clock-is (start .args .rows .now) (start .args .k) (there (read .before)) true (read .clock .given) (c .before .before .before .is-negative .ensures)
+    (c .before .before .magnitude-of .ensures) (c .before .clock-absent .ensures) (c .if2 .taken))
 
 returns-3 : tie.Need-returns-3
 returns-3 c =
     let read = c .before .before .before .before in
     let start = read .before .before .before in
-    clock-is (start .args .rows .now) (start .args .k) (there (read .before)) false (read .clock .given) (c .before .before .before .is-negative .ensures)
-    (c .before .before .magnitude-of .ensures) (c .before .clock-absent .ensures) (c .if2 .left)
+    ap toldClock
+    (clock-is (start .args .rows .now) (start .args .k) (there (read .before)) false (read .clock .given) (c .before .before .before .is-negative .ensures)
+    (c .before .before .magnitude-of .ensures) (c .before .clock-absent .ensures) (c .if2 .left))
 
 pub clock-of-spec : {M : Type 1} → statement M
 clock-of-spec =

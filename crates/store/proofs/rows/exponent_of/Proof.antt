@@ -10,7 +10,7 @@ use lib.Dec.{leb}
 use lib.ListN.{length}
 use Rattle.file.specs.Table.{rowWidth}
 use Rattle.laws.proofs.Bools.{and-left, and-right}
-use Rattle.store.specs.Stored.{isThere}
+use Rattle.store.specs.Stored.{isThere, toldDeviation}
 use Rattle.store.proofs.Storing.{row-within, no-deviation, unknown-is, known-is}
 use Rattle.store.proofs.rows.exponent_of.Statement.{statement}
 use Rattle.store.proofs.rows.exponent_of.Tie as tie
@@ -33,33 +33,37 @@ within c =
 returns : tie.Need-returns
 returns c =
     let start = c .before .before in
-    no-deviation (start .args .rows .now) (start .args .k) (start .args .which)
-    (ap (λ (t : Bool). t && leb (start .args .which) 3) (sym (c .before .is-there .ensures)) ∙ not-true _ (c .if1 .taken))
+    ap toldDeviation
+    (no-deviation (start .args .rows .now) (start .args .k) (start .args .which)
+    (ap (λ (t : Bool). t && leb (start .args .which) 3) (sym (c .before .is-there .ensures)) ∙ not-true _ (c .if1 .taken)))
 
 returns-2 : tie.Need-returns-2
 returns-2 c =
     let read = c .before .before .before in
     let start = read .before .before .before in
-    unknown-is (start .args .rows .now) (start .args .k) (start .args .which) (asked (read .before)) (read .magnitude-of-arg .given)
-    (c .before .before .magnitude-of .ensures) (c .before .is-unknown .ensures) (c .if2 .taken)
+    ap toldDeviation
+    (unknown-is (start .args .rows .now) (start .args .k) (start .args .which) (asked (read .before)) (read .magnitude-of-arg .given)
+    (c .before .before .magnitude-of .ensures) (c .before .is-unknown .ensures) (c .if2 .taken))
 
 returns-3 : tie.Need-returns-3
 returns-3 c =
     let known = c .before .before in
     let read = known .before .before .before in
     let start = read .before .before .before in
-    known-is (start .args .rows .now) (start .args .k) (start .args .which) (asked (read .before)) (read .magnitude-of-arg .given)
+    ap toldDeviation
+    (known-is (start .args .rows .now) (start .args .k) (start .args .which) (asked (read .before)) (read .magnitude-of-arg .given)
     (known .before .before .magnitude-of .ensures) true (known .before .is-unknown .ensures) (known .if2 .left) (c .before .is-too-large .ensures)
-    (c .if3 .taken)
+    (c .if3 .taken))
 
 returns-4 : tie.Need-returns-4
 returns-4 c =
     let known = c .before .before in
     let read = known .before .before .before in
     let start = read .before .before .before in
-    known-is (start .args .rows .now) (start .args .k) (start .args .which) (asked (read .before)) (read .magnitude-of-arg .given)
+    ap toldDeviation
+    (known-is (start .args .rows .now) (start .args .k) (start .args .which) (asked (read .before)) (read .magnitude-of-arg .given)
     (known .before .before .magnitude-of .ensures) false (known .before .is-unknown .ensures) (known .if2 .left) (c .before .is-too-large .ensures)
-    (c .if3 .left)
+    (c .if3 .left))
 
 pub exponent-of-spec : {M : Type 1} → statement M
 exponent-of-spec =

@@ -10,7 +10,7 @@ use lib.Dec.{leb}
 use lib.ListN.{length}
 use Rattle.file.specs.Table.{rowWidth}
 use Rattle.laws.proofs.Bools.{and-left, and-right}
-use Rattle.store.specs.Stored.{isThere}
+use Rattle.store.specs.Stored.{isThere, toldFlag}
 use Rattle.store.proofs.Storing.{row-within, no-flag, flag-is}
 use Rattle.store.proofs.rows.flag_of.Statement.{statement}
 use Rattle.store.proofs.rows.flag_of.Tie as tie
@@ -33,22 +33,25 @@ within c =
 returns : tie.Need-returns
 returns c =
     let start = c .before .before in
-    no-flag (start .args .rows .now) (start .args .k) (start .args .which)
-    (ap (λ (t : Bool). t && leb (start .args .which) 3) (sym (c .before .is-there .ensures)) ∙ not-true _ (c .if1 .taken))
+    ap toldFlag
+    (no-flag (start .args .rows .now) (start .args .k) (start .args .which)
+    (ap (λ (t : Bool). t && leb (start .args .which) 3) (sym (c .before .is-there .ensures)) ∙ not-true _ (c .if1 .taken)))
 
 returns-2 : tie.Need-returns-2
 returns-2 c =
     let read = c .before .before in
     let start = read .before .before .before in
-    flag-is (start .args .rows .now) (start .args .k) (start .args .which) (asked (read .before)) (read .magnitude-of-arg .given)
-    (c .before .magnitude-of .ensures) true (eq-eqb (c .before .magnitude-of .result) 0 (c .if2 .taken))
+    ap toldFlag
+    (flag-is (start .args .rows .now) (start .args .k) (start .args .which) (asked (read .before)) (read .magnitude-of-arg .given)
+    (c .before .magnitude-of .ensures) true (eq-eqb (c .before .magnitude-of .result) 0 (c .if2 .taken)))
 
 returns-3 : tie.Need-returns-3
 returns-3 c =
     let read = c .before .before in
     let start = read .before .before .before in
-    flag-is (start .args .rows .now) (start .args .k) (start .args .which) (asked (read .before)) (read .magnitude-of-arg .given)
-    (c .before .magnitude-of .ensures) false (ne-eqb (c .before .magnitude-of .result) 0 (c .if2 .left))
+    ap toldFlag
+    (flag-is (start .args .rows .now) (start .args .k) (start .args .which) (asked (read .before)) (read .magnitude-of-arg .given)
+    (c .before .magnitude-of .ensures) false (ne-eqb (c .before .magnitude-of .result) 0 (c .if2 .left)))
 
 pub flag-of-spec : {M : Type 1} → statement M
 flag-of-spec =

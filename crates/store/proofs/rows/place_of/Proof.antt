@@ -1,6 +1,6 @@
 -- `store::rows::place_of` meets its contract.
 -- Assumes nothing.
-use mathlib.Core.Path.{_≡_, sym, _∙_}
+use mathlib.Core.Path.{_≡_, sym, _∙_, ap}
 use mathlib.Core.Bool.{true, false}
 use Prim.Native.Nat.{ℕ, _+_, _*_, _<_}
 use native.Mathlib.Omega.{arith}
@@ -8,7 +8,7 @@ use borrow.Author.Needs.{needs}
 use borrow.Author.Tests.{not-true, not-false}
 use lib.ListN.{length}
 use Rattle.file.specs.Table.{rowWidth}
-use Rattle.store.specs.Stored.{isThere}
+use Rattle.store.specs.Stored.{isThere, toldPlace}
 use Rattle.store.proofs.Storing.{row-within, no-place, place-is}
 use Rattle.store.proofs.rows.place_of.Statement.{statement}
 use Rattle.store.proofs.rows.place_of.Tie as tie
@@ -22,25 +22,28 @@ within c i h = row-within (length (c .before .before .args .rows .now)) (c .befo
 returns : tie.Need-returns
 returns c =
     let start = c .before .before in
-    no-place (start .args .rows .now) (start .args .k) (sym (c .before .is-there .ensures) ∙ not-true _ (c .if1 .taken))
+    ap toldPlace
+    (no-place (start .args .rows .now) (start .args .k) (sym (c .before .is-there .ensures) ∙ not-true _ (c .if1 .taken)))
 
 returns-2 : tie.Need-returns-2
 returns-2 c =
     let tested = c .before in
     let read = tested .before .before .before .before in
     let start = read .before .before .before .before .before in
-    place-is (start .args .rows .now) (start .args .k) (there (read .before .before .before)) true (read .before .before .x .given) (read .before .y .given)
+    ap toldPlace
+    (place-is (start .args .rows .now) (start .args .k) (there (read .before .before .before)) true (read .before .before .x .given) (read .before .y .given)
     (read .z .given) (tested .before .before .before .magnitude-of .ensures) (tested .before .before .magnitude-of2 .ensures)
-    (tested .before .magnitude-of3 .ensures) (tested .place-absent .ensures) (c .if2 .taken)
+    (tested .before .magnitude-of3 .ensures) (tested .place-absent .ensures) (c .if2 .taken))
 
 returns-3 : tie.Need-returns-3
 returns-3 c =
     let tested = c .before in
     let read = tested .before .before .before .before in
     let start = read .before .before .before .before .before in
-    place-is (start .args .rows .now) (start .args .k) (there (read .before .before .before)) false (read .before .before .x .given) (read .before .y .given)
+    ap toldPlace
+    (place-is (start .args .rows .now) (start .args .k) (there (read .before .before .before)) false (read .before .before .x .given) (read .before .y .given)
     (read .z .given) (tested .before .before .before .magnitude-of .ensures) (tested .before .before .magnitude-of2 .ensures)
-    (tested .before .magnitude-of3 .ensures) (tested .place-absent .ensures) (c .if2 .left)
+    (tested .before .magnitude-of3 .ensures) (tested .place-absent .ensures) (c .if2 .left))
 
 pub place-of-spec : {M : Type 1} → statement M
 place-of-spec =
