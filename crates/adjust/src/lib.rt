@@ -6,7 +6,6 @@ ghost use Rattle.header.specs.Rules.{d};
 ghost use Rattle.reader.specs.Reading.{fileOf};
 ghost use Rattle.reader.specs.Questions.{rowPlace};
 ghost use Rattle.adjust.specs.Floats.{floatUnless, floatRow, absentRow, rowAnswer};
-use field::Number;
 use record::Row;
 use record::Signed;
 
@@ -39,10 +38,7 @@ fn no_number() -> f64
 fn float_of(s: Signed) -> f64
     ensures { λ r. ⌜ r ≡ ofInt binary64 (storedSigned s) ⌝ }
 {
-    let Number::Value(v) = field::sign::number(s.negative, s.magnitude) else {
-        return std::num::nearest_i64_to_f64(0);
-    };
-    std::num::nearest_i64_to_f64(v)
+    std::num::nearest_i64_to_f64(stored::stored_number(s.negative, s.magnitude))
 }
 
 // The same, or no number where it is absent.

@@ -15,7 +15,7 @@ fn has_room(n: u64, tally: Tally, i: usize, x: usize, c: usize, r: usize) -> boo
     ensures { λ s. ⌜ s ≡ roomFor n tally i x c r ⌝ }
 {
     ((n <= i as u64) & (n <= x as u64))
-        & ((tally.comments <= (c / 77) as u64) & (tally.rows <= (r / store::ROW_WIDTH) as u64))
+        & ((tally.comments <= (c / 77) as u64) & (tally.rows <= (r / stored::ROW_WIDTH) as u64))
 }
 
 // Fills the lists from a file that was judged, where they have room.

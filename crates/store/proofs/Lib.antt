@@ -1,5 +1,3 @@
 pub mod Filling
 pub mod Storing
-pub mod Told
-pub mod Theorems
 pub mod Determined

@@ -8,8 +8,8 @@ ghost use Rattle.lines.specs.Lines.{linesOf};
 ghost use Rattle.file.specs.Kinds.{ofKind};
 ghost use Rattle.file.specs.Table.{slotNumbers, slotsIn, commentText, rowWidth, rowLines, numbersOfRows};
 use crate::rows;
-use crate::rows::ROW_WIDTH;
 use header::Rules;
+use stored::ROW_WIDTH;
 
 // The numbers in the slots of a `+ ` line, or of a `++` line where `accuracies` says so, laid over the front of `out`, at most so many.
 fn lay_slots(line: &[u8], accuracies: bool, left: u64, out: &mut [u64])

@@ -4,10 +4,10 @@ ghost use lib.ListN.{length};
 use crate::print;
 use header::Header;
 use header::Texts;
-use store::ClockRead;
-use store::Deviation;
-use store::Flag;
-use store::Place;
+use stored::ClockRead;
+use stored::Deviation;
+use stored::Flag;
+use stored::Place;
 
 // The four texts of line 1.
 fn texts(t: Texts) {
@@ -127,7 +127,7 @@ fn comments(n: u64, bytes: &[u8]) {
 
 // The place or velocity of a row.
 fn place(rows: &[i64], k: usize) {
-    match store::place_of(rows, k) {
+    match stored::place_of(rows, k) {
         Place::At { x, y, z } => {
             print::signed(x);
             print::signed(y);
@@ -140,7 +140,7 @@ fn place(rows: &[i64], k: usize) {
 
 // The clock or rate of a row.
 fn clock(rows: &[i64], k: usize) {
-    match store::clock_of(rows, k) {
+    match stored::clock_of(rows, k) {
         ClockRead::At(v) => print::signed(v),
         ClockRead::Absent => print::text(b" absent"),
         ClockRead::NotThere => print::text(b" none"),
@@ -149,7 +149,7 @@ fn clock(rows: &[i64], k: usize) {
 
 // An exponent of a row.
 fn exponent(rows: &[i64], k: usize, which: usize) {
-    match store::exponent_of(rows, k, which) {
+    match stored::exponent_of(rows, k, which) {
         Deviation::Value(n) => print::value(n),
         Deviation::Unknown => print::text(b" unknown"),
         Deviation::TooLarge => print::text(b" large"),
@@ -159,7 +159,7 @@ fn exponent(rows: &[i64], k: usize, which: usize) {
 
 // A flag of a row: its letter, or a point.
 fn flag(rows: &[i64], k: usize, which: usize, letter: u8) {
-    match store::flag_of(rows, k, which) {
+    match stored::flag_of(rows, k, which) {
         Flag::Set => print::byte(letter),
         Flag::NotSet => print::text(b"."),
         Flag::NotThere => print::text(b"none"),
@@ -217,7 +217,7 @@ fn all_rows(velocity: bool, epochs: u64, identifiers: &[u64], rows: &[i64]) -> u
 {
     let n = identifiers.len();
     let mut k = 0;
-    while k < rows.len() / store::ROW_WIDTH {
+    while k < rows.len() / stored::ROW_WIDTH {
         if (places_before(velocity, k) / n) as u64 >= epochs {
             return k;
         }
@@ -231,7 +231,7 @@ fn all_rows(velocity: bool, epochs: u64, identifiers: &[u64], rows: &[i64]) -> u
 fn absent_place(rows: &[i64], k: usize) -> u64
     ensures { λ r. ⌜ r ≤ 1 ⌝ }
 {
-    match store::place_of(rows, k) {
+    match stored::place_of(rows, k) {
         Place::Absent => 1,
         Place::At { x: _, y: _, z: _ } => 0,
         Place::NotThere => 0,

@@ -29,7 +29,7 @@ returns-2 c =
     let ended = judged .before .before .before .before in
     let a = ended .before .before .before .args in
     let judged-as : judged .step-line .result ≡ stepOf (a .rules) (a .state) (a .names .now) (take (ended .line-end .result - a .at) (drop (a .at) (a .bytes .now))) =
-        toldVerdict-one _ _ (judged .step-line .ensures) in
+    toldVerdict-one _ _ (judged .step-line .ensures) in
     let read = read-is (a .rules) (a .bytes .now) (a .at) (a .state) (a .names .now) (ended .line-end .result) (ended .line-end .ensures) (judged .before .before .before .if1 .left) (judged .step-line .result) judged-as in
     let kept = names-are (a .rules) (a .bytes .now) (a .at) (a .state) (a .names .now) (ended .line-end .result) (ended .line-end .ensures) (judged .before .before .before .if1 .left) (judged .step-line .result) judged-as in
     (told-as _ _ (ended .line-end .result + 1) _ (c .before .number .given .1) read, rw (c .before .number .given .1) at kept)
@@ -40,7 +40,7 @@ returns-3 c =
     let ended = judged .before .before .before .before in
     let a = ended .before .before .before .args in
     let judged-as : judged .step-line .result ≡ stepOf (a .rules) (a .state) (a .names .now) (take (ended .line-end .result - a .at) (drop (a .at) (a .bytes .now))) =
-        toldVerdict-one _ _ (judged .step-line .ensures) in
+    toldVerdict-one _ _ (judged .step-line .ensures) in
     let read = read-is (a .rules) (a .bytes .now) (a .at) (a .state) (a .names .now) (ended .line-end .result) (ended .line-end .ensures) (judged .before .before .before .if1 .left) (judged .step-line .result) judged-as in
     let kept = names-are (a .rules) (a .bytes .now) (a .at) (a .state) (a .names .now) (ended .line-end .result) (ended .line-end .ensures) (judged .before .before .before .if1 .left) (judged .step-line .result) judged-as in
     (told-as _ _ (ended .line-end .result + 1) _ (c .enum-told .given .1) read, rw (c .enum-told .given .1) at kept)
@@ -51,7 +51,7 @@ returns-4 c =
     let ended = judged .before .before .before .before in
     let a = ended .before .before .before .args in
     let judged-as : judged .step-line .result ≡ stepOf (a .rules) (a .state) (a .names .now) (take (ended .line-end .result - a .at) (drop (a .at) (a .bytes .now))) =
-        toldVerdict-one _ _ (judged .step-line .ensures) in
+    toldVerdict-one _ _ (judged .step-line .ensures) in
     let read = read-is (a .rules) (a .bytes .now) (a .at) (a .state) (a .names .now) (ended .line-end .result) (ended .line-end .ensures) (judged .before .before .before .if1 .left) (judged .step-line .result) judged-as in
     let kept = names-are (a .rules) (a .bytes .now) (a .at) (a .state) (a .names .now) (ended .line-end .result) (ended .line-end .ensures) (judged .before .before .before .if1 .left) (judged .step-line .result) judged-as in
     (told-as _ _ (ended .line-end .result + 1) _ (c .before .before .before .before .before .next .given .1) read, c .before .before .keep-names .ensures ∙ (rw (c .before .before .before .before .before .next .given .1) at kept))

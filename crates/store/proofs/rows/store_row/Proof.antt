@@ -5,7 +5,8 @@ use native.Mathlib.Omega.{arith}
 use borrow.Author.Needs.{needs}
 use lib.ListN.{length-set}
 use Rattle.file.specs.Table.{markNumber}
-use Rattle.store.proofs.Storing.{stored-kept, row-stored}
+use Rattle.stored.proofs.Storing.{stored-kept}
+use Rattle.store.proofs.Storing.{row-stored}
 use Rattle.store.proofs.rows.store_row.Statement.{statement}
 use Rattle.store.proofs.rows.store_row.Tie as tie
 

@@ -2,7 +2,7 @@
 -- Assumes nothing.
 use mathlib.Core.Bool.{false}
 use borrow.Author.Needs.{needs}
-use Rattle.store.proofs.Storing.{stored-kept}
+use Rattle.stored.proofs.Storing.{stored-kept}
 use Rattle.store.proofs.rows.stored_mark.Statement.{statement}
 use Rattle.store.proofs.rows.stored_mark.Tie as tie
 

@@ -1,9 +1,9 @@
--- `store::rows::stored_number` meets its contract: the value that is answered, and 0 where there is none.
+-- `stored::rows::stored_number` meets its contract: the value that is answered, and 0 where there is none.
 -- Assumes nothing.
 use borrow.Author.Needs.{needs}
-use Rattle.store.proofs.Storing.{stored-is, stored-none, stored-kept}
-use Rattle.store.proofs.rows.stored_number.Statement.{statement}
-use Rattle.store.proofs.rows.stored_number.Tie as tie
+use Rattle.stored.proofs.Storing.{stored-is, stored-none, stored-kept}
+use Rattle.stored.proofs.rows.stored_number.Statement.{statement}
+use Rattle.stored.proofs.rows.stored_number.Tie as tie
 
 returns : tie.Need-returns
 returns c =

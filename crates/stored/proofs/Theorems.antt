@@ -18,10 +18,10 @@ use Rattle.record.specs.Absence.{placeAbsent, clockAbsent}
 use Rattle.record.specs.declared.types.Row.{Row}
 use Rattle.record.specs.declared.types.Signed.{Signed}
 use Rattle.file.specs.Table.{storedInt, storedSigned, storedCount, storedMark, markNumber, rowNumbers, rowWidth}
-use Rattle.store.specs.Stored.{isThere, numberAt, placeIn, clockIn, deviationOf, deviationIn, flagIn}
-use Rattle.store.specs.declared.types.Place.the-variants as place
-use Rattle.store.specs.declared.types.ClockRead.the-variants as clock
-use Rattle.store.specs.declared.types.Flag.the-variants as flag
+use Rattle.stored.specs.Stored.{isThere, numberAt, placeIn, clockIn, deviationOf, deviationIn, flagIn}
+use Rattle.stored.specs.declared.types.Place.the-variants as place
+use Rattle.stored.specs.declared.types.ClockRead.the-variants as clock
+use Rattle.stored.specs.declared.types.Flag.the-variants as flag
 
 -- a number in bounds is stored with its sign
 abbrev signed : Signed → ℤ

@@ -1,4 +1,4 @@
--- `store::rows::place_of` meets its contract.
+-- `stored::rows::place_of` meets its contract.
 -- Assumes nothing.
 use mathlib.Core.Path.{_≡_, sym, _∙_, ap}
 use mathlib.Core.Bool.{true, false}
@@ -8,10 +8,10 @@ use borrow.Author.Needs.{needs}
 use borrow.Author.Tests.{not-true, not-false}
 use lib.ListN.{length}
 use Rattle.file.specs.Table.{rowWidth}
-use Rattle.store.specs.Stored.{isThere, toldPlace}
-use Rattle.store.proofs.Storing.{row-within, no-place, place-is}
-use Rattle.store.proofs.rows.place_of.Statement.{statement}
-use Rattle.store.proofs.rows.place_of.Tie as tie
+use Rattle.stored.specs.Stored.{isThere, toldPlace}
+use Rattle.stored.proofs.Storing.{row-within, no-place, place-is}
+use Rattle.stored.proofs.rows.place_of.Statement.{statement}
+use Rattle.stored.proofs.rows.place_of.Tie as tie
 
 there : (c : tie.Else1) → isThere (c .before .before .args .rows .now) (c .before .before .args .k) ≡ true
 there c = sym (c .before .is-there .ensures) ∙ not-false _ (c .if1 .left)

@@ -3,15 +3,15 @@
 use mathlib.Core.Path.{_≡_, refl}
 use lib.IntN.{ℤ, pos, negsuc, natAbs}
 use Rattle.field.specs.Sign.{isNegative}
-use Rattle.store.specs.Stored.{signNumber, toldPlace, toldClock, toldDeviation, toldFlag}
-use Rattle.store.specs.declared.types.Place.{Place}
-use Rattle.store.specs.declared.types.Place.the-variants as place
-use Rattle.store.specs.declared.types.ClockRead.{ClockRead}
-use Rattle.store.specs.declared.types.ClockRead.the-variants as clock
-use Rattle.store.specs.declared.types.Deviation.{Deviation}
-use Rattle.store.specs.declared.types.Deviation.the-variants as deviation
-use Rattle.store.specs.declared.types.Flag.{Flag}
-use Rattle.store.specs.declared.types.Flag.the-variants as flag
+use Rattle.stored.specs.Stored.{signNumber, toldPlace, toldClock, toldDeviation, toldFlag}
+use Rattle.stored.specs.declared.types.Place.{Place}
+use Rattle.stored.specs.declared.types.Place.the-variants as place
+use Rattle.stored.specs.declared.types.ClockRead.{ClockRead}
+use Rattle.stored.specs.declared.types.ClockRead.the-variants as clock
+use Rattle.stored.specs.declared.types.Deviation.{Deviation}
+use Rattle.stored.specs.declared.types.Deviation.the-variants as deviation
+use Rattle.stored.specs.declared.types.Flag.{Flag}
+use Rattle.stored.specs.declared.types.Flag.the-variants as flag
 
 -- a signed number is known by its sign and its magnitude
 int-one : (v u : ℤ) → signNumber (isNegative v) ≡ signNumber (isNegative u) → natAbs v ≡ natAbs u → v ≡ u

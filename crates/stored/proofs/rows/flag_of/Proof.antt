@@ -1,4 +1,4 @@
--- `store::rows::flag_of` meets its contract.
+-- `stored::rows::flag_of` meets its contract.
 -- Assumes nothing.
 use mathlib.Core.Path.{_≡_, sym, _∙_, ap}
 use mathlib.Core.Bool.{Bool, true, false, _&&_}
@@ -10,10 +10,10 @@ use lib.Dec.{leb}
 use lib.ListN.{length}
 use Rattle.file.specs.Table.{rowWidth}
 use Rattle.laws.proofs.Bools.{and-left, and-right}
-use Rattle.store.specs.Stored.{isThere, toldFlag}
-use Rattle.store.proofs.Storing.{row-within, no-flag, flag-is}
-use Rattle.store.proofs.rows.flag_of.Statement.{statement}
-use Rattle.store.proofs.rows.flag_of.Tie as tie
+use Rattle.stored.specs.Stored.{isThere, toldFlag}
+use Rattle.stored.proofs.Storing.{row-within, no-flag, flag-is}
+use Rattle.stored.proofs.rows.flag_of.Statement.{statement}
+use Rattle.stored.proofs.rows.flag_of.Tie as tie
 
 asked : (c : tie.Else1) → (isThere (c .before .before .args .rows .now) (c .before .before .args .k) && leb (c .before .before .args .which) 3) ≡ true
 asked c = ap (λ (t : Bool). t && leb (c .before .before .args .which) 3) (sym (c .before .is-there .ensures)) ∙ not-false _ (c .if1 .left)

@@ -9,14 +9,14 @@ use lib.ListN.{length, getD}
 use Rattle.field.specs.Sign.{isNegative}
 use Rattle.record.specs.Absence.{placeAbsent, clockAbsent, isUnknown, isTooLarge}
 use Rattle.file.specs.Table.{rowWidth}
-use Rattle.store.specs.declared.types.Place.{Place}
-use Rattle.store.specs.declared.types.Place.the-variants as place
-use Rattle.store.specs.declared.types.ClockRead.{ClockRead}
-use Rattle.store.specs.declared.types.ClockRead.the-variants as clock
-use Rattle.store.specs.declared.types.Deviation.{Deviation}
-use Rattle.store.specs.declared.types.Deviation.the-variants as deviation
-use Rattle.store.specs.declared.types.Flag.{Flag}
-use Rattle.store.specs.declared.types.Flag.the-variants as flag
+use Rattle.stored.specs.declared.types.Place.{Place}
+use Rattle.stored.specs.declared.types.Place.the-variants as place
+use Rattle.stored.specs.declared.types.ClockRead.{ClockRead}
+use Rattle.stored.specs.declared.types.ClockRead.the-variants as clock
+use Rattle.stored.specs.declared.types.Deviation.{Deviation}
+use Rattle.stored.specs.declared.types.Deviation.the-variants as deviation
+use Rattle.stored.specs.declared.types.Flag.{Flag}
+use Rattle.stored.specs.declared.types.Flag.the-variants as flag
 
 -- whether the lent numbers have a k-th row
 abbrev pub isThere : List ℤ → ℕ → Bool

@@ -1,0 +1,4 @@
+pub mod Storing
+pub mod Told
+pub mod Theorems
+pub mod Determined
