@@ -27,12 +27,17 @@ fn sum_of(numbers: &[u64]) -> u64 {
     sum
 }
 
+// A byte as a number.
+fn wide(b: u8) -> u64 {
+    b as u64
+}
+
 // Over the bytes of comments.
 fn sum_of_bytes(bytes: &[u8]) -> u64 {
     let mut sum = 0;
     let mut i = 0;
     while i < bytes.len() {
-        sum = step(sum, print::wide(bytes[i]));
+        sum = step(sum, wide(bytes[i]));
         i += 1;
     }
     sum

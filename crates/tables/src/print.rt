@@ -12,11 +12,6 @@ pub(crate) fn byte(b: u8) {
     text(&one);
 }
 
-// A byte as a number.
-pub(crate) fn wide(b: u8) -> u64 {
-    b as u64
-}
-
 // A number in decimal.
 pub(crate) fn number(n: u64) {
     io::print_decimal(STDOUT_FILENO, n);

@@ -5,3 +5,4 @@ pub mod Judging
 pub mod Correlations
 pub mod Room
 pub mod Floats
+pub mod Lent

@@ -1,4 +1,3 @@
--- For crates/theorems/proofs/Lent.antt (pub mod Lent in its Lib.antt): what the lent rows hold after a reading that answers 0. Checked once apart from the repository's reader. Missing: lent-motion for V rows, and the check on main.
 -- What the lent rows hold after a reading that answers 0: each row of the file, found by epoch and satellite.
 -- Assumes nothing.
 use mathlib.Core.Path.{_≡_, refl, sym, ap, ap₂, _∙_}
@@ -14,19 +13,20 @@ use Rattle.header.specs.Rules.{d}
 use Rattle.lines.specs.Lent.{over}
 use Rattle.lines.specs.Lines.{linesOf, nth}
 use Rattle.record.specs.Absence.{placeAbsent, clockAbsent}
+use Rattle.record.specs.Rows.{rowOf}
 use Rattle.file.specs.Plain.{isRowLine}
 use Rattle.file.specs.Table.{rowNumbers, rowsIn}
 use Rattle.scan.specs.Run.{IsFile}
-use Rattle.store.specs.Stored.{placeIn, clockIn}
+use Rattle.stored.specs.Stored.{placeIn, clockIn}
 use Rattle.reader.specs.Reading.{fileOf, linesIn, filled}
 use Rattle.plain.proofs.Exact.{exactSigned, exactNumbers, Bounded, row-bounded, row-in, row-exact}
-use Rattle.store.proofs.Theorems.{place-back, clock-back}
+use Rattle.stored.proofs.Theorems.{place-back, clock-back}
 use Rattle.theorems.proofs.Accepting.{whole-taken}
-use Rattle.theorems.proofs.Reading.{header, identifier, rowsOf, rowAt, held, There, the-row, row-holds, row-holds-both}
+use Rattle.theorems.proofs.Reading.{header, identifier, rowsOf, rowAt, There, the-row, the-motion, row-holds, row-holds-both, motion-holds}
 use Rattle.theorems.proofs.Room.{answer, fills, answer-decides}
 use Rattle.record.specs.declared.types.Row.{Row}
-use Rattle.store.specs.declared.types.Place.the-variants as place
-use Rattle.store.specs.declared.types.ClockRead.the-variants as clock
+use Rattle.stored.specs.declared.types.Place.the-variants as place
+use Rattle.stored.specs.declared.types.ClockRead.the-variants as clock
 
 -- a part of twelve that is there ends before the list does
 module _ (numbers : List ℤ) (m : ℕ) (part : List ℤ) (wide : length part ≡ 12) (stored : take 12 (drop m numbers) ≡ part) where
@@ -69,9 +69,13 @@ module _ (numbers : List ℤ) (r : ℕ) (row : Row) (bounded : Bounded row) (sto
       ap (λ (s : List ℤ). clockIn s r) (sym parts)
       ∙ clock-back (take (12 * r) numbers) (drop 12 (drop (12 * r) numbers)) row r before (bounded .clock)
 
--- the number of the P row of epoch k and satellite j among the rows of the table: in mode V each V row stands after its P row
-abbrev pub tableRow : List ℕ → ℕ → ℕ → ℕ
-tableRow bytes k j = cond (header bytes .velocity) (2 * rowAt bytes k j) (rowAt bytes k j)
+-- the row that a P line (false) or V line (true) holds, and its number among the rows of the table: in mode V each V row stands after its P row
+abbrev pub held : Bool → List ℕ → ℕ → ℕ → Row
+held v bytes k j = rowOf v (nth (rowAt bytes k j) (rowsOf v bytes))
+
+abbrev pub tableRow : Bool → List ℕ → ℕ → ℕ → ℕ
+tableRow true bytes k j = 2 * rowAt bytes k j + 1
+tableRow false bytes k j = cond (header bytes .velocity) (2 * rowAt bytes k j) (rowAt bytes k j)
 
 module _ (bytes : List ℕ) (accepted : IsFile d bytes) (i x c r : ℕ) (old : List ℤ) (success : answer true bytes i x c r .refusal ≡ 0) where
   -- the lent rows after reading the whole file
@@ -84,45 +88,56 @@ module _ (bytes : List ℕ) (accepted : IsFile d bytes) (i x c r : ℕ) (old : L
       let lines : linesIn bytes (fileOf d bytes) ≡ linesOf bytes = rw (accepted .1, whole-taken bytes (accepted .0) (accepted .1)) in
       ap₂ (λ (b : Bool) (ls : List (List ℕ)). filled b (rowsIn d ls) old) filling lines
 
-  module _ (k j : ℕ) (there : There bytes k j) where
-    named : isRowLine d false (identifier bytes j) (nth (rowAt bytes k j) (rowsOf false bytes)) ≡ true
-    named = the-row bytes accepted k j there .names-it
+  -- V rows are asked for in mode V alone
+  module _ (k j : ℕ) (there : There bytes k j) (v : Bool) (mode : v ≡ true → header bytes .velocity ≡ true) where
+    named : isRowLine d v (identifier bytes j) (nth (rowAt bytes k j) (rowsOf v bytes)) ≡ true
+    named = go v mode
+      where
+        go : (t : Bool) → (t ≡ true → header bytes .velocity ≡ true)
+            → isRowLine d t (identifier bytes j) (nth (rowAt bytes k j) (rowsOf t bytes)) ≡ true
+        go true m = the-motion bytes accepted k j there (m refl) .names-it
+        go false m = the-row bytes accepted k j there .names-it
 
-    twelve : length (exactNumbers (held bytes k j)) ≡ 12
+    in-table : take 12 (drop (12 * tableRow v bytes k j) (rowsIn d (linesOf bytes))) ≡ exactNumbers (held v bytes k j)
+    in-table = go v mode
+      where
+        places : (both : Bool) → header bytes .velocity ≡ both
+            → take 12 (drop (12 * cond both (2 * rowAt bytes k j) (rowAt bytes k j)) (rowsIn d (linesOf bytes))) ≡ exactNumbers (held false bytes k j)
+        places true e = row-holds-both bytes accepted k j there e
+        places false e = row-holds bytes accepted k j there e
+
+        go : (t : Bool) → (t ≡ true → header bytes .velocity ≡ true)
+            → take 12 (drop (12 * tableRow t bytes k j) (rowsIn d (linesOf bytes))) ≡ exactNumbers (held t bytes k j)
+        go true m = motion-holds bytes accepted k j there (m refl)
+        go false m = places (header bytes .velocity) refl
+
+    twelve : length (exactNumbers (held v bytes k j)) ≡ 12
     unfolding exactNumbers
     twelve = refl
 
-    in-table : take 12 (drop (12 * tableRow bytes k j) (rowsIn d (linesOf bytes))) ≡ exactNumbers (held bytes k j)
-    in-table = go (header bytes .velocity) refl
-      where
-        go : (v : Bool) → header bytes .velocity ≡ v
-            → take 12 (drop (12 * cond v (2 * rowAt bytes k j) (rowAt bytes k j)) (rowsIn d (linesOf bytes))) ≡ exactNumbers (held bytes k j)
-        go true e = row-holds-both bytes accepted k j there e
-        go false e = row-holds bytes accepted k j there e
-
-    -- The lent rows hold at the row of epoch k and satellite j exactly the twelve numbers of its P line.
-    pub lent-row : take 12 (drop (12 * tableRow bytes k j) lent) ≡ exactNumbers (held bytes k j)
+    -- The lent rows hold at the row of epoch k and satellite j exactly the twelve numbers of its line.
+    pub lent-row : take 12 (drop (12 * tableRow v bytes k j) lent) ≡ exactNumbers (held v bytes k j)
     lent-row =
-        ap (λ (s : List ℤ). take 12 (drop (12 * tableRow bytes k j) s)) lent-is
-        ∙ part-kept (rowsIn d (linesOf bytes)) (12 * tableRow bytes k j) (exactNumbers (held bytes k j)) twelve in-table (drop (length (rowsIn d (linesOf bytes))) old)
+        ap (λ (s : List ℤ). take 12 (drop (12 * tableRow v bytes k j) s)) lent-is
+        ∙ part-kept (rowsIn d (linesOf bytes)) (12 * tableRow v bytes k j) (exactNumbers (held v bytes k j)) twelve in-table (drop (length (rowsIn d (linesOf bytes))) old)
 
-    as-stored : take 12 (drop (12 * tableRow bytes k j) lent) ≡ rowNumbers (held bytes k j)
+    as-stored : take 12 (drop (12 * tableRow v bytes k j) lent) ≡ rowNumbers (held v bytes k j)
     as-stored =
         lent-row
-        ∙ sym (row-exact d false (identifier bytes j) (nth (rowAt bytes k j) (rowsOf false bytes)) named)
-        ∙ ap rowNumbers (row-in d false (identifier bytes j) (nth (rowAt bytes k j) (rowsOf false bytes)) named)
+        ∙ sym (row-exact d v (identifier bytes j) (nth (rowAt bytes k j) (rowsOf v bytes)) named)
+        ∙ ap rowNumbers (row-in d v (identifier bytes j) (nth (rowAt bytes k j) (rowsOf v bytes)) named)
 
-    bounded : Bounded (held bytes k j)
-    bounded = row-bounded d false (identifier bytes j) (nth (rowAt bytes k j) (rowsOf false bytes)) named
+    bounded : Bounded (held v bytes k j)
+    bounded = row-bounded d v (identifier bytes j) (nth (rowAt bytes k j) (rowsOf v bytes)) named
 
-    -- Asked by name, its place is absent where the three fields of the P line are zero, else it is those three, whatever the clock.
-    pub lent-place : placeIn lent (tableRow bytes k j)
-        ≡ cond (placeAbsent (held bytes k j .x .magnitude) (held bytes k j .y .magnitude) (held bytes k j .z .magnitude)) place.Absent
-        (place.At (exactSigned (held bytes k j .x)) (exactSigned (held bytes k j .y)) (exactSigned (held bytes k j .z)))
-    lent-place = stored-place lent (tableRow bytes k j) (held bytes k j) bounded as-stored
+    -- Asked by name, its place or velocity is absent where the three fields of the line are zero, else it is those three, whatever the clock.
+    pub lent-place : placeIn lent (tableRow v bytes k j)
+        ≡ cond (placeAbsent (held v bytes k j .x .magnitude) (held v bytes k j .y .magnitude) (held v bytes k j .z .magnitude)) place.Absent
+        (place.At (exactSigned (held v bytes k j .x)) (exactSigned (held v bytes k j .y)) (exactSigned (held v bytes k j .z)))
+    lent-place = stored-place lent (tableRow v bytes k j) (held v bytes k j) bounded as-stored
 
-    -- Its clock is absent where the field is +999,999,999,999, else it is that field, whatever the place.
-    pub lent-clock : clockIn lent (tableRow bytes k j)
-        ≡ cond (clockAbsent (held bytes k j .clock .negative) (held bytes k j .clock .magnitude)) clock.Absent
-        (clock.At (exactSigned (held bytes k j .clock)))
-    lent-clock = stored-clock lent (tableRow bytes k j) (held bytes k j) bounded as-stored
+    -- Its clock or rate is absent where the field is +999,999,999,999, else it is that field, whatever the place.
+    pub lent-clock : clockIn lent (tableRow v bytes k j)
+        ≡ cond (clockAbsent (held v bytes k j .clock .negative) (held v bytes k j .clock .magnitude)) clock.Absent
+        (clock.At (exactSigned (held v bytes k j .clock)))
+    lent-clock = stored-clock lent (tableRow v bytes k j) (held v bytes k j) bounded as-stored
