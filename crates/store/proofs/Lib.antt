@@ -1,3 +1,6 @@
 pub mod Filling
+pub mod FillingSlots
+pub mod FillingComments
+pub mod FillingRows
 pub mod Storing
 pub mod Determined

@@ -11,7 +11,8 @@ use Rattle.lines.specs.Lent.{flat}
 use Rattle.lines.specs.Lines.{linesOf}
 use Rattle.file.specs.Kinds.{isKind, ofKind}
 use Rattle.file.specs.Table.{commentText}
-use Rattle.store.proofs.Filling.{Filling, filling-first, filling-other, partsLeft, no-comments, comments-end, comments-done, comments-more}
+use Rattle.store.proofs.Filling.{Filling, filling-first, filling-other, partsLeft}
+use Rattle.store.proofs.FillingComments.{no-comments, comments-end, comments-done, comments-more}
 use Rattle.store.proofs.fill.fill_comments.Statement.{statement}
 use Rattle.store.proofs.fill.fill_comments.Tie as tie
 

@@ -8,7 +8,8 @@ use borrow.Author.Needs.{needs}
 use lib.Dec.{eqb}
 use lib.ListN.{length, take, drop}
 use Rattle.record.specs.Rows.{rowOf}
-use Rattle.store.proofs.Filling.{filling-other, RowsFilling, rows-first, rows-end, rows-full, rows-more}
+use Rattle.store.proofs.Filling.{filling-other}
+use Rattle.store.proofs.FillingRows.{RowsFilling, rows-first, rows-end, rows-full, rows-more}
 use Rattle.store.proofs.fill.fill_rows.Statement.{statement}
 use Rattle.store.proofs.fill.fill_rows.Tie as tie
 

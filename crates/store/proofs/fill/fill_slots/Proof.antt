@@ -11,7 +11,8 @@ use lib.ListN.{length}
 use Rattle.lines.specs.Lines.{linesOf}
 use Rattle.file.specs.Kinds.{isKind}
 use Rattle.file.specs.Table.{slotKind, slotsIn}
-use Rattle.store.proofs.Filling.{Filling, neither-met, filling-other, slotsLeft, slots-first, slots-end, slots-done, slots-more}
+use Rattle.store.proofs.Filling.{Filling, neither-met, filling-other}
+use Rattle.store.proofs.FillingSlots.{slotsLeft, slots-first, slots-end, slots-done, slots-more}
 use Rattle.store.proofs.fill.fill_slots.Statement.{statement}
 use Rattle.store.proofs.fill.fill_slots.Tie as tie
 

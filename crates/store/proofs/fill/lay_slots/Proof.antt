@@ -8,7 +8,7 @@ use borrow.Author.Needs.{needs}
 use lib.ListN.{length}
 use Rattle.record.specs.SlotLines.{moreOf}
 use Rattle.record.specs.declared.types.Slots.{Slots}
-use Rattle.store.proofs.Filling.{slots-length, first-slots, all-slots}
+use Rattle.store.proofs.FillingSlots.{slots-length, first-slots, all-slots}
 use Rattle.store.proofs.fill.lay_slots.Statement.{statement}
 use Rattle.store.proofs.fill.lay_slots.Tie as tie
 
