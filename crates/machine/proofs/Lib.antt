@@ -1,5 +1,5 @@
 pub mod Checking
 pub mod Stating
-pub mod Stepping
 pub mod Told
+pub mod Stepping
 pub mod Determined

@@ -25,6 +25,8 @@ use Rattle.machine.specs.Checks.{firstUnprintable}
 use Rattle.machine.specs.State.{seen, namesIn, namesAfter}
 use Rattle.machine.specs.Faults.{longest}
 use Rattle.machine.specs.Step.{judgedLine, printedLine, stepOf, namesBrought, keptOn, namesKept, readAs, readFirst, namesFirst, lineRead, lineNames}
+use Rattle.machine.specs.Told.{toldVerdict, toldRead}
+use Rattle.machine.proofs.Told.{toldVerdict-one}
 use Rattle.machine.specs.declared.types.State.{State}
 use Rattle.machine.specs.declared.types.Verdict.{Verdict}
 use Rattle.machine.specs.declared.types.Verdict.the-variants as verdict
@@ -93,28 +95,35 @@ module _ (rules : Rules) (s : State) (line new : List ℕ) where
   further-names e is = is ∙ rw (ne-eqb (s .satellites) 0 e)
 
 -- The line at a place of some bytes.
-module _ (rules : Rules) (bytes : List ℕ) (at : ℕ) (s : State) (names : List ℕ) (end : ℕ) (ended : end ≡ at + lineLength (drop at bytes)) where
-  -- there is none
-  pub none-left : length bytes ≤ end
-      → (found.NoLine ≡ lineRead rules bytes at s names) × (names ≡ lineNames rules bytes at s names)
-  unfolding readFirst namesFirst
-  none-left h = rw (no-line bytes at end ended h) (refl, refl)
+module _ (rules : Rules) (bytes : List ℕ) (at : ℕ) (s : State) (names : List ℕ) where
+  -- a reading and the identifiers beside it are those of the line
+  abbrev pub ReadAs : LineRead → List ℕ → Type 0
+  ReadAs r kept = (toldRead r ≡ toldRead (lineRead rules bytes at s names)) × (kept ≡ lineNames rules bytes at s names)
 
-  module _ (h : end < length bytes) (v : Verdict) (judged : v ≡ stepOf rules s names (take (end - at) (drop at bytes))) where
-    abbrev line : List ℕ
-    line = take (end - at) (drop at bytes)
+  module _ (end : ℕ) (ended : end ≡ at + lineLength (drop at bytes)) where
+    -- there is none
+    pub none-left : length bytes ≤ end → ReadAs found.NoLine names
+    unfolding readFirst namesFirst
+    none-left h = rw (no-line bytes at end ended h) (refl, refl)
 
-    next-place : at + length line + 1 ≡ end + 1
-    next-place = omega (arith, length-line)
-      where
-        length-line : length line ≡ end - at
-        length-line = length-take-le (end - at) (drop at bytes) (omega (arith, length-drop at bytes))
+    module _ (h : end < length bytes) where
+      abbrev line : List ℕ
+      line = take (end - at) (drop at bytes)
 
-    -- what is read is what the line does
-    pub read-is : readAs v (end + 1) ≡ lineRead rules bytes at s names
-    unfolding readFirst
-    read-is = rw (first-line bytes at end ended h, ← judged, next-place)
+      next-place : at + length line + 1 ≡ end + 1
+      next-place = omega (arith, length-line)
+        where
+          length-line : length line ≡ end - at
+          length-line = length-take-le (end - at) (drop at bytes) (omega (arith, length-drop at bytes))
 
-    pub names-are : keptOn v rules s names line ≡ lineNames rules bytes at s names
-    unfolding namesFirst namesKept
-    names-are = rw (first-line bytes at end ended h, ← judged)
+      read-is : (v : Verdict) → v ≡ stepOf rules s names line
+          → (readAs v (end + 1) ≡ lineRead rules bytes at s names) × (keptOn v rules s names line ≡ lineNames rules bytes at s names)
+      unfolding readFirst namesFirst namesKept
+      read-is v judged = (rw (first-line bytes at end ended h, ← judged, next-place), rw (first-line bytes at end ended h, ← judged))
+
+      -- what is read is what the line does
+      pub judged-read : (v w : Verdict) → toldVerdict v ≡ toldVerdict (stepOf rules s names line) → v ≡ w
+          → ReadAs (readAs w (end + 1)) (keptOn w rules s names line)
+      judged-read v w told is =
+          let read = read-is w (sym is ∙ toldVerdict-one v (stepOf rules s names line) told) in
+          (ap toldRead (read .0), read .1)
