@@ -1,25 +1,15 @@
-# Sourced by the counts of this folder: `count NAME CALLS CRATE..` builds the doors of NAME.rt.txt over these crates and counts NAME.c under
+# Sourced by two counts of this folder: `count NAME CALLS CRATE..` builds the doors of NAME.rt.txt over these crates and counts NAME.c under
 # callgrind, for good and for bad input; `of FUNCTION KIND.LEVEL` is then the mean number of instructions of a call, with what it called.
 # Ours is what `rt staticlib` compiles (LLVM, -O3); the C is gcc's, at -O2 and at -O3, for the same x86-64.
-# Needs rt, gcc and valgrind. Works in a temporary copy: nothing of it stands in the repository.
-root=$(cd "$(dirname "$0")/.." && pwd)
-work=$(mktemp -d)
-trap 'rm -rf "$work"' EXIT
+# Needs rt, gcc and valgrind, on x86-64.
+. "$(dirname "$0")/doors.sh"
 
 count() {
     name=$1 calls=$2
     shift 2
-    mkdir -p "$work/crates/doors/src"
-    for crate in "$@"; do
-        cp -R "$root/crates/$crate" "$work/crates/"
-        grep "^$crate:" "$root/crates.txt" >>"$work/crates.txt"
-    done
-    cp "$root/bench/$name.rt.txt" "$work/crates/doors/src/lib.rt"
-    printf 'doors: %s\n' "$*" >>"$work/crates.txt"
-    cd "$work"
-    rt staticlib doors >log 2>&1 || { tail -n 20 log; exit 1; }
+    doors "$name" "$@"
     for level in 2 3; do
-        gcc "-O$level" -march=x86-64 -o "harness$level" "$root/bench/$name.c" target/staticlib/libdoors.a
+        gcc "-O$level" -march=x86-64 -o "harness$level" "$bench/$name.c" target/staticlib/libdoors.a
         for kind in good bad; do
             valgrind --tool=callgrind --callgrind-out-file=out "./harness$level" "$kind" >said 2>/dev/null || { cat said; exit 1; }
             callgrind_annotate --inclusive=yes --threshold=100 out >"table.$kind.$level" 2>/dev/null

@@ -2,37 +2,17 @@
 # Instructions a byte for judging a file and for reading it, beside plain scalar C at -O2 and at -O3, all in one run; the file has 96 epochs of 32
 # satellites in mode P, with rows of 80 columns. Ours is what `rt staticlib` compiles (LLVM, -O3); the C is gcc's, both for x86-64. Then, one byte of
 # the file altered at a time, 400 times: both sides say the same. Last, how much of its stack each side touches.
-# Needs rt, gcc, gcc-x86-64-linux-gnu, libc6-dev-amd64-cross and qemu-user of Debian 12 (the kit's has no plugins). Works in a temporary copy; what
-# target/ (or PROVED, another repository's) has proved is not proved again as long as rt finds it unchanged.
+# Needs rt, gcc, qemu-user of Debian 12 (the kit's has no plugins), gcc-x86-64-linux-gnu and, where the machine is no x86-64, libc6-dev-amd64-cross.
 set -eu
-bench=$(cd "$(dirname "$0")" && pwd)
-root=$(dirname "$bench")
-proved=${PROVED:-$root/target}
-work=$(mktemp -d)
-trap 'rm -rf "$work"' EXIT
-crates='laws field calendar layout lines header record machine file scan accepted plain store reader'
-
-mkdir -p "$work/crates/doors/src" "$work/target/rlib" "$work/target/stamp"
-for crate in $crates; do
-    cp -R "$root/crates/$crate" "$work/crates/"
-    grep "^$crate:" "$root/crates.txt" >>"$work/crates.txt"
-    if [ -f "$proved/stamp/$crate" ]; then
-        cp -R "$proved/rlib/$crate.rlib" "$work/target/rlib/"
-        cp "$proved/stamp/$crate" "$work/target/stamp/"
-    fi
-done
-cp "$bench/reader.rt.txt" "$work/crates/doors/src/lib.rt"
-printf 'doors: %s\n' "$crates" >>"$work/crates.txt"
-cd "$work"
-rt staticlib doors >log 2>&1 || { tail -n 20 log; exit 1; }
+. "$(dirname "$0")/doors.sh"
+reader_doors
 
 for level in 2 3; do
     x86_64-linux-gnu-gcc "-O$level" -march=x86-64 "-DREADER(name)=o${level}_##name" -c -o "reader$level.o" "$bench/reader.c"
 done
-x86_64-linux-gnu-gcc -O2 -static -o harness "$bench/reader_count.c" reader2.o reader3.o target/staticlib/libdoors.a
-gcc -shared -fPIC -O2 -o libinsns.so "$bench/insns.c"
+harness reader_count reader2.o reader3.o
 awk -v epochs=96 -v satellites=32 -f "$bench/reader_file.awk" >file.sp3
-qemu-x86_64 -plugin ./libinsns.so ./harness file.sp3 400 >said 2>marks || { cat said; tail -n 5 marks; exit 1; }
+counted file.sp3 400
 
 awk 'FNR == NR { if ($1 == "bytes") bytes = $2; if ($1 == "stack") stack[$2] = $3; next }
      $1 == "mark" { count[$2] = $3 }

@@ -1,23 +1,16 @@
 // Runs the library's reader and the C reader, at -O2 and at -O3, over one file in one run, with a mark for bench/insns.c after each; then compares
 // what they say of the file with one byte altered, and how much of a stack each of them touches.
 #include <stdbool.h>
-#include <stddef.h>
-#include <stdint.h>
 #include <stdio.h>
 #include <stdlib.h>
 #include <string.h>
 #include <ucontext.h>
-#include <unistd.h>
 
+#include "doors.h"
 #define READER(name) o2_##name
 #include "reader.h"
 struct outcome o3_judge(const uint8_t *bytes, size_t length);
 struct outcome o3_read(const uint8_t *bytes, size_t length, struct lent *to);
-
-size_t our_judge(const uint8_t *file, size_t length);
-uint64_t our_line(const uint8_t *file, size_t length);
-size_t our_read(const uint8_t *file, size_t length, uint64_t *identifiers, size_t identifier_room, uint64_t *exponents, size_t exponent_room,
-                uint8_t *comments, size_t comment_room, int64_t *rows, size_t row_room);
 
 enum { SATELLITES = 40, COMMENTS = 10 * 77, ROWS = 12 * 4000, BYTES = 1 << 19, STACK = 1 << 20, PAINT = 0xa5 };
 
@@ -33,8 +26,6 @@ static struct table {
 static struct lent lent(struct table *t) {
     return (struct lent){t->identifiers, t->exponents, t->comments, t->rows, SATELLITES, SATELLITES, COMMENTS, ROWS};
 }
-
-static void mark(int label) { close(1000 + label); }
 
 static uint64_t refusals[3];
 static void judge_ours(void) { refusals[0] = our_judge(file, length); }

@@ -1,5 +1,6 @@
-# A file in mode P for bench/reader.sh: `awk -v epochs=96 -v satellites=32 -f reader_file.awk`. It begins on 2013-04-03 and has an epoch each 900 s,
-# so at most 96 of them; every place, clock and exponent is known, rows have all their 80 columns, and flags stand in some of them.
+# A file in mode P for bench/reader.sh and bench/hostile.sh: `awk -v epochs=96 -v satellites=32 -f reader_file.awk`. It begins on 2013-04-03 and has
+# an epoch each 900 s, so at most 96 of them; every place, clock and exponent is known, rows have all their 80 columns, and flags stand in some of
+# them. `-v comments=9` says how many comments it has (else 4); `-v front=1` ends it after them.
 function random(below) {
     seed = (seed * 16807) % 2147483647
     return seed % below
@@ -11,13 +12,15 @@ function coordinate(size) {
 
 function letter(c, times) { return random(times) ? " " : c }
 
+function name(k) { return sprintf("%s%02d", substr("GREC", int((k - 1) / 99) + 1, 1), (k - 1) % 99 + 1) }
+
 # lines of 17 slots, at least five
 function slots(symbol, count, exponents, j, i, k) {
     for (j = 0; j < 5 || 17 * j < satellites; j++) {
         printf "%-3s%3s   ", symbol, (j == 0 && count ? satellites : "")
         for (i = 0; i < 17; i++) {
             k = 17 * j + i
-            printf "%3s", (k < satellites ? (exponents ? 2 + random(9) : sprintf("G%02d", k + 1)) : 0)
+            printf "%3s", (k < satellites ? (exponents ? 2 + random(9) : name(k + 1)) : 0)
         }
         printf "\n"
     }
@@ -25,20 +28,22 @@ function slots(symbol, count, exponents, j, i, k) {
 
 BEGIN {
     seed = 20130403
+    if (comments == "") comments = 4
     printf "#dP2013  4  3  0  0  0.00000000 %7d ORBIT WGS84 BCT PORT\n", epochs
     print "## 1734 259200.00000000   900.00000000 56385 0.0000000000000"
     slots("+", 1, 0)
     slots("++", 0, 1)
-    print "%c G  cc GPS ccc cccc cccc cccc cccc ccccc ccccc ccccc ccccc"
+    print "%c " (satellites > 99 ? "M" : "G") "  cc GPS ccc cccc cccc cccc cccc ccccc ccccc ccccc ccccc"
     print "%c cc cc ccc ccc cccc cccc cccc cccc ccccc ccccc ccccc ccccc"
     print "%f  1.2500000  1.025000000  0.00000000000  0.000000000000000"
     print "%f  0.0000000  0.000000000  0.00000000000  0.000000000000000"
     for (j = 0; j < 2; j++) print "%i    0    0    0    0      0      0      0      0         0"
-    for (j = 0; j < 4; j++) print "/* PLACES AND CLOCKS MADE BY A GENERATOR FOR COUNTING INSTRUCTIONS"
+    for (j = 0; j < comments; j++) print "/* PLACES AND CLOCKS MADE BY A GENERATOR FOR COUNTING INSTRUCTIONS"
+    if (front) exit
     for (e = 0; e < epochs; e++) {
         printf "*  2013  4  3 %2d %2d  0.00000000\n", int(e / 4), 15 * (e % 4)
         for (k = 1; k <= satellites; k++) {
-            printf "PG%02d%s%s%s%s", k, coordinate(26000), coordinate(26000), coordinate(26000), coordinate(800)
+            printf "P%s%s%s%s%s", name(k), coordinate(26000), coordinate(26000), coordinate(26000), coordinate(800)
             printf " %2d %2d %2d %3d", random(20), random(20), random(20), random(250)
             printf " %s%s  %s%s\n", letter("E", 40), letter("P", 2), letter("M", 40), letter("P", 2)
         }

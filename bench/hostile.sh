@@ -1,0 +1,86 @@
+#!/usr/bin/env bash
+# Instructions for judging and for reading files that were made to cost much, each at 1, 4 and 16 times its size, with the answer (refusal, 0 for an
+# accepted file, and its line). `a byte` is instructions over bytes; `more` is instructions for each byte that the file has more than the one
+# above it; `16x/1x` is `a byte` at 16 times the size over `a byte` at once the size: about 1 where the cost is linear, and far below where
+# a refusal came before the end. Where that, or the last `more` over the one before it, is above 1.1, the cost is not linear and this ends with 1;
+# only the satellites of a header, at most 255, may cost their number squared (*), since their identifiers are compared with each other.
+# Counted by bench/insns.c; nothing is timed. Ours is what `rt staticlib` compiles (LLVM, -O3) for x86-64.
+# Needs rt, gcc, qemu-user of Debian 12 (the kit's has no plugins), gcc-x86-64-linux-gnu and, where the machine is no x86-64, libc6-dev-amd64-cross.
+set -eu
+. "$(dirname "$0")/doors.sh"
+
+right() { awk "$@" -f "$bench/reader_file.awk"; }
+few() { right -v epochs=1 -v satellites=2 "$@"; }
+many() { head -c "$2" /dev/zero | tr '\0' "$1"; }
+
+# the inputs, each by its size
+unended() { many x "$1"; }
+unended_second() { few | sed -n 1p; many x "$1"; }
+blanks() { many ' ' "$1"; printf '\n'; }
+blanks_and_cr() { many ' ' "$1"; printf '\r\n'; }
+empty_lines() { many '\n' "$1"; }
+empty_after_comments() { few -v front=1; many '\n' "$1"; }
+comments() { few -v comments="$1"; }
+short_comments() { comments "$1" | sed 's,^/\*.*,/*,'; }
+comments_alone() { few -v comments="$1" -v front=1; }
+epochs() { right -v epochs="$1" -v satellites=255; }
+satellites() { right -v epochs=1 -v satellites="$1"; }
+
+made=0
+# sizes TITLE INPUT SIZE..; where the title ends in * the growth is shown and not held to a bound
+sizes() {
+    title=$1 input=$2
+    shift 2
+    for size in "$@"; do
+        "$input" "$size" >"$(printf 'input%02d' "$made")"
+        printf '%s\n' "$title" >>titles
+        made=$((made + 1))
+    done
+}
+
+reader_doors
+harness hostile_count
+sizes 'one line of x without LF' unended 250000 1000000 4000000
+sizes 'line 1, then x without LF' unended_second 250000 1000000 4000000
+sizes 'one line of blanks' blanks 250000 1000000 4000000
+sizes 'one line of blanks and CR' blanks_and_cr 250000 1000000 4000000
+sizes 'empty lines' empty_lines 62500 250000 1000000
+sizes 'to the comments, then empty lines' empty_after_comments 62500 250000 1000000
+sizes 'comments of 67 columns, 2 rows' comments 1312 5250 21000
+sizes 'comments of 2 columns, 2 rows' short_comments 21000 84000 336000
+sizes 'comments and no more' comments_alone 1312 5250 21000
+sizes '255 satellites; 1, 4, 16 epochs' epochs 1 4 16
+sizes '15, 60, 240 satellites; 1 epoch *' satellites 15 60 240
+counted input*
+
+awk 'FILENAME == "titles" { title[FNR - 1] = $0; next }
+     FILENAME == "said" { bytes[FNR - 1] = $1; answer[FNR - 1] = sprintf("%7d %6d", $2, $3); next }
+     $1 == "mark" { count[$2] = $3 }
+     # the price of file k, judged (0) or read (1), beside those of the two sizes before it
+     function more(k, how) { return (count[2 * k + how] - count[2 * k - 2 + how]) / (bytes[k] - bytes[k - 1]) }
+     function each(k, how) { return count[2 * k + how] / bytes[k] }
+     function grown(k, how) { return each(k, how) / each(k - 2, how) }
+     function worse(ratio) { if (ratio > worst) worst = ratio }
+     function columns(k, how) {
+         printf " %11d %7.2f %7s", count[2 * k + how], each(k, how), k % 3 ? sprintf("%.2f", more(k, how)) : "-"
+         printf " %6s", k % 3 == 2 ? sprintf("%.2f", grown(k, how)) : "-"
+         if (k % 3 == 2 && title[k] !~ /\*$/) {
+             worse(grown(k, how))
+             if (more(k - 1, how) > 0) worse(more(k, how) / more(k - 1, how))
+         }
+     }
+     END {
+         for (k = 0; k in title; k++) if (!(count[2 * k] && count[2 * k + 1] && bytes[k])) { print "not counted: " title[k]; exit 1 }
+         printf "%-34s %8s %7s %6s %34s %34s\n", "", "", "", "", "judged: instructions", "read: instructions"
+         printf "%-34s %8s %7s %6s", "file", "bytes", "refusal", "line"
+         for (how = 0; how < 2; how++) printf " %11s %7s %7s %6s", "all", "a byte", "more", "16x/1x"
+         printf "\n"
+         for (k = 0; k in title; k++) {
+             printf "%-34s %8d %s", k % 3 ? "" : title[k], bytes[k], answer[k]
+             columns(k, 0)
+             columns(k, 1)
+             printf "\n"
+         }
+         printf "the largest growth, those with * apart, is %.2f\n", worst
+         exit (worst > 1.1)
+     }' titles said marks
