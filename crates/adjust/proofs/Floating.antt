@@ -20,7 +20,7 @@ use Rattle.field.proofs.Told.{number-is}
 use Rattle.file.specs.Table.{storedInt}
 use Rattle.record.specs.Rows.{rowOf}
 use Rattle.record.specs.declared.types.Row.{Row}
-use Rattle.reader.specs.declared.types.RowPlace.{RowPlace}
+use Rattle.questions.specs.declared.types.RowPlace.{RowPlace}
 use Rattle.adjust.specs.Floats.{floatUnless, noPlace, noClock, floatRow, absentRow, lineFrom, rowAnswer}
 use Rattle.adjust.specs.declared.FloatRow.{FloatRow}
 use Rattle.adjust.specs.declared.RowAnswer.{RowAnswer}

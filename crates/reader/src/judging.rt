@@ -2,12 +2,11 @@
 ghost use mathlib.Core.Path.{_≡_};
 ghost use Rattle.lines.specs.Lines.{linesOf};
 ghost use Rattle.header.specs.Rules.{d};
-ghost use Rattle.file.specs.Table.{paddedFirst, firstIn, countOf, headerWith};
+ghost use Rattle.file.specs.Table.{headerWith};
 ghost use Rattle.reader.specs.Reading.{refusedWith, judged, frontOf, fileOf, Accounted};
 use crate::types::Reading;
 use header::Header;
 use header::Rules;
-use record::First;
 use scan::Front;
 
 // A refusal beside nothing.
@@ -22,43 +21,19 @@ pub(crate) fn refused(number: usize, line: u64) -> Reading
     }
 }
 
-// The first line of a kind, padded to 80 columns.
-fn padded_line(rules: Rules, bytes: &[u8], kind: u64) -> [u8; 80]
-    ensures { λ r. ⌜ r ≡ paddedFirst rules kind (linesOf (now (bytes .entry))) ⌝ }
-{
-    layout::pad(file::line_of(rules, bytes, kind, 0))
-}
-
-// The number of satellites that the first `+ ` line says.
-pub(crate) fn count_of(rules: Rules, bytes: &[u8]) -> u64
-    ensures { λ r. ⌜ r ≡ countOf rules (linesOf (now (bytes .entry))) ⌝ }
-{
-    let line = padded_line(rules, bytes, 3);
-    let satellites = record::slots::read_satellites(rules, &line);
-    satellites.count
-}
-
-// Line 1 of a file.
-pub(crate) fn first_of(rules: Rules, bytes: &[u8]) -> First
-    ensures { λ r. ⌜ r ≡ firstIn rules (linesOf (now (bytes .entry))) ⌝ }
-{
-    let line = padded_line(rules, bytes, 1);
-    record::opening::read_first(rules, &line)
-}
-
 // The header that the lines of a file hold, of which so many are comments.
 pub(crate) fn header_of(rules: Rules, bytes: &[u8], comments: u64) -> Header
     ensures { λ r. ⌜ r ≡ headerWith rules (linesOf (now (bytes .entry))) comments ⌝ }
 {
-    let first = first_of(rules, bytes);
+    let first = file::first_of(rules, bytes);
     let texts = first.texts;
     let start = first.start;
-    let second_line = padded_line(rules, bytes, 2);
+    let second_line = file::padded_line(rules, bytes, 2);
     let second = record::opening::read_second(&second_line);
-    let descriptor_line = padded_line(rules, bytes, 5);
+    let descriptor_line = file::padded_line(rules, bytes, 5);
     let descriptor = record::descriptors::read_descriptor(&descriptor_line);
     let time_system = descriptor.time_system;
-    let base_line = padded_line(rules, bytes, 6);
+    let base_line = file::padded_line(rules, bytes, 6);
     let based = record::descriptors::read_bases(&base_line);
     let bases = based.bases;
     Header {
@@ -67,7 +42,7 @@ pub(crate) fn header_of(rules: Rules, bytes: &[u8], comments: u64) -> Header
         epochs: first.epochs,
         interval8: second.interval8,
         texts,
-        satellites: count_of(rules, bytes),
+        satellites: file::count_of(rules, bytes),
         comments,
         file_type: descriptor.file_type,
         time_system,
