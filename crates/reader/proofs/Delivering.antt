@@ -1,6 +1,6 @@
 -- A reading into lent memory, on plain values: what is refused leaves every list as it was; what has room is filled.
 -- Assumes nothing.
-use mathlib.Core.Path.{_≡_, refl, sym, ap, ap₂, _∙_, subst}
+use mathlib.Core.Path.{_≡_, refl, sym, ap, ap₂, _∙_}
 use mathlib.Core.Bool.{Bool, true, false, _&&_}
 use mathlib.Core.List.{List, _++_, map}
 use Prim.Native.Nat.{ℕ, _-_, _*_, _/_, _≤_}
@@ -26,18 +26,18 @@ use Rattle.scan.specs.declared.Front.{Front}
 use Rattle.scan.specs.declared.Front.the-variants as front
 use Rattle.reader.specs.Reading.{refusedWith, linesTo, judged, Accounted, roomFor, enough, delivered, linesIn, filled, identifiersOf, exponentsOf}
 use Rattle.reader.specs.declared.types.Reading.{Reading}
-use Rattle.reader.proofs.Found.{front-part}
+use Rattle.reader.proofs.Found.{front-part, file-accounted}
 
 -- a list that is left as it was
 pub left-alone : {A : Type 0} (room : Bool) (new old : List A) → room ≡ false → old ≡ filled room new old
 left-alone room new old e = rw e
 
 -- a list that is filled
-pub filled-all : {A : Type 0} (room : Bool) (new old now : List A) → room ≡ true → now ≡ over new old → now ≡ filled room new old
+filled-all : {A : Type 0} (room : Bool) (new old now : List A) → room ≡ true → now ≡ over new old → now ≡ filled room new old
 filled-all room new old now e is = is ∙ rw e
 
 -- what is laid is laid over as many places as there are
-pub laid-over : {A : Type 0} (new old : List A) → laid new old ≡ over (take (length old) new) old
+laid-over : {A : Type 0} (new old : List A) → laid new old ≡ over (take (length old) new) old
 laid-over {A} new old = go (decLe (length new) (length old))
   where
     go : Dec (length new ≤ length old) → laid new old ≡ over (take (length old) new) old
@@ -46,10 +46,39 @@ laid-over {A} new old = go (decLe (length new) (length old))
         ap (λ (t : List A). take (length old) new ++ t)
         (drop-of-length-le old {i = length new} (omega arith) ∙ sym (drop-of-length-le old {i = length (take (length old) new)} (omega (arith, length-take (length old) new))))
 
+laid-all : {A : Type 0} (room : Bool) (new old now : List A) → room ≡ true → now ≡ laid new old → now ≡ filled room (take (length old) new) old
+laid-all room new old now e is = filled-all room (take (length old) new) old now e (is ∙ laid-over new old)
+
 -- where there is room, what fits is all
 filled-same : {A : Type 0} (room : Bool) (some all old : List A) → (room ≡ true → some ≡ all) → filled room some old ≡ filled room all old
 filled-same true some all old h = ap (λ new. over new old) (h refl)
 filled-same false some all old h = refl
+
+-- the four lists, which a flag fills with what fits of some lines, or leaves as they were
+module _ (room : Bool) (rules : Rules) (n count : ℕ) (used : List (List ℕ)) (names exponents comments : List ℕ) (rows : List ℤ) where
+  abbrev pub Filled : List ℕ → List ℕ → List ℕ → List ℤ → Type 0
+  Filled names′ exponents′ comments′ rows′ =
+      (names′ ≡ filled room (take (length names) (slotsIn rules false n used)) names)
+      × ((exponents′ ≡ filled room (take (length exponents) (slotsIn rules true n used)) exponents)
+      × ((comments′ ≡ filled room (take (length comments) (flat (map commentText (take count (ofKind rules 8 used))))) comments)
+      × (rows′ ≡ filled room (numbersOfRows rules (take (length rows / rowWidth) (rowLines rules used))) rows)))
+
+  pub lists-left : room ≡ false → Filled names exponents comments rows
+  lists-left e = (rw e, (rw e, (rw e, rw e)))
+
+  pub lists-filled : (names′ exponents′ comments′ : List ℕ) (rows′ : List ℤ) → room ≡ true
+      → names′ ≡ laid (slotsIn rules false n used) names
+      → exponents′ ≡ laid (slotsIn rules true n used) exponents
+      → comments′ ≡ laid (flat (map commentText (take count (ofKind rules 8 used)))) comments
+      → rows′ ≡ over (numbersOfRows rules (take (length rows / rowWidth) (rowLines rules used))) rows
+      → Filled names′ exponents′ comments′ rows′
+  lists-filled names′ exponents′ comments′ rows′ e i x c r = (
+    laid-all room _ names names′ e i,
+    (
+      laid-all room _ exponents exponents′ e x,
+      (laid-all room _ comments comments′ e c, r ∙ rw e),
+    ),
+  )
 
 -- n slots at most
 slots-fewer : (rules : Rules) (accuracies : Bool) (n : ℕ) (ls : List (List ℕ)) → length (slotsIn rules accuracies n ls) ≤ n
@@ -97,7 +126,7 @@ module _ (rules : Rules) (bytes : List ℕ) (f : Front) (i x c r : ℕ) where
     used = linesOf (take (t .end - 0) bytes)
 
     counts : Accounted rules bytes (front.File t)
-    counts = subst (Accounted rules bytes) is accounted
+    counts = file-accounted rules bytes f t is accounted
 
     n-is : n ≡ countOf rules lines
     n-is = count ∙ ap (λ (b : List ℕ). countOf rules (linesOf b)) (front-part (t .end) bytes)
@@ -116,7 +145,7 @@ module _ (rules : Rules) (bytes : List ℕ) (f : Front) (i x c r : ℕ) where
     unfolding delivered
     short-delivered e = rw (is, sym room-is ∙ e)
 
-    pub file-delivered : room ≡ true → judged rules bytes f ≡ delivered rules bytes f i x c r
+    pub file-delivered : room ≡ true → judged rules bytes (front.File t) ≡ delivered rules bytes f i x c r
     unfolding delivered judged
     file-delivered e = rw (is, sym room-is ∙ e)
 
@@ -176,19 +205,20 @@ module _ (rules : Rules) (bytes : List ℕ) (f : Front) (i x c r : ℕ) where
 
     pub lists-delivered : (names exponents comments names′ exponents′ comments′ : List ℕ) (rows rows′ : List ℤ)
         → length names ≡ i → length exponents ≡ x → length comments ≡ c → length rows ≡ r
-        → (names′ ≡ filled room (take (length names) (slotsIn rules false n used)) names)
-        × (exponents′ ≡ filled room (take (length exponents) (slotsIn rules true n used)) exponents)
-        × (comments′ ≡ filled room (take (length comments) (flat (map commentText (take (t .comments) (ofKind rules 8 used))))) comments)
-        × (rows′ ≡ filled room (numbersOfRows rules (take (length rows / rowWidth) (rowLines rules used))) rows)
+        → Filled room rules n (t .comments) used names exponents comments rows names′ exponents′ comments′ rows′
         → (names′ ≡ filled (enough rules bytes f i x c r) (identifiersOf rules (linesIn bytes f)) names)
-        × (exponents′ ≡ filled (enough rules bytes f i x c r) (exponentsOf rules (linesIn bytes f)) exponents)
-        × (comments′ ≡ filled (enough rules bytes f i x c r) (commentsIn rules (linesIn bytes f)) comments)
-        × (rows′ ≡ filled (enough rules bytes f i x c r) (rowsIn rules (linesIn bytes f)) rows)
-    lists-delivered names exponents comments names′ exponents′ comments′ rows rows′ si sx sc sr (pi, px, pc, pr) = (
+        × ((exponents′ ≡ filled (enough rules bytes f i x c r) (exponentsOf rules (linesIn bytes f)) exponents)
+        × ((comments′ ≡ filled (enough rules bytes f i x c r) (commentsIn rules (linesIn bytes f)) comments)
+        × (rows′ ≡ filled (enough rules bytes f i x c r) (rowsIn rules (linesIn bytes f)) rows)))
+    lists-delivered names exponents comments names′ exponents′ comments′ rows rows′ si sx sc sr (pi, (px, (pc, pr))) = (
       delivers _ _ names names′ (λ e. slots-all e false names (omega (arith, names-fit e))) pi,
-      delivers _ _ exponents exponents′ (λ e. slots-all e true exponents (omega (arith, exponents-fit e))) px,
-      delivers _ _ comments comments′ (λ e. comments-all e comments sc) pc,
-      delivers _ _ rows rows′ (λ e. rows-all e rows sr) pr,
+      (
+        delivers _ _ exponents exponents′ (λ e. slots-all e true exponents (omega (arith, exponents-fit e))) px,
+        (
+          delivers _ _ comments comments′ (λ e. comments-all e comments sc) pc,
+          delivers _ _ rows rows′ (λ e. rows-all e rows sr) pr,
+        ),
+      ),
     )
 
 -- The same for rules and a front that are known by equations.

@@ -33,7 +33,7 @@ pub front-part : (n : ℕ) (bytes : List ℕ) → take (n - 0) bytes ≡ take n 
 front-part n bytes = ap (λ (k : ℕ). take k bytes) (sub-zero n)
 
 -- an answer that accepts
-abbrev pub accepted : ℕ → Header → Reading
+abbrev accepted : ℕ → Header → Reading
 accepted length h = record { refusal = 0; line = 0; length = length; header = h }
 
 module _ (rules : Rules) (bytes : List ℕ) where
@@ -44,18 +44,18 @@ module _ (rules : Rules) (bytes : List ℕ) where
 
   -- the header of the lines that a file takes up
   module _ (f : Front) (t : Tally) (is : f ≡ front.File t) (accounted : Accounted rules bytes f) where
-    counts : Accounted rules bytes (front.File t)
-    counts = subst (Accounted rules bytes) is accounted
+    pub file-accounted : Accounted rules bytes (front.File t)
+    file-accounted = subst (Accounted rules bytes) is accounted
 
     pub file-within : t .end ≤ length bytes
-    file-within = counts .0
+    file-within = file-accounted .0
 
-    pub header-read : (h : Header) → h ≡ headerWith rules (linesOf (take (t .end - 0) bytes)) (t .comments) → h ≡ headerIn rules (linesTo (t .end) bytes)
+    header-read : (h : Header) → h ≡ headerWith rules (linesOf (take (t .end - 0) bytes)) (t .comments) → h ≡ headerIn rules (linesTo (t .end) bytes)
     unfolding headerIn
     header-read h e =
         e
         ∙ ap (λ (b : List ℕ). headerWith rules (linesOf b) (t .comments)) (front-part (t .end) bytes)
-        ∙ ap (headerWith rules (linesTo (t .end) bytes)) (counts .1)
+        ∙ ap (headerWith rules (linesTo (t .end) bytes)) (file-accounted .1)
 
     pub file-judged : (h : Header) → h ≡ headerWith rules (linesOf (take (t .end - 0) bytes)) (t .comments)
         → accepted (t .end) h ≡ judged rules bytes f

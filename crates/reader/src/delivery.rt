@@ -30,7 +30,7 @@ fn fill_lists(
     rules: Rules,
     bytes: &[u8],
     n: u64,
-    comment_count: u64,
+    count: u64,
     identifiers: &mut [u64],
     exponents: &mut [u64],
     comments: &mut [u8],
@@ -38,7 +38,7 @@ fn fill_lists(
 )
     ensures { λ _. ⌜ now (identifiers .exit) ≡ filled enough (take (length (now (identifiers .entry))) (slotsIn rules false n (linesOf (now (bytes .entry))))) (now (identifiers .entry)) ⌝ }
     ensures { λ _. ⌜ now (exponents .exit) ≡ filled enough (take (length (now (exponents .entry))) (slotsIn rules true n (linesOf (now (bytes .entry))))) (now (exponents .entry)) ⌝ }
-    ensures { λ _. ⌜ now (comments .exit) ≡ filled enough (take (length (now (comments .entry))) (flat (map commentText (take «comment_count» (ofKind rules 8 (linesOf (now (bytes .entry)))))))) (now (comments .entry)) ⌝ }
+    ensures { λ _. ⌜ now (comments .exit) ≡ filled enough (take (length (now (comments .entry))) (flat (map commentText (take count (ofKind rules 8 (linesOf (now (bytes .entry)))))))) (now (comments .entry)) ⌝ }
     ensures { λ _. ⌜ now (rows .exit) ≡ filled enough (numbersOfRows rules (take (length (now (rows .entry)) / rowWidth) (rowLines rules (linesOf (now (bytes .entry)))))) (now (rows .entry)) ⌝ }
 {
     if !enough {
@@ -46,7 +46,7 @@ fn fill_lists(
     }
     store::fill_slots(rules, bytes, false, n, identifiers);
     store::fill_slots(rules, bytes, true, n, exponents);
-    store::fill_comments(rules, bytes, comment_count, comments);
+    store::fill_comments(rules, bytes, count, comments);
     store::fill_rows(rules, bytes, rows);
 }
 

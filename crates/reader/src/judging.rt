@@ -22,7 +22,7 @@ pub(crate) fn refused(number: usize, line: u64) -> Reading
 }
 
 // The header that the lines of a file hold, of which so many are comments.
-pub(crate) fn header_of(rules: Rules, bytes: &[u8], comments: u64) -> Header
+fn header_of(rules: Rules, bytes: &[u8], comments: u64) -> Header
     ensures { λ r. ⌜ r ≡ headerWith rules (linesOf (now (bytes .entry))) comments ⌝ }
 {
     let first = file::first_of(rules, bytes);
