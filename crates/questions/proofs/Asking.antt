@@ -1,4 +1,4 @@
--- Laws of the questions, on plain values: a name's number, where a line lies, and what bounds the lines
+-- Laws of the questions, on plain values: a text without its trailing blanks, a name's number, where a line lies, and what bounds the lines
 -- of an accepted file. Assumes nothing.
 use mathlib.Core.Path.{_≡_, sym, ap, ap₂, _∙_}
 use mathlib.Core.Bool.{Bool, true, false, _&&_}
@@ -31,14 +31,25 @@ use Rattle.questions.specs.declared.types.CommentAnswer.{CommentAnswer}
 use Rattle.questions.specs.declared.types.RowPlace.{RowPlace}
 use Rattle.questions.specs.declared.types.SatelliteAnswer.{SatelliteAnswer}
 use Rattle.laws.proofs.Bools.{both-true}
-use Rattle.laws.proofs.Lists.{rest-step, rest-none}
-use Rattle.layout.proofs.Lines.{trim-stop, trimmed-front}
+use Rattle.laws.proofs.Lists.{rest-step, rest-none, rest-part}
+use Rattle.layout.proofs.Lines.{trimmed-front, trimmed-shorter}
 use Rattle.lines.proofs.Picking.{nth-past, place-past, placed}
 use Rattle.lines.proofs.Split.{bytes-in, parted, first}
 use Rattle.accepted.proofs.Files.{front-plain}
 use Rattle.accepted.proofs.Local.{whole-ends}
 use Rattle.plain.proofs.Selected.{satellites, epochs, kind-1}
 use Rattle.plain.proofs.Counts.{count-is, satellites-bounds, epochs-bounds, identifiers-room}
+
+-- a comment's text by the length that is told of what stands from column 4 on
+abbrev wordsOf : List ℕ → List ℕ
+wordsOf line = take (length line - 3) (drop 3 line)
+
+module _ (line : List ℕ) (n : ℕ) (told : n ≡ length (trimmed (wordsOf line))) where
+  pub text-fits : n ≤ length (wordsOf line)
+  text-fits = omega (arith, trimmed-shorter (wordsOf line))
+
+  pub text-told : take (n - 0) (wordsOf line) ≡ textIn line
+  text-told = ap (λ (k : ℕ). take k (wordsOf line)) (sub-zero n ∙ told) ∙ trimmed-front (wordsOf line) ∙ ap trimmed (rest-part line 3)
 
 -- a name's number, from a place on
 module _ (name : ℕ) (names : List ℕ) (i : ℕ) where
