@@ -1,6 +1,7 @@
 -- What a judged front says, on plain values.
 -- Assumes nothing.
-use mathlib.Core.Path.{_≡_, ap, _∙_, subst}
+use mathlib.Core.Path.{_≡_, sym, ap, _∙_, subst}
+use mathlib.Core.Bool.{Bool, true, false, cond}
 use mathlib.Core.List.{List}
 use Prim.Native.Nat.{ℕ, _-_, _≤_}
 use native.Mathlib.Nat.{sub-zero}
@@ -16,17 +17,28 @@ use Rattle.header.specs.declared.types.Rules.{Rules}
 use Rattle.scan.specs.declared.Tally.{Tally}
 use Rattle.scan.specs.declared.Front.{Front}
 use Rattle.scan.specs.declared.Front.the-variants as front
-use Rattle.reader.specs.Reading.{refusedWith, linesTo, judged, Accounted}
+use Rattle.reader.specs.Reading.{refusedWith, linesTo, judged, frontOf, fileOf, Accounted}
 use Rattle.reader.specs.declared.types.Reading.{Reading}
 
 -- the counts of what a scan found are those of the lines
-pub accounted-front : (rules : Rules) (bytes : List ℕ) (f : Front) → scanOf rules bytes ≡ f → Accounted rules bytes f
+accounted-front : (rules : Rules) (bytes : List ℕ) (f : Front) → scanOf rules bytes ≡ f → Accounted rules bytes f
 accounted-front rules bytes (front.File t) e = let a = accepted-front rules bytes t e in (a .within, a .comments, a .rows)
 accounted-front rules bytes (front.Refused number line column) e = tt
 
-pub accounted-whole : (rules : Rules) (bytes : List ℕ) (f : Front) → wholeOf (length bytes) (scanOf rules bytes) ≡ f → Accounted rules bytes f
+accounted-whole : (rules : Rules) (bytes : List ℕ) (f : Front) → wholeOf (length bytes) (scanOf rules bytes) ≡ f → Accounted rules bytes f
 accounted-whole rules bytes (front.File t) e = accounted-front rules bytes (front.File t) (whole-ends rules bytes t e .0)
 accounted-whole rules bytes (front.Refused number line column) e = tt
+
+-- what is found: one whole file, or one at the front
+module _ (whole : Bool) (rules : Rules) (bytes : List ℕ) (f : Front) where
+  abbrev asked : Bool → Front
+  asked b = cond b (fileOf rules bytes) (frontOf rules bytes)
+
+  pub whole-found : whole ≡ true → f ≡ fileOf rules bytes → (f ≡ asked whole) × Accounted rules bytes f
+  whole-found w e = (e ∙ ap asked (sym w), accounted-whole rules bytes f (sym e))
+
+  pub front-found : whole ≡ false → f ≡ frontOf rules bytes → (f ≡ asked whole) × Accounted rules bytes f
+  front-found w e = (e ∙ ap asked (sym w), accounted-front rules bytes f (sym e))
 
 -- a part from the first byte on
 pub front-part : (n : ℕ) (bytes : List ℕ) → take (n - 0) bytes ≡ take n bytes

@@ -120,7 +120,7 @@ pub fn read(
     ensures rows { λ _. ⌜ now (rows .exit) ≡ filled (enough d (now (file .entry)) (fileOf d (now (file .entry))) (length (now (identifiers .entry))) (length (now (exponents .entry))) (length (now (comments .entry))) (length (now (rows .entry)))) (rowsIn d (linesIn (now (file .entry)) (fileOf d (now (file .entry))))) (now (rows .entry)) ⌝ }
 {
     let rules = Rules::d();
-    let found = scan::scan_whole(rules, file);
+    let found = judging::found_in(true, rules, file);
     deliver(rules, file, found, identifiers, exponents, comments, rows)
 }
 
@@ -139,7 +139,7 @@ pub fn read_front(
     ensures rows { λ _. ⌜ now (rows .exit) ≡ filled (enough d (now (stretch .entry)) (frontOf d (now (stretch .entry))) (length (now (identifiers .entry))) (length (now (exponents .entry))) (length (now (comments .entry))) (length (now (rows .entry)))) (rowsIn d (linesIn (now (stretch .entry)) (frontOf d (now (stretch .entry))))) (now (rows .entry)) ⌝ }
 {
     let rules = Rules::d();
-    let found = scan::scan_front(rules, stretch);
+    let found = judging::found_in(false, rules, stretch);
     deliver(
         rules,
         stretch,

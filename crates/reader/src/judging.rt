@@ -1,5 +1,6 @@
 // Judging: the answer about one file, with no room lent.
 ghost use mathlib.Core.Path.{_≡_};
+ghost use mathlib.Core.Bool.{cond};
 ghost use Rattle.lines.specs.Lines.{linesOf};
 ghost use Rattle.header.specs.Rules.{d};
 ghost use Rattle.file.specs.Table.{headerWith};
@@ -50,6 +51,17 @@ fn header_of(rules: Rules, bytes: &[u8], comments: u64) -> Header
     }
 }
 
+// What is found in some bytes: one whole file, or one at their front.
+pub(crate) fn found_in(whole: bool, rules: Rules, bytes: &[u8]) -> Front
+    ensures { λ r. ⌜ r ≡ cond whole (fileOf rules (now (bytes .entry))) (frontOf rules (now (bytes .entry))) ⌝ }
+    ensures { λ r. ⌜ Accounted rules (now (bytes .entry)) r ⌝ }
+{
+    if whole {
+        return scan::scan_whole(rules, bytes);
+    }
+    scan::scan_front(rules, bytes)
+}
+
 // What was found at the front of some bytes, as an answer.
 pub(crate) fn answer(rules: Rules, bytes: &[u8], found: Front) -> Reading
     requires { ⌜ Accounted rules (now bytes) found ⌝ }
@@ -78,7 +90,7 @@ pub fn judge(file: &[u8]) -> Reading
     ensures result { λ r. ⌜ r ≡ judged d (now (file .entry)) (fileOf d (now (file .entry))) ⌝ }
 {
     let rules = Rules::d();
-    answer(rules, file, scan::scan_whole(rules, file))
+    answer(rules, file, found_in(true, rules, file))
 }
 
 // One file at the front of a stretch: 11 never occurs.
@@ -86,5 +98,5 @@ pub fn judge_front(stretch: &[u8]) -> Reading
     ensures result { λ r. ⌜ r ≡ judged d (now (stretch .entry)) (frontOf d (now (stretch .entry))) ⌝ }
 {
     let rules = Rules::d();
-    answer(rules, stretch, scan::scan_front(rules, stretch))
+    answer(rules, stretch, found_in(false, rules, stretch))
 }
