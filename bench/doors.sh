@@ -27,7 +27,7 @@ doors() {
     rt staticlib doors >log 2>&1 || { tail -n 20 log; exit 1; }
 }
 
-reader_doors() { doors reader laws field calendar layout lines header record machine file scan accepted plain store reader; }
+reader_doors() { doors reader laws field calendar layout lines header record machine file scan accepted plain stored store reader questions; }
 
 harness() {
     name=$1

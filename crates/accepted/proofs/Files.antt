@@ -1,13 +1,13 @@
 -- The bytes that are accepted are exactly the bytes of a plain file.
 -- Assumes nothing.
-use mathlib.Core.Path.{_≡_, refl, sym, ap, _∙_}
+use mathlib.Core.Path.{_≡_, refl, sym, ap, subst, _∙_}
 use mathlib.Core.Bool.{Bool, true, false}
 use mathlib.Core.List.{List, [], _∷_, _++_, append-nil}
 use mathlib.Core.Logic.{_↔_}
 use Prim.Native.Nat.{ℕ, _+_, _≤_}
 use native.Mathlib.Omega.{arith}
 use lib.Dec.{ltb}
-use lib.ListN.{length, length-append}
+use lib.ListN.{length, take, length-append}
 use lib.Seq.{take-all}
 use borrow.Author.Tests.{ne-eqb, ltb-false, le-ltb}
 use Rattle.laws.specs.Texts.{every, isPrintable}
@@ -121,3 +121,21 @@ d-sound = record { names-fit = omega arith; comments-fit = omega arith }
 
 pub d-exactly : (bytes : List ℕ) → IsFile d bytes ↔ Accepted d bytes
 d-exactly bytes = accepts-exactly d d-sound bytes
+
+-- The lines of a file at the front of some bytes are those of a plain file.
+pub front-plain : (bytes : List ℕ) (t : Tally) → scanOf d bytes ≡ front.File t → Plain d (linesOf (take (t .end) bytes))
+front-plain bytes t e =
+    let p = run-plain d d-sound (linesOf bytes) nothing t e in
+    let parts = parted (p .used) bytes (p .rest) (p .split) in
+    let end : t .end ≡ length (joinLines (p .used)) = ap (λ (x : Tally). x .end) (p .tally) ∙ bytes-counted d nothing (p .used) ∙ omega arith in
+    let lines : linesOf (take (t .end) bytes) ≡ p .used = ap (λ (n : ℕ). linesOf (take n bytes)) end ∙ ap linesOf (parts .front) ∙ parts .front-lines in
+    rw lines (p .plain)
+
+-- a whole file takes up all of its bytes
+pub whole-taken : (bytes : List ℕ) (t : Tally) → wholeOf (length bytes) (scanOf d bytes) ≡ front.File t → take (t .end) bytes ≡ bytes
+whole-taken bytes t e = take-all (t .end) bytes (whole-ends (length bytes) (scanOf d bytes) t e .1)
+
+-- and its lines are those of a plain file
+pub file-plain : (bytes : List ℕ) → IsFile d bytes → Plain d (linesOf bytes)
+file-plain bytes (t, e) =
+    subst (λ (s : List ℕ). Plain d (linesOf s)) (whole-taken bytes t e) (front-plain bytes t (whole-ends (length bytes) (scanOf d bytes) t e .0))

@@ -9,7 +9,7 @@ use lib.Dec.{eqb}
 use lib.Ieee.{Float}
 use Rattle.record.specs.Rows.{rowOf}
 use Rattle.record.specs.declared.types.Row.{Row}
-use Rattle.reader.specs.declared.types.RowPlace.{RowPlace}
+use Rattle.questions.specs.declared.types.RowPlace.{RowPlace}
 use Rattle.adjust.specs.Floats.{floatUnless, noPlace, noClock, floatRow, absentRow, lineFrom, rowAnswer}
 use Rattle.adjust.specs.declared.FloatRow.{FloatRow}
 use Rattle.adjust.specs.declared.RowAnswer.{RowAnswer}

@@ -24,9 +24,9 @@ use Rattle.record.specs.declared.types.Row.{Row}
 use Rattle.scan.specs.declared.Tally.{Tally}
 use Rattle.scan.specs.declared.Front.the-variants as front
 use Rattle.reader.specs.Reading.{fileOf}
-use Rattle.reader.specs.Questions.{epochsOf, rowPlace}
-use Rattle.reader.specs.declared.types.RowPlace.{RowPlace}
-use Rattle.reader.proofs.Theorems.{row-not-refused, row-numbered}
+use Rattle.questions.specs.Questions.{epochsOf, rowPlace}
+use Rattle.questions.specs.declared.types.RowPlace.{RowPlace}
+use Rattle.questions.proofs.Theorems.{row-not-refused, row-numbered}
 use Rattle.record.proofs.Absent.{place-absent, clock-absent}
 use Rattle.adjust.specs.Floats.{floatUnless, noPlace, noClock, floatRow, absentRow, rowAnswer}
 

@@ -13,7 +13,7 @@ use Rattle.record.specs.Rows.{rowOf}
 use Rattle.file.specs.Table.{storedSigned}
 use Rattle.record.specs.declared.types.Signed.{Signed}
 use Rattle.record.specs.declared.types.Row.{Row}
-use Rattle.reader.specs.declared.types.RowPlace.{RowPlace}
+use Rattle.questions.specs.declared.types.RowPlace.{RowPlace}
 use Rattle.adjust.specs.declared.FloatRow.{FloatRow}
 use Rattle.adjust.specs.declared.RowAnswer.{RowAnswer}
 

@@ -6,6 +6,9 @@ use Rattle.file.proofs.kind_in.Reads as kind-in
 use Rattle.file.proofs.place_of.Reads as place-of
 use Rattle.file.proofs.line_at.Reads as line-at
 use Rattle.file.proofs.line_of.Reads as line-of
+use Rattle.file.proofs.records.padded_line.Reads as padded-line
+use Rattle.file.proofs.records.first_of.Reads as first-of
+use Rattle.file.proofs.records.count_of.Reads as count-of
 
 pub kind-in-determined : (κs : _) (a : _) (r r′ : _) (s s′ : _) → kind-in.Post κs a r s → kind-in.Post κs a r′ s′ → r ≡ r′
 kind-in-determined κs a r r′ s s′ p q = p ∙ sym q
@@ -18,3 +21,12 @@ line-at-determined κs a r r′ s s′ p q = p ∙ sym q
 
 pub line-of-determined : (κs : _) (a : _) (r r′ : _) (s s′ : _) → line-of.Post κs a r s → line-of.Post κs a r′ s′ → now r ≡ now r′
 line-of-determined κs a r r′ s s′ p q = p ∙ sym q
+
+pub padded-line-determined : (κs : _) (a : _) (r r′ : _) (s s′ : _) → padded-line.Post κs a r s → padded-line.Post κs a r′ s′ → r ≡ r′
+padded-line-determined κs a r r′ s s′ p q = p ∙ sym q
+
+pub first-of-determined : (κs : _) (a : _) (r r′ : _) (s s′ : _) → first-of.Post κs a r s → first-of.Post κs a r′ s′ → r ≡ r′
+first-of-determined κs a r r′ s s′ p q = p ∙ sym q
+
+pub count-of-determined : (κs : _) (a : _) (r r′ : _) (s s′ : _) → count-of.Post κs a r s → count-of.Post κs a r′ s′ → r ≡ r′
+count-of-determined κs a r r′ s s′ p q = p ∙ sym q

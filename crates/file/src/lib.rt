@@ -6,6 +6,12 @@ ghost use Rattle.file.specs.Kinds.{kindIn, isKind, ofKind};
 use header::Rules;
 use record::LineKind;
 
+mod records;
+
+pub use records::count_of;
+pub use records::first_of;
+pub use records::padded_line;
+
 // The byte in a column, counted from 0, a blank where the line is shorter.
 fn byte_at(line: &[u8], i: usize) -> u8
     ensures { λ r. ⌜ r ≡ getD (now (line .entry)) i 32 ⌝ }

@@ -1,5 +1,6 @@
-// What several layers share: the test of two bounds and the filling of blanks, beside the laws of specs/ and proofs/.
+// What several layers share: the test of two bounds, the smaller of two counts and the filling of blanks, beside the laws of specs/ and proofs/.
 ghost use mathlib.Core.Path.{_≡_};
+ghost use Prim.Native.Nat.{min};
 ghost use lib.ListN.{length};
 ghost use Rattle.laws.specs.Tests;
 ghost use Rattle.laws.specs.Texts.{blanks};
@@ -12,6 +13,13 @@ pub fn within(low: u64, high: u64, n: u64) -> bool
         return false;
     }
     n <= high
+}
+
+// The smaller of two counts.
+pub fn fewer(a: usize, b: usize) -> usize
+    ensures result { λ r. ⌜ r ≡ min a b ⌝ }
+{
+    if a < b { a } else { b }
 }
 
 // Blanks in every place that is lent.

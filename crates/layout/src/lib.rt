@@ -2,7 +2,6 @@
 // The layouts themselves are definitions (specs/Kind, specs/Layout); their laws, once over all of them, are in proofs/.
 ghost use mathlib.Core.Path.{_≡_};
 ghost use mathlib.Core.List.{_++_};
-ghost use Prim.Native.Nat.{min};
 ghost use lib.ListN.{length, take, drop};
 ghost use Rattle.laws.specs.Texts.{every, isPrintable};
 ghost use Rattle.layout.specs.Fault;
@@ -49,18 +48,11 @@ pub fn is_printable(s: &[u8]) -> bool
     plain
 }
 
-// The smaller of two counts.
-fn fewer(a: usize, b: usize) -> usize
-    ensures { λ r. ⌜ r ≡ min a b ⌝ }
-{
-    if a < b { a } else { b }
-}
-
 // The bytes laid over the front of `out`, as many as it has room for.
 pub fn copy_front(out: &mut [u8], bytes: &[u8])
     ensures lent { λ _. ⌜ now (out .exit) ≡ take (length (now (out .entry))) (now (bytes .entry)) ++ drop (length (now (bytes .entry))) (now (out .entry)) ⌝ }
 {
-    let n = fewer(out.len(), bytes.len());
+    let n = laws::fewer(out.len(), bytes.len());
     let mut i = 0;
     while i < n {
         out[i] = bytes[i];
@@ -78,8 +70,8 @@ pub fn pad(line: &[u8]) -> [u8; 80]
 }
 
 // How many columns a line has without its trailing blanks.
-fn trimmed_length(line: &[u8]) -> usize
-    ensures { λ r. ⌜ r ≡ length (trimmed (now (line .entry))) ⌝ }
+pub fn trimmed_length(line: &[u8]) -> usize
+    ensures result { λ r. ⌜ r ≡ length (trimmed (now (line .entry))) ⌝ }
 {
     let mut n = line.len();
     while 0 < n {

@@ -1,6 +1,6 @@
 // Bytes as lines, and lent memory that is filled from its first place on.
 ghost use mathlib.Core.Path.{_≡_};
-ghost use Prim.Native.Nat.{_+_, _≤_, min};
+ghost use Prim.Native.Nat.{_+_, _≤_};
 ghost use lib.ListN.{length, take, drop};
 ghost use Rattle.lines.specs.Lines.{lineLength, hasLf};
 ghost use Rattle.lines.specs.Lent.{laid};
@@ -50,18 +50,11 @@ pub fn line_end(bytes: &[u8], at: usize) -> usize
     from
 }
 
-// The smaller of two counts.
-fn fewer(a: usize, b: usize) -> usize
-    ensures { λ r. ⌜ r ≡ min a b ⌝ }
-{
-    if a < b { a } else { b }
-}
-
 // The numbers laid over the front of `out`, as many as it has room for.
 pub fn lay_numbers(out: &mut [u64], numbers: &[u64])
     ensures lent { λ _. ⌜ now (out .exit) ≡ laid (now (numbers .entry)) (now (out .entry)) ⌝ }
 {
-    let n = fewer(out.len(), numbers.len());
+    let n = laws::fewer(out.len(), numbers.len());
     let mut k = 0;
     while k < n {
         out[k] = numbers[k];

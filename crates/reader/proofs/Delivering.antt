@@ -1,14 +1,15 @@
 -- A reading into lent memory, on plain values: what is refused leaves every list as it was; what has room is filled.
 -- Assumes nothing.
-use mathlib.Core.Path.{_≡_, refl, sym, ap, ap₂, _∙_, subst}
+use mathlib.Core.Path.{_≡_, refl, sym, ap, ap₂, _∙_}
 use mathlib.Core.Bool.{Bool, true, false, _&&_}
-use mathlib.Core.List.{List, map}
+use mathlib.Core.List.{List, _++_, map}
 use Prim.Native.Nat.{ℕ, _-_, _*_, _/_, _≤_}
+use native.Mathlib.Decide.{decLe}
 use native.Mathlib.Omega.{arith}
 use borrow.Author.Tests.{leb-true}
 use lib.Dec.{leb}
 use lib.IntN.{ℤ}
-use lib.ListN.{length, take, length-take, length-map}
+use lib.ListN.{length, take, length-take, length-map, drop-of-length-le}
 use lib.Seq.{take-all}
 use Rattle.laws.proofs.Bools.{and-left, and-right}
 use Rattle.lines.specs.Lent.{over, laid, flat}
@@ -17,25 +18,67 @@ use Rattle.lines.proofs.Each.{each-map}
 use Rattle.lines.proofs.Laying.{laid-fits}
 use Rattle.lines.proofs.Picking.{length-flat}
 use Rattle.file.specs.Kinds.{ofKind}
-use Rattle.file.specs.Table.{countOf, slotNumbers, slotKind, slotsIn, commentText, commentsIn, headerWith, rowWidth, rowLines, numbersOfRows, rowsIn}
+use Rattle.file.specs.Table.{countOf, slotNumbers, slotKind, slotsIn, commentText, commentsIn, rowWidth, rowLines, numbersOfRows, rowsIn}
 use Rattle.plain.proofs.Counts.{comment-wide}
-use Rattle.header.specs.declared.types.Header.{Header}
 use Rattle.header.specs.declared.types.Rules.{Rules}
 use Rattle.scan.specs.declared.Tally.{Tally}
 use Rattle.scan.specs.declared.Front.{Front}
 use Rattle.scan.specs.declared.Front.the-variants as front
-use Rattle.reader.specs.Reading.{refusedWith, linesTo, Accounted, roomFor, enough, delivered, linesIn, filled, identifiersOf, exponentsOf}
+use Rattle.reader.specs.Reading.{refusedWith, linesTo, judged, Accounted, roomFor, enough, delivered, linesIn, filled, identifiersOf, exponentsOf}
 use Rattle.reader.specs.declared.types.Reading.{Reading}
-use Rattle.reader.proofs.Found.{front-part, accepted, header-read}
+use Rattle.reader.proofs.Found.{front-part, file-accounted}
 
 -- a list that is left as it was
 pub left-alone : {A : Type 0} (room : Bool) (new old : List A) → room ≡ false → old ≡ filled room new old
 left-alone room new old e = rw e
 
--- a list that is filled, all of it within the room
-pub filled-whole : {A : Type 0} (room : Bool) (new old now : List A) → room ≡ true → length new ≤ length old → now ≡ laid new old
-    → now ≡ filled room new old
-filled-whole room new old now e fits is = is ∙ laid-fits new old fits ∙ rw e
+-- a list that is filled
+filled-all : {A : Type 0} (room : Bool) (new old now : List A) → room ≡ true → now ≡ over new old → now ≡ filled room new old
+filled-all room new old now e is = is ∙ rw e
+
+-- what is laid is laid over as many places as there are
+laid-over : {A : Type 0} (new old : List A) → laid new old ≡ over (take (length old) new) old
+laid-over {A} new old = go (decLe (length new) (length old))
+  where
+    go : Dec (length new ≤ length old) → laid new old ≡ over (take (length old) new) old
+    go (yes h) = laid-fits new old h ∙ ap (λ (some : List A). over some old) (sym (take-all (length old) new h))
+    go (no h) =
+        ap (λ (t : List A). take (length old) new ++ t)
+        (drop-of-length-le old {i = length new} (omega arith) ∙ sym (drop-of-length-le old {i = length (take (length old) new)} (omega (arith, length-take (length old) new))))
+
+laid-all : {A : Type 0} (room : Bool) (new old now : List A) → room ≡ true → now ≡ laid new old → now ≡ filled room (take (length old) new) old
+laid-all room new old now e is = filled-all room (take (length old) new) old now e (is ∙ laid-over new old)
+
+-- where there is room, what fits is all
+filled-same : {A : Type 0} (room : Bool) (some all old : List A) → (room ≡ true → some ≡ all) → filled room some old ≡ filled room all old
+filled-same true some all old h = ap (λ new. over new old) (h refl)
+filled-same false some all old h = refl
+
+-- the four lists, which a flag fills with what fits of some lines, or leaves as they were
+module _ (room : Bool) (rules : Rules) (n count : ℕ) (used : List (List ℕ)) (names exponents comments : List ℕ) (rows : List ℤ) where
+  abbrev pub Filled : List ℕ → List ℕ → List ℕ → List ℤ → Type 0
+  Filled names′ exponents′ comments′ rows′ =
+      (names′ ≡ filled room (take (length names) (slotsIn rules false n used)) names)
+      × ((exponents′ ≡ filled room (take (length exponents) (slotsIn rules true n used)) exponents)
+      × ((comments′ ≡ filled room (take (length comments) (flat (map commentText (take count (ofKind rules 8 used))))) comments)
+      × (rows′ ≡ filled room (numbersOfRows rules (take (length rows / rowWidth) (rowLines rules used))) rows)))
+
+  pub lists-left : room ≡ false → Filled names exponents comments rows
+  lists-left e = (rw e, (rw e, (rw e, rw e)))
+
+  pub lists-filled : (names′ exponents′ comments′ : List ℕ) (rows′ : List ℤ) → room ≡ true
+      → names′ ≡ laid (slotsIn rules false n used) names
+      → exponents′ ≡ laid (slotsIn rules true n used) exponents
+      → comments′ ≡ laid (flat (map commentText (take count (ofKind rules 8 used)))) comments
+      → rows′ ≡ over (numbersOfRows rules (take (length rows / rowWidth) (rowLines rules used))) rows
+      → Filled names′ exponents′ comments′ rows′
+  lists-filled names′ exponents′ comments′ rows′ e i x c r = (
+    laid-all room _ names names′ e i,
+    (
+      laid-all room _ exponents exponents′ e x,
+      (laid-all room _ comments comments′ e c, r ∙ rw e),
+    ),
+  )
 
 -- n slots at most
 slots-fewer : (rules : Rules) (accuracies : Bool) (n : ℕ) (ls : List (List ℕ)) → length (slotsIn rules accuracies n ls) ≤ n
@@ -78,16 +121,23 @@ module _ (rules : Rules) (bytes : List ℕ) (f : Front) (i x c r : ℕ) where
     abbrev lines : List (List ℕ)
     lines = linesTo (t .end) bytes
 
+    -- the lines of the file, as they are read
+    abbrev used : List (List ℕ)
+    used = linesOf (take (t .end - 0) bytes)
+
     counts : Accounted rules bytes (front.File t)
-    counts = subst (Accounted rules bytes) is accounted
+    counts = file-accounted rules bytes f t is accounted
 
     n-is : n ≡ countOf rules lines
     n-is = count ∙ ap (λ (b : List ℕ). countOf rules (linesOf b)) (front-part (t .end) bytes)
 
+    used-lines : used ≡ linesIn bytes f
+    used-lines = ap linesOf (front-part (t .end) bytes) ∙ sym (ap (linesIn bytes) is)
+
     room-is : room ≡ roomFor (countOf rules lines) t i x c r
     room-is = asked ∙ ap (λ (k : ℕ). roomFor k t i x c r) n-is
 
-    pub room-enough : enough rules bytes f i x c r ≡ room
+    room-enough : enough rules bytes f i x c r ≡ room
     unfolding enough
     room-enough = rw is (sym room-is)
 
@@ -95,20 +145,20 @@ module _ (rules : Rules) (bytes : List ℕ) (f : Front) (i x c r : ℕ) where
     unfolding delivered
     short-delivered e = rw (is, sym room-is ∙ e)
 
-    module _ (e : room ≡ true) where
-      pub file-delivered : (h : Header) → h ≡ headerWith rules (linesOf (take (t .end - 0) bytes)) (t .comments)
-          → accepted (t .end) h ≡ delivered rules bytes f i x c r
-      unfolding delivered
-      file-delivered h is-h = ap (accepted (t .end)) (header-read rules bytes f t is accounted h is-h) ∙ rw (is, sym room-is ∙ e)
+    pub file-delivered : room ≡ true → judged rules bytes (front.File t) ≡ delivered rules bytes f i x c r
+    unfolding delivered judged
+    file-delivered e = rw (is, sym room-is ∙ e)
 
+    -- what fits is all, where there is room
+    module _ (e : room ≡ true) where
       roomy : roomFor n t i x c r ≡ true
       roomy = sym asked ∙ e
 
-      pub names-fit : n ≤ i
+      names-fit : n ≤ i
       unfolding roomFor
       names-fit = leb-true n i (and-left (leb n i) (leb n x) (and-left (leb n i && leb n x) _ roomy))
 
-      pub exponents-fit : n ≤ x
+      exponents-fit : n ≤ x
       unfolding roomFor
       exponents-fit = leb-true n x (and-right (leb n i) (leb n x) (and-left (leb n i && leb n x) _ roomy))
 
@@ -120,32 +170,20 @@ module _ (rules : Rules) (bytes : List ℕ) (f : Front) (i x c r : ℕ) where
       unfolding roomFor
       rows-fit = leb-true (t .rows) (r / 12) (and-right (leb (t .comments) (c / 77)) _ (and-right (leb n i && leb n x) _ roomy))
 
-      -- identifiers, or exponents: at most n
-      pub slots-delivered : (accuracies : Bool) (old now : List ℕ) → n ≤ length old
-          → now ≡ laid (slotsIn rules accuracies n (linesOf (take (t .end - 0) bytes))) old
-          → now ≡ filled (enough rules bytes f i x c r) (slotsIn rules accuracies (countOf rules (linesIn bytes f)) (linesIn bytes f)) old
-      slots-delivered accuracies old now fits is-now =
-          filled-whole (enough rules bytes f i x c r) _ old now (room-enough ∙ e) (fewer fits)
-          (is-now ∙ ap₂ (λ (k : ℕ) (ls : List (List ℕ)). laid (slotsIn rules accuracies k ls) old) same-count same-lines)
+      slots-all : (accuracies : Bool) (old : List ℕ) → n ≤ length old
+          → take (length old) (slotsIn rules accuracies n used) ≡ slotsIn rules accuracies (countOf rules (linesIn bytes f)) (linesIn bytes f)
+      slots-all accuracies old fits =
+          take-all (length old) (slotsIn rules accuracies n used) (omega (arith, slots-fewer rules accuracies n used))
+          ∙ ap₂ (λ (k : ℕ) (ls : List (List ℕ)). slotsIn rules accuracies k ls) (n-is ∙ sym (ap (λ (g : Front). countOf rules (linesIn bytes g)) is)) used-lines
+
+      comments-all : (old : List ℕ) → length old ≡ c → take (length old) (flat (map commentText (take (t .comments) (ofKind rules 8 used)))) ≡ commentsIn rules (linesIn bytes f)
+      comments-all old size =
+          ap (λ (ls : List (List ℕ)). take (length old) (flat (map commentText ls))) all
+          ∙ ap (λ (g : Front). take (length old) (commentBytes rules (linesIn bytes g))) (sym is)
+          ∙ ap (take (length old)) (comments-are rules (linesIn bytes f))
+          ∙ take-all (length old) (commentsIn rules (linesIn bytes f)) wide
         where
-          same-lines : linesOf (take (t .end - 0) bytes) ≡ linesIn bytes f
-          same-lines = ap linesOf (front-part (t .end) bytes) ∙ sym (ap (linesIn bytes) is)
-
-          same-count : n ≡ countOf rules (linesIn bytes f)
-          same-count = n-is ∙ sym (ap (λ (g : Front). countOf rules (linesIn bytes g)) is)
-
-          fewer : n ≤ length old → length (slotsIn rules accuracies (countOf rules (linesIn bytes f)) (linesIn bytes f)) ≤ length old
-          fewer h = omega (arith, same-count, slots-fewer rules accuracies (countOf rules (linesIn bytes f)) (linesIn bytes f))
-
-      -- comments: all of them
-      pub comments-delivered : (old now : List ℕ) → length old ≡ c
-          → now ≡ laid (flat (map commentText (take (t .comments) (ofKind rules 8 (linesOf (take (t .end - 0) bytes)))))) old
-          → now ≡ filled (enough rules bytes f i x c r) (commentsIn rules (linesIn bytes f)) old
-      comments-delivered old now size is-now =
-          filled-whole (enough rules bytes f i x c r) _ old now (room-enough ∙ e) wide
-          (is-now ∙ ap (λ (ls : List (List ℕ)). laid (flat (map commentText ls)) old) all ∙ ap (λ (g : Front). laid (commentBytes rules (linesIn bytes g)) old) (sym is) ∙ ap (λ (k : List ℕ). laid k old) (comments-are rules (linesIn bytes f)))
-        where
-          all : take (t .comments) (ofKind rules 8 (linesOf (take (t .end - 0) bytes))) ≡ ofKind rules 8 lines
+          all : take (t .comments) (ofKind rules 8 used) ≡ ofKind rules 8 lines
           all =
               ap (λ (b : List ℕ). take (t .comments) (ofKind rules 8 (linesOf b))) (front-part (t .end) bytes)
               ∙ take-all (t .comments) (ofKind rules 8 lines) (omega (arith, counts .1))
@@ -153,16 +191,35 @@ module _ (rules : Rules) (bytes : List ℕ) (f : Front) (i x c r : ℕ) where
           wide : length (commentsIn rules (linesIn bytes f)) ≤ length old
           wide = omega (arith, size, ap (λ (g : Front). length (commentsIn rules (linesIn bytes g))) is, comments-wide rules lines, counts .1, comments-within (t .comments) c comments-fit)
 
-      -- rows: all of them
-      pub rows-delivered : (old now : List ℤ) → length old ≡ r
-          → now ≡ over (numbersOfRows rules (take (length old / rowWidth) (rowLines rules (linesOf (take (t .end - 0) bytes))))) old
-          → now ≡ filled (enough rules bytes f i x c r) (rowsIn rules (linesIn bytes f)) old
-      rows-delivered old now size is-now = is-now ∙ ap (λ (ls : List (List ℕ)). over (numbersOfRows rules ls) old) all ∙ ap (λ (g : Front). over (rowsIn rules (linesIn bytes g)) old) (sym is) ∙ rw (room-enough, e)
+      rows-all : (old : List ℤ) → length old ≡ r → numbersOfRows rules (take (length old / rowWidth) (rowLines rules used)) ≡ rowsIn rules (linesIn bytes f)
+      rows-all old size = ap (numbersOfRows rules) all ∙ ap (λ (g : Front). rowsIn rules (linesIn bytes g)) (sym is)
         where
-          all : take (length old / rowWidth) (rowLines rules (linesOf (take (t .end - 0) bytes))) ≡ rowLines rules lines
+          all : take (length old / rowWidth) (rowLines rules used) ≡ rowLines rules lines
           all =
               ap (λ (b : List ℕ). take (length old / rowWidth) (rowLines rules (linesOf b))) (front-part (t .end) bytes)
               ∙ take-all (length old / rowWidth) (rowLines rules lines) (omega (arith, ap (λ (k : ℕ). k / 12) size, counts .2, rows-fit))
+
+    -- so a list that the flag fills, or leaves, is as it is delivered
+    delivers : {A : Type 0} (some all old now : List A) → (room ≡ true → some ≡ all) → now ≡ filled room some old → now ≡ filled (enough rules bytes f i x c r) all old
+    delivers {A} some all old now h e = e ∙ filled-same room some all old h ∙ ap (λ (b : Bool). filled b all old) (sym room-enough)
+
+    pub lists-delivered : (names exponents comments names′ exponents′ comments′ : List ℕ) (rows rows′ : List ℤ)
+        → length names ≡ i → length exponents ≡ x → length comments ≡ c → length rows ≡ r
+        → Filled room rules n (t .comments) used names exponents comments rows names′ exponents′ comments′ rows′
+        → (names′ ≡ filled (enough rules bytes f i x c r) (identifiersOf rules (linesIn bytes f)) names)
+        × ((exponents′ ≡ filled (enough rules bytes f i x c r) (exponentsOf rules (linesIn bytes f)) exponents)
+        × ((comments′ ≡ filled (enough rules bytes f i x c r) (commentsIn rules (linesIn bytes f)) comments)
+        × (rows′ ≡ filled (enough rules bytes f i x c r) (rowsIn rules (linesIn bytes f)) rows)))
+    lists-delivered names exponents comments names′ exponents′ comments′ rows rows′ si sx sc sr (pi, (px, (pc, pr))) = (
+      delivers _ _ names names′ (λ e. slots-all e false names (omega (arith, names-fit e))) pi,
+      (
+        delivers _ _ exponents exponents′ (λ e. slots-all e true exponents (omega (arith, exponents-fit e))) px,
+        (
+          delivers _ _ comments comments′ (λ e. comments-all e comments sc) pc,
+          delivers _ _ rows rows′ (λ e. rows-all e rows sr) pr,
+        ),
+      ),
+    )
 
 -- The same for rules and a front that are known by equations.
 module _ (bytes : List ℕ) (i x c r : ℕ) (rules rules′ : Rules) (f f′ : Front) (same : rules ≡ rules′) (found : f ≡ f′) where

@@ -1,33 +1,17 @@
--- Any two outcomes that a contract allows agree, in the result and in every byte of a text that is handed back.
+-- Any two outcomes that a contract allows agree, in the answer and in every lent place.
 -- Assumes nothing.
 use mathlib.Core.Path.{_≡_, sym, _∙_}
 use denote.Ref.{now}
-use Rattle.reader.proofs.questions.comment_answer.Reads as comment-answer
-use Rattle.reader.proofs.questions.comment.Reads as comment
-use Rattle.reader.proofs.questions.row_place.Reads as row-place
 use Rattle.reader.proofs.judging.judge.Reads as judge
 use Rattle.reader.proofs.judging.judge_front.Reads as judge-front
 use Rattle.reader.proofs.delivery.read.Reads as read
 use Rattle.reader.proofs.delivery.read_front.Reads as read-front
-use Rattle.reader.proofs.questions.satellite_of.Reads as satellite-of
-
-pub comment-answer-determined : (κs : _) (a : _) (r r′ : _) (s s′ : _) → comment-answer.Post κs a r s → comment-answer.Post κs a r′ s′ → r ≡ r′
-comment-answer-determined κs a r r′ s s′ p q = p ∙ sym q
-
-pub comment-determined : (κs : _) (a : _) (r r′ : _) (s s′ : _) → comment.Post κs a r s → comment.Post κs a r′ s′ → now r ≡ now r′
-comment-determined κs a r r′ s s′ p q = p ∙ sym q
-
-pub row-place-determined : (κs : _) (a : _) (r r′ : _) (s s′ : _) → row-place.Post κs a r s → row-place.Post κs a r′ s′ → r ≡ r′
-row-place-determined κs a r r′ s s′ p q = p ∙ sym q
 
 pub judge-determined : (κs : _) (a : _) (r r′ : _) (s s′ : _) → judge.Post κs a r s → judge.Post κs a r′ s′ → r ≡ r′
 judge-determined κs a r r′ s s′ p q = p ∙ sym q
 
 pub judge-front-determined : (κs : _) (a : _) (r r′ : _) (s s′ : _) → judge-front.Post κs a r s → judge-front.Post κs a r′ s′ → r ≡ r′
 judge-front-determined κs a r r′ s s′ p q = p ∙ sym q
-
-pub satellite-of-determined : (κs : _) (a : _) (r r′ : _) (s s′ : _) → satellite-of.Post κs a r s → satellite-of.Post κs a r′ s′ → r ≡ r′
-satellite-of-determined κs a r r′ s s′ p q = p ∙ sym q
 
 -- the answer and the four lent lists
 pub read-determined : (κs : _) (a : _) (r r′ : _) (s s′ : _) → read.Post κs a r s → read.Post κs a r′ s′

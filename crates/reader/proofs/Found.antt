@@ -1,6 +1,7 @@
 -- What a judged front says, on plain values.
 -- Assumes nothing.
-use mathlib.Core.Path.{_≡_, ap, _∙_, subst}
+use mathlib.Core.Path.{_≡_, sym, ap, _∙_, subst}
+use mathlib.Core.Bool.{Bool, true, false, cond}
 use mathlib.Core.List.{List}
 use Prim.Native.Nat.{ℕ, _-_, _≤_}
 use native.Mathlib.Nat.{sub-zero}
@@ -16,24 +17,35 @@ use Rattle.header.specs.declared.types.Rules.{Rules}
 use Rattle.scan.specs.declared.Tally.{Tally}
 use Rattle.scan.specs.declared.Front.{Front}
 use Rattle.scan.specs.declared.Front.the-variants as front
-use Rattle.reader.specs.Reading.{refusedWith, linesTo, judged, Accounted}
+use Rattle.reader.specs.Reading.{refusedWith, linesTo, judged, frontOf, fileOf, Accounted}
 use Rattle.reader.specs.declared.types.Reading.{Reading}
 
 -- the counts of what a scan found are those of the lines
-pub accounted-front : (rules : Rules) (bytes : List ℕ) (f : Front) → scanOf rules bytes ≡ f → Accounted rules bytes f
+accounted-front : (rules : Rules) (bytes : List ℕ) (f : Front) → scanOf rules bytes ≡ f → Accounted rules bytes f
 accounted-front rules bytes (front.File t) e = let a = accepted-front rules bytes t e in (a .within, a .comments, a .rows)
 accounted-front rules bytes (front.Refused number line column) e = tt
 
-pub accounted-whole : (rules : Rules) (bytes : List ℕ) (f : Front) → wholeOf (length bytes) (scanOf rules bytes) ≡ f → Accounted rules bytes f
+accounted-whole : (rules : Rules) (bytes : List ℕ) (f : Front) → wholeOf (length bytes) (scanOf rules bytes) ≡ f → Accounted rules bytes f
 accounted-whole rules bytes (front.File t) e = accounted-front rules bytes (front.File t) (whole-ends rules bytes t e .0)
 accounted-whole rules bytes (front.Refused number line column) e = tt
+
+-- what is found: one whole file, or one at the front
+module _ (whole : Bool) (rules : Rules) (bytes : List ℕ) (f : Front) where
+  abbrev asked : Bool → Front
+  asked b = cond b (fileOf rules bytes) (frontOf rules bytes)
+
+  pub whole-found : whole ≡ true → f ≡ fileOf rules bytes → (f ≡ asked whole) × Accounted rules bytes f
+  whole-found w e = (e ∙ ap asked (sym w), accounted-whole rules bytes f (sym e))
+
+  pub front-found : whole ≡ false → f ≡ frontOf rules bytes → (f ≡ asked whole) × Accounted rules bytes f
+  front-found w e = (e ∙ ap asked (sym w), accounted-front rules bytes f (sym e))
 
 -- a part from the first byte on
 pub front-part : (n : ℕ) (bytes : List ℕ) → take (n - 0) bytes ≡ take n bytes
 front-part n bytes = ap (λ (k : ℕ). take k bytes) (sub-zero n)
 
 -- an answer that accepts
-abbrev pub accepted : ℕ → Header → Reading
+abbrev accepted : ℕ → Header → Reading
 accepted length h = record { refusal = 0; line = 0; length = length; header = h }
 
 module _ (rules : Rules) (bytes : List ℕ) where
@@ -44,18 +56,18 @@ module _ (rules : Rules) (bytes : List ℕ) where
 
   -- the header of the lines that a file takes up
   module _ (f : Front) (t : Tally) (is : f ≡ front.File t) (accounted : Accounted rules bytes f) where
-    counts : Accounted rules bytes (front.File t)
-    counts = subst (Accounted rules bytes) is accounted
+    pub file-accounted : Accounted rules bytes (front.File t)
+    file-accounted = subst (Accounted rules bytes) is accounted
 
     pub file-within : t .end ≤ length bytes
-    file-within = counts .0
+    file-within = file-accounted .0
 
-    pub header-read : (h : Header) → h ≡ headerWith rules (linesOf (take (t .end - 0) bytes)) (t .comments) → h ≡ headerIn rules (linesTo (t .end) bytes)
+    header-read : (h : Header) → h ≡ headerWith rules (linesOf (take (t .end - 0) bytes)) (t .comments) → h ≡ headerIn rules (linesTo (t .end) bytes)
     unfolding headerIn
     header-read h e =
         e
         ∙ ap (λ (b : List ℕ). headerWith rules (linesOf b) (t .comments)) (front-part (t .end) bytes)
-        ∙ ap (headerWith rules (linesTo (t .end) bytes)) (counts .1)
+        ∙ ap (headerWith rules (linesTo (t .end) bytes)) (file-accounted .1)
 
     pub file-judged : (h : Header) → h ≡ headerWith rules (linesOf (take (t .end - 0) bytes)) (t .comments)
         → accepted (t .end) h ≡ judged rules bytes f

@@ -1,8 +1,14 @@
 // Reading into lent memory: judge first, then ask for room, then fill.
 ghost use mathlib.Core.Path.{_≡_};
-ghost use lib.ListN.{length};
+ghost use mathlib.Core.Bool.{true, false};
+ghost use mathlib.Core.List.{map};
+ghost use Prim.Native.Nat.{_/_};
+ghost use lib.ListN.{length, take};
+ghost use Rattle.lines.specs.Lent.{flat};
+ghost use Rattle.lines.specs.Lines.{linesOf};
 ghost use Rattle.header.specs.Rules.{d};
-ghost use Rattle.file.specs.Table.{commentsIn, rowsIn};
+ghost use Rattle.file.specs.Kinds.{ofKind};
+ghost use Rattle.file.specs.Table.{slotsIn, commentText, commentsIn, rowWidth, rowLines, numbersOfRows, rowsIn};
 ghost use Rattle.reader.specs.Reading.{frontOf, fileOf, Accounted, roomFor, enough, delivered, linesIn, filled, identifiersOf, exponentsOf};
 use crate::judging;
 use crate::types::Reading;
@@ -16,6 +22,32 @@ fn has_room(n: u64, tally: Tally, i: usize, x: usize, c: usize, r: usize) -> boo
 {
     ((n <= i as u64) & (n <= x as u64))
         & ((tally.comments <= (c / 77) as u64) & (tally.rows <= (r / stored::ROW_WIDTH) as u64))
+}
+
+// Fills each list with what fits of a file's n satellites, so many comments and rows, where there is room enough; else leaves it as it was.
+fn fill_lists(
+    enough: bool,
+    rules: Rules,
+    bytes: &[u8],
+    n: u64,
+    count: u64,
+    identifiers: &mut [u64],
+    exponents: &mut [u64],
+    comments: &mut [u8],
+    rows: &mut [i64],
+)
+    ensures { λ _. ⌜ now (identifiers .exit) ≡ filled enough (take (length (now (identifiers .entry))) (slotsIn rules false n (linesOf (now (bytes .entry))))) (now (identifiers .entry)) ⌝ }
+    ensures { λ _. ⌜ now (exponents .exit) ≡ filled enough (take (length (now (exponents .entry))) (slotsIn rules true n (linesOf (now (bytes .entry))))) (now (exponents .entry)) ⌝ }
+    ensures { λ _. ⌜ now (comments .exit) ≡ filled enough (take (length (now (comments .entry))) (flat (map commentText (take count (ofKind rules 8 (linesOf (now (bytes .entry)))))))) (now (comments .entry)) ⌝ }
+    ensures { λ _. ⌜ now (rows .exit) ≡ filled enough (numbersOfRows rules (take (length (now (rows .entry)) / rowWidth) (rowLines rules (linesOf (now (bytes .entry)))))) (now (rows .entry)) ⌝ }
+{
+    if !enough {
+        return;
+    }
+    store::fill_slots(rules, bytes, false, n, identifiers);
+    store::fill_slots(rules, bytes, true, n, exponents);
+    store::fill_comments(rules, bytes, count, comments);
+    store::fill_rows(rules, bytes, rows);
 }
 
 // Fills the lists from a file that was judged, where they have room.
@@ -44,27 +76,30 @@ fn deliver(
         Front::File(tally) => {
             let end = tally.end;
             let used = &bytes[0..end];
-            let n = judging::count_of(rules, used);
-            if !has_room(
+            let n = file::count_of(rules, used);
+            let enough = has_room(
                 n,
                 tally,
                 identifiers.len(),
                 exponents.len(),
                 comments.len(),
                 rows.len(),
-            ) {
+            );
+            fill_lists(
+                enough,
+                rules,
+                used,
+                n,
+                tally.comments,
+                identifiers,
+                exponents,
+                comments,
+                rows,
+            );
+            if !enough {
                 return judging::refused(12, 0);
             }
-            store::fill_slots(rules, used, false, n, identifiers);
-            store::fill_slots(rules, used, true, n, exponents);
-            store::fill_comments(rules, used, tally.comments, comments);
-            store::fill_rows(rules, used, rows);
-            Reading {
-                refusal: 0,
-                line: 0,
-                length: end,
-                header: judging::header_of(rules, used, tally.comments),
-            }
+            judging::answer(rules, bytes, found)
         }
     }
 }
@@ -85,7 +120,7 @@ pub fn read(
     ensures rows { λ _. ⌜ now (rows .exit) ≡ filled (enough d (now (file .entry)) (fileOf d (now (file .entry))) (length (now (identifiers .entry))) (length (now (exponents .entry))) (length (now (comments .entry))) (length (now (rows .entry)))) (rowsIn d (linesIn (now (file .entry)) (fileOf d (now (file .entry))))) (now (rows .entry)) ⌝ }
 {
     let rules = Rules::d();
-    let found = scan::scan_whole(rules, file);
+    let found = judging::found_in(true, rules, file);
     deliver(rules, file, found, identifiers, exponents, comments, rows)
 }
 
@@ -104,7 +139,7 @@ pub fn read_front(
     ensures rows { λ _. ⌜ now (rows .exit) ≡ filled (enough d (now (stretch .entry)) (frontOf d (now (stretch .entry))) (length (now (identifiers .entry))) (length (now (exponents .entry))) (length (now (comments .entry))) (length (now (rows .entry)))) (rowsIn d (linesIn (now (stretch .entry)) (frontOf d (now (stretch .entry))))) (now (rows .entry)) ⌝ }
 {
     let rules = Rules::d();
-    let found = scan::scan_front(rules, stretch);
+    let found = judging::found_in(false, rules, stretch);
     deliver(
         rules,
         stretch,

@@ -1,13 +1,13 @@
 // Judging: the answer about one file, with no room lent.
 ghost use mathlib.Core.Path.{_≡_};
+ghost use mathlib.Core.Bool.{cond};
 ghost use Rattle.lines.specs.Lines.{linesOf};
 ghost use Rattle.header.specs.Rules.{d};
-ghost use Rattle.file.specs.Table.{paddedFirst, firstIn, countOf, headerWith};
+ghost use Rattle.file.specs.Table.{headerWith};
 ghost use Rattle.reader.specs.Reading.{refusedWith, judged, frontOf, fileOf, Accounted};
 use crate::types::Reading;
 use header::Header;
 use header::Rules;
-use record::First;
 use scan::Front;
 
 // A refusal beside nothing.
@@ -22,43 +22,19 @@ pub(crate) fn refused(number: usize, line: u64) -> Reading
     }
 }
 
-// The first line of a kind, padded to 80 columns.
-fn padded_line(rules: Rules, bytes: &[u8], kind: u64) -> [u8; 80]
-    ensures { λ r. ⌜ r ≡ paddedFirst rules kind (linesOf (now (bytes .entry))) ⌝ }
-{
-    layout::pad(file::line_of(rules, bytes, kind, 0))
-}
-
-// The number of satellites that the first `+ ` line says.
-pub(crate) fn count_of(rules: Rules, bytes: &[u8]) -> u64
-    ensures { λ r. ⌜ r ≡ countOf rules (linesOf (now (bytes .entry))) ⌝ }
-{
-    let line = padded_line(rules, bytes, 3);
-    let satellites = record::slots::read_satellites(rules, &line);
-    satellites.count
-}
-
-// Line 1 of a file.
-pub(crate) fn first_of(rules: Rules, bytes: &[u8]) -> First
-    ensures { λ r. ⌜ r ≡ firstIn rules (linesOf (now (bytes .entry))) ⌝ }
-{
-    let line = padded_line(rules, bytes, 1);
-    record::opening::read_first(rules, &line)
-}
-
 // The header that the lines of a file hold, of which so many are comments.
-pub(crate) fn header_of(rules: Rules, bytes: &[u8], comments: u64) -> Header
+fn header_of(rules: Rules, bytes: &[u8], comments: u64) -> Header
     ensures { λ r. ⌜ r ≡ headerWith rules (linesOf (now (bytes .entry))) comments ⌝ }
 {
-    let first = first_of(rules, bytes);
+    let first = file::first_of(rules, bytes);
     let texts = first.texts;
     let start = first.start;
-    let second_line = padded_line(rules, bytes, 2);
+    let second_line = file::padded_line(rules, bytes, 2);
     let second = record::opening::read_second(&second_line);
-    let descriptor_line = padded_line(rules, bytes, 5);
+    let descriptor_line = file::padded_line(rules, bytes, 5);
     let descriptor = record::descriptors::read_descriptor(&descriptor_line);
     let time_system = descriptor.time_system;
-    let base_line = padded_line(rules, bytes, 6);
+    let base_line = file::padded_line(rules, bytes, 6);
     let based = record::descriptors::read_bases(&base_line);
     let bases = based.bases;
     Header {
@@ -67,12 +43,23 @@ pub(crate) fn header_of(rules: Rules, bytes: &[u8], comments: u64) -> Header
         epochs: first.epochs,
         interval8: second.interval8,
         texts,
-        satellites: count_of(rules, bytes),
+        satellites: file::count_of(rules, bytes),
         comments,
         file_type: descriptor.file_type,
         time_system,
         bases,
     }
+}
+
+// What is found in some bytes: one whole file, or one at their front.
+pub(crate) fn found_in(whole: bool, rules: Rules, bytes: &[u8]) -> Front
+    ensures { λ r. ⌜ r ≡ cond whole (fileOf rules (now (bytes .entry))) (frontOf rules (now (bytes .entry))) ⌝ }
+    ensures { λ r. ⌜ Accounted rules (now (bytes .entry)) r ⌝ }
+{
+    if whole {
+        return scan::scan_whole(rules, bytes);
+    }
+    scan::scan_front(rules, bytes)
 }
 
 // What was found at the front of some bytes, as an answer.
@@ -103,7 +90,7 @@ pub fn judge(file: &[u8]) -> Reading
     ensures result { λ r. ⌜ r ≡ judged d (now (file .entry)) (fileOf d (now (file .entry))) ⌝ }
 {
     let rules = Rules::d();
-    answer(rules, file, scan::scan_whole(rules, file))
+    answer(rules, file, found_in(true, rules, file))
 }
 
 // One file at the front of a stretch: 11 never occurs.
@@ -111,5 +98,5 @@ pub fn judge_front(stretch: &[u8]) -> Reading
     ensures result { λ r. ⌜ r ≡ judged d (now (stretch .entry)) (frontOf d (now (stretch .entry))) ⌝ }
 {
     let rules = Rules::d();
-    answer(rules, stretch, scan::scan_front(rules, stretch))
+    answer(rules, stretch, found_in(false, rules, stretch))
 }

@@ -4,19 +4,19 @@ use adjust::FloatRow;
 
 // The text of a comment, where it lies and as it stands.
 pub(crate) fn comment(file: &[u8], k: u64) {
-    let answer = reader::comment_answer(file, k);
+    let answer = questions::comment_answer(file, k);
     print::text(b"comment");
     print::refusal(answer.refusal, answer.line);
     print::value(answer.at as u64);
     print::value(answer.length as u64);
     print::text(b" |");
-    print::text(reader::comment(file, k));
+    print::text(questions::comment(file, k));
     print::text(b"|\n");
 }
 
 // The number of a satellite in the header.
 pub(crate) fn satellite(file: &[u8], name: u64) {
-    let answer = reader::satellite_of(file, name);
+    let answer = questions::satellite_of(file, name);
     print::text(b"satellite");
     print::refusal(answer.refusal, answer.line);
     print::value(answer.number);

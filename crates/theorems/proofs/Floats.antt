@@ -25,10 +25,10 @@ use Rattle.file.specs.Table.{headerIn, storedSigned}
 use Rattle.file.proofs.Finding.{line-at-place}
 use Rattle.scan.specs.Run.{IsFile}
 use Rattle.reader.specs.Reading.{fileOf}
-use Rattle.reader.specs.Questions.{rowPlace}
+use Rattle.questions.specs.Questions.{rowPlace}
 use Rattle.adjust.specs.Floats.{floatUnless, noPlace, noClock, floatRow, absentRow, rowAnswer}
+use Rattle.accepted.proofs.Files.{whole-taken}
 use Rattle.plain.proofs.Exact.{exactSigned, Bounded, row-bounded, stored-exact}
-use Rattle.theorems.proofs.Accepting.{whole-taken}
 use Rattle.theorems.proofs.Room.{found-numbered}
 use Rattle.theorems.proofs.Reading.{header, identifier, rowsOf, rowAt, There, the-row}
 use Rattle.record.specs.declared.types.Row.{Row}

@@ -16,6 +16,8 @@ use Rattle.file.specs.Plain.{isEpochLine, isRowLine, Plain}
 use Rattle.file.specs.Table.{headerIn, rowLines, rowsIn}
 use Rattle.scan.specs.Run.{IsFile}
 use Rattle.reader.specs.Reading.{identifiersOf}
+use Rattle.questions.proofs.Asking.{lines-within}
+use Rattle.accepted.proofs.Files.{file-plain}
 use Rattle.plain.proofs.Bytes.{bytes-enough}
 use Rattle.plain.proofs.Counts.{identifiers-are, rows-many, rows-many-both, places-known-and-absent}
 use Rattle.plain.proofs.Different.{one-of-each}
@@ -24,7 +26,7 @@ use Rattle.plain.proofs.Places.{rowNumber, Has}
 use Rattle.plain.proofs.Rule.{InOrder, EpochAt, the-rule, absentIn, places-many, motions-many, no-motions}
 use Rattle.plain.proofs.Selected.{satellites, names, velocities, epochs, start8, interval8}
 use Rattle.plain.proofs.Stored.{place-stored, place-stored-both, motion-stored}
-use Rattle.theorems.proofs.Accepting.{file-plain, lines-fit, says-satellites, says-epochs, says-start, says-interval, says-velocity, says-comments}
+use Rattle.theorems.proofs.Accepting.{says-satellites, says-epochs, says-start, says-interval, says-velocity, says-comments}
 use Rattle.header.specs.declared.types.Header.{Header}
 
 -- the header and the identifiers of the table of a file, and its P and V lines
@@ -96,7 +98,7 @@ module _ (bytes : List ℕ) (accepted : IsFile d bytes) where
 
   -- A file has at least 61 bytes for each row, 32 for each epoch and 3 for each comment.
   pub file-bytes : 61 * length (rowLines d (linesOf bytes)) + 32 * header bytes .epochs + 3 * header bytes .comments ≤ length bytes
-  file-bytes = rw (says-epochs p, says-comments p) (le-trans (bytes-enough p) (lines-fit bytes))
+  file-bytes = rw (says-epochs p, says-comments p) (le-trans (bytes-enough p) (lines-within bytes))
 
   module _ (k j : ℕ) (there : There bytes k j) where
     hk : k < epochs p

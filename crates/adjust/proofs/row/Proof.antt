@@ -1,4 +1,4 @@
--- `adjust::row` meets its contract: the row of the line at the place that `reader::row_place` gives, or its refusal.
+-- `adjust::row` meets its contract: the row of the line at the place that `questions::row_place` gives, or its refusal.
 -- Assumes nothing.
 use borrow.Author.Needs.{needs}
 use Rattle.adjust.proofs.Floating.{refused-as, answered-as}

@@ -4,34 +4,32 @@ use Rattle.file.specs.Table.{commentsIn, rowsIn}
 use Rattle.header.specs.Rules.{d}
 use Rattle.header.specs.declared.types.Rules.{Rules}
 use Rattle.reader.proofs.Delivering.{answered, listed}
-use Rattle.reader.proofs.Found.{accounted-front}
 use Rattle.reader.specs.Reading.{exponentsOf, frontOf, identifiersOf}
 use borrow.Author.Needs.{needs}
-use Rattle.scan.proofs.Told.{toldFront-one}
 use lib.ListN.{length}
-use mathlib.Core.Path.{_∙_, _≡_, ap, sym}
+use mathlib.Core.Path.{_∙_, _≡_, ap}
 use Rattle.reader.proofs.delivery.read_front.Statement.{statement}
 use Rattle.reader.proofs.delivery.read_front.Tie as tie
 
 deliver-requires : tie.Need-deliver-requires
-deliver-requires c κs = accounted-front _ _ _ (sym (toldFront-one _ _ (c .before .before .before .before .scan-front .ensures)))
+deliver-requires c κs = c .before .before .before .before .found-in .ensures .1
 
 returns : tie.Need-returns
 returns c =
     let done = c .before .before .before .before .before .before .before in
-    let scanned = done .before .before .before .before .before in
-    let ruled = scanned .before in
+    let looked = done .before .before .before .before .before in
+    let ruled = looked .before in
     let a = ruled .before .before .before .before .before .args in
-    let same : scanned .scan-front .result ≡ frontOf d (a .stretch .now) = toldFront-one _ _ (scanned .scan-front .ensures) ∙ ap (λ (k : Rules). frontOf k (a .stretch .now)) (ruled .d .ensures) in
+    let same : looked .found-in .result ≡ frontOf d (a .stretch .now) = looked .found-in .ensures .0 ∙ ap (λ (k : Rules). frontOf k (a .stretch .now)) (ruled .d .ensures) in
     let p = done .deliver .ensures in (
-      answered (a .stretch .now) (length (a .identifiers .now)) (length (a .exponents .now)) (length (a .comments .now)) (length (a .rows .now)) (ruled .d .result) d (scanned .scan-front .result) (frontOf d (a .stretch .now)) (ruled .d .ensures) same (done .deliver .result) (p .0),
+      answered (a .stretch .now) (length (a .identifiers .now)) (length (a .exponents .now)) (length (a .comments .now)) (length (a .rows .now)) (ruled .d .result) d (looked .found-in .result) (frontOf d (a .stretch .now)) (ruled .d .ensures) same (done .deliver .result) (p .0),
       (
-        listed (a .stretch .now) (length (a .identifiers .now)) (length (a .exponents .now)) (length (a .comments .now)) (length (a .rows .now)) (ruled .d .result) d (scanned .scan-front .result) (frontOf d (a .stretch .now)) (ruled .d .ensures) same identifiersOf (a .identifiers .now) _ (p .1 .0),
+        listed (a .stretch .now) (length (a .identifiers .now)) (length (a .exponents .now)) (length (a .comments .now)) (length (a .rows .now)) (ruled .d .result) d (looked .found-in .result) (frontOf d (a .stretch .now)) (ruled .d .ensures) same identifiersOf (a .identifiers .now) _ (p .1 .0),
         (
-          listed (a .stretch .now) (length (a .identifiers .now)) (length (a .exponents .now)) (length (a .comments .now)) (length (a .rows .now)) (ruled .d .result) d (scanned .scan-front .result) (frontOf d (a .stretch .now)) (ruled .d .ensures) same exponentsOf (a .exponents .now) _ (p .1 .1 .0),
+          listed (a .stretch .now) (length (a .identifiers .now)) (length (a .exponents .now)) (length (a .comments .now)) (length (a .rows .now)) (ruled .d .result) d (looked .found-in .result) (frontOf d (a .stretch .now)) (ruled .d .ensures) same exponentsOf (a .exponents .now) _ (p .1 .1 .0),
           (
-            listed (a .stretch .now) (length (a .identifiers .now)) (length (a .exponents .now)) (length (a .comments .now)) (length (a .rows .now)) (ruled .d .result) d (scanned .scan-front .result) (frontOf d (a .stretch .now)) (ruled .d .ensures) same commentsIn (a .comments .now) _ (p .1 .1 .1 .0),
-            listed (a .stretch .now) (length (a .identifiers .now)) (length (a .exponents .now)) (length (a .comments .now)) (length (a .rows .now)) (ruled .d .result) d (scanned .scan-front .result) (frontOf d (a .stretch .now)) (ruled .d .ensures) same rowsIn (a .rows .now) _ (p .1 .1 .1 .1),
+            listed (a .stretch .now) (length (a .identifiers .now)) (length (a .exponents .now)) (length (a .comments .now)) (length (a .rows .now)) (ruled .d .result) d (looked .found-in .result) (frontOf d (a .stretch .now)) (ruled .d .ensures) same commentsIn (a .comments .now) _ (p .1 .1 .1 .0),
+            listed (a .stretch .now) (length (a .identifiers .now)) (length (a .exponents .now)) (length (a .comments .now)) (length (a .rows .now)) (ruled .d .result) d (looked .found-in .result) (frontOf d (a .stretch .now)) (ruled .d .ensures) same rowsIn (a .rows .now) _ (p .1 .1 .1 .1),
           ),
         ),
       ),

@@ -1,0 +1,214 @@
+-- Laws of the questions, on plain values: a text without its trailing blanks, a name's number, where a line lies, and what bounds the lines
+-- of an accepted file. Assumes nothing.
+use mathlib.Core.Path.{_≡_, sym, ap, ap₂, _∙_}
+use mathlib.Core.Bool.{Bool, true, false, _&&_}
+use mathlib.Core.List.{List, [], _∷_, _++_, append-nil}
+use Prim.Native.Nat.{ℕ, suc, _+_, _*_, _-_, _<_, _≤_, min}
+use native.Mathlib.Nat.{add-zero, sub-zero, mul-le-mul}
+use native.Mathlib.Decide.{decLt}
+use native.Mathlib.Omega.{arith}
+use borrow.Author.Tests.{eq-eqb, ne-eqb, lt-ltb, le-ltb, ltb-true}
+use lib.Dec.{ltb}
+use lib.ListN.{length, getD, take, drop, length-append, length-drop, drop-of-length-le}
+use lib.Seq.{take-all, length-take-le, take-append-seam}
+use Rattle.layout.specs.Line.{trimmed}
+use Rattle.lines.specs.Lent.{laid}
+use Rattle.lines.proofs.Laying.{laid-fits}
+use Rattle.lines.specs.Lines.{linesOf, joinLines, bytesIn, select, nth, placeFrom}
+use Rattle.header.specs.Rules.{d}
+use Rattle.file.specs.Kinds.{isKind, ofKind}
+use Rattle.file.specs.Plain.{Plain, Sound}
+use Rattle.file.specs.Table.{firstIn, countOf, slotsIn}
+use Rattle.scan.specs.Run.{nothing, scanOf, wholeOf}
+use Rattle.reader.specs.Reading.{linesTo, fileOf, identifiersOf}
+use Rattle.questions.specs.Questions.{textIn, noComment, commentLine, commentPlace, commentAt, commentAnswer, commentWords, indexOf, satelliteIn, satelliteAnswer, epochsOf, noRow, rowAt, rowPlace}
+use Rattle.header.specs.declared.types.Rules.{Rules}
+use Rattle.record.specs.declared.types.First.{First}
+use Rattle.scan.specs.declared.Tally.{Tally}
+use Rattle.scan.specs.declared.Front.{Front}
+use Rattle.scan.specs.declared.Front.the-variants as front
+use Rattle.questions.specs.declared.types.CommentAnswer.{CommentAnswer}
+use Rattle.questions.specs.declared.types.RowPlace.{RowPlace}
+use Rattle.questions.specs.declared.types.SatelliteAnswer.{SatelliteAnswer}
+use Rattle.laws.proofs.Bools.{both-true}
+use Rattle.laws.proofs.Lists.{rest-step, rest-none, rest-part}
+use Rattle.layout.proofs.Lines.{trimmed-front, trimmed-shorter}
+use Rattle.lines.proofs.Picking.{nth-past, place-past, placed}
+use Rattle.lines.proofs.Split.{bytes-in, parted, first}
+use Rattle.accepted.proofs.Files.{front-plain}
+use Rattle.accepted.proofs.Local.{whole-ends}
+use Rattle.plain.proofs.Selected.{satellites, epochs, kind-1}
+use Rattle.plain.proofs.Counts.{count-is, satellites-bounds, epochs-bounds, identifiers-room}
+
+-- a comment's text by the length that is told of what stands from column 4 on
+abbrev wordsOf : List ℕ → List ℕ
+wordsOf line = take (length line - 3) (drop 3 line)
+
+module _ (line : List ℕ) (n : ℕ) (told : n ≡ length (trimmed (wordsOf line))) where
+  pub text-fits : n ≤ length (wordsOf line)
+  text-fits = omega (arith, trimmed-shorter (wordsOf line))
+
+  pub text-told : take (n - 0) (wordsOf line) ≡ textIn line
+  text-told = ap (λ (k : ℕ). take k (wordsOf line)) (sub-zero n ∙ told) ∙ trimmed-front (wordsOf line) ∙ ap trimmed (rest-part line 3)
+
+-- a name's number, from a place on
+module _ (name : ℕ) (names : List ℕ) (i : ℕ) where
+  pub index-here : i < length names → name ≡ getD names i 0 → i + indexOf name (drop i names) ≡ i
+  unfolding indexOf
+  index-here h e = rw (rest-step names i h, eq-eqb name (getD names i 0) e, add-zero)
+
+  pub index-later : i < length names → (name ≡ getD names i 0 → ⊥) → (i + 1) + indexOf name (drop (i + 1) names) ≡ i + indexOf name (drop i names)
+  unfolding indexOf
+  index-later h n = rw (rest-step names i h, ne-eqb name (getD names i 0) n) (omega arith)
+
+  pub index-none : length names ≤ i → i + indexOf name (drop i names) ≡ i
+  unfolding indexOf
+  index-none h = rw (rest-none names i h, add-zero)
+
+-- complete lines take up no more than the bytes
+pub lines-within : (bytes : List ℕ) → bytesIn (linesOf bytes) ≤ length bytes
+lines-within bytes = omega (arith, bytes-in (linesOf bytes), parted (linesOf bytes) bytes [] (sym (append-nil (linesOf bytes))) .within)
+
+-- the k-th line that passes a test ends within the bytes
+pub line-within : (test : List ℕ → Bool) (k : ℕ) (bytes : List ℕ)
+    → placeFrom test k 0 (linesOf bytes) + length (nth k (select test (linesOf bytes))) ≤ length bytes
+line-within test k bytes = go (decLt k (length (select test (linesOf bytes))))
+  where
+    go : Dec (k < length (select test (linesOf bytes))) → placeFrom test k 0 (linesOf bytes) + length (nth k (select test (linesOf bytes))) ≤ length bytes
+    go (yes h) =
+        let p = placed test k bytes h in
+        let place = placeFrom test k 0 (linesOf bytes) in
+        let line = nth k (select test (linesOf bytes)) in
+        let f = first (drop place bytes) line (p .more) (p .there) in
+        omega (arith, p .within, length-drop place bytes, ap length (f .bytes-are) ∙ length-append line (10 ∷ f .rest))
+    go (no h) =
+        omega (arith, place-past test k 0 (linesOf bytes) (omega arith), ap length (nth-past k (select test (linesOf bytes)) (omega arith)), lines-within bytes)
+
+-- where a comment's text lies, by its line's place, its line and the text
+pub comment-told : (rules : Rules) (lines : List (List ℕ)) (k place indent : ℕ) (line text : List ℕ)
+    → place ≡ commentPlace rules lines k → line ≡ commentLine rules lines k → indent ≡ min 3 (length line) → text ≡ textIn line
+    → _≡_ {A = CommentAnswer} (record { refusal = 0; line = 0; at = place + indent; length = length text }) (commentAt rules lines k)
+comment-told rules lines k place indent line text p l i t = rw (p, i, t, l)
+
+-- and it begins within the bytes
+pub text-within : (rules : Rules) (bytes : List ℕ) (k place indent : ℕ) (line : List ℕ)
+    → place ≡ commentPlace rules (linesOf bytes) k → line ≡ commentLine rules (linesOf bytes) k → indent ≡ min 3 (length line) → place + indent ≤ length bytes
+text-within rules bytes k place indent line p l i = omega (arith, ap length l, line-within (isKind rules 8) k bytes)
+
+pub epochs-are : {rules : Rules} {lines : List (List ℕ)} (p : Plain rules lines) → epochsOf rules lines ≡ epochs p
+unfolding nth
+epochs-are p = rw (kind-1 p)
+
+-- an accepted file has at most 100,000 epochs and 255 satellites
+module _ (bytes : List ℕ) (t : Tally) (e : wholeOf (length bytes) (scanOf d bytes) ≡ front.File t) where
+  pub whole-plain : Plain d (linesTo (t .end) bytes)
+  whole-plain = front-plain bytes t (whole-ends d bytes t e .0)
+
+  pub bounded : (epochsOf d (linesTo (t .end) bytes) ≤ 100000) × (countOf d (linesTo (t .end) bytes) ≤ 255)
+  bounded =
+      let p = whole-plain in
+      (omega (arith, epochs-are p, epochs-bounds p .1), omega (arith, count-is p, satellites-bounds p .1))
+
+  -- as many identifiers as the file says
+  pub identifiers-counted : length (identifiersOf d (linesTo (t .end) bytes)) ≡ countOf d (linesTo (t .end) bytes)
+  identifiers-counted =
+      let p = whole-plain in
+      ap (λ (n : ℕ). length (slotsIn d false n (linesTo (t .end) bytes))) (count-is p) ∙ identifiers-room p ∙ sym (count-is p)
+
+  pub identifiers-bounded : length (identifiersOf d (linesTo (t .end) bytes)) ≤ 255
+  identifiers-bounded =
+      let p = whole-plain in
+      let many : length (identifiersOf d (linesTo (t .end) bytes)) ≡ satellites p =
+      ap (λ (n : ℕ). length (slotsIn d false n (linesTo (t .end) bytes))) (count-is p) ∙ identifiers-room p in
+      omega (arith, many, satellites-bounds p .1)
+
+-- a number of a P line that is far from overflowing
+module _ (f : First) (epoch satellite n : ℕ) (has : (ltb epoch (f .epochs) && ltb satellite n) ≡ true) (few : f .epochs ≤ 100000) (fewer : n ≤ 255) where
+  pub row-bounds : (epoch * n ≤ 25500000) × (satellite < 255)
+  row-bounds =
+      let tests = both-true (ltb epoch (f .epochs)) (ltb satellite n) has in
+      let before : epoch ≤ 100000 = omega (arith, ltb-true epoch (f .epochs) (tests .0)) in
+      (omega (arith, mul-le-mul before fewer), omega (arith, ltb-true satellite n (tests .1)))
+
+-- where a row lies, by what line 1 and the first `+ ` line say
+module _ (rules : Rules) (lines : List (List ℕ)) (epoch satellite : ℕ) (f : First) (n : ℕ) (is-first : f ≡ firstIn rules lines) (is-count : n ≡ countOf rules lines) where
+  has-row : (b : Bool) → (ltb epoch (f .epochs) && ltb satellite n) ≡ b → (ltb epoch (epochsOf rules lines) && ltb satellite (countOf rules lines)) ≡ b
+  has-row b e = sym (ap (λ (x : First). ltb epoch (x .epochs) && ltb satellite (countOf rules lines)) is-first) ∙ sym (ap (λ (m : ℕ). ltb epoch (f .epochs) && ltb satellite m) is-count) ∙ e
+
+  pub row-told : (place : ℕ) → (ltb epoch (f .epochs) && ltb satellite n) ≡ true → place ≡ placeFrom (isKind rules 10) (epoch * n + satellite) 0 lines
+      → _≡_ {A = RowPlace} (record { refusal = 0; line = 0; at = place }) (rowAt rules lines epoch satellite)
+  row-told place has e =
+      ap (λ (a : ℕ). record { refusal = 0; line = 0; at = a }) (e ∙ ap (λ (m : ℕ). placeFrom (isKind rules 10) (epoch * m + satellite) 0 lines) is-count)
+      ∙ rw (has-row true has)
+
+  pub row-missing : (ltb epoch (f .epochs) && ltb satellite n) ≡ false → noRow 13 0 ≡ rowAt rules lines epoch satellite
+  row-missing has = rw (has-row false has)
+
+-- what was found, under the rules that were asked for
+pub found-as : (rules : Rules) (bytes : List ℕ) (f g : Front) → rules ≡ d → f ≡ wholeOf (length bytes) (scanOf rules bytes) → f ≡ g → fileOf d bytes ≡ g
+found-as rules bytes f g r e is = ap (λ (x : Rules). wholeOf (length bytes) (scanOf x bytes)) (sym r) ∙ sym e ∙ is
+
+-- the answers about what was found
+module _ (bytes : List ℕ) (f : Front) (e : fileOf d bytes ≡ f) where
+  pub comment-as : (k : ℕ) (a : CommentAnswer) → a ≡ commentAnswer d bytes f k → a ≡ commentAnswer d bytes (fileOf d bytes) k
+  comment-as k a is = is ∙ ap (λ (x : Front). commentAnswer d bytes x k) (sym e)
+
+  pub words-as : (k : ℕ) (s : List ℕ) → s ≡ commentWords d bytes f k → s ≡ commentWords d bytes (fileOf d bytes) k
+  words-as k s is = is ∙ ap (λ (x : Front). commentWords d bytes x k) (sym e)
+
+  pub satellite-as : (name : ℕ) (a : SatelliteAnswer) → a ≡ satelliteAnswer d bytes f name → a ≡ satelliteAnswer d bytes (fileOf d bytes) name
+  satellite-as name a is = is ∙ ap (λ (x : Front). satelliteAnswer d bytes x name) (sym e)
+
+  pub row-as : (epoch satellite : ℕ) (a : RowPlace) → a ≡ rowPlace d bytes f epoch satellite → a ≡ rowPlace d bytes (fileOf d bytes) epoch satellite
+  row-as epoch satellite a is = is ∙ ap (λ (x : Front). rowPlace d bytes x epoch satellite) (sym e)
+
+-- the answers where a file was found, of its lines
+module _ (rules : Rules) (r : rules ≡ d) (bytes : List ℕ) (t : Tally) where
+  lines-as : linesTo (t .end - 0) bytes ≡ linesTo (t .end) bytes
+  lines-as = ap (λ (n : ℕ). linesTo n bytes) (sub-zero (t .end))
+
+  pub comment-there : (k : ℕ) (a : CommentAnswer) → k < t .comments → a ≡ commentAt rules (linesTo (t .end - 0) bytes) k → a ≡ commentAnswer d bytes (front.File t) k
+  unfolding commentAnswer
+  comment-there k a h is = is ∙ rw (r, lines-as, lt-ltb k (t .comments) h)
+
+  pub words-there : (k : ℕ) (s l : List ℕ) → k < t .comments → s ≡ textIn l → l ≡ nth k (ofKind rules 8 (linesTo (t .end - 0) bytes)) → s ≡ commentWords d bytes (front.File t) k
+  unfolding commentWords
+  words-there k s l h is line = is ∙ rw (line, r, lines-as, lt-ltb k (t .comments) h)
+
+  pub row-found : (epoch satellite : ℕ) (a : RowPlace) → a ≡ rowAt rules (linesTo (t .end - 0) bytes) epoch satellite → a ≡ rowPlace d bytes (front.File t) epoch satellite
+  unfolding rowPlace
+  row-found epoch satellite a is = is ∙ rw (r, lines-as)
+
+  pub satellite-found : (name : ℕ) (a : SatelliteAnswer) → a ≡ satelliteIn name (identifiersOf rules (linesTo (t .end - 0) bytes)) → a ≡ satelliteAnswer d bytes (front.File t) name
+  unfolding satelliteAnswer
+  satellite-found name a is = is ∙ rw (r, lines-as)
+
+  pub counted-as : fileOf d bytes ≡ front.File t
+      → (length (identifiersOf rules (linesTo (t .end - 0) bytes)) ≡ countOf rules (linesTo (t .end - 0) bytes)) × (countOf rules (linesTo (t .end - 0) bytes) ≤ 255)
+  counted-as e = rw (r, lines-as) (identifiers-counted bytes t e, bounded bytes t e .1)
+
+  pub bounded-as : fileOf d bytes ≡ front.File t → (epochsOf rules (linesTo (t .end - 0) bytes) ≤ 100000) × (countOf rules (linesTo (t .end - 0) bytes) ≤ 255)
+  bounded-as e = rw (r, lines-as) (bounded bytes t e)
+
+pub no-comment-there : (bytes : List ℕ) (t : Tally) (k : ℕ) (a : CommentAnswer) → t .comments ≤ k → a ≡ noComment 13 0 → a ≡ commentAnswer d bytes (front.File t) k
+unfolding commentAnswer
+no-comment-there bytes t k a h is = is ∙ rw (le-ltb k (t .comments) h)
+
+pub no-words-there : (bytes : List ℕ) (t : Tally) (k : ℕ) → t .comments ≤ k → [] ≡ commentWords d bytes (front.File t) k
+unfolding commentWords
+no-words-there bytes t k h = rw (le-ltb k (t .comments) h)
+
+-- an accepted file ends within its bytes
+pub file-within : (bytes : List ℕ) (t : Tally) → fileOf d bytes ≡ front.File t → t .end ≤ length bytes
+file-within bytes t e = omega (arith, whole-ends d bytes t e .1)
+
+-- names laid over the front of others, as many as there are or fewer
+module _ (names old now : List ℕ) (is : now ≡ laid names old) (fits : length names ≤ length old) where
+  named : now ≡ names ++ drop (length names) old
+  named = is ∙ laid-fits names old fits
+
+  pub first-names : (n : ℕ) → n ≡ length names → take (n - 0) now ≡ names
+  first-names n e = ap₂ (λ (k : ℕ) (l : List ℕ). take k l) (sub-zero n ∙ e) named ∙ take-append-seam names (drop (length names) old)
+
+  pub all-names : length old ≤ length names → now ≡ names
+  all-names h = named ∙ ap (λ (l : List ℕ). names ++ l) (drop-of-length-le old h) ∙ append-nil names

@@ -1,0 +1,111 @@
+-- What the answers of the questions mean for an accepted file.
+-- Assumes nothing.
+use mathlib.Core.Path.{_≡_, sym, ap, _∙_, subst}
+use mathlib.Core.Bool.{true, false}
+use mathlib.Core.List.{List, _∷_, _++_}
+use Prim.Native.Nat.{ℕ, _+_, _*_, _<_, _≤_, min}
+use native.Mathlib.Decide.{decLe}
+use native.Mathlib.Omega.{arith}
+use borrow.Author.Tests.{lt-ltb}
+use lib.ListN.{length, getD, take, drop}
+use lib.Seq.{take-append-le, drop-append-le, drop-drop}
+use Rattle.lines.specs.Lines.{linesOf, nth, placeFrom}
+use Rattle.header.specs.Rules.{d}
+use Rattle.file.specs.Kinds.{isKind, ofKind}
+use Rattle.file.specs.Plain.{isRowLine}
+use Rattle.file.specs.Table.{countOf}
+use Rattle.reader.specs.Reading.{fileOf, identifiersOf}
+use Rattle.questions.specs.Questions.{textIn, commentLine, commentPlace, commentAnswer, commentWords, epochsOf, rowIndex, rowPlace}
+use Rattle.scan.specs.declared.Tally.{Tally}
+use Rattle.scan.specs.declared.Front.{Front}
+use Rattle.scan.specs.declared.Front.the-variants as front
+use Rattle.laws.proofs.Lists.{rest-none}
+use Rattle.layout.proofs.Lines.{trimmed-front, trimmed-shorter}
+use Rattle.lines.proofs.Picking.{placed}
+use Rattle.lines.proofs.Split.{first}
+use Rattle.file.proofs.Finding.{line-at-place}
+use Rattle.accepted.proofs.Files.{whole-taken, file-plain}
+use Rattle.accepted.proofs.Used.{accepted-front}
+use Rattle.accepted.proofs.Local.{whole-ends}
+use Rattle.plain.proofs.Selected.{satellites}
+use Rattle.plain.proofs.Counts.{count-is, identifiers-are}
+use Rattle.plain.proofs.Rule.{EpochAt, the-rule, place-at}
+use Rattle.questions.proofs.Asking.{epochs-are}
+
+-- a text that begins at column 4 of a line, or at its end, is found there
+text-in-line : (line rest : List ℕ) → take (length (textIn line)) (drop (min 3 (length line)) (line ++ rest)) ≡ textIn line
+text-in-line line rest =
+    let cut = drop (min 3 (length line)) line in
+    let same : cut ≡ drop 3 line = go (decLe 3 (length line)) in
+    ap (take (length (textIn line))) (drop-append-le (min 3 (length line)) line rest (omega arith) ∙ ap (λ (s : List ℕ). s ++ rest) same)
+    ∙ take-append-le (length (textIn line)) (drop 3 line) rest (trimmed-shorter (drop 3 line))
+    ∙ trimmed-front (drop 3 line)
+  where
+    go : Dec (3 ≤ length line) → drop (min 3 (length line)) line ≡ drop 3 line
+    go (yes h) = let three : min 3 (length line) ≡ 3 = omega arith in ap (λ (n : ℕ). drop n line) three
+    go (no h) = rest-none line (min 3 (length line)) (omega arith) ∙ sym (rest-none line 3 (omega arith))
+
+-- an accepted file: its lines are those of its bytes
+module _ (bytes : List ℕ) (t : Tally) (e : fileOf d bytes ≡ front.File t) where
+  all-bytes : take (t .end) bytes ≡ bytes
+  all-bytes = whole-taken bytes t e
+
+  -- THE STRETCH: a comment's text is the bytes from the place that is told on, as many as are told.
+  module _ (k : ℕ) (h : k < t .comments) where
+    stretch : take (length (textIn (commentLine d (linesOf bytes) k))) (drop (commentPlace d (linesOf bytes) k + min 3 (length (commentLine d (linesOf bytes) k))) bytes)
+        ≡ textIn (commentLine d (linesOf bytes) k)
+    stretch =
+        let place = commentPlace d (linesOf bytes) k in
+        let line = commentLine d (linesOf bytes) k in
+        let many = subst (λ (b : List ℕ). t .comments ≡ length (ofKind d 8 (linesOf b))) all-bytes (accepted-front d bytes t (whole-ends d bytes t e .0) .comments) in
+        let p = placed (isKind d 8) k bytes (omega arith) in
+        let f = first (drop place bytes) line (p .more) (p .there) in
+        ap (take (length (textIn line))) (sym (drop-drop (min 3 (length line)) place bytes) ∙ ap (drop (min 3 (length line))) (f .bytes-are))
+        ∙ text-in-line line (10 ∷ f .rest)
+
+    pub comment-stretch : take (commentAnswer d bytes (fileOf d bytes) k .length) (drop (commentAnswer d bytes (fileOf d bytes) k .at) bytes)
+        ≡ commentWords d bytes (fileOf d bytes) k
+    unfolding commentAnswer commentWords
+    comment-stretch = rw (e, lt-ltb k (t .comments) h, all-bytes) stretch
+
+  -- THE ROW: at the place that is told begins the P line numbered epoch * n + satellite. It stands among the lines of that epoch and names
+  -- that satellite of the header.
+  module _ (epoch satellite : ℕ) (some : epoch < epochsOf d (linesOf bytes)) (one : satellite < countOf d (linesOf bytes)) where
+    abbrev pub told : ℕ
+    told = rowPlace d bytes (fileOf d bytes) epoch satellite .at
+
+    place-told : told ≡ placeFrom (isKind d 10) (rowIndex d (linesOf bytes) epoch satellite) 0 (linesOf bytes)
+    unfolding rowPlace
+    place-told =
+        ap (λ (f : Front). rowPlace d bytes f epoch satellite .at) e
+        ∙ rw (all-bytes, lt-ltb epoch (epochsOf d (linesOf bytes)) some, lt-ltb satellite (countOf d (linesOf bytes)) one)
+
+    pub row-not-refused : rowPlace d bytes (fileOf d bytes) epoch satellite .refusal ≡ 0
+    unfolding rowPlace
+    row-not-refused = rw (e, all-bytes, lt-ltb epoch (epochsOf d (linesOf bytes)) some, lt-ltb satellite (countOf d (linesOf bytes)) one)
+
+    pub row-numbered : nth 0 (linesOf (drop told bytes)) ≡ nth (epoch * countOf d (linesOf bytes) + satellite) (ofKind d 10 (linesOf bytes))
+    row-numbered =
+        ap (λ (n : ℕ). nth 0 (linesOf (drop n bytes))) place-told
+        ∙ line-at-place (isKind d 10) (rowIndex d (linesOf bytes) epoch satellite) bytes
+
+    pub record RowThere : Type 0 where
+      pub numbered : nth 0 (linesOf (drop told bytes)) ≡ nth (epoch * countOf d (linesOf bytes) + satellite) (ofKind d 10 (linesOf bytes))
+      pub named : isRowLine d false (getD (identifiersOf d (linesOf bytes)) satellite 0) (nth 0 (linesOf (drop told bytes))) ≡ true
+      pub at-epoch : EpochAt (file-plain bytes (t, e)) epoch
+      pub among : nth 0 (linesOf (drop told bytes)) ≡ nth satellite (ofKind d 10 (at-epoch .epoch ∷ at-epoch .rows))
+
+    pub row-there : RowThere
+    row-there =
+        let p = file-plain bytes (t, e) in
+        let count : countOf d (linesOf bytes) ≡ satellites p = count-is p in
+        let in-time = subst (λ (n : ℕ). epoch < n) (epochs-are p) some in
+        let in-header = subst (λ (n : ℕ). satellite < n) count one in
+        let by-header : nth 0 (linesOf (drop told bytes)) ≡ nth (epoch * satellites p + satellite) (ofKind d 10 (linesOf bytes)) =
+        row-numbered ∙ ap (λ (n : ℕ). nth (epoch * n + satellite) (ofKind d 10 (linesOf bytes))) count in
+        record {
+          numbered = row-numbered;
+          named = rw (identifiers-are p, by-header) (place-at p epoch satellite in-time in-header);
+          at-epoch = the-rule p epoch in-time;
+          among = by-header ∙ the-rule p epoch in-time .places .numbered satellite in-header;
+        }

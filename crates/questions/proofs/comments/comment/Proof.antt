@@ -1,0 +1,77 @@
+-- `questions::comments::comment` meets its contract: what was found says which case holds.
+-- Assumes nothing.
+use mathlib.Core.Path.{_≡_, refl}
+use mathlib.Core.List.{[]}
+use native.Mathlib.Omega.{arith}
+use borrow.Author.Needs.{needs}
+use Rattle.scan.proofs.Told.{toldFront-one}
+use denote.Ref.{now}
+use Rattle.header.specs.Rules.{d}
+use Rattle.reader.specs.Reading.{fileOf}
+use Rattle.questions.specs.Questions.{commentWords}
+use Rattle.scan.specs.declared.Front.the-variants as front
+use Rattle.questions.proofs.Asking.{found-as, words-as, words-there, no-words-there, file-within}
+use Rattle.questions.proofs.comments.comment.Statement.{statement}
+use Rattle.questions.proofs.comments.comment.Tie as tie
+
+-- what was found in the file
+found-file : (c : tie.After-tally) → fileOf d (c .before .before .before .before .before .args .file .now) ≡ front.File (c .tally .given .0 .0)
+found-file c =
+    let ran = c .before .before in
+    found-as (ran .before .d .result) (ran .before .before .before .args .file .now) (ran .scan-whole .result) (front.File (c .tally .given .0 .0))
+    (ran .before .d .ensures) (toldFront-one _ _ (ran .scan-whole .ensures)) (c .tally .given .1)
+
+part-line-of-end : tie.Need-part-line-of-end
+part-line-of-end c =
+    let known = c .before .before .before in
+    omega (arith, file-within (known .before .before .before .before .before .args .file .now) (known .tally .given .0 .0) (found-file known))
+
+returns : tie.Need-returns
+returns c =
+    let known = c .before .before .before .before .before .before in
+    let start = known .before .before .before .before .before in
+    let t = known .tally .given .0 .0 in
+    words-as (start .args .file .now) (front.File t) (found-file known) (start .args .k) (now (c .text-of .result))
+    (words-there (known .before .before .before .d .result) (known .before .before .before .d .ensures) (start .args .file .now) t (start .args .k) (now (c .text-of .result))
+    (now (c .before .line-of .result)) (c .before .before .before .if1 .taken) (c .text-of .ensures) (c .before .line-of .ensures))
+
+returns-2 : tie.Need-returns-2
+unfolding commentWords
+returns-2 c =
+    let known = c .before in
+    let ran = known .before .before in
+    let start = ran .before .before .before in
+    words-as (start .args .file .now) _
+    (found-as (ran .before .d .result) (start .args .file .now) (ran .scan-whole .result) _ (ran .before .d .ensures) (toldFront-one _ _ (ran .scan-whole .ensures)) (known .enum-told .given .1))
+    (start .args .k) [] refl
+
+returns-3 : tie.Need-returns-3
+returns-3 c =
+    let known = c .before .before .before .before in
+    let start = known .before .before .before .before .before in
+    let t = known .tally .given .0 .0 in
+    words-as (start .args .file .now) (front.File t) (found-file known) (start .args .k) []
+    (no-words-there (start .args .file .now) t (start .args .k) (c .before .if1 .left))
+
+pub comment-spec : {M : Type 1} → statement M
+comment-spec =
+    tie.close
+    (tie.spec
+    (λ c κs. search needs)
+    (λ c κs. search needs)
+    (λ c. search needs)
+    (λ c. search needs)
+    (λ c. search needs)
+    (λ c. search needs)
+    (λ c. search needs)
+    (λ c. search needs)
+    (λ c. search needs)
+    part-line-of-end
+    (λ c κs. search needs)
+    (λ c κs. search needs)
+    returns
+    (λ c. search needs)
+    (λ c. search needs)
+    (λ c. search needs)
+    returns-2
+    returns-3)

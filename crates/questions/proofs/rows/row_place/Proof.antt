@@ -1,0 +1,66 @@
+-- `questions::rows::row_place` meets its contract: the lines of an accepted file are within the bounds that `row_at` asks for.
+-- Assumes nothing.
+use mathlib.Core.Path.{_≡_}
+use native.Mathlib.Omega.{arith}
+use borrow.Author.Needs.{needs}
+use Rattle.scan.proofs.Told.{toldFront-one}
+use Rattle.header.specs.Rules.{d}
+use Rattle.reader.specs.Reading.{fileOf}
+use Rattle.questions.specs.Questions.{rowPlace}
+use Rattle.scan.specs.declared.Front.the-variants as front
+use Rattle.questions.proofs.Asking.{found-as, row-as, row-found, bounded-as, file-within}
+use Rattle.questions.proofs.rows.row_place.Statement.{statement}
+use Rattle.questions.proofs.rows.row_place.Tie as tie
+
+-- what was found in the file
+found-file : (c : tie.After-tally) → fileOf d (c .before .before .before .before .before .args .file .now) ≡ front.File (c .tally .given .0 .0)
+found-file c =
+    let ran = c .before .before in
+    found-as (ran .before .d .result) (ran .before .before .before .args .file .now) (ran .scan-whole .result) (front.File (c .tally .given .0 .0))
+    (ran .before .d .ensures) (toldFront-one _ _ (ran .scan-whole .ensures)) (c .tally .given .1)
+
+part-row-at-end : tie.Need-part-row-at-end
+part-row-at-end c =
+    let known = c .before in
+    omega (arith, file-within (known .before .before .before .before .before .args .file .now) (known .tally .given .0 .0) (found-file known))
+
+row-at-requires : tie.Need-row-at-requires
+row-at-requires c κs =
+    let known = c .before .before in
+    let started = known .before .before .before in
+    bounded-as (started .d .result) (started .d .ensures) (started .before .before .args .file .now) (known .tally .given .0 .0) (found-file known)
+
+returns : tie.Need-returns
+unfolding rowPlace
+returns c =
+    let known = c .before .before in
+    let ran = known .before .before in
+    let start = ran .before .before .before in
+    row-as (start .args .file .now) _
+    (found-as (ran .before .d .result) (start .args .file .now) (ran .scan-whole .result) _ (ran .before .d .ensures) (toldFront-one _ _ (ran .scan-whole .ensures)) (known .number .given .1))
+    (start .args .epoch) (start .args .satellite) (c .no-row .result) (c .no-row .ensures)
+
+returns-2 : tie.Need-returns-2
+returns-2 c =
+    let known = c .before .before .before in
+    let started = known .before .before .before in
+    let start = started .before .before in
+    let t = known .tally .given .0 .0 in
+    row-as (start .args .file .now) (front.File t) (found-file known) (start .args .epoch) (start .args .satellite) (c .row-at .result)
+    (row-found (started .d .result) (started .d .ensures) (start .args .file .now) t (start .args .epoch) (start .args .satellite) (c .row-at .result) (c .row-at .ensures))
+
+pub row-place-spec : {M : Type 1} → statement M
+row-place-spec =
+    tie.close
+    (tie.spec
+    (λ c κs. search needs)
+    (λ c κs. search needs)
+    (λ c. search needs)
+    (λ c κs. search needs)
+    (λ c. search needs)
+    (λ c. search needs)
+    (λ c. search needs)
+    part-row-at-end
+    row-at-requires
+    returns
+    returns-2)

@@ -1,0 +1,91 @@
+// Comments of one whole file, asked for by number: the file's own refusal first, then 13 with line 0.
+ghost use mathlib.Core.Path.{_≡_};
+ghost use Rattle.lines.specs.Lines.{linesOf};
+ghost use Rattle.header.specs.Rules.{d};
+ghost use Rattle.reader.specs.Reading.{fileOf};
+ghost use Rattle.questions.specs.Questions.{textIn, noComment, commentAt, commentAnswer, commentWords};
+use crate::types::CommentAnswer;
+use header::Rules;
+use scan::Front;
+
+// The text of a comment's line: from column 4 on, without trailing blanks.
+fn text_of(line: &[u8]) -> &[u8]
+    ensures { λ r. ⌜ now r ≡ textIn (now (line .entry)) ⌝ }
+{
+    if line.len() < 3 {
+        return &line[0..0];
+    }
+    let words = &line[3..];
+    let n = layout::trimmed_length(words);
+    &words[0..n]
+}
+
+// A refusal beside no comment.
+fn no_comment(number: usize, line: u64) -> CommentAnswer
+    ensures { λ r. ⌜ r ≡ noComment number line ⌝ }
+{
+    CommentAnswer {
+        refusal: number,
+        line,
+        at: 0,
+        length: 0,
+    }
+}
+
+// Where the text of the k-th comment of some lines lies.
+fn comment_at(rules: Rules, bytes: &[u8], k: u64) -> CommentAnswer
+    ensures { λ r. ⌜ r ≡ commentAt rules (linesOf (now (bytes .entry))) k ⌝ }
+{
+    let place = file::place_of(rules, bytes, 8, k);
+    let line = file::line_of(rules, bytes, 8, k);
+    let indent = if line.len() < 3 { line.len() } else { 3 };
+    let text = text_of(line);
+    CommentAnswer {
+        refusal: 0,
+        line: 0,
+        at: place + indent,
+        length: text.len(),
+    }
+}
+
+// Where the text of the k-th comment of a file lies, counted from 0: 13 where it has no such comment.
+pub fn comment_answer(file: &[u8], k: u64) -> CommentAnswer
+    ensures result { λ r. ⌜ r ≡ commentAnswer d (now (file .entry)) (fileOf d (now (file .entry))) k ⌝ }
+{
+    let rules = Rules::d();
+    match scan::scan_whole(rules, file) {
+        Front::Refused {
+            number,
+            line,
+            column: _,
+        } => no_comment(number, line),
+        Front::File(tally) => {
+            if k < tally.comments {
+                let end = tally.end;
+                return comment_at(rules, &file[0..end], k);
+            }
+            no_comment(13, 0)
+        }
+    }
+}
+
+// The text of the k-th comment of a file, a stretch of it; empty on a refusal.
+pub fn comment(file: &[u8], k: u64) -> &[u8]
+    ensures result { λ r. ⌜ now r ≡ commentWords d (now (file .entry)) (fileOf d (now (file .entry))) k ⌝ }
+{
+    let rules = Rules::d();
+    match scan::scan_whole(rules, file) {
+        Front::Refused {
+            number: _,
+            line: _,
+            column: _,
+        } => &file[0..0],
+        Front::File(tally) => {
+            if k < tally.comments {
+                let end = tally.end;
+                return text_of(file::line_of(rules, &file[0..end], 8, k));
+            }
+            &file[0..0]
+        }
+    }
+}

@@ -1,0 +1,13 @@
+// Questions about one whole file: its comments and the satellites of its header by number, and where a row lies.
+mod comments;
+mod rows;
+mod satellites;
+mod types;
+
+pub use comments::comment;
+pub use comments::comment_answer;
+pub use rows::row_place;
+pub use satellites::satellite_of;
+pub use types::CommentAnswer;
+pub use types::RowPlace;
+pub use types::SatelliteAnswer;

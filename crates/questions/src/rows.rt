@@ -1,0 +1,57 @@
+// Rows of one whole file, asked for by epoch and satellite: the file's own refusal first, then 13 with line 0.
+ghost use mathlib.Core.Path.{_≡_};
+ghost use Prim.Native.Nat.{_≤_};
+ghost use Rattle.lines.specs.Lines.{linesOf};
+ghost use Rattle.header.specs.Rules.{d};
+ghost use Rattle.file.specs.Table.{countOf};
+ghost use Rattle.reader.specs.Reading.{fileOf};
+ghost use Rattle.questions.specs.Questions.{epochsOf, noRow, rowAt, rowPlace};
+use crate::types::RowPlace;
+use header::Rules;
+use scan::Front;
+
+// A refusal beside no row.
+fn no_row(number: usize, line: u64) -> RowPlace
+    ensures { λ r. ⌜ r ≡ noRow number line ⌝ }
+{
+    RowPlace {
+        refusal: number,
+        line,
+        at: 0,
+    }
+}
+
+// Where the P line of an epoch and a satellite begins among some lines.
+fn row_at(rules: Rules, bytes: &[u8], epoch: u64, satellite: u64) -> RowPlace
+    requires { ⌜ (epochsOf rules (linesOf (now bytes)) ≤ 100000) × (countOf rules (linesOf (now bytes)) ≤ 255) ⌝ }
+    ensures { λ r. ⌜ r ≡ rowAt rules (linesOf (now (bytes .entry))) epoch satellite ⌝ }
+{
+    let first = file::first_of(rules, bytes);
+    let n = file::count_of(rules, bytes);
+    if (epoch < first.epochs) & (satellite < n) {
+        return RowPlace {
+            refusal: 0,
+            line: 0,
+            at: file::place_of(rules, bytes, 10, epoch * n + satellite),
+        };
+    }
+    no_row(13, 0)
+}
+
+// Where the P line of an epoch and a satellite begins in a file, each counted from 0, in mode V too: 13 where it has no such row.
+pub fn row_place(file: &[u8], epoch: u64, satellite: u64) -> RowPlace
+    ensures result { λ r. ⌜ r ≡ rowPlace d (now (file .entry)) (fileOf d (now (file .entry))) epoch satellite ⌝ }
+{
+    let rules = Rules::d();
+    match scan::scan_whole(rules, file) {
+        Front::Refused {
+            number,
+            line,
+            column: _,
+        } => no_row(number, line),
+        Front::File(tally) => {
+            let end = tally.end;
+            row_at(rules, &file[0..end], epoch, satellite)
+        }
+    }
+}

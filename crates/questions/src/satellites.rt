@@ -1,0 +1,87 @@
+// Satellites of one whole file, asked for by identifier: the file's own refusal first, then 13 with line 0.
+ghost use mathlib.Core.Path.{_≡_};
+ghost use Prim.Native.Nat.{_≤_};
+ghost use lib.ListN.{length};
+ghost use Rattle.lines.specs.Lines.{linesOf};
+ghost use Rattle.header.specs.Rules.{d};
+ghost use Rattle.file.specs.Table.{countOf};
+ghost use Rattle.reader.specs.Reading.{fileOf, identifiersOf};
+ghost use Rattle.questions.specs.Questions.{indexOf, noSatellite, satelliteIn, satelliteAnswer};
+use crate::types::SatelliteAnswer;
+use header::Rules;
+use scan::Front;
+
+// The number of a name among others, or how many there are.
+fn index_of(name: u64, names: &[u64]) -> usize
+    ensures { λ r. ⌜ r ≡ indexOf name (now (names .entry)) ⌝ }
+{
+    let mut i = 0;
+    while i < names.len() {
+        if name == names[i] {
+            return i;
+        }
+        i += 1;
+    }
+    i
+}
+
+// A refusal beside no satellite.
+fn no_satellite(number: usize, line: u64) -> SatelliteAnswer
+    ensures { λ r. ⌜ r ≡ noSatellite number line ⌝ }
+{
+    SatelliteAnswer {
+        refusal: number,
+        line,
+        number: 0,
+    }
+}
+
+// The number of a name among those of a header.
+fn satellite_in(name: u64, names: &[u64]) -> SatelliteAnswer
+    ensures { λ r. ⌜ r ≡ satelliteIn name (now (names .entry)) ⌝ }
+{
+    let number = index_of(name, names);
+    if number < names.len() {
+        return SatelliteAnswer {
+            refusal: 0,
+            line: 0,
+            number: number as u64,
+        };
+    }
+    no_satellite(13, 0)
+}
+
+// The number of a name among the identifiers of some lines, as many as they say and at most 255.
+fn satellite_among(rules: Rules, bytes: &[u8], name: u64) -> SatelliteAnswer
+    requires { ⌜ (length (identifiersOf rules (linesOf (now bytes))) ≡ countOf rules (linesOf (now bytes))) × (countOf rules (linesOf (now bytes)) ≤ 255) ⌝ }
+    ensures { λ r. ⌜ r ≡ satelliteIn name (identifiersOf rules (linesOf (now (bytes .entry)))) ⌝ }
+{
+    let mut names = [0u64; 255];
+    let n = file::count_of(rules, bytes);
+    store::fill_slots(rules, bytes, false, n, &mut names);
+    let all = &names[..];
+    if n < 255 {
+        let few = n as usize;
+        return satellite_in(name, &all[0..few]);
+    }
+    satellite_in(name, all)
+}
+
+// The number in the header of the satellite with this identifier, held as its letter's byte times 100 and its number (7107 for G07): 13 where
+// the header has none such.
+pub fn satellite_of(file: &[u8], identifier: u64) -> SatelliteAnswer
+    ensures result { λ r. ⌜ r ≡ satelliteAnswer d (now (file .entry)) (fileOf d (now (file .entry))) identifier ⌝ }
+{
+    let rules = Rules::d();
+    match scan::scan_whole(rules, file) {
+        Front::Refused {
+            number,
+            line,
+            column: _,
+        } => no_satellite(number, line),
+        Front::File(tally) => {
+            let end = tally.end;
+            satellite_among(rules, &file[0..end], identifier)
+        }
+    }
+}

@@ -1,0 +1,21 @@
+// Where the text of a comment lies in its file: first byte and length, both 0 beside a refusal.
+pub struct CommentAnswer {
+    pub refusal: usize,
+    pub line: u64,
+    pub at: usize,
+    pub length: usize,
+}
+
+// The number of a satellite in the header, counted from 0; 0 beside a refusal.
+pub struct SatelliteAnswer {
+    pub refusal: usize,
+    pub line: u64,
+    pub number: u64,
+}
+
+// Where the P line of an epoch and a satellite begins in its file; 0 beside a refusal.
+pub struct RowPlace {
+    pub refusal: usize,
+    pub line: u64,
+    pub at: usize,
+}
