@@ -6,8 +6,8 @@
                                       none tells from the right program is printed as NOT SEEN
     tests/edits.py refused [NAME..]   the prover must refuse each edit (`rt must-fail` in a copy)
 
-The edits of programs speak of reading past an end or going on for ever, so they are only refused, not run. Exit status 0: all seen, or all
-refused."""
+The edits of programs speak of reading past an end or going on for ever, and an edit of a definition changes no code, so they are only refused,
+not run. Exit status 0: all seen, or all refused."""
 import shutil
 import subprocess
 import sys
@@ -81,6 +81,8 @@ def run(names):
         for crate in names:
             for edit in [] if program(crate) else edits(crate):
                 change, by = parts(edit), ""
+                if change["file"].startswith("specs/"):
+                    continue
                 for name in (p for p in programs if crate in reached(p)):
                     file = copies[name] / "crates" / crate / change["file"]
                     right = file.read_text()
