@@ -3,23 +3,23 @@
 use mathlib.Core.Path.{_≡_, sym, ap, ap₂, _∙_}
 use mathlib.Core.Bool.{Bool, true, false, _&&_}
 use mathlib.Core.List.{List, [], _∷_, _++_, append-nil}
-use Prim.Native.Nat.{ℕ, suc, _+_, _*_, _-_, _<_, _≤_, min}
+use Prim.Native.Nat.{ℕ, _+_, _*_, _-_, _<_, _≤_, min}
 use native.Mathlib.Nat.{add-zero, sub-zero, mul-le-mul}
 use native.Mathlib.Decide.{decLt}
 use native.Mathlib.Omega.{arith}
 use borrow.Author.Tests.{eq-eqb, ne-eqb, lt-ltb, le-ltb, ltb-true}
 use lib.Dec.{ltb}
 use lib.ListN.{length, getD, take, drop, length-append, length-drop, drop-of-length-le}
-use lib.Seq.{take-all, length-take-le, take-append-seam}
+use lib.Seq.{take-append-seam}
 use Rattle.layout.specs.Line.{trimmed}
 use Rattle.lines.specs.Lent.{laid}
 use Rattle.lines.proofs.Laying.{laid-fits}
-use Rattle.lines.specs.Lines.{linesOf, joinLines, bytesIn, select, nth, placeFrom}
+use Rattle.lines.specs.Lines.{linesOf, bytesIn, select, nth, placeFrom}
 use Rattle.header.specs.Rules.{d}
 use Rattle.file.specs.Kinds.{isKind, ofKind}
-use Rattle.file.specs.Plain.{Plain, Sound}
+use Rattle.file.specs.Plain.{Plain}
 use Rattle.file.specs.Table.{firstIn, countOf, slotsIn}
-use Rattle.scan.specs.Run.{nothing, scanOf, wholeOf}
+use Rattle.scan.specs.Run.{scanOf, wholeOf}
 use Rattle.reader.specs.Reading.{linesTo, fileOf, identifiersOf}
 use Rattle.questions.specs.Questions.{textIn, noComment, commentLine, commentPlace, commentAt, commentAnswer, commentWords, indexOf, satelliteIn, satelliteAnswer, epochsOf, noRow, rowAt, rowPlace}
 use Rattle.header.specs.declared.types.Rules.{Rules}

@@ -7,11 +7,10 @@ use Prim.Native.Nat.{ℕ, suc, _+_, _*_, min}
 use lib.Dec.{eqb, ltb}
 use lib.ListN.{length, drop}
 use Rattle.layout.specs.Line.{trimmed}
-use Rattle.lines.specs.Lines.{linesOf, nth, placeFrom}
+use Rattle.lines.specs.Lines.{nth, placeFrom}
 use Rattle.file.specs.Kinds.{isKind, ofKind}
 use Rattle.file.specs.Table.{firstIn, countOf}
 use Rattle.header.specs.declared.types.Rules.{Rules}
-use Rattle.scan.specs.declared.Tally.{Tally}
 use Rattle.scan.specs.declared.Front.{Front}
 use Rattle.scan.specs.declared.Front.the-variants as front
 use Rattle.reader.specs.Reading.{linesTo, identifiersOf}

@@ -7,7 +7,6 @@ use Prim.Native.Nat.{ℕ, _-_, _≤_}
 use native.Mathlib.Nat.{sub-zero}
 use lib.ListN.{length, take}
 use Rattle.lines.specs.Lines.{linesOf}
-use Rattle.file.specs.Kinds.{ofKind}
 use Rattle.file.specs.Table.{headerWith, headerIn}
 use Rattle.scan.specs.Run.{scanOf, wholeOf}
 use Rattle.accepted.proofs.Used.{accepted-front}

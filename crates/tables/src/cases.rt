@@ -1,7 +1,7 @@
 // One case: its bytes judged, read and asked about.
+use crate::asked;
 use crate::lent;
 use crate::print;
-use crate::questions;
 use reader::Reading;
 
 // How much of each list is lent, and what is asked: the comment, epoch and satellite by number, the satellite's name as a number.
@@ -33,7 +33,7 @@ pub(crate) fn answer(case: Case, file: &[u8]) {
     told(b"whole", reader::judge(file));
     lent::read(case, file, false);
     lent::read(case, file, true);
-    questions::comment(file, case.comment);
-    questions::satellite(file, case.name);
-    questions::row(file, case.epoch, case.satellite);
+    asked::comment(file, case.comment);
+    asked::satellite(file, case.name);
+    asked::row(file, case.epoch, case.satellite);
 }

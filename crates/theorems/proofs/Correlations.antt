@@ -1,7 +1,7 @@
 -- EP and EV lines are skipped. 01: "two accepted files that differ only after column 2 of such lines have the same table".
 -- Assumes nothing.
-use mathlib.Core.Path.{_≡_, refl, ap, ap₂, _∙_}
-use mathlib.Core.Bool.{Bool, true, false}
+use mathlib.Core.Path.{_≡_, refl, ap, _∙_}
+use mathlib.Core.Bool.{Bool}
 use mathlib.Core.List.{List}
 use Prim.Native.Nat.{ℕ}
 use Rattle.header.specs.Rules.{d}

@@ -1,32 +1,31 @@
 -- The front page for the adjustment's row: which line it is, that nothing is lost in its floats, and what is absent.
 -- Assumes nothing.
-use mathlib.Core.Path.{_≡_, refl, sym, ap, ap₂, _∙_, subst}
-use mathlib.Core.Bool.{Bool, true, false, cond, not, _&&_, false≢true}
+use mathlib.Core.Path.{_≡_, refl, sym, ap, subst}
+use mathlib.Core.Bool.{Bool, true, false, not, _&&_, false≢true}
 use mathlib.Core.Logic.{_↔_}
 use mathlib.Core.List.{List}
-use Prim.Native.Nat.{ℕ, zero, suc, _≤_, _<_, _^_}
+use Prim.Native.Nat.{ℕ, zero, suc, _≤_}
 use native.Mathlib.Omega.{arith}
 use borrow.Author.Tests.{eqb-true, eq-eqb, ne-eqb, lt-ltb, ltb-true, not-true}
 use lib.Dec.{eqb, ltb}
-use lib.IntN.{ℤ, pos, negsuc, negℤ, natAbs}
+use lib.IntN.{ℤ, pos, negsuc, natAbs}
 use lib.Ieee.{Float, nan, ofInt, binary64}
 use lib.Ieee.Exact.{HasValue}
 use lib.Ieee.Back.{round-whole}
-use lib.ListN.{length, take}
 use Rattle.field.specs.Sign.{largest, signedInt}
 use Rattle.field.proofs.Signs.{magnitude-back}
 use Rattle.laws.proofs.Bools.{and-left, and-right, and-both}
 use Rattle.header.specs.Rules.{d}
-use Rattle.lines.specs.Lines.{linesOf, nth}
+use Rattle.lines.specs.Lines.{nth}
 use Rattle.record.specs.Rows.{rowOf}
 use Rattle.file.specs.Kinds.{isKind}
 use Rattle.file.specs.Plain.{isRowLine}
-use Rattle.file.specs.Table.{headerIn, storedSigned}
+use Rattle.file.specs.Table.{headerIn}
 use Rattle.file.proofs.Finding.{line-at-place}
 use Rattle.scan.specs.Run.{IsFile}
 use Rattle.reader.specs.Reading.{fileOf}
 use Rattle.questions.specs.Questions.{rowPlace}
-use Rattle.adjust.specs.Floats.{floatUnless, noPlace, noClock, floatRow, absentRow, rowAnswer}
+use Rattle.adjust.specs.Floats.{floatUnless, floatRow, absentRow, rowAnswer}
 use Rattle.accepted.proofs.Files.{whole-taken}
 use Rattle.plain.proofs.Exact.{exactSigned, Bounded, row-bounded, stored-exact}
 use Rattle.theorems.proofs.Room.{found-numbered}

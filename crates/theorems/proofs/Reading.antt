@@ -1,7 +1,7 @@
 -- The front page for reading: what holds of every accepted file, in sentences over its lines and the header of its table. Satellites,
 -- epochs and rows are counted from 0. P lines are kind 10, V lines 11, epoch lines 9, comments 8.
 -- Assumes nothing.
-use mathlib.Core.Path.{_≡_, sym, ap, ap₂, _∙_, subst}
+use mathlib.Core.Path.{_≡_, sym, _∙_}
 use mathlib.Core.Bool.{Bool, true, false, not}
 use mathlib.Core.List.{List, _∷_, _++_, []}
 use Prim.Native.Nat.{ℕ, _+_, _*_, _<_, _≤_}
@@ -22,9 +22,9 @@ use Rattle.plain.proofs.Bytes.{bytes-enough}
 use Rattle.plain.proofs.Counts.{identifiers-are, rows-many, rows-many-both, places-known-and-absent}
 use Rattle.plain.proofs.Different.{one-of-each}
 use Rattle.plain.proofs.Exact.{exactNumbers}
-use Rattle.plain.proofs.Places.{rowNumber, Has}
+use Rattle.plain.proofs.Places.{rowNumber}
 use Rattle.plain.proofs.Rule.{InOrder, EpochAt, the-rule, absentIn, places-many, motions-many, no-motions}
-use Rattle.plain.proofs.Selected.{satellites, names, velocities, epochs, start8, interval8}
+use Rattle.plain.proofs.Selected.{satellites, epochs, start8, interval8}
 use Rattle.plain.proofs.Stored.{place-stored, place-stored-both, motion-stored}
 use Rattle.theorems.proofs.Accepting.{says-satellites, says-epochs, says-start, says-interval, says-velocity, says-comments}
 use Rattle.header.specs.declared.types.Header.{Header}

@@ -1,29 +1,26 @@
 -- The front page for lent room: how much a reading needs, 12 where it is less, and that a refusal changes nothing. Reading a whole file
 -- and reading the file at the front of some bytes are said at once.
 -- Assumes nothing.
-use mathlib.Core.Path.{_≡_, refl, sym, ap, ap₂, _∙_, subst}
+use mathlib.Core.Path.{_≡_, refl, sym, ap, _∙_}
 use mathlib.Core.Bool.{Bool, true, false, cond, _&&_, false≢true}
 use mathlib.Core.Logic.{_⊎_, inl, inr, _↔_}
-use mathlib.Core.List.{List, [], _++_}
+use mathlib.Core.List.{List}
 use Prim.Native.Nat.{ℕ, _+_, _*_, _/_, _≤_, _<_}
 use native.Mathlib.Omega.{arith}
 use borrow.Author.Tests.{leb-true, le-leb}
-use lib.Dec.{leb, eqb}
-use lib.ListN.{length, take, drop, length-append}
+use lib.Dec.{leb}
+use lib.ListN.{length, take, drop}
 use lib.Seq.{take-at, drop-at}
 use Rattle.laws.proofs.Bools.{and-left, and-right, and-both}
 use Rattle.header.specs.Rules.{d}
-use Rattle.lines.specs.Lent.{over}
-use Rattle.lines.specs.Lines.{linesOf}
-use Rattle.file.specs.Kinds.{ofKind}
 use Rattle.file.specs.Plain.{Plain}
 use Rattle.file.specs.Table.{countOf, headerIn, commentsIn, rowLines, rowsIn}
-use Rattle.reader.specs.Reading.{refusedWith, linesTo, acceptedAs, frontOf, fileOf, linesIn, roomFor, enough, delivered, filled, identifiersOf, exponentsOf}
+use Rattle.reader.specs.Reading.{refusedWith, linesTo, acceptedAs, frontOf, fileOf, roomFor, enough, delivered, filled, identifiersOf, exponentsOf}
 use Rattle.accepted.proofs.Files.{front-plain}
 use Rattle.accepted.proofs.Local.{whole-ends}
 use Rattle.accepted.proofs.Used.{accepted-front}
 use Rattle.plain.proofs.Counts.{count-is, rows-many, rows-many-both, identifiers-room, exponents-room, comments-room, places-room, motions-room}
-use Rattle.plain.proofs.Selected.{satellites, velocities, epochs, kind-8}
+use Rattle.plain.proofs.Selected.{satellites, epochs, kind-8}
 use Rattle.theorems.proofs.Accepting.{says-satellites, says-epochs, says-velocity, says-comments}
 use Rattle.theorems.proofs.Judging.{refused-numbers, whole-refused}
 use Rattle.header.specs.declared.types.Header.{Header}

@@ -3,7 +3,6 @@
 use Rattle.reader.proofs.Found.{front-found, whole-found}
 use Rattle.scan.proofs.Told.{toldFront-one}
 use borrow.Author.Needs.{needs}
-use borrow.Author.Tests.{not-false, not-true}
 use Rattle.reader.proofs.judging.found_in.Statement.{statement}
 use Rattle.reader.proofs.judging.found_in.Tie as tie
 
