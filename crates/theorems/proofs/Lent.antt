@@ -21,7 +21,7 @@ use Rattle.stored.specs.Stored.{placeIn, clockIn}
 use Rattle.reader.specs.Reading.{fileOf, linesIn, filled}
 use Rattle.plain.proofs.Exact.{exactSigned, exactNumbers, Bounded, row-bounded, row-in, row-exact}
 use Rattle.stored.proofs.Theorems.{place-back, clock-back}
-use Rattle.theorems.proofs.Accepting.{whole-taken}
+use Rattle.accepted.proofs.Files.{whole-taken}
 use Rattle.theorems.proofs.Reading.{header, identifier, rowsOf, rowAt, There, the-row, the-motion, row-holds, row-holds-both, motion-holds}
 use Rattle.theorems.proofs.Room.{answer, fills, answer-decides}
 use Rattle.record.specs.declared.types.Row.{Row}
