@@ -13,7 +13,7 @@ returns : tie.Need-returns
 returns c = ap trimmed (sym (rest-none (c .before .before .before .args .line .now) 3 (omega arith)))
 
 part-result-end-2 : tie.Need-part-result-end-2
-part-result-end-2 c = text-fits (c .before .before .before .before .args .line .now) (c .trimmed-length .result) (c .trimmed-length .ensures)
+part-result-end-2 c = omega (arith, text-fits (c .before .before .before .before .args .line .now) (c .trimmed-length .result) (c .trimmed-length .ensures))
 
 returns-2 : tie.Need-returns-2
 returns-2 c = text-told (c .before .before .before .before .before .args .line .now) (c .before .trimmed-length .result) (c .before .trimmed-length .ensures)
