@@ -106,6 +106,8 @@ def refused(names):
         work.mkdir()
         shutil.copy(root / "crates.txt", work)
         shutil.copytree(root / "crates", work / "crates")
+        for crate in needs.keys() - set(names):
+            shutil.rmtree(work / "crates" / crate / "must-fail", ignore_errors=True)
         if (root / "target").is_dir():
             shutil.copytree(root / "target", work / "target", symlinks=True)
         for crate in names:
