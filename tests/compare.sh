@@ -12,10 +12,10 @@ root=$(cd "$(dirname "$0")/.." && pwd -P)
 seed=${1:-1}
 count=${2:-2000}
 
-oracle=$root/target/oracle/files
-mkdir -p "$root/target/oracle"
-rustc -O --edition 2021 -o "$oracle" "$root/tests/files.rs"
+made=$(mktemp -d)
+trap 'rm -rf "$made"' EXIT
+rustc -O --edition 2021 -o "$made/files" "$root/tests/files.rs"
 "$root/tests/program.sh" tables </dev/null
 
 echo "seed $seed"
-exec "$oracle" compare "$seed" "$count" "$root/tests/program.sh" built tables
+"$made/files" compare "$seed" "$count" "$root/tests/program.sh" built tables
