@@ -4,7 +4,7 @@
     tests/edits.py run [NAME..]       applies each edit of the named libraries (of all) to a copy without proofs, compiles the programs that
                                       reach it with `rt try`, and says whether one prints something else than is stored: an edit that
                                       none tells from the right program is printed as NOT SEEN
-    tests/edits.py refused [NAME..]   the prover must refuse each edit (`rt must-fail` in a copy)
+    tests/edits.py refused [NAME..]   the prover must refuse each further edit (`rt must-fail` in a copy); those of the gate are the gate's
 
 The edits of programs speak of reading past an end or going on for ever, and an edit of a definition changes no code, so they are only refused,
 not run. Exit status 0: all seen, or all refused."""
@@ -106,14 +106,13 @@ def refused(names):
         work.mkdir()
         shutil.copy(root / "crates.txt", work)
         shutil.copytree(root / "crates", work / "crates")
-        for crate in needs.keys() - set(names):
+        for crate in needs:
             shutil.rmtree(work / "crates" / crate / "must-fail", ignore_errors=True)
         if (root / "target").is_dir():
             shutil.copytree(root / "target", work / "target", symlinks=True)
         for crate in names:
-            for edit in (root / "tests/edits" / crate).glob("*.edit"):
-                (work / "crates" / crate / "must-fail").mkdir(exist_ok=True)
-                shutil.copy(edit, work / "crates" / crate / "must-fail")
+            if (root / "tests/edits" / crate).is_dir():
+                shutil.copytree(root / "tests/edits" / crate, work / "crates" / crate / "must-fail")
         return subprocess.run(["rt", "must-fail", *names], cwd=work).returncode == 0
 
 

@@ -6,12 +6,13 @@ use mathlib.Core.List.{List, []}
 use mathlib.Core.Path.{_≡_}
 use Prim.Native.Nat.{ℕ, _/_, _≤_}
 use lib.Dec.{leb}
+use lib.IntN.{ℤ}
 use lib.ListN.{length, take}
 use Rattle.lines.specs.Lent.{over}
 use Rattle.lines.specs.Lines.{linesOf}
 use Rattle.header.specs.Header.{noHeader}
 use Rattle.file.specs.Kinds.{ofKind}
-use Rattle.file.specs.Table.{countOf, headerIn, slotsIn, rowWidth, rowLines}
+use Rattle.file.specs.Table.{countOf, headerIn, slotsIn, commentsIn, rowWidth, rowLines, rowsIn}
 use Rattle.scan.specs.Run.{scanOf, wholeOf}
 use Rattle.header.specs.declared.types.Header.{Header}
 use Rattle.header.specs.declared.types.Rules.{Rules}
@@ -86,3 +87,24 @@ identifiersOf rules lines = slotsIn rules false (countOf rules lines) lines
 
 abbrev pub exponentsOf : Rules → List (List ℕ) → List ℕ
 exponentsOf rules lines = slotsIn rules true (countOf rules lines) lines
+
+-- A reading into these lists: its answer, and each list afterwards.
+module _ (rules : Rules) (bytes : List ℕ) (found : Front) (identifiers exponents comments : List ℕ) (rows : List ℤ) where
+  abbrev pub readAnswer : Reading
+  readAnswer = delivered rules bytes found (length identifiers) (length exponents) (length comments) (length rows)
+
+  -- there is a file, and room for its table
+  abbrev pub fills : Bool
+  fills = enough rules bytes found (length identifiers) (length exponents) (length comments) (length rows)
+
+  abbrev pub identifiersAfter : List ℕ
+  identifiersAfter = filled fills (identifiersOf rules (linesIn bytes found)) identifiers
+
+  abbrev pub exponentsAfter : List ℕ
+  exponentsAfter = filled fills (exponentsOf rules (linesIn bytes found)) exponents
+
+  abbrev pub commentsAfter : List ℕ
+  commentsAfter = filled fills (commentsIn rules (linesIn bytes found)) comments
+
+  abbrev pub rowsAfter : List ℤ
+  rowsAfter = filled fills (rowsIn rules (linesIn bytes found)) rows

@@ -8,8 +8,8 @@ ghost use Rattle.lines.specs.Lent.{flat};
 ghost use Rattle.lines.specs.Lines.{linesOf};
 ghost use Rattle.header.specs.Rules.{d};
 ghost use Rattle.file.specs.Kinds.{ofKind};
-ghost use Rattle.file.specs.Table.{slotsIn, commentText, commentsIn, rowWidth, rowLines, numbersOfRows, rowsIn};
-ghost use Rattle.reader.specs.Reading.{frontOf, fileOf, Accounted, roomFor, enough, delivered, linesIn, filled, identifiersOf, exponentsOf};
+ghost use Rattle.file.specs.Table.{slotsIn, commentText, rowWidth, rowLines, numbersOfRows};
+ghost use Rattle.reader.specs.Reading.{frontOf, fileOf, Accounted, roomFor, filled, readAnswer, identifiersAfter, exponentsAfter, commentsAfter, rowsAfter};
 use crate::judging;
 use crate::types::Reading;
 use header::Rules;
@@ -61,11 +61,11 @@ fn deliver(
     rows: &mut [i64],
 ) -> Reading
     requires { ⌜ Accounted rules (now bytes) found ⌝ }
-    ensures { λ r. ⌜ r ≡ delivered rules (now (bytes .entry)) found (length (now (identifiers .entry))) (length (now (exponents .entry))) (length (now (comments .entry))) (length (now (rows .entry))) ⌝ }
-    ensures { λ _. ⌜ now (identifiers .exit) ≡ filled (enough rules (now (bytes .entry)) found (length (now (identifiers .entry))) (length (now (exponents .entry))) (length (now (comments .entry))) (length (now (rows .entry)))) (identifiersOf rules (linesIn (now (bytes .entry)) found)) (now (identifiers .entry)) ⌝ }
-    ensures { λ _. ⌜ now (exponents .exit) ≡ filled (enough rules (now (bytes .entry)) found (length (now (identifiers .entry))) (length (now (exponents .entry))) (length (now (comments .entry))) (length (now (rows .entry)))) (exponentsOf rules (linesIn (now (bytes .entry)) found)) (now (exponents .entry)) ⌝ }
-    ensures { λ _. ⌜ now (comments .exit) ≡ filled (enough rules (now (bytes .entry)) found (length (now (identifiers .entry))) (length (now (exponents .entry))) (length (now (comments .entry))) (length (now (rows .entry)))) (commentsIn rules (linesIn (now (bytes .entry)) found)) (now (comments .entry)) ⌝ }
-    ensures { λ _. ⌜ now (rows .exit) ≡ filled (enough rules (now (bytes .entry)) found (length (now (identifiers .entry))) (length (now (exponents .entry))) (length (now (comments .entry))) (length (now (rows .entry)))) (rowsIn rules (linesIn (now (bytes .entry)) found)) (now (rows .entry)) ⌝ }
+    ensures { λ r. ⌜ r ≡ readAnswer rules (now (bytes .entry)) found (now (identifiers .entry)) (now (exponents .entry)) (now (comments .entry)) (now (rows .entry)) ⌝ }
+    ensures { λ _. ⌜ now (identifiers .exit) ≡ identifiersAfter rules (now (bytes .entry)) found (now (identifiers .entry)) (now (exponents .entry)) (now (comments .entry)) (now (rows .entry)) ⌝ }
+    ensures { λ _. ⌜ now (exponents .exit) ≡ exponentsAfter rules (now (bytes .entry)) found (now (identifiers .entry)) (now (exponents .entry)) (now (comments .entry)) (now (rows .entry)) ⌝ }
+    ensures { λ _. ⌜ now (comments .exit) ≡ commentsAfter rules (now (bytes .entry)) found (now (identifiers .entry)) (now (exponents .entry)) (now (comments .entry)) (now (rows .entry)) ⌝ }
+    ensures { λ _. ⌜ now (rows .exit) ≡ rowsAfter rules (now (bytes .entry)) found (now (identifiers .entry)) (now (exponents .entry)) (now (comments .entry)) (now (rows .entry)) ⌝ }
 {
     match found {
         Front::Refused {
@@ -113,11 +113,11 @@ pub fn read(
     comments: &mut [u8],
     rows: &mut [i64],
 ) -> Reading
-    ensures result { λ r. ⌜ r ≡ delivered d (now (file .entry)) (fileOf d (now (file .entry))) (length (now (identifiers .entry))) (length (now (exponents .entry))) (length (now (comments .entry))) (length (now (rows .entry))) ⌝ }
-    ensures identifiers { λ _. ⌜ now (identifiers .exit) ≡ filled (enough d (now (file .entry)) (fileOf d (now (file .entry))) (length (now (identifiers .entry))) (length (now (exponents .entry))) (length (now (comments .entry))) (length (now (rows .entry)))) (identifiersOf d (linesIn (now (file .entry)) (fileOf d (now (file .entry))))) (now (identifiers .entry)) ⌝ }
-    ensures exponents { λ _. ⌜ now (exponents .exit) ≡ filled (enough d (now (file .entry)) (fileOf d (now (file .entry))) (length (now (identifiers .entry))) (length (now (exponents .entry))) (length (now (comments .entry))) (length (now (rows .entry)))) (exponentsOf d (linesIn (now (file .entry)) (fileOf d (now (file .entry))))) (now (exponents .entry)) ⌝ }
-    ensures comments { λ _. ⌜ now (comments .exit) ≡ filled (enough d (now (file .entry)) (fileOf d (now (file .entry))) (length (now (identifiers .entry))) (length (now (exponents .entry))) (length (now (comments .entry))) (length (now (rows .entry)))) (commentsIn d (linesIn (now (file .entry)) (fileOf d (now (file .entry))))) (now (comments .entry)) ⌝ }
-    ensures rows { λ _. ⌜ now (rows .exit) ≡ filled (enough d (now (file .entry)) (fileOf d (now (file .entry))) (length (now (identifiers .entry))) (length (now (exponents .entry))) (length (now (comments .entry))) (length (now (rows .entry)))) (rowsIn d (linesIn (now (file .entry)) (fileOf d (now (file .entry))))) (now (rows .entry)) ⌝ }
+    ensures result { λ r. ⌜ r ≡ readAnswer d (now (file .entry)) (fileOf d (now (file .entry))) (now (identifiers .entry)) (now (exponents .entry)) (now (comments .entry)) (now (rows .entry)) ⌝ }
+    ensures identifiers { λ _. ⌜ now (identifiers .exit) ≡ identifiersAfter d (now (file .entry)) (fileOf d (now (file .entry))) (now (identifiers .entry)) (now (exponents .entry)) (now (comments .entry)) (now (rows .entry)) ⌝ }
+    ensures exponents { λ _. ⌜ now (exponents .exit) ≡ exponentsAfter d (now (file .entry)) (fileOf d (now (file .entry))) (now (identifiers .entry)) (now (exponents .entry)) (now (comments .entry)) (now (rows .entry)) ⌝ }
+    ensures comments { λ _. ⌜ now (comments .exit) ≡ commentsAfter d (now (file .entry)) (fileOf d (now (file .entry))) (now (identifiers .entry)) (now (exponents .entry)) (now (comments .entry)) (now (rows .entry)) ⌝ }
+    ensures rows { λ _. ⌜ now (rows .exit) ≡ rowsAfter d (now (file .entry)) (fileOf d (now (file .entry))) (now (identifiers .entry)) (now (exponents .entry)) (now (comments .entry)) (now (rows .entry)) ⌝ }
 {
     let rules = Rules::d();
     let found = judging::found_in(true, rules, file);
@@ -132,11 +132,11 @@ pub fn read_front(
     comments: &mut [u8],
     rows: &mut [i64],
 ) -> Reading
-    ensures result { λ r. ⌜ r ≡ delivered d (now (stretch .entry)) (frontOf d (now (stretch .entry))) (length (now (identifiers .entry))) (length (now (exponents .entry))) (length (now (comments .entry))) (length (now (rows .entry))) ⌝ }
-    ensures identifiers { λ _. ⌜ now (identifiers .exit) ≡ filled (enough d (now (stretch .entry)) (frontOf d (now (stretch .entry))) (length (now (identifiers .entry))) (length (now (exponents .entry))) (length (now (comments .entry))) (length (now (rows .entry)))) (identifiersOf d (linesIn (now (stretch .entry)) (frontOf d (now (stretch .entry))))) (now (identifiers .entry)) ⌝ }
-    ensures exponents { λ _. ⌜ now (exponents .exit) ≡ filled (enough d (now (stretch .entry)) (frontOf d (now (stretch .entry))) (length (now (identifiers .entry))) (length (now (exponents .entry))) (length (now (comments .entry))) (length (now (rows .entry)))) (exponentsOf d (linesIn (now (stretch .entry)) (frontOf d (now (stretch .entry))))) (now (exponents .entry)) ⌝ }
-    ensures comments { λ _. ⌜ now (comments .exit) ≡ filled (enough d (now (stretch .entry)) (frontOf d (now (stretch .entry))) (length (now (identifiers .entry))) (length (now (exponents .entry))) (length (now (comments .entry))) (length (now (rows .entry)))) (commentsIn d (linesIn (now (stretch .entry)) (frontOf d (now (stretch .entry))))) (now (comments .entry)) ⌝ }
-    ensures rows { λ _. ⌜ now (rows .exit) ≡ filled (enough d (now (stretch .entry)) (frontOf d (now (stretch .entry))) (length (now (identifiers .entry))) (length (now (exponents .entry))) (length (now (comments .entry))) (length (now (rows .entry)))) (rowsIn d (linesIn (now (stretch .entry)) (frontOf d (now (stretch .entry))))) (now (rows .entry)) ⌝ }
+    ensures result { λ r. ⌜ r ≡ readAnswer d (now (stretch .entry)) (frontOf d (now (stretch .entry))) (now (identifiers .entry)) (now (exponents .entry)) (now (comments .entry)) (now (rows .entry)) ⌝ }
+    ensures identifiers { λ _. ⌜ now (identifiers .exit) ≡ identifiersAfter d (now (stretch .entry)) (frontOf d (now (stretch .entry))) (now (identifiers .entry)) (now (exponents .entry)) (now (comments .entry)) (now (rows .entry)) ⌝ }
+    ensures exponents { λ _. ⌜ now (exponents .exit) ≡ exponentsAfter d (now (stretch .entry)) (frontOf d (now (stretch .entry))) (now (identifiers .entry)) (now (exponents .entry)) (now (comments .entry)) (now (rows .entry)) ⌝ }
+    ensures comments { λ _. ⌜ now (comments .exit) ≡ commentsAfter d (now (stretch .entry)) (frontOf d (now (stretch .entry))) (now (identifiers .entry)) (now (exponents .entry)) (now (comments .entry)) (now (rows .entry)) ⌝ }
+    ensures rows { λ _. ⌜ now (rows .exit) ≡ rowsAfter d (now (stretch .entry)) (frontOf d (now (stretch .entry))) (now (identifiers .entry)) (now (exponents .entry)) (now (comments .entry)) (now (rows .entry)) ⌝ }
 {
     let rules = Rules::d();
     let found = judging::found_in(false, rules, stretch);

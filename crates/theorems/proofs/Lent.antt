@@ -18,12 +18,12 @@ use Rattle.file.specs.Plain.{isRowLine}
 use Rattle.file.specs.Table.{rowNumbers, rowsIn}
 use Rattle.scan.specs.Run.{IsFile}
 use Rattle.stored.specs.Stored.{placeIn, clockIn}
-use Rattle.reader.specs.Reading.{fileOf, linesIn, filled}
+use Rattle.reader.specs.Reading.{fileOf, linesIn, filled, readAnswer, fills, rowsAfter}
 use Rattle.plain.proofs.Exact.{exactSigned, exactNumbers, Bounded, row-bounded, row-in, row-exact}
 use Rattle.stored.proofs.Theorems.{place-back, clock-back}
 use Rattle.accepted.proofs.Files.{whole-taken}
 use Rattle.theorems.proofs.Reading.{header, identifier, rowsOf, rowAt, There, the-row, the-motion, row-holds, row-holds-both, motion-holds}
-use Rattle.theorems.proofs.Room.{answer, fills, answer-decides}
+use Rattle.theorems.proofs.Room.{answer-decides}
 use Rattle.record.specs.declared.types.Row.{Row}
 use Rattle.stored.specs.declared.types.Place.the-variants as place
 use Rattle.stored.specs.declared.types.ClockRead.the-variants as clock
@@ -77,14 +77,17 @@ abbrev pub tableRow : Bool → List ℕ → ℕ → ℕ → ℕ
 tableRow true bytes k j = 2 * rowAt bytes k j + 1
 tableRow false bytes k j = cond (header bytes .velocity) (2 * rowAt bytes k j) (rowAt bytes k j)
 
-module _ (bytes : List ℕ) (accepted : IsFile d bytes) (i x c r : ℕ) (old : List ℤ) (success : answer true bytes i x c r .refusal ≡ 0) where
-  -- the lent rows after reading the whole file
+-- a whole file, read into these lists with success
+module _ (bytes : List ℕ) (accepted : IsFile d bytes) (identifiers exponents comments : List ℕ) (old : List ℤ)
+    (success : readAnswer d bytes (fileOf d bytes) identifiers exponents comments old .refusal ≡ 0) where
+  -- the lent rows afterwards
   abbrev pub lent : List ℤ
-  lent = filled (fills true bytes i x c r) (rowsIn d (linesIn bytes (fileOf d bytes))) old
+  lent = rowsAfter d bytes (fileOf d bytes) identifiers exponents comments old
 
   lent-is : lent ≡ over (rowsIn d (linesOf bytes)) old
   lent-is =
-      let filling : fills true bytes i x c r ≡ true = answer-decides true bytes i x c r .0 success in
+      let filling : fills d bytes (fileOf d bytes) identifiers exponents comments old ≡ true =
+      answer-decides true bytes (length identifiers) (length exponents) (length comments) (length old) .0 success in
       let lines : linesIn bytes (fileOf d bytes) ≡ linesOf bytes = rw (accepted .1, whole-taken bytes (accepted .0) (accepted .1)) in
       ap₂ (λ (b : Bool) (ls : List (List ℕ)). filled b (rowsIn d ls) old) filling lines
 
