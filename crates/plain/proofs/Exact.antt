@@ -6,7 +6,7 @@ use mathlib.Core.Bool.{Bool, true, false, cond, _||_, false≢true}
 use mathlib.Core.List.{List, [], _∷_, map}
 use Prim.Native.Nat.{ℕ, _-_, _^_, _<_, _≤_}
 use native.Mathlib.Omega.{arith}
-use borrow.Author.Tests.{le-leb, ltb-true}
+use borrow.Author.Tests.{ltb-true}
 use lib.Dec.{leb, ltb, eqb}
 use lib.IntN.{ℤ, pos}
 use lib.ListN.{length, drop, length-drop}
@@ -31,7 +31,8 @@ use Rattle.record.specs.declared.types.Row.{Row}
 use Rattle.record.specs.declared.types.LineKind.the-variants as kind
 use Rattle.file.specs.Kinds.{kindIn, isRow}
 use Rattle.file.specs.Plain.{rowKind, isRowLine, Plain}
-use Rattle.file.specs.Table.{rowIn, storedInt, storedCount, markNumber, storedMark, rowNumbers, numbersOfRows, rowLines, rowsIn}
+use Rattle.file.proofs.Exact.{stored-exact}
+use Rattle.file.specs.Table.{rowIn, storedCount, markNumber, storedMark, rowNumbers, numbersOfRows, rowLines, rowsIn}
 use Rattle.laws.proofs.Bools.{and-right}
 use Rattle.field.proofs.Again.{exponent-again}
 use Rattle.lines.proofs.Each.{Each}
@@ -41,11 +42,7 @@ use Rattle.plain.proofs.Sorting.{row-record, row-kind, epoch-kind, comm
 use Rattle.plain.proofs.Clean.{record-clean, item-at, amount-bounds}
 use Rattle.plain.proofs.Walk.{isOther, other-apart, Covers, every-line}
 
--- a magnitude within the bound is stored as it is
-pub stored-exact : (negative : Bool) (m : ℕ) → m ≤ largest → storedInt negative m ≡ signedInt negative m
-unfolding storedInt
-stored-exact negative m h = rw (le-leb m largest h)
-
+-- a count within the bound is stored as it is
 pub count-exact : (n : ℕ) → n ≤ largest → storedCount n ≡ pos n
 unfolding signedInt
 count-exact n h = stored-exact false n h

@@ -38,7 +38,7 @@ fn comment_at(rules: Rules, bytes: &[u8], k: u64) -> CommentAnswer
 {
     let place = file::place_of(rules, bytes, 8, k);
     let line = file::line_of(rules, bytes, 8, k);
-    let indent = if line.len() < 3 { line.len() } else { 3 };
+    let indent = laws::fewer(3, line.len());
     let text = text_of(line);
     CommentAnswer {
         refusal: 0,

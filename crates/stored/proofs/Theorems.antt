@@ -6,7 +6,7 @@ use mathlib.Core.List.{List, [], _++_}
 use mathlib.Core.Bool.{Bool, true, false, cond, not, _&&_}
 use Prim.Native.Nat.{ℕ, _+_, _*_, _/_, _<_, _≤_}
 use native.Mathlib.Omega.{arith}
-use borrow.Author.Tests.{le-leb, lt-ltb, ltb-false, ne-eqb}
+use borrow.Author.Tests.{lt-ltb, ltb-false, ne-eqb}
 use lib.Dec.{eqb, leb, ltb}
 use lib.IntN.{ℤ, pos, natAbs}
 use lib.ListN.{length, drop, getD, length-append}
@@ -17,6 +17,7 @@ use Rattle.lines.specs.Lent.{over}
 use Rattle.record.specs.Absence.{placeAbsent, clockAbsent}
 use Rattle.record.specs.declared.types.Row.{Row}
 use Rattle.record.specs.declared.types.Signed.{Signed}
+use Rattle.file.proofs.Exact.{stored-exact}
 use Rattle.file.specs.Table.{storedInt, storedSigned, storedCount, storedMark, markNumber, rowNumbers, rowWidth}
 use Rattle.stored.specs.Stored.{isThere, numberAt, placeIn, clockIn, deviationOf, deviationIn, flagIn}
 use Rattle.stored.specs.declared.types.Place.the-variants as place
@@ -30,12 +31,8 @@ signed s = signedInt (s .negative) (s .magnitude)
 abbrev Bounded : Signed → Type 0
 Bounded s = s .magnitude ≤ largest
 
-stored-whole : (negative : Bool) (m : ℕ) → m ≤ largest → storedInt negative m ≡ signedInt negative m
-unfolding storedInt
-stored-whole negative m h = rw (le-leb m largest h) refl
-
 stored-size : (negative : Bool) (m : ℕ) → m ≤ largest → natAbs (storedInt negative m) ≡ m
-stored-size negative m h = ap natAbs (stored-whole negative m h) ∙ magnitude-back negative m
+stored-size negative m h = ap natAbs (stored-exact negative m h) ∙ magnitude-back negative m
 
 -- zero has no sign, and twelve nines are not zero
 sign-kept : (negative : Bool) (m : ℕ) → clockAbsent (negative && ltb 0 m) m ≡ clockAbsent negative m
@@ -67,7 +64,7 @@ module _ (before more : List ℤ) (p : Row) (k : ℕ) (at : length before ≡ k 
   -- a signed number of the row, by its place
   module _ (i : ℕ) (s : Signed) (is : getD (rowNumbers p ++ more) i (pos 0) ≡ storedSigned s) (h : Bounded s) where
     value-back : numberAt rows k i ≡ signed s
-    value-back = number-back i ∙ is ∙ stored-whole (s .negative) (s .magnitude) h
+    value-back = number-back i ∙ is ∙ stored-exact (s .negative) (s .magnitude) h
 
     size-back : natAbs (numberAt rows k i) ≡ s .magnitude
     size-back = ap natAbs value-back ∙ magnitude-back (s .negative) (s .magnitude)

@@ -85,23 +85,9 @@ fn satellites(n: usize, identifiers: &[u64], exponents: &[u64]) {
     }
 }
 
-// How many bytes are left without the trailing blanks.
-fn trimmed_length(s: &[u8]) -> usize
-    ensures { λ r. ⌜ r ≤ length (now (s .entry)) ⌝ }
-{
-    let mut n = s.len();
-    while 0 < n {
-        if s[n - 1] != b' ' {
-            return n;
-        }
-        n -= 1;
-    }
-    n
-}
-
 // A comment without its trailing blanks.
 fn comment(text: &[u8]) {
-    let n = trimmed_length(text);
+    let n = layout::trimmed_length(text);
     print::text(b"|");
     print::text(&text[0..n]);
     print::text(b"|\n");

@@ -27,7 +27,8 @@ use Rattle.reader.specs.Reading.{fileOf}
 use Rattle.questions.specs.Questions.{rowPlace}
 use Rattle.adjust.specs.Floats.{floatUnless, floatRow, absentRow, rowAnswer}
 use Rattle.accepted.proofs.Files.{whole-taken}
-use Rattle.plain.proofs.Exact.{exactSigned, Bounded, row-bounded, stored-exact}
+use Rattle.file.proofs.Exact.{stored-exact}
+use Rattle.plain.proofs.Exact.{exactSigned, Bounded, row-bounded}
 use Rattle.theorems.proofs.Room.{found-numbered}
 use Rattle.theorems.proofs.Reading.{header, identifier, rowsOf, rowAt, There, the-row}
 use Rattle.record.specs.declared.types.Row.{Row}
