@@ -5,6 +5,7 @@ use Rattle.header.proofs.is_mode.Reads as mode
 use Rattle.header.proofs.is_file_type.Reads as file
 use Rattle.header.proofs.is_time_system.Reads as time
 use Rattle.header.proofs.slot_lines.Reads as slots
+use Rattle.header.proofs.making.texts_printable.Reads as texts
 use Rattle.header.proofs.types.Rules.d.Reads as rules
 use Rattle.header.proofs.types.Header.bounds_hold.Reads as bounds
 use Rattle.header.proofs.types.Header.none.Reads as none
@@ -21,6 +22,9 @@ is-time-system-determined κs a r r′ s s′ p q = p ∙ sym q
 
 pub slot-lines-determined : (κs : _) (a : _) (r r′ : _) (s s′ : _) → slots.Post κs a r s → slots.Post κs a r′ s′ → r ≡ r′
 slot-lines-determined κs a r r′ s s′ p q = p ∙ sym q
+
+pub texts-printable-determined : (κs : _) (a : _) (r r′ : _) (s s′ : _) → texts.Post κs a r s → texts.Post κs a r′ s′ → r ≡ r′
+texts-printable-determined κs a r r′ s s′ p q = p ∙ sym q
 
 pub rules-d-determined : (κs : _) (a : _) (r r′ : _) (s s′ : _) → rules.Post κs a r s → rules.Post κs a r′ s′ → r ≡ r′
 rules-d-determined κs a r r′ s s′ p q = p ∙ sym q

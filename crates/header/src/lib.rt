@@ -8,6 +8,7 @@ ghost use Rattle.header.specs.Letters.{modes, fileTypes, timeSystems};
 mod making;
 mod types;
 
+pub use making::texts_printable;
 pub use types::Bases;
 pub use types::Header;
 pub use types::HeaderAnswer;

@@ -28,8 +28,8 @@ impl Rules {
     }
 }
 
-// Whether the four texts have bytes 32 to 126 alone.
-fn texts_printable(texts: Texts) -> bool
+// Whether the four texts have bytes 32 to 126 alone: a tab in the agency is none.
+pub fn texts_printable(texts: Texts) -> bool
     ensures result { λ r. ⌜ r ≡ textsPrintable texts ⌝ }
 {
     let used = texts.data_used;

@@ -4,6 +4,8 @@ use mathlib.Core.Path.{_≡_, sym, _∙_}
 use denote.Ref.{now}
 use Rattle.machine.proofs.Told.{toldVerdict-one, toldRead-one}
 use Rattle.machine.proofs.checks.instant_in.Reads as instant-in
+use Rattle.machine.proofs.checks.repeats_name.Reads as repeats-name
+use Rattle.machine.proofs.checks.type_agrees.Reads as type-agrees
 use Rattle.machine.proofs.faults.kind_number.Reads as kind-number
 use Rattle.machine.proofs.step.start.Reads as start
 use Rattle.machine.proofs.step.step_line.Reads as step-line
@@ -11,6 +13,12 @@ use Rattle.machine.proofs.step.read_line.Reads as read-line
 
 pub instant-in-determined : (κs : _) (a : _) (r r′ : _) (s s′ : _) → instant-in.Post κs a r s → instant-in.Post κs a r′ s′ → r ≡ r′
 instant-in-determined κs a r r′ s s′ p q = p ∙ sym q
+
+pub repeats-name-determined : (κs : _) (a : _) (r r′ : _) (s s′ : _) → repeats-name.Post κs a r s → repeats-name.Post κs a r′ s′ → r ≡ r′
+repeats-name-determined κs a r r′ s s′ p q = p ∙ sym q
+
+pub type-agrees-determined : (κs : _) (a : _) (r r′ : _) (s s′ : _) → type-agrees.Post κs a r s → type-agrees.Post κs a r′ s′ → r ≡ r′
+type-agrees-determined κs a r r′ s s′ p q = p ∙ sym q
 
 pub kind-number-determined : (κs : _) (a : _) (r r′ : _) (s s′ : _) → kind-number.Post κs a r s → kind-number.Post κs a r′ s′ → r ≡ r′
 kind-number-determined κs a r r′ s s′ p q = p ∙ sym q

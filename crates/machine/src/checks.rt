@@ -72,8 +72,8 @@ pub(crate) fn is_among(name: u64, names: &[u64]) -> bool
 }
 
 // Whether one of the new names stands among those known or earlier among the new.
-pub(crate) fn repeats_name(known: &[u64], new: &[u64]) -> bool
-    ensures { λ r. ⌜ r ≡ repeats (now (known .entry)) (now (new .entry)) ⌝ }
+pub fn repeats_name(known: &[u64], new: &[u64]) -> bool
+    ensures result { λ r. ⌜ r ≡ repeats (now (known .entry)) (now (new .entry)) ⌝ }
 {
     let mut i = 0;
     while i < new.len() {
@@ -103,8 +103,8 @@ fn all_begin(letter: u64, names: &[u64]) -> bool
 }
 
 // Whether a file type agrees with the names: M with all, another with those that begin with it.
-pub(crate) fn type_agrees(file_type: u8, names: &[u64]) -> bool
-    ensures { λ r. ⌜ r ≡ typeAgrees «file_type» (now (names .entry)) ⌝ }
+pub fn type_agrees(file_type: u8, names: &[u64]) -> bool
+    ensures result { λ r. ⌜ r ≡ typeAgrees «file_type» (now (names .entry)) ⌝ }
 {
     if file_type == b'M' {
         return true;

@@ -6,6 +6,8 @@ mod step;
 mod types;
 
 pub use checks::instant_in;
+pub use checks::repeats_name;
+pub use checks::type_agrees;
 pub use faults::kind_number;
 pub use step::read_line;
 pub use step::start;
