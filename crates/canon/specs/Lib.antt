@@ -1,0 +1,4 @@
+pub mod Table
+pub mod Valid
+pub mod Canonical
+pub mod Measured

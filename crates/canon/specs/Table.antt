@@ -1,0 +1,46 @@
+-- A table to be written. 01, "What the build covers": "A table holds the mode, start, number of epochs, interval, four texts, identifiers with
+-- their exponents, file type, time system, two bases, the comments without trailing blanks, and the rows in file order". Its lists are lent;
+-- "places past them aren't looked at": what belongs to the table are so many first places as its counts say.
+use mathlib.Core.Bool.{Bool, true, false}
+use mathlib.Core.List.{List}
+use Prim.Native.Nat.{ℕ, _+_, _*_}
+use lib.IntN.{ℤ}
+use lib.ListN.{length, take}
+use Rattle.header.specs.declared.types.Header.{Header}
+
+pub record Table : Type 0 where
+  pub header : Header
+  pub identifiers : List ℕ
+  pub exponents : List ℕ
+  pub comments : List ℕ
+  pub rows : List ℤ
+
+abbrev pub tableOf : Header → List ℕ → List ℕ → List ℕ → List ℤ → Table
+tableOf h identifiers exponents comments rows =
+    record { header = h; identifiers = identifiers; exponents = exponents; comments = comments; rows = rows }
+
+-- the bytes of a stored comment
+abbrev pub commentWidth : ℕ
+commentWidth = 77
+
+-- the numbers of one satellite in one epoch: a P row of twelve, in mode V a V row after it
+abbrev pub cellWidth : Bool → ℕ
+cellWidth true = 24
+cellWidth false = 12
+
+-- how many of them there are
+abbrev pub cellsIn : Header → ℕ
+cellsIn h = h .satellites * h .epochs
+
+-- What belongs to the table: its identifiers, their exponents, the bytes of its comments, the numbers of its rows.
+abbrev pub namesOf : Table → List ℕ
+namesOf t = take (t .header .satellites) (t .identifiers)
+
+abbrev pub exponentsOf : Table → List ℕ
+exponentsOf t = take (t .header .satellites) (t .exponents)
+
+abbrev pub commentsOf : Table → List ℕ
+commentsOf t = take (t .header .comments * commentWidth) (t .comments)
+
+abbrev pub rowsOf : Table → List ℤ
+rowsOf t = take (cellsIn (t .header) * cellWidth (t .header .velocity)) (t .rows)

@@ -1,0 +1,121 @@
+// Identifiers, exponents and comments of a table.
+ghost use mathlib.Core.Path.{_≡_};
+ghost use mathlib.Core.Bool.{cond, _&&_};
+ghost use Prim.Native.Nat.{_+_, _-_, _*_, _≤_};
+ghost use lib.Dec.{eqb, leb};
+ghost use lib.ListN.{length};
+ghost use Rattle.laws.specs.Texts.{every};
+ghost use Rattle.layout.specs.Kind.{isName, printable};
+ghost use Rattle.layout.specs.Line.{trimmed};
+ghost use Rattle.canon.specs.Table.{commentWidth};
+ghost use Rattle.canon.specs.Valid.{namesValid, exponentsValid, commentColumns, commentsValid};
+ghost use Rattle.canon.specs.Measured.{commentLength, commentsLength};
+use crate::types::Spent;
+use header::Rules;
+use laws::within;
+
+// Whether a number is an identifier: 7107 is G07, 7100 is none.
+fn is_name(code: u64) -> bool
+    ensures { λ r. ⌜ r ≡ isName code ⌝ }
+{
+    within(65, 90, code / 10 / 10) & (0 < code / 10 % 10 * 10 + code % 10)
+}
+
+// Whether each of some numbers is one.
+fn are_names(names: &[u64]) -> bool
+    ensures { λ r. ⌜ r ≡ every isName (now (names .entry)) ⌝ }
+{
+    let mut all = true;
+    let mut i = 0;
+    while i < names.len() {
+        all = all & is_name(names[i]);
+        i += 1;
+    }
+    all
+}
+
+// Whether identifiers are such, all different, and as the file type says.
+pub(crate) fn names_valid(file_type: u8, names: &[u64]) -> bool
+    ensures { λ r. ⌜ r ≡ namesValid «file_type» (now (names .entry)) ⌝ }
+{
+    let different = !machine::repeats_name(&names[0..0], names);
+    are_names(names) & (different & machine::type_agrees(file_type, names))
+}
+
+// Whether every exponent is 0 to 999.
+pub(crate) fn exponents_valid(exponents: &[u64]) -> bool
+    ensures { λ r. ⌜ r ≡ exponentsValid (now (exponents .entry)) ⌝ }
+{
+    let mut all = true;
+    let mut i = 0;
+    while i < exponents.len() {
+        all = all & (exponents[i] <= 999);
+        i += 1;
+    }
+    all
+}
+
+// What is left of a room, or nothing.
+pub(crate) fn spend(left: usize, bytes: usize) -> usize
+    ensures { λ r. ⌜ r ≡ left - bytes ⌝ }
+{
+    if left < bytes {
+        return 0;
+    }
+    left - bytes
+}
+
+// The columns that the text of a comment may have in the version.
+fn comment_columns(rules: Rules) -> usize
+    ensures { λ r. ⌜ r ≡ commentColumns rules ⌝ }
+{
+    if rules.comment_columns < 3 {
+        return 0;
+    }
+    if rules.comment_columns < 80 {
+        return (rules.comment_columns - 3) as usize;
+    }
+    77
+}
+
+// The bytes of a comment's line whose text has so many without its trailing blanks.
+fn comment_length(text: usize) -> usize
+    requires { ⌜ text ≤ commentWidth ⌝ }
+    ensures { λ r. ⌜ r ≡ cond (eqb text 0) 2 (3 + text) + 1 ⌝ }
+{
+    if text == 0 {
+        return 3;
+    }
+    text + 4
+}
+
+// A comment of 77 bytes judged and measured.
+fn comment_spent(columns: usize, text: &[u8], left: usize) -> Spent
+    requires { ⌜ length (now text) ≡ commentWidth ⌝ }
+    ensures { λ r. ⌜ (r .valid ≡ (printable (now (text .entry)) && leb (length (trimmed (now (text .entry)))) columns)) × (r .left ≡ left - commentLength (now (text .entry))) ⌝ }
+{
+    let n = layout::trimmed_length(text);
+    Spent {
+        valid: layout::is_printable(text) & (n <= columns),
+        left: spend(left, comment_length(n)),
+    }
+}
+
+// So many comments of 77 bytes judged and measured.
+pub(crate) fn comments_spent(rules: Rules, count: u64, bytes: &[u8], room: usize) -> Spent
+    requires { ⌜ length (now bytes) ≡ count * commentWidth ⌝ }
+    ensures { λ r. ⌜ (r .valid ≡ commentsValid rules count (now (bytes .entry))) × (r .left ≡ room - commentsLength count (now (bytes .entry))) ⌝ }
+{
+    let columns = comment_columns(rules);
+    let mut valid = true;
+    let mut left = room;
+    let mut at: usize = 0;
+    while at < bytes.len() {
+        let next = at + 77;
+        let one = comment_spent(columns, &bytes[at..next], left);
+        valid = valid & one.valid;
+        left = one.left;
+        at = next;
+    }
+    Spent { valid, left }
+}

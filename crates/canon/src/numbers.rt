@@ -1,0 +1,160 @@
+// The rows of a table.
+ghost use mathlib.Core.Path.{_≡_};
+ghost use mathlib.Core.Bool.{true, false, cond};
+ghost use Prim.Native.Nat.{_-_, _*_, _+_, _≤_};
+ghost use lib.Dec.{eqb};
+ghost use lib.IntN.{natAbs};
+ghost use lib.ListN.{length};
+ghost use Rattle.canon.specs.Table.{cellWidth};
+ghost use Rattle.canon.specs.Valid.{entry, amountValid, exponentValid, flagValid, fourValid, rowValid, cellValid, rowsValid};
+ghost use Rattle.canon.specs.Measured.{exponentsEnd, rowLength, cellLength, rowsLength};
+use crate::bounds;
+use crate::lists;
+use crate::types::Spent;
+use field::sign::is_negative;
+use field::sign::magnitude_of;
+
+// Whether a number is one of x, y, z or clock.
+fn amount_valid(row: &[i64], i: usize) -> bool
+    requires { ⌜ i + 1 ≤ length (now row) ⌝ }
+    ensures { λ r. ⌜ r ≡ amountValid (entry (now (row .entry)) i) ⌝ }
+{
+    magnitude_of(row[i]) <= 999_999_999_999
+}
+
+// Whether a number is an exponent, of at most so much, or the one that stands for unknown.
+fn exponent_valid(row: &[i64], i: usize, clock: bool) -> bool
+    requires { ⌜ i + 1 ≤ length (now row) ⌝ }
+    ensures { λ r. ⌜ r ≡ exponentValid clock (entry (now (row .entry)) i) ⌝ }
+{
+    let most = if clock { 999 } else { 99 };
+    let n = magnitude_of(row[i]);
+    !is_negative(row[i]) & ((n <= most) | (n == 1000))
+}
+
+// Whether a number is a flag: 0, or 1 in a P row.
+fn flag_valid(row: &[i64], i: usize, velocity: bool) -> bool
+    requires { ⌜ i + 1 ≤ length (now row) ⌝ }
+    ensures { λ r. ⌜ r ≡ flagValid velocity (entry (now (row .entry)) i) ⌝ }
+{
+    let most = if velocity { 0 } else { 1 };
+    !is_negative(row[i]) & (magnitude_of(row[i]) <= most)
+}
+
+// Whether the first four numbers of a row are x, y, z and clock.
+fn amounts_valid(row: &[i64]) -> bool
+    requires { ⌜ length (now row) ≡ 12 ⌝ }
+    ensures { λ r. ⌜ r ≡ fourValid amountValid amountValid 0 (now (row .entry)) ⌝ }
+{
+    (amount_valid(row, 0) & amount_valid(row, 1)) & (amount_valid(row, 2) & amount_valid(row, 3))
+}
+
+// Whether the next four are their exponents.
+fn deviations_valid(row: &[i64]) -> bool
+    requires { ⌜ length (now row) ≡ 12 ⌝ }
+    ensures { λ r. ⌜ r ≡ fourValid (exponentValid false) (exponentValid true) 4 (now (row .entry)) ⌝ }
+{
+    (exponent_valid(row, 4, false) & exponent_valid(row, 5, false))
+        & (exponent_valid(row, 6, false) & exponent_valid(row, 7, true))
+}
+
+// Whether the last four are flags.
+fn flags_valid(row: &[i64], velocity: bool) -> bool
+    requires { ⌜ length (now row) ≡ 12 ⌝ }
+    ensures { λ r. ⌜ r ≡ fourValid (flagValid velocity) (flagValid velocity) 8 (now (row .entry)) ⌝ }
+{
+    (flag_valid(row, 8, velocity) & flag_valid(row, 9, velocity))
+        & (flag_valid(row, 10, velocity) & flag_valid(row, 11, velocity))
+}
+
+// Whether twelve numbers are a P row, or a V row where `velocity` says so.
+fn row_valid(row: &[i64], velocity: bool) -> bool
+    requires { ⌜ length (now row) ≡ 12 ⌝ }
+    ensures { λ r. ⌜ r ≡ rowValid velocity (now (row .entry)) ⌝ }
+{
+    amounts_valid(row) & (deviations_valid(row) & flags_valid(row, velocity))
+}
+
+// A column, where the number at i is not this one; else the column before.
+fn end_at(row: &[i64], i: usize, none: u64, column: usize, earlier: usize) -> usize
+    requires { ⌜ i + 1 ≤ length (now row) ⌝ }
+    ensures { λ r. ⌜ r ≡ cond (eqb (natAbs (entry (now (row .entry)) i)) none) earlier column ⌝ }
+{
+    if magnitude_of(row[i]) == none {
+        earlier
+    } else {
+        column
+    }
+}
+
+// The last column of a row that has no flag.
+fn exponents_end(row: &[i64]) -> usize
+    requires { ⌜ length (now row) ≡ 12 ⌝ }
+    ensures { λ r. ⌜ r ≡ exponentsEnd (now (row .entry)) ⌝ }
+{
+    let x = end_at(row, 4, 1000, 63, 60);
+    let y = end_at(row, 5, 1000, 66, x);
+    let z = end_at(row, 6, 1000, 69, y);
+    end_at(row, 7, 1000, 73, z)
+}
+
+// The bytes of a row's line, with its LF.
+fn row_length(row: &[i64]) -> usize
+    requires { ⌜ length (now row) ≡ 12 ⌝ }
+    ensures { λ r. ⌜ r ≡ rowLength (now (row .entry)) ⌝ }
+    ensures { λ r. ⌜ r ≤ 81 ⌝ }
+{
+    let none = exponents_end(row);
+    let event = end_at(row, 8, 0, 75, none);
+    let predicted = end_at(row, 9, 0, 76, event);
+    let maneuver = end_at(row, 10, 0, 79, predicted);
+    end_at(row, 11, 0, 80, maneuver) + 1
+}
+
+// A row judged and measured.
+fn row_spent(row: &[i64], velocity: bool, left: usize) -> Spent
+    requires { ⌜ length (now row) ≡ 12 ⌝ }
+    ensures { λ r. ⌜ (r .valid ≡ rowValid velocity (now (row .entry))) × (r .left ≡ left - rowLength (now (row .entry))) ⌝ }
+{
+    Spent {
+        valid: row_valid(row, velocity),
+        left: lists::spend(left, row_length(row)),
+    }
+}
+
+// The rows of one satellite in one epoch.
+fn cell_spent(cell: &[i64], velocity: bool, left: usize) -> Spent
+    requires { ⌜ length (now cell) ≡ cellWidth velocity ⌝ }
+    ensures { λ r. ⌜ (r .valid ≡ cellValid velocity (now (cell .entry))) × (r .left ≡ left - cellLength velocity (now (cell .entry))) ⌝ }
+{
+    if !velocity {
+        return row_spent(cell, false, left);
+    }
+    let place = row_spent(&cell[0..12], false, left);
+    let motion = row_spent(&cell[12..24], true, place.left);
+    Spent {
+        valid: place.valid & motion.valid,
+        left: motion.left,
+    }
+}
+
+// The rows of so many.
+pub(crate) fn rows_spent(velocity: bool, cells: usize, rows: &[i64], room: usize) -> Spent
+    requires { ⌜ length (now rows) ≡ cells * cellWidth velocity ⌝ }
+    ensures { λ r. ⌜ (r .valid ≡ rowsValid velocity cells (now (rows .entry))) × (r .left ≡ room - rowsLength velocity cells (now (rows .entry))) ⌝ }
+{
+    let width = bounds::cell_width(velocity);
+    let mut valid = true;
+    let mut left = room;
+    let mut at: usize = 0;
+    let mut more = cells;
+    while 0 < more {
+        let next = at + width;
+        let cell = cell_spent(&rows[at..next], velocity, left);
+        valid = valid & cell.valid;
+        left = cell.left;
+        at = next;
+        more -= 1;
+    }
+    Spent { valid, left }
+}
