@@ -73,7 +73,8 @@ module _ (rules : Rules) where
           let is : counted rules t l ≡ countedOver rules (counted rules t l) ls = cc in
           no-line ls (omega (arith, ap (λ (x : Tally). x .lines) is, lines-counted (counted rules t l) ls))
 
-  plain-lines : Sound rules → (ls : List (List ℕ)) → Plain rules ls → linesOf (joinLines ls) ≡ ls
+  -- the lines of its bytes are its lines
+  pub plain-lines : Sound rules → (ls : List (List ℕ)) → Plain rules ls → linesOf (joinLines ls) ≡ ls
   plain-lines sound ls p =
       let whole : run rules startState noNames nothing ls ≡ front.File (countedOver rules nothing ls) =
       ap (run rules startState noNames nothing) (sym (append-nil ls)) ∙ plain-run rules sound ls [] nothing p in

@@ -1,4 +1,4 @@
--- The identifiers in the slots of `+ ` lines: seventeen to a line, read alike however many satellites are left; and repetitions among them.
+-- The numbers in the slots of `+ ` and `++` lines: seventeen to a line, read alike however many satellites are left; and repetitions among them.
 -- Assumes nothing.
 use mathlib.Core.Path.{_≡_, refl, sym, ap, _∙_}
 use mathlib.Core.Bool.{Bool, true, false, _||_}
@@ -12,56 +12,64 @@ use lib.Seq.{take-nil, length-take-le}
 use borrow.Author.Tests.{lt-ltb}
 use Rattle.laws.proofs.Lists.{one-less}
 use Rattle.layout.specs.Kind.{isOneOf}
-use Rattle.layout.specs.Kind.Kind.{unused, identifier}
+use Rattle.layout.specs.Kind.Kind.{unused}
 use Rattle.layout.specs.Layout.{columns, slotsFrom, valuesOf, numbersOf}
 use Rattle.layout.specs.Line.{padded}
 use Rattle.lines.specs.Lent.{flat}
 use Rattle.lines.proofs.Ends.{neither}
-use Rattle.record.specs.SlotLines.{satellitesOf, moreOf}
+use Rattle.record.specs.SlotLines.{slotKind, satellitesOf, moreOf}
 use Rattle.header.specs.declared.types.Rules.{Rules}
 use Rattle.machine.specs.Checks.{repeats}
 use Rattle.file.specs.Table.{slotNumbers}
 use Rattle.file.specs.Plain.{namesOf}
 
--- the numbers in so many slots, of which the first `left` are of satellites
-abbrev numbersIn : ℕ → ℕ → ℕ → List ℕ → List ℕ
-numbersIn count left at p = numbersOf (valuesOf (slotsFrom identifier count left at ++ (columns 61 80 unused ∷ [])) p)
+-- the numbers in so many slots of identifiers or accuracies, of which the first `left` are of satellites
+abbrev numbersIn : Bool → ℕ → ℕ → ℕ → List ℕ → List ℕ
+numbersIn accuracies count left at p = numbersOf (valuesOf (slotsFrom (slotKind accuracies) count left at ++ (columns 61 80 unused ∷ [])) p)
 
 some-left : (k : ℕ) → ltb 0 (suc k) ≡ true
 some-left k = lt-ltb 0 (suc k) (omega arith)
 
 -- the slots of satellites are read alike however many are left
-alike : (count left at : ℕ) (p : List ℕ) → take left (numbersIn count left at p) ≡ take left (numbersIn count count at p)
+alike : (accuracies : Bool) (count left at : ℕ) (p : List ℕ) → take left (numbersIn accuracies count left at p) ≡ take left (numbersIn accuracies count count at p)
 unfolding slotsFrom
-alike zero left at p = refl
-alike (suc count) zero at p = refl
-alike (suc count) (suc left) at p = rw (some-left left, some-left count, one-less left, one-less count, alike count left (at + 3) p)
+alike accuracies zero left at p = refl
+alike accuracies (suc count) zero at p = refl
+alike true (suc count) (suc left) at p = rw (some-left left, some-left count, one-less left, one-less count, alike true count left (at + 3) p)
+alike false (suc count) (suc left) at p = rw (some-left left, some-left count, one-less left, one-less count, alike false count left (at + 3) p)
 
 -- each slot holds one number
-one-each : (count left at : ℕ) (p : List ℕ) → length (numbersIn count left at p) ≡ count
+one-each : (accuracies : Bool) (count left at : ℕ) (p : List ℕ) → length (numbersIn accuracies count left at p) ≡ count
 unfolding slotsFrom
-one-each zero left at p = refl
-one-each (suc count) left at p = go (ltb 0 left) refl (one-each count (left - 1) (at + 3) p)
+one-each accuracies zero left at p = refl
+one-each accuracies (suc count) left at p = go accuracies (ltb 0 left) refl (one-each accuracies count (left - 1) (at + 3) p)
   where
-    go : (b : Bool) → ltb 0 left ≡ b → length (numbersIn count (left - 1) (at + 3) p) ≡ count → length (numbersIn (suc count) left at p) ≡ suc count
-    go true e more = rw e (ap suc more)
-    go false e more = rw e (ap suc more)
+    go : (a b : Bool) → ltb 0 left ≡ b → length (numbersIn a count (left - 1) (at + 3) p) ≡ count → length (numbersIn a (suc count) left at p) ≡ suc count
+    go true true e more = rw e (ap suc more)
+    go true false e more = rw e (ap suc more)
+    go false true e more = rw e (ap suc more)
+    go false false e more = rw e (ap suc more)
 
-pub seventeen : (l : List ℕ) → length (slotNumbers false l) ≡ 17
-seventeen l = one-each 17 17 10 (padded l)
+pub seventeen : (accuracies : Bool) (l : List ℕ) → length (slotNumbers accuracies l) ≡ 17
+seventeen true l = one-each true 17 17 10 (padded l)
+seventeen false l = one-each false 17 17 10 (padded l)
+
+pub more-alike : (accuracies : Bool) (left : ℕ) (l : List ℕ) → take left (moreOf accuracies left (padded l) .values) ≡ take left (slotNumbers accuracies l)
+more-alike true left l = alike true 17 left 10 (padded l)
+more-alike false left l = alike false 17 left 10 (padded l)
 
 -- the identifiers that a line brings where so many satellites are left
 abbrev pub freshIn : ℕ → List ℕ → List ℕ
 freshIn left l = take left (slotNumbers false l)
 
 pub more-fresh : (left : ℕ) (l : List ℕ) → take left (moreOf false left (padded l) .values) ≡ freshIn left l
-more-fresh left l = alike 17 left 10 (padded l)
+more-fresh left l = more-alike false left l
 
 pub first-fresh : (rules : Rules) (l : List ℕ) → take (satellitesOf rules (padded l) .count) (satellitesOf rules (padded l) .names) ≡ freshIn (satellitesOf rules (padded l) .count) l
-first-fresh rules l = alike 17 (satellitesOf rules (padded l) .count) 10 (padded l)
+first-fresh rules l = alike false 17 (satellitesOf rules (padded l) .count) 10 (padded l)
 
 pub fresh-length : (left : ℕ) (l : List ℕ) → length (freshIn left l) ≡ min left 17
-fresh-length left l = length-take left (slotNumbers false l) ∙ ap (min left) (seventeen l)
+fresh-length left l = length-take left (slotNumbers false l) ∙ ap (min left) (seventeen false l)
 
 -- the first elements of two lists together
 take-both : (n : ℕ) (xs ys : List ℕ) → take n (xs ++ ys) ≡ take n xs ++ take (n - length xs) ys
@@ -74,12 +82,17 @@ take-both (suc n) (x ∷ xs) ys =
     let less : suc n - suc (length xs) ≡ n - length xs = omega arith in
     rw less (ap (λ (r : List ℕ). x ∷ r) (take-both n xs ys))
 
--- the identifiers of some lines, by the first of them
-pub names-cons : (left : ℕ) (l : List ℕ) (ls : List (List ℕ)) → namesOf left (l ∷ ls) ≡ freshIn left l ++ namesOf (left - 17) ls
+-- the numbers of some lines, by the first of them
+pub slots-cons : (accuracies : Bool) (left : ℕ) (l : List ℕ) (ls : List (List ℕ))
+    → take left (flat (map (slotNumbers accuracies) (l ∷ ls)))
+    ≡ take left (slotNumbers accuracies l) ++ take (left - 17) (flat (map (slotNumbers accuracies) ls))
 unfolding flat
-names-cons left l ls =
-    take-both left (slotNumbers false l) (flat (map (slotNumbers false) ls))
-    ∙ ap (λ (k : ℕ). freshIn left l ++ take (left - k) (flat (map (slotNumbers false) ls))) (seventeen l)
+slots-cons accuracies left l ls =
+    take-both left (slotNumbers accuracies l) (flat (map (slotNumbers accuracies) ls))
+    ∙ ap (λ (k : ℕ). take left (slotNumbers accuracies l) ++ take (left - k) (flat (map (slotNumbers accuracies) ls))) (seventeen accuracies l)
+
+pub names-cons : (left : ℕ) (l : List ℕ) (ls : List (List ℕ)) → namesOf left (l ∷ ls) ≡ freshIn left l ++ namesOf (left - 17) ls
+names-cons left l ls = slots-cons false left l ls
 
 pub names-none : (left : ℕ) → namesOf left [] ≡ []
 unfolding flat
@@ -89,7 +102,7 @@ names-none left = take-nil {A = ℕ} left
 flat-length : (ls : List (List ℕ)) → length (flat (map (slotNumbers false) ls)) ≡ 17 * length ls
 unfolding flat
 flat-length [] = refl
-flat-length (l ∷ ls) = omega (arith, length-append (slotNumbers false l) (flat (map (slotNumbers false) ls)), seventeen l, flat-length ls)
+flat-length (l ∷ ls) = omega (arith, length-append (slotNumbers false l) (flat (map (slotNumbers false) ls)), seventeen false l, flat-length ls)
 
 pub names-length : (n : ℕ) (ls : List (List ℕ)) → n ≤ 17 * length ls → length (namesOf n ls) ≡ n
 names-length n ls h = length-take-le n (flat (map (slotNumbers false) ls)) (omega (arith, flat-length ls))

@@ -18,12 +18,11 @@ use Rattle.file.specs.Plain.{isRowLine}
 use Rattle.file.specs.Table.{rowNumbers, rowsIn}
 use Rattle.scan.specs.Run.{IsFile}
 use Rattle.stored.specs.Stored.{placeIn, clockIn}
-use Rattle.reader.specs.Reading.{fileOf, linesIn, filled, readAnswer, fills, rowsAfter}
+use Rattle.reader.specs.Reading.{fileOf, readAnswer, rowsAfter}
 use Rattle.plain.proofs.Exact.{exactSigned, exactNumbers, Bounded, row-bounded, row-in, row-exact}
 use Rattle.stored.proofs.Theorems.{place-back, clock-back}
-use Rattle.accepted.proofs.Files.{whole-taken}
 use Rattle.theorems.proofs.Reading.{header, identifier, rowsOf, rowAt, There, the-row, the-motion, row-holds, row-holds-both, motion-holds}
-use Rattle.theorems.proofs.Room.{answer-decides}
+use Rattle.theorems.proofs.Filled.{rows-filled}
 use Rattle.record.specs.declared.types.Row.{Row}
 use Rattle.stored.specs.declared.types.Place.the-variants as place
 use Rattle.stored.specs.declared.types.ClockRead.the-variants as clock
@@ -85,11 +84,7 @@ module _ (bytes : List ℕ) (accepted : IsFile d bytes) (identifiers exponents c
   lent = rowsAfter d bytes (fileOf d bytes) identifiers exponents comments old
 
   lent-is : lent ≡ over (rowsIn d (linesOf bytes)) old
-  lent-is =
-      let filling : fills d bytes (fileOf d bytes) identifiers exponents comments old ≡ true =
-      answer-decides true bytes (length identifiers) (length exponents) (length comments) (length old) .0 success in
-      let lines : linesIn bytes (fileOf d bytes) ≡ linesOf bytes = rw (accepted .1, whole-taken bytes (accepted .0) (accepted .1)) in
-      ap₂ (λ (b : Bool) (ls : List (List ℕ)). filled b (rowsIn d ls) old) filling lines
+  lent-is = rows-filled bytes accepted identifiers exponents comments old success
 
   -- V rows are asked for in mode V alone
   module _ (k j : ℕ) (there : There bytes k j) (v : Bool) (mode : v ≡ true → header bytes .velocity ≡ true) where

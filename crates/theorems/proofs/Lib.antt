@@ -4,5 +4,8 @@ pub mod Reading
 pub mod Judging
 pub mod Correlations
 pub mod Room
+pub mod Filled
 pub mod Floats
 pub mod Lent
+pub mod Writing
+pub mod Rewritten

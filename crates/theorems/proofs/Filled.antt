@@ -1,0 +1,51 @@
+-- A whole file, read into lent lists with success: the answer has the file's length and header, and each list is filled from its first place on.
+-- Assumes nothing.
+use mathlib.Core.Path.{_≡_, refl, sym, ap, ap₂, _∙_}
+use mathlib.Core.Bool.{Bool, true}
+use mathlib.Core.List.{List}
+use Prim.Native.Nat.{ℕ}
+use lib.IntN.{ℤ}
+use lib.ListN.{length}
+use Rattle.header.specs.Rules.{d}
+use Rattle.lines.specs.Lent.{over}
+use Rattle.lines.specs.Lines.{linesOf}
+use Rattle.file.specs.Table.{headerIn, commentsIn, rowsIn}
+use Rattle.scan.specs.Run.{IsFile}
+use Rattle.reader.specs.Reading.{fileOf, acceptedAs, linesIn, filled, identifiersOf, exponentsOf, readAnswer, fills, identifiersAfter, exponentsAfter, commentsAfter, rowsAfter}
+use Rattle.accepted.proofs.Files.{whole-taken}
+use Rattle.theorems.proofs.Room.{answer-decides, fills-exactly, room-accepted}
+use Rattle.header.specs.declared.types.Header.{Header}
+use Rattle.reader.specs.declared.types.Reading.{Reading}
+
+module _ (bytes : List ℕ) (accepted : IsFile d bytes) (identifiers exponents comments : List ℕ) (rows : List ℤ)
+    (success : readAnswer d bytes (fileOf d bytes) identifiers exponents comments rows .refusal ≡ 0) where
+  filling : fills d bytes (fileOf d bytes) identifiers exponents comments rows ≡ true
+  filling = answer-decides true bytes (length identifiers) (length exponents) (length comments) (length rows) .0 success
+
+  lines-are : linesIn bytes (fileOf d bytes) ≡ linesOf bytes
+  lines-are = rw (accepted .1, whole-taken bytes (accepted .0) (accepted .1))
+
+  list-filled : {A : Type 0} (list : List (List ℕ) → List A) (old : List A)
+      → filled (fills d bytes (fileOf d bytes) identifiers exponents comments rows) (list (linesIn bytes (fileOf d bytes))) old ≡ over (list (linesOf bytes)) old
+  list-filled list old = ap₂ (λ (b : Bool) (ls : List (List ℕ)). filled b (list ls) old) filling lines-are
+
+  pub identifiers-filled : identifiersAfter d bytes (fileOf d bytes) identifiers exponents comments rows ≡ over (identifiersOf d (linesOf bytes)) identifiers
+  identifiers-filled = list-filled (identifiersOf d) identifiers
+
+  pub exponents-filled : exponentsAfter d bytes (fileOf d bytes) identifiers exponents comments rows ≡ over (exponentsOf d (linesOf bytes)) exponents
+  exponents-filled = list-filled (exponentsOf d) exponents
+
+  pub comments-filled : commentsAfter d bytes (fileOf d bytes) identifiers exponents comments rows ≡ over (commentsIn d (linesOf bytes)) comments
+  comments-filled = list-filled (commentsIn d) comments
+
+  pub rows-filled : rowsAfter d bytes (fileOf d bytes) identifiers exponents comments rows ≡ over (rowsIn d (linesOf bytes)) rows
+  rows-filled = list-filled (rowsIn d) rows
+
+  answer-is : readAnswer d bytes (fileOf d bytes) identifiers exponents comments rows ≡ acceptedAs d bytes (accepted .0)
+  answer-is =
+      let t = accepted .0 in
+      room-accepted true bytes t (accepted .1) (length identifiers) (length exponents) (length comments) (length rows)
+      (fills-exactly true bytes t (accepted .1) (length identifiers) (length exponents) (length comments) (length rows) .0 filling)
+
+  pub header-told : readAnswer d bytes (fileOf d bytes) identifiers exponents comments rows .header ≡ headerIn d (linesOf bytes)
+  header-told = ap (λ (r : Reading). r .header) answer-is ∙ ap (λ (s : List ℕ). headerIn d (linesOf s)) (whole-taken bytes (accepted .0) (accepted .1))
