@@ -1,14 +1,13 @@
 // Identifiers, exponents and comments of a table.
 ghost use mathlib.Core.Path.{_≡_};
-ghost use mathlib.Core.Bool.{cond, _&&_};
+ghost use mathlib.Core.Bool.{cond};
 ghost use Prim.Native.Nat.{_+_, _-_, _*_, _≤_};
-ghost use lib.Dec.{eqb, leb};
+ghost use lib.Dec.{eqb};
 ghost use lib.ListN.{length};
 ghost use Rattle.laws.specs.Texts.{every};
-ghost use Rattle.layout.specs.Kind.{isName, printable};
-ghost use Rattle.layout.specs.Line.{trimmed};
+ghost use Rattle.layout.specs.Kind.{isName};
 ghost use Rattle.canon.specs.Table.{commentWidth};
-ghost use Rattle.canon.specs.Valid.{namesValid, exponentsValid, commentColumns, commentsValid};
+ghost use Rattle.canon.specs.Valid.{namesValid, exponentsValid, commentColumns, commentValid, commentsValid};
 ghost use Rattle.canon.specs.Measured.{commentLength, commentsLength};
 use crate::types::Spent;
 use header::Rules;
@@ -90,13 +89,13 @@ fn comment_length(text: usize) -> usize
 }
 
 // A comment of 77 bytes judged and measured.
-fn comment_spent(columns: usize, text: &[u8], left: usize) -> Spent
+fn comment_spent(rules: Rules, text: &[u8], left: usize) -> Spent
     requires { ⌜ length (now text) ≡ commentWidth ⌝ }
-    ensures { λ r. ⌜ (r .valid ≡ (printable (now (text .entry)) && leb (length (trimmed (now (text .entry)))) columns)) × (r .left ≡ left - commentLength (now (text .entry))) ⌝ }
+    ensures { λ r. ⌜ (r .valid ≡ commentValid rules (now (text .entry))) × (r .left ≡ left - commentLength (now (text .entry))) ⌝ }
 {
     let n = layout::trimmed_length(text);
     Spent {
-        valid: layout::is_printable(text) & (n <= columns),
+        valid: layout::is_printable(text) & (n <= comment_columns(rules)),
         left: spend(left, comment_length(n)),
     }
 }
@@ -106,16 +105,17 @@ pub(crate) fn comments_spent(rules: Rules, count: u64, bytes: &[u8], room: usize
     requires { ⌜ length (now bytes) ≡ count * commentWidth ⌝ }
     ensures { λ r. ⌜ (r .valid ≡ commentsValid rules count (now (bytes .entry))) × (r .left ≡ room - commentsLength count (now (bytes .entry))) ⌝ }
 {
-    let columns = comment_columns(rules);
     let mut valid = true;
     let mut left = room;
     let mut at: usize = 0;
-    while at < bytes.len() {
+    let mut more = count;
+    while 0 < more {
         let next = at + 77;
-        let one = comment_spent(columns, &bytes[at..next], left);
+        let one = comment_spent(rules, &bytes[at..next], left);
         valid = valid & one.valid;
         left = one.left;
         at = next;
+        more -= 1;
     }
     Spent { valid, left }
 }

@@ -41,7 +41,7 @@ fn text_end(before: usize, text: &[u8], earlier: usize) -> usize
 // The bytes of line 1.
 fn first_length(t: Texts) -> usize
     ensures { λ r. ⌜ r ≡ firstLength t ⌝ }
-    ensures { λ r. ⌜ r ≤ 62 ⌝ }
+    ensures { λ r. ⌜ r ≤ 61 ⌝ }
 {
     let data_used = t.data_used;
     let coordinates = t.coordinates;

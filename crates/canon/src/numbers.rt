@@ -1,12 +1,14 @@
 // The rows of a table.
 ghost use mathlib.Core.Path.{_≡_};
-ghost use mathlib.Core.Bool.{true, false, cond};
+ghost use mathlib.Core.Bool.{true, false, cond, not, _&&_, _||_};
 ghost use Prim.Native.Nat.{_-_, _*_, _+_, _≤_};
-ghost use lib.Dec.{eqb};
+ghost use lib.Dec.{eqb, leb};
 ghost use lib.IntN.{natAbs};
 ghost use lib.ListN.{length};
+ghost use Rattle.field.specs.Sign.{isNegative};
+ghost use Rattle.layout.specs.Kind.{unknown};
 ghost use Rattle.canon.specs.Table.{cellWidth};
-ghost use Rattle.canon.specs.Valid.{entry, amountValid, exponentValid, flagValid, fourValid, rowValid, cellValid, rowsValid};
+ghost use Rattle.canon.specs.Valid.{entry, amountValid, exponentValid, mostFlag, flagValid, fourValid, rowValid, cellValid, rowsValid};
 ghost use Rattle.canon.specs.Measured.{exponentsEnd, rowLength, cellLength, rowsLength};
 use crate::bounds;
 use crate::lists;
@@ -23,21 +25,26 @@ fn amount_valid(row: &[i64], i: usize) -> bool
 }
 
 // Whether a number is an exponent, of at most so much, or the one that stands for unknown.
-fn exponent_valid(row: &[i64], i: usize, clock: bool) -> bool
+fn exponent_valid(row: &[i64], i: usize, most: u64) -> bool
     requires { ⌜ i + 1 ≤ length (now row) ⌝ }
-    ensures { λ r. ⌜ r ≡ exponentValid clock (entry (now (row .entry)) i) ⌝ }
+    ensures { λ r. ⌜ r ≡ (not (isNegative (entry (now (row .entry)) i)) && (leb (natAbs (entry (now (row .entry)) i)) most || eqb (natAbs (entry (now (row .entry)) i)) unknown)) ⌝ }
 {
-    let most = if clock { 999 } else { 99 };
     let n = magnitude_of(row[i]);
     !is_negative(row[i]) & ((n <= most) | (n == 1000))
 }
 
-// Whether a number is a flag: 0, or 1 in a P row.
-fn flag_valid(row: &[i64], i: usize, velocity: bool) -> bool
-    requires { ⌜ i + 1 ≤ length (now row) ⌝ }
-    ensures { λ r. ⌜ r ≡ flagValid velocity (entry (now (row .entry)) i) ⌝ }
+// The largest flag: 1, in a V row 0.
+fn most_flag(velocity: bool) -> u64
+    ensures { λ r. ⌜ r ≡ mostFlag velocity ⌝ }
 {
-    let most = if velocity { 0 } else { 1 };
+    if velocity { 0 } else { 1 }
+}
+
+// Whether a number is a flag of at most so much.
+fn flag_valid(row: &[i64], i: usize, most: u64) -> bool
+    requires { ⌜ i + 1 ≤ length (now row) ⌝ }
+    ensures { λ r. ⌜ r ≡ (not (isNegative (entry (now (row .entry)) i)) && leb (natAbs (entry (now (row .entry)) i)) most) ⌝ }
+{
     !is_negative(row[i]) & (magnitude_of(row[i]) <= most)
 }
 
@@ -54,8 +61,8 @@ fn deviations_valid(row: &[i64]) -> bool
     requires { ⌜ length (now row) ≡ 12 ⌝ }
     ensures { λ r. ⌜ r ≡ fourValid (exponentValid false) (exponentValid true) 4 (now (row .entry)) ⌝ }
 {
-    (exponent_valid(row, 4, false) & exponent_valid(row, 5, false))
-        & (exponent_valid(row, 6, false) & exponent_valid(row, 7, true))
+    (exponent_valid(row, 4, 99) & exponent_valid(row, 5, 99))
+        & (exponent_valid(row, 6, 99) & exponent_valid(row, 7, 999))
 }
 
 // Whether the last four are flags.
@@ -63,8 +70,9 @@ fn flags_valid(row: &[i64], velocity: bool) -> bool
     requires { ⌜ length (now row) ≡ 12 ⌝ }
     ensures { λ r. ⌜ r ≡ fourValid (flagValid velocity) (flagValid velocity) 8 (now (row .entry)) ⌝ }
 {
-    (flag_valid(row, 8, velocity) & flag_valid(row, 9, velocity))
-        & (flag_valid(row, 10, velocity) & flag_valid(row, 11, velocity))
+    let most = most_flag(velocity);
+    (flag_valid(row, 8, most) & flag_valid(row, 9, most))
+        & (flag_valid(row, 10, most) & flag_valid(row, 11, most))
 }
 
 // Whether twelve numbers are a P row, or a V row where `velocity` says so.

@@ -1,0 +1,14 @@
+pub mod Tests
+pub mod Reading
+pub mod Counting
+pub mod Reach
+pub mod Spending
+pub mod Ends
+pub mod Inked
+pub mod FixedLengths
+pub mod SlotLengths
+pub mod RowLengths
+pub mod CellLengths
+pub mod Lengths
+pub mod Answers
+pub mod Determined
