@@ -2,13 +2,10 @@
 -- unchanged too." Its answer is `measured` (canon, Measured).
 use mathlib.Core.Bool.{cond, _&&_}
 use mathlib.Core.List.{List}
-use mathlib.Core.Path.{_≡_}
-use mathlib.Core.List.{_++_}
 use Prim.Native.Nat.{ℕ}
 use lib.Dec.{leb}
 use lib.ListN.{length}
 use Rattle.lines.specs.Lent.{over}
-use Rattle.layout.specs.Line.{Lays}
 use Rattle.header.specs.declared.types.Rules.{Rules}
 use Rattle.canon.specs.Table.{Table}
 use Rattle.canon.specs.Valid.{valid}

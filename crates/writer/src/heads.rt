@@ -85,10 +85,12 @@ pub(crate) fn put_comments(count: u64, bytes: &[u8], out: &mut [u8]) -> usize
 {
     let mut at: usize = 0;
     let mut from: usize = 0;
-    while from < bytes.len() {
+    let mut more = count;
+    while 0 < more {
         let next = from + 77;
         at += draw::plain::write_comment(&bytes[from..next], &mut out[at..]);
         from = next;
+        more -= 1;
     }
     at
 }

@@ -1,0 +1,158 @@
+-- Lists walked block by block: what is left of them from a place on, and the lines that are still to be laid.
+-- Assumes nothing.
+use mathlib.Core.Path.{_≡_, refl, sym, ap, ap₂, _∙_}
+use mathlib.Core.Bool.{Bool, true, false}
+use mathlib.Core.List.{List, [], _∷_, _++_}
+use Prim.Native.Nat.{ℕ, zero, suc, _+_, _-_, _*_, _≤_, _<_, min}
+use native.Mathlib.Nat.{suc-mul}
+use native.Mathlib.Decide.{decLe}
+use native.Mathlib.Omega.{arith}
+use lib.IntN.{ℤ}
+use lib.ListN.{length, take, drop, getD, length-drop, length-take, drop-of-length-le}
+use lib.Seq.{drop-drop, take-all, take-nil, take-take}
+use Rattle.laws.proofs.Lists.{rest-step}
+use Rattle.record.specs.Opening.{epochLine}
+use Rattle.record.specs.Plain.{commentLine}
+use Rattle.record.specs.SlotLines.{moreLine}
+use Rattle.record.specs.Rows.{rowLine}
+use Rattle.canon.specs.Table.{commentWidth, cellWidth}
+use Rattle.canon.specs.Canonical.{rowShown, slotsShown, slotLinesOf, commentLines, cellLines, cellsLines, epochShown, epochsLines}
+
+-- so many blocks of a width are left from a place on
+pub record Left (size width from more : ℕ) : Type 0 where
+  pub exact : from + more * width ≡ size
+
+pub left-all : (size width more : ℕ) → size ≡ more * width → Left size width 0 more
+left-all size width more e = record { exact = omega arith }
+
+pub left-as : {size width from more more′ : ℕ} → more ≡ more′ → Left size width from more → Left size width from more′
+left-as {size} {width} {from} e l = record { exact = ap (λ (n : ℕ). from + n * width) (sym e) ∙ l .exact }
+
+-- one of so many and the others
+one-more : (more : ℕ) → 0 < more → more ≡ suc (more - 1)
+one-more more some = omega arith
+
+pub less-one : (more width : ℕ) → 0 < more → more * width ≡ width + (more - 1) * width
+less-one more width some = ap (λ (n : ℕ). n * width) (one-more more some) ∙ suc-mul (more - 1) width ∙ omega arith
+
+module _ {size width from more : ℕ} (l : Left size width from more) (some : 0 < more) where
+  pub left-here : from + width ≤ size
+  left-here = omega (arith, less-one more width some, l .exact)
+
+  pub left-next : Left size width (from + width) (more - 1)
+  left-next = record { exact = omega (arith, less-one more width some, l .exact) }
+
+-- a block of a list
+module _ {A : Type 0} (xs : List A) (from width : ℕ) where
+  pub block-is : take (from + width - from) (drop from xs) ≡ take width (drop from xs)
+  block-is =
+      let same : from + width - from ≡ width = omega arith in
+      ap (λ (n : ℕ). take n (drop from xs)) same
+
+  pub block-length : from + width ≤ length xs → length (take (from + width - from) (drop from xs)) ≡ width
+  block-length h = omega (arith, length-take (from + width - from) (drop from xs), length-drop from xs)
+
+  pub rest-is : drop width (drop from xs) ≡ drop (from + width) xs
+  rest-is = drop-drop width from xs
+
+-- past its end a list has nothing, however far
+pub rest-past : {A : Type 0} (l : List A) (k : ℕ) → drop (min k (length l)) l ≡ drop k l
+rest-past l k = go (decLe k (length l))
+  where
+    go : Dec (k ≤ length l) → drop (min k (length l)) l ≡ drop k l
+    go (yes h) =
+        let same : min k (length l) ≡ k = omega arith in
+        rw same
+    go (no h) =
+        let same : min k (length l) ≡ length l = omega arith in
+        rw (same, drop-of-length-le l {i = k} (omega arith), drop-of-length-le l {i = length l} (omega arith))
+
+-- What is still to be laid, as the next line or lines and the others.
+module _ (more : ℕ) (some : 0 < more) where
+  -- the next comment
+  pub comments-next : (bytes : List ℕ) (from : ℕ)
+      → commentLines more (drop from bytes)
+      ≡ commentLine (take (from + commentWidth - from) (drop from bytes)) ∷ commentLines (more - 1) (drop (from + commentWidth) bytes)
+  unfolding commentLines
+  comments-next bytes from =
+      ap (λ (n : ℕ). commentLines n (drop from bytes)) (one-more more some)
+      ∙ ap₂ (λ (text rest : List ℕ). commentLine text ∷ commentLines (more - 1) rest) (sym (block-is bytes from commentWidth)) (rest-is bytes from commentWidth)
+
+  -- the next line of slots
+  pub slots-next : (accuracies : Bool) (numbers : List ℕ) (from : ℕ)
+      → slotLinesOf accuracies more (drop from numbers)
+      ≡ moreLine accuracies (length (drop from numbers)) (slotsShown (drop from numbers)) ∷ slotLinesOf accuracies (more - 1) (drop (min (from + 17) (length numbers)) numbers)
+  unfolding slotLinesOf
+  slots-next accuracies numbers from =
+      ap (λ (n : ℕ). slotLinesOf accuracies n (drop from numbers)) (one-more more some)
+      ∙ ap (λ (rest : List ℕ). moreLine accuracies (length (drop from numbers)) (slotsShown (drop from numbers)) ∷ slotLinesOf accuracies (more - 1) rest)
+      (rest-is numbers from 17 ∙ sym (rest-past numbers (from + 17)))
+
+-- the lines of the next satellite
+pub cells-next : (velocity : Bool) (names : List ℕ) (rows : List ℤ) (j from width : ℕ) → j < length names → width ≡ cellWidth velocity
+    → cellsLines velocity (drop j names) (drop from rows)
+    ≡ cellLines velocity (getD names j 0) (take (from + width - from) (drop from rows)) ++ cellsLines velocity (drop (j + 1) names) (drop (from + width) rows)
+unfolding cellsLines
+cells-next velocity names rows j from width h e =
+    rw (rest-step names j h, block-is rows from width, ← rest-is rows from width, e)
+
+-- the rows of one satellite: P alone, or P and V
+module _ (velocity : Bool) (cell : List ℤ) (size : length cell ≡ cellWidth velocity) where
+  pub cell-long : 12 ≤ length cell
+  cell-long = go velocity size
+    where
+      go : (v : Bool) → length cell ≡ cellWidth v → 12 ≤ length cell
+      go true e = omega arith
+      go false e = omega arith
+
+  pub cell-wide : velocity ≡ true → length cell ≡ 24
+  cell-wide e = size ∙ ap cellWidth e
+
+  pub cell-placed : (name : ℕ) → velocity ≡ false → cellLines velocity name cell ≡ rowLine false (rowShown name (take 12 cell)) ∷ []
+  unfolding cellLines
+  cell-placed name e =
+      let twelve : length cell ≡ 12 = size ∙ ap cellWidth e in
+      rw (e, take-all 12 cell (omega arith))
+
+  pub cell-moved : (name : ℕ) → velocity ≡ true
+      → cellLines velocity name cell ≡ rowLine false (rowShown name (take 12 cell)) ∷ rowLine true (rowShown name (take 12 (drop 12 cell))) ∷ []
+  unfolding cellLines
+  cell-moved name e = rw (e, take-all 12 (drop 12 cell) (omega (arith, cell-wide e, length-drop 12 cell)))
+
+-- what a front has past its first elements
+front-rest : {A : Type 0} (w n : ℕ) (l : List A) → drop w (take n l) ≡ take (n - w) (drop w l)
+front-rest zero n l =
+    let same : n - 0 ≡ n = omega arith in
+    rw same
+front-rest (suc w) zero l =
+    let none : 0 - suc w ≡ 0 = omega arith in
+    rw none
+front-rest (suc w) (suc n) [] = sym (take-nil (suc n - suc w))
+front-rest (suc w) (suc n) (x ∷ l) =
+    let same : suc n - suc w ≡ n - w = omega arith in
+    rw same (front-rest w n l)
+
+-- the satellites of one epoch have no rows past its own
+pub cells-front : (velocity : Bool) (names : List ℕ) (rows : List ℤ) (n : ℕ) → length names * cellWidth velocity ≤ n
+    → cellsLines velocity names rows ≡ cellsLines velocity names (take n rows)
+unfolding cellsLines
+cells-front velocity [] rows n h = refl
+cells-front velocity (name ∷ names) rows n h =
+    let w = cellWidth velocity in
+    let more = suc-mul (length names) w in
+    ap₂ (λ (here there : List (List ℕ)). here ++ there)
+    (ap (cellLines velocity name) (sym (take-take w n rows (omega arith))))
+    (cells-front velocity names (drop w rows) (n - w) (omega arith) ∙ ap (cellsLines velocity names) (sym (front-rest w n rows)))
+
+-- the next epoch
+pub epochs-next : (more : ℕ) → 0 < more → (velocity : Bool) (names : List ℕ) (interval8 at8 : ℕ) (rows : List ℤ) (from width : ℕ)
+    → width ≡ length names * cellWidth velocity
+    → epochsLines velocity names interval8 more at8 (drop from rows)
+    ≡ (epochLine (epochShown at8) ∷ cellsLines velocity names (take (from + width - from) (drop from rows)))
+    ++ epochsLines velocity names interval8 (more - 1) (at8 + interval8) (drop (from + width) rows)
+unfolding epochsLines
+epochs-next more some velocity names interval8 at8 rows from width e =
+    ap (λ (n : ℕ). epochsLines velocity names interval8 n at8 (drop from rows)) (one-more more some)
+    ∙ ap₂ (λ (cells : List (List ℕ)) (rest : List ℤ). (epochLine (epochShown at8) ∷ cells) ++ epochsLines velocity names interval8 (more - 1) (at8 + interval8) rest)
+    (cells-front velocity names (drop from rows) (from + width - from) (omega arith))
+    (ap (λ (n : ℕ). drop n (drop from rows)) (sym e) ∙ rest-is rows from width)

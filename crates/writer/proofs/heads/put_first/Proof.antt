@@ -1,0 +1,76 @@
+-- `writer::heads::put_first` meets its contract: three lines, one directly after another.
+-- Assumes nothing.
+use mathlib.Core.List.{List, [], _∷_}
+use Prim.Native.Nat.{ℕ, _+_}
+use native.Mathlib.Omega.{arith}
+use borrow.Author.Needs.{needs}
+use Rattle.record.specs.Opening.{firstLine, secondLine}
+use Rattle.record.specs.SlotLines.{satellitesLine}
+use Rattle.canon.specs.Canonical.{firstShown, secondShown, satellitesShown}
+use Rattle.writer.proofs.Laying.{Laying, then, laying-first, laying-within, laying-fits, laying-more, laying-end, one-line}
+use Rattle.writer.proofs.heads.put_first.Statement.{statement}
+use Rattle.writer.proofs.heads.put_first.Tie as tie
+
+abbrev third : tie.Start → List (List ℕ)
+third c = satellitesLine (c .args .rules) (satellitesShown (c .args .h .satellites) (c .args .names .now)) ∷ []
+
+abbrev second : tie.Start → List (List ℕ)
+second c = secondLine (secondShown (c .args .h)) ∷ third c
+
+abbrev first : tie.Start → List (List ℕ)
+first c = firstLine (c .args .rules) (firstShown (c .args .h)) ∷ second c
+
+first-laid : (c : tie.After-write-first) → Laying (first (c .before .before .before .before .before)) (c .before .before .before .before .before .args .out .now) (c .write-first .result) (c .write-first .last .1 .1 .0) (second (c .before .before .before .before .before))
+first-laid c =
+    let start = c .before .before .before .before .before in
+    laying-first (firstLine (start .args .rules) (firstShown (start .args .h)) ∷ []) (second start) (start .pre .1)
+    (one-line (firstLine (start .args .rules) (firstShown (start .args .h))) (rw (c .before .before .first-shown .ensures) at (c .write-first .ensures)))
+
+abbrev at2 : tie.After-write-second → ℕ
+at2 c = c .before .before .before .before .before .write-first .result + c .write-second .result
+
+abbrev out2 : (c : tie.After-write-second) → List ℕ
+out2 c = then (c .before .before .before .before .before .write-first .result) (c .before .before .before .before .before .write-first .last .1 .1 .0) (c .write-second .last .1 .0)
+
+second-laid : (c : tie.After-write-second) → Laying (first (c .before .before .before .before .before .before .before .before .before .before)) (c .before .before .before .before .before .before .before .before .before .before .args .out .now) (at2 c) (out2 c) (third (c .before .before .before .before .before .before .before .before .before .before))
+second-laid c =
+    let start = c .before .before .before .before .before .before .before .before .before .before in
+    laying-more (secondLine (secondShown (start .args .h)) ∷ []) (third start) (first-laid (c .before .before .before .before .before))
+    (one-line (secondLine (secondShown (start .args .h))) (rw (c .before .before .second-shown .ensures) at (c .write-second .ensures)))
+
+third-laid : (c : tie.After-write-satellites)
+    → Laying (first (c .before .before .before .before .before .before .before .before .before .before .before .before .before .before .before)) (c .before .before .before .before .before .before .before .before .before .before .before .before .before .before .before .args .out .now) (at2 (c .before .before .before .before .before) + c .write-satellites .result)
+    (then (at2 (c .before .before .before .before .before)) (out2 (c .before .before .before .before .before)) (c .write-satellites .last .1 .1 .0)) []
+unfolding satellitesShown
+third-laid c =
+    let start = c .before .before .before .before .before .before .before .before .before .before .before .before .before .before .before in
+    laying-more (third start) [] (second-laid (c .before .before .before .before .before))
+    (one-line (satellitesLine (start .args .rules) (satellitesShown (start .args .h .satellites) (start .args .names .now)))
+    (rw (c .before .before .seventeen .ensures) at (c .write-satellites .ensures)))
+
+add-result : tie.Need-add-result
+add-result c = omega (arith, c .before .before .before .before .before .before .before .before .before .before .before .before .before .before .before .before .before .good, laying-fits (third-laid (c .before .before)))
+
+returns : tie.Need-returns
+returns c = laying-end (third-laid (c .before .before))
+
+pub put-first-spec : {M : Type 1} → statement M
+put-first-spec =
+    tie.close
+    (tie.spec
+    (λ c κs. search needs)
+    (λ c κs. search needs)
+    (λ c κs. search needs)
+    (λ c. laying-within (first-laid (c .before .before .before)))
+    (λ c. laying-within (first-laid (c .before .before .before)))
+    (λ c. search needs)
+    (λ c κs. search needs)
+    (λ c. omega (arith, laying-fits (second-laid (c .before .before))))
+    (λ c κs. search needs)
+    (λ c. laying-within (second-laid (c .before .before .before)))
+    (λ c. laying-within (second-laid (c .before .before .before)))
+    (λ c. search needs)
+    (λ c κs. search needs)
+    add-result
+    (λ c. search needs)
+    returns)

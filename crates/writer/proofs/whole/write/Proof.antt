@@ -1,0 +1,45 @@
+-- `writer::whole::write` meets its contract: measured, and laid where the answer is no refusal.
+-- Assumes nothing.
+use mathlib.Core.Path.{_≡_, _∙_}
+use mathlib.Core.Bool.{true}
+use Prim.Native.Nat.{_≤_}
+use borrow.Author.Needs.{needs}
+use lib.ListN.{length}
+use Rattle.header.specs.Rules.{d}
+use Rattle.canon.specs.Table.{Table, tableOf}
+use Rattle.canon.specs.Valid.{valid}
+use Rattle.canon.specs.Canonical.{canonical}
+use Rattle.canon.specs.Measured.{measured}
+use Rattle.writer.proofs.Answering.{refused-keeps, written-fits, written-lays}
+use Rattle.writer.proofs.whole.write.Statement.{statement}
+use Rattle.writer.proofs.whole.write.Tie as tie
+
+abbrev table : tie.Start → Table
+table c = tableOf (c .args .h) (c .args .identifiers .now) (c .args .exponents .now) (c .args .comments .now) (c .args .rows .now)
+
+answered : (c : tie.After-measure) → c .measure .result ≡ measured d (table (c .before .before .before .before .before .before .before)) (length (c .before .before .before .before .before .before .before .args .out .now))
+answered c = rw (c .before .before .d .ensures) at (c .measure .ensures)
+
+fits : (c : tie.Else1) → (valid d (table (c .before .before .before .before .before .before .before .before .before)) ≡ true) × (length (canonical d (table (c .before .before .before .before .before .before .before .before .before))) ≤ length (c .before .before .before .before .before .before .before .before .before .args .out .now))
+fits c = written-fits d (table (c .before .before .before .before .before .before .before .before .before)) (c .before .before .before .before .before .before .before .before .before .args .out .now) (answered (c .before .before)) (c .if1 .left)
+
+returns : tie.Need-returns
+returns c = (answered (c .before .before), refused-keeps d (table (c .before .before .before .before .before .before .before .before .before)) (c .before .before .before .before .before .before .before .before .before .args .out .now) (answered (c .before .before)) (c .if1 .taken))
+
+returns-2 : tie.Need-returns-2
+returns-2 c = (
+  answered (c .before .before .before .before .before .before),
+  (rw (c .before .before .before .before .before .before .before .before .d .ensures) at (c .before .before .put-table .ensures)) ∙ written-lays d (table (c .before .before .before .before .before .before .before .before .before .before .before .before .before)) (c .before .before .before .before .before .before .before .before .before .before .before .before .before .args .out .now) (fits (c .before .before .before .before)),
+)
+
+pub write-spec : {M : Type 1} → statement M
+write-spec =
+    tie.close
+    (tie.spec
+    (λ c κs. search needs)
+    (λ c κs. search needs)
+    (λ c. search needs)
+    returns
+    (λ c κs. rw (c .before .before .before .before .before .d .ensures) (fits (c .before)))
+    (λ c. search needs)
+    returns-2)
