@@ -46,6 +46,7 @@ module _ (rules : Rules) (t : Table) (out : List ℕ) where
       go true false p q = absurd (omega (arith, number true false p q e))
       go false f p q = absurd (omega (arith, number false f p q e))
 
-  pub written-lays : (valid rules t ≡ true) × (length (canonical rules t) ≤ length out) → over (canonical rules t) out ≡ outAfter rules t out
+  pub written-lays : {now : List ℕ} → (valid rules t ≡ true) × (length (canonical rules t) ≤ length out) → now ≡ over (canonical rules t) out
+      → now ≡ outAfter rules t out
   unfolding outAfter
-  written-lays fits = rw (fits .0, le-leb (length (canonical rules t)) (length out) (fits .1))
+  written-lays fits e = e ∙ rw (fits .0, le-leb (length (canonical rules t)) (length out) (fits .1))

@@ -21,6 +21,9 @@ placed c = rowLine false (rowShown (c .args .name) (take 12 (c .args .cell .now)
 abbrev moved : tie.Start → List ℕ
 moved c = rowLine true (rowShown (c .args .name) (take 12 (drop 12 (c .args .cell .now))))
 
+abbrev Laid : tie.Start → ℕ → List ℕ → List (List ℕ) → Type 0
+Laid c at now rest = Laying (placed c ∷ moved c ∷ []) (c .args .out .now) at now rest
+
 returns : tie.Need-returns
 returns c =
     let start = c .before .before .before .before .before .before .before .before in
@@ -30,8 +33,7 @@ returns c =
 moving : (c : tie.Else1) → c .before .before .before .before .before .before .before .before .args .velocity ≡ true
 moving c = not-false _ (c .if1 .left)
 
-first-laid : (c : tie.Else1)
-    → Laying (placed (c .before .before .before .before .before .before .before .before) ∷ moved (c .before .before .before .before .before .before .before .before) ∷ []) (c .before .before .before .before .before .before .before .before .args .out .now) (c .before .before .before .write-row .result) (c .before .before .before .write-row .last .1 .1 .0) (moved (c .before .before .before .before .before .before .before .before) ∷ [])
+first-laid : (c : tie.Else1) → Laid (c .before .before .before .before .before .before .before .before) (c .before .before .before .write-row .result) (c .before .before .before .write-row .last .1 .1 .0) (moved (c .before .before .before .before .before .before .before .before) ∷ [])
 first-laid c =
     let start = c .before .before .before .before .before .before .before .before in
     laying-first (placed start ∷ []) (moved start ∷ [])
@@ -39,7 +41,7 @@ first-laid c =
     (one-line (placed start) (rw (c .before .before .before .before .before .row-shown .ensures) at (c .before .before .before .write-row .ensures)))
 
 both-laid : (c : tie.After-write-row2)
-    → Laying (placed (c .before .before .before .before .before .before .before .before .before .before .before .before) ∷ moved (c .before .before .before .before .before .before .before .before .before .before .before .before) ∷ []) (c .before .before .before .before .before .before .before .before .before .before .before .before .args .out .now) (c .before .before .before .before .before .before .before .write-row .result + c .write-row2 .result)
+    → Laid (c .before .before .before .before .before .before .before .before .before .before .before .before) (c .before .before .before .before .before .before .before .write-row .result + c .write-row2 .result)
     (then (c .before .before .before .before .before .before .before .write-row .result) (c .before .before .before .before .before .before .before .write-row .last .1 .1 .0) (c .write-row2 .last .1 .1 .0)) []
 both-laid c =
     laying-more (moved (c .before .before .before .before .before .before .before .before .before .before .before .before) ∷ []) [] (first-laid (c .before .before .before .before))
@@ -47,7 +49,8 @@ both-laid c =
 
 part-row-shown-end-2 : tie.Need-part-row-shown-end-2
 part-row-shown-end-2 c =
-    omega (arith, cell-wide (c .before .before .before .before .before .before .before .before .args .velocity) (c .before .before .before .before .before .before .before .before .args .cell .now) (c .before .before .before .before .before .before .before .before .pre .0) (moving c))
+    let start = c .before .before .before .before .before .before .before .before in
+    omega (arith, cell-wide (start .args .velocity) (start .args .cell .now) (start .pre .0) (moving c))
 
 returns-2 : tie.Need-returns-2
 returns-2 c =

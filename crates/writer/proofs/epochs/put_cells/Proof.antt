@@ -31,7 +31,7 @@ loop-holds c =
       laying-none (cellsLines (start .args .velocity) names rows) (start .args .out .now) (start .pre .1),
     )
 
-abbrev width : (c : tie.At-loop Inv-loop μ-loop) → ℕ
+abbrev width : tie.At-loop Inv-loop μ-loop → ℕ
 width c = c .before .cell-width .result
 
 some : (c : tie.In-loop Inv-loop μ-loop) → 0 < length (c .before .before .before .before .before .args .names .now) - c .before .loop .j
@@ -40,40 +40,48 @@ some c = omega (arith, c .loop-test .taken)
 here : (c : tie.In-loop Inv-loop μ-loop) → c .before .loop .from + width (c .before) ≤ length (c .before .before .before .before .before .args .rows .now)
 here c = left-here (c .before .loop .inv .0) (some c)
 
-abbrev cell : (c : tie.In-loop Inv-loop μ-loop) → List (List ℕ)
+-- the lines of this satellite and of the others
+abbrev cell : tie.At-loop Inv-loop μ-loop → List (List ℕ)
 cell c =
-    cellLines (c .before .before .before .before .before .args .velocity) (getD (c .before .before .before .before .before .args .names .now) (c .before .loop .j) 0)
-    (take (c .before .loop .from + width (c .before) - c .before .loop .from) (drop (c .before .loop .from) (c .before .before .before .before .before .args .rows .now)))
+    let start = c .before .before .before .before .args in
+    cellLines (start .velocity) (getD (start .names .now) (c .loop .j) 0) (take (c .loop .from + width c - c .loop .from) (drop (c .loop .from) (start .rows .now)))
 
-abbrev rest : (c : tie.In-loop Inv-loop μ-loop) → List (List ℕ)
+abbrev rest : tie.At-loop Inv-loop μ-loop → List (List ℕ)
 rest c =
-    cellsLines (c .before .before .before .before .before .args .velocity) (drop (c .before .loop .j + 1) (c .before .before .before .before .before .args .names .now))
-    (drop (c .before .loop .from + width (c .before)) (c .before .before .before .before .before .args .rows .now))
+    let start = c .before .before .before .before .args in
+    cellsLines (start .velocity) (drop (c .loop .j + 1) (start .names .now)) (drop (c .loop .from + width c) (start .rows .now))
 
-next : (c : tie.In-loop Inv-loop μ-loop)
-    → Laying (cellsLines (c .before .before .before .before .before .args .velocity) (c .before .before .before .before .before .args .names .now) (c .before .before .before .before .before .args .rows .now)) (c .before .before .before .before .before .args .out .now) (c .before .loop .at) (c .before .loop .out) (cell c ++ rest c)
+abbrev Laid : tie.At-loop Inv-loop μ-loop → ℕ → List ℕ → List (List ℕ) → Type 0
+Laid c at now left =
+    let start = c .before .before .before .before .args in
+    Laying (cellsLines (start .velocity) (start .names .now) (start .rows .now)) (start .out .now) at now left
+
+next : (c : tie.In-loop Inv-loop μ-loop) → Laid (c .before) (c .before .loop .at) (c .before .loop .out) (cell (c .before) ++ rest (c .before))
 next c =
+    let start = c .before .before .before .before .before .args in
     let l = c .before .loop in
-    laying-as (cells-next (c .before .before .before .before .before .args .velocity) (c .before .before .before .before .before .args .names .now) (c .before .before .before .before .before .args .rows .now) (l .j) (l .from) (width (c .before)) (c .loop-test .taken) (c .before .before .cell-width .ensures))
+    laying-as
+    (cells-next (start .velocity) (start .names .now) (start .rows .now) (l .j) (l .from) (width (c .before)) (c .loop-test .taken) (c .before .before .cell-width .ensures))
     (l .inv .1)
 
 put-cell-requires : tie.Need-put-cell-requires Inv-loop μ-loop
 put-cell-requires c κs =
-    let l = c .before .before .before .before .loop in (
-      block-length (c .before .before .before .before .before .before .before .before .args .rows .now) (l .from) (width (c .before .before .before .before)) (here (c .before .before .before)) ∙ c .before .before .before .before .before .cell-width .ensures,
-      laying-room (cell (c .before .before .before)) (rest (c .before .before .before)) (next (c .before .before .before)),
+    let loop = c .before .before .before .before in (
+      block-length (c .before .before .before .before .before .before .before .before .args .rows .now) (loop .loop .from) (width loop) (here (c .before .before .before)) ∙ c .before .before .before .before .before .cell-width .ensures,
+      laying-room (cell loop) (rest loop) (next (c .before .before .before)),
     )
 
 -- a satellite more
 laid : (c : tie.After-put-cell Inv-loop μ-loop)
-    → Laying (cellsLines (c .before .before .before .before .before .before .before .before .before .args .velocity) (c .before .before .before .before .before .before .before .before .before .args .names .now) (c .before .before .before .before .before .before .before .before .before .args .rows .now)) (c .before .before .before .before .before .before .before .before .before .args .out .now) (c .before .before .before .before .before .loop .at + c .put-cell .result)
-    (then (c .before .before .before .before .before .loop .at) (c .before .before .before .before .before .loop .out) (c .put-cell .last .1 .1 .1 .0)) (rest (c .before .before .before .before))
-laid c = laying-more (cell (c .before .before .before .before)) (rest (c .before .before .before .before)) (next (c .before .before .before .before)) (c .put-cell .ensures)
+    → Laid (c .before .before .before .before .before) (c .before .before .before .before .before .loop .at + c .put-cell .result) (then (c .before .before .before .before .before .loop .at) (c .before .before .before .before .before .loop .out) (c .put-cell .last .1 .1 .1 .0)) (rest (c .before .before .before .before .before))
+laid c = laying-more (cell (c .before .before .before .before .before)) (rest (c .before .before .before .before .before)) (next (c .before .before .before .before)) (c .put-cell .ensures)
 
 loop-again : tie.Need-loop-again Inv-loop μ-loop
 loop-again c =
-    let one-less : length (c .before .before .before .before .before .before .before .before .before .before .before .args .names .now) - c .before .before .before .before .before .before .before .loop .j - 1 ≡ length (c .before .before .before .before .before .before .before .before .before .before .before .args .names .now) - (c .before .before .before .before .before .before .before .loop .j + 1) = omega arith in
-    (left-as one-less (left-next (c .before .before .before .before .before .before .before .loop .inv .0) (some (c .before .before .before .before .before .before))), laid (c .before .before))
+    let l = c .before .before .before .before .before .before .before .loop in
+    let names = c .before .before .before .before .before .before .before .before .before .before .before .args .names .now in
+    let one-less : length names - l .j - 1 ≡ length names - (l .j + 1) = omega arith in
+    (left-as one-less (left-next (l .inv .0) (some (c .before .before .before .before .before .before))), laid (c .before .before))
 
 returns : tie.Need-returns Inv-loop μ-loop
 unfolding cellsLines

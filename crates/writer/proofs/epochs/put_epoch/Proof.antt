@@ -13,11 +13,10 @@ use Rattle.writer.proofs.epochs.put_epoch.Tie as tie
 abbrev cells : tie.Start → List (List ℕ)
 cells c = cellsLines (c .args .velocity) (c .args .names .now) (c .args .rows .now)
 
-abbrev lines : tie.Start → List (List ℕ)
-lines c = epochLine (epochShown (c .args .at8)) ∷ cells c
+abbrev Laid : tie.Start → ℕ → List ℕ → List (List ℕ) → Type 0
+Laid c at now rest = Laying (epochLine (epochShown (c .args .at8)) ∷ cells c) (c .args .out .now) at now rest
 
-first-laid : (c : tie.After-write-epoch)
-    → Laying (lines (c .before .before .before .before .before)) (c .before .before .before .before .before .args .out .now) (c .write-epoch .result) (c .write-epoch .last .1 .0) (cells (c .before .before .before .before .before) ++ [])
+first-laid : (c : tie.After-write-epoch) → Laid (c .before .before .before .before .before) (c .write-epoch .result) (c .write-epoch .last .1 .0) (cells (c .before .before .before .before .before) ++ [])
 unfolding epochShown
 first-laid c =
     let start = c .before .before .before .before .before in
@@ -26,7 +25,7 @@ first-laid c =
     (laying-first (line ∷ []) (cells start) (start .pre .1 .1) (one-line line (rw (c .before .before .moment-of .ensures) at (c .write-epoch .ensures))))
 
 all-laid : (c : tie.After-put-cells)
-    → Laying (lines (c .before .before .before .before .before .before .before .before .before)) (c .before .before .before .before .before .before .before .before .before .args .out .now) (c .before .before .before .before .write-epoch .result + c .put-cells .result)
+    → Laid (c .before .before .before .before .before .before .before .before .before) (c .before .before .before .before .write-epoch .result + c .put-cells .result)
     (then (c .before .before .before .before .write-epoch .result) (c .before .before .before .before .write-epoch .last .1 .0) (c .put-cells .last .1 .1 .1 .0)) []
 all-laid c = laying-more (cells (c .before .before .before .before .before .before .before .before .before)) [] (first-laid (c .before .before .before .before)) (c .put-cells .ensures)
 

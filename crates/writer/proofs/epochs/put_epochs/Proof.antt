@@ -24,7 +24,7 @@ Inv-loop h names rows out₀ width at₀ from₀ at8₀ more₀ out at from at8 
 abbrev μ-loop : tie.MeasureT-loop
 μ-loop h names rows out₀ width at₀ from₀ at8₀ more₀ out at from at8 more = more
 
-abbrev width : (c : tie.After-cell-width Inv-loop μ-loop) → ℕ
+abbrev width : tie.After-cell-width Inv-loop μ-loop → ℕ
 width c = length (c .before .before .before .args .names .now) * c .cell-width .result
 
 width-is : (c : tie.After-cell-width Inv-loop μ-loop) → width c ≡ length (c .before .before .before .args .names .now) * cellWidth (c .before .before .before .args .h .velocity)
@@ -32,8 +32,8 @@ width-is c = ap (λ (w : ℕ). length (c .before .before .before .args .names .n
 
 all-left : (c : tie.After-cell-width Inv-loop μ-loop) → Left (length (c .before .before .before .args .rows .now)) (width c) 0 (c .before .before .before .args .h .epochs)
 all-left c =
-    left-all (length (c .before .before .before .args .rows .now)) (width c) (c .before .before .before .args .h .epochs)
-    (c .before .before .before .pre .1 .0 ∙ ap (λ (w : ℕ). c .before .before .before .args .h .epochs * w) (sym (width-is c)))
+    let start = c .before .before .before in
+    left-all (length (start .args .rows .now)) (width c) (start .args .h .epochs) (start .pre .1 .0 ∙ ap (λ (w : ℕ). start .args .h .epochs * w) (sym (width-is c)))
 
 loop-holds : tie.Need-loop-holds Inv-loop μ-loop
 loop-holds c =
@@ -46,54 +46,61 @@ loop-holds c =
 here : (c : tie.In-loop Inv-loop μ-loop) → c .before .loop .from + width (c .before .before) ≤ length (c .before .before .before .before .before .args .rows .now)
 here c = left-here (c .before .loop .inv .0 .0) (c .loop-test .taken)
 
-abbrev epoch : (c : tie.In-loop Inv-loop μ-loop) → List (List ℕ)
+-- the lines of this epoch and of the others
+abbrev epoch : tie.At-loop Inv-loop μ-loop → List (List ℕ)
 epoch c =
-    epochLine (epochShown (c .before .loop .at8))
-    ∷ cellsLines (c .before .before .before .before .before .args .h .velocity) (c .before .before .before .before .before .args .names .now)
-    (take (c .before .loop .from + width (c .before .before) - c .before .loop .from) (drop (c .before .loop .from) (c .before .before .before .before .before .args .rows .now)))
+    let start = c .before .before .before .before .args in
+    let l = c .loop in
+    epochLine (epochShown (l .at8))
+    ∷ cellsLines (start .h .velocity) (start .names .now) (take (l .from + width (c .before) - l .from) (drop (l .from) (start .rows .now)))
 
-abbrev rest : (c : tie.In-loop Inv-loop μ-loop) → List (List ℕ)
+abbrev rest : tie.At-loop Inv-loop μ-loop → List (List ℕ)
 rest c =
-    epochsLines (c .before .before .before .before .before .args .h .velocity) (c .before .before .before .before .before .args .names .now) (c .before .before .before .before .before .args .h .interval8) (c .before .loop .more - 1)
-    (c .before .loop .at8 + c .before .before .before .before .before .args .h .interval8) (drop (c .before .loop .from + width (c .before .before)) (c .before .before .before .before .before .args .rows .now))
+    let start = c .before .before .before .before .args in
+    let l = c .loop in
+    epochsLines (start .h .velocity) (start .names .now) (start .h .interval8) (l .more - 1) (l .at8 + start .h .interval8)
+    (drop (l .from + width (c .before)) (start .rows .now))
 
-abbrev Laid : (c : tie.At-loop Inv-loop μ-loop) → ℕ → List ℕ → List (List ℕ) → Type 0
+abbrev Laid : tie.At-loop Inv-loop μ-loop → ℕ → List ℕ → List (List ℕ) → Type 0
 Laid c at now left =
-    Laying (epochsLines (c .before .before .before .before .args .h .velocity) (c .before .before .before .before .args .names .now) (c .before .before .before .before .args .h .interval8) (c .before .before .before .before .args .h .epochs) (c .before .before .before .before .args .h .start8) (c .before .before .before .before .args .rows .now))
-    (c .before .before .before .before .args .out .now) at now left
+    let start = c .before .before .before .before .args in
+    let h = start .h in
+    Laying (epochsLines (h .velocity) (start .names .now) (h .interval8) (h .epochs) (h .start8) (start .rows .now)) (start .out .now) at now left
 
-next : (c : tie.In-loop Inv-loop μ-loop) → Laid (c .before) (c .before .loop .at) (c .before .loop .out) (epoch c ++ rest c)
+next : (c : tie.In-loop Inv-loop μ-loop) → Laid (c .before) (c .before .loop .at) (c .before .loop .out) (epoch (c .before) ++ rest (c .before))
 next c =
     let start = c .before .before .before .before .before .args in
     let l = c .before .loop in
-    laying-as (epochs-next (l .more) (c .loop-test .taken) (start .h .velocity) (start .names .now) (start .h .interval8) (l .at8) (start .rows .now) (l .from) (width (c .before .before)) (width-is (c .before .before)))
+    let w = c .before .before in
+    laying-as
+    (epochs-next (l .more) (c .loop-test .taken) (start .h .velocity) (start .names .now) (start .h .interval8) (l .at8) (start .rows .now) (l .from) (width w) (width-is w))
     (l .inv .1)
 
 put-epoch-requires : tie.Need-put-epoch-requires Inv-loop μ-loop
 put-epoch-requires c κs =
     let start = c .before .before .before .before .before .before .before in
-    let l = c .before .before .before .loop in (
-      clocked-instant (timed (start .args .h) (start .pre .0)) (l .inv .0 .1) (c .before .before .loop-test .taken),
-      (
-        block-length (start .args .rows .now) (l .from) (width (c .before .before .before .before)) (here (c .before .before)) ∙ width-is (c .before .before .before .before),
-        laying-room (epoch (c .before .before)) (rest (c .before .before)) (next (c .before .before)),
-      ),
+    let w = c .before .before .before .before in
+    let loop = c .before .before .before in (
+      clocked-instant (timed (start .args .h) (start .pre .0)) (loop .loop .inv .0 .1) (c .before .before .loop-test .taken),
+      (block-length (start .args .rows .now) (loop .loop .from) (width w) (here (c .before .before)) ∙ width-is w, laying-room (epoch loop) (rest loop) (next (c .before .before))),
     )
 
 -- an epoch more
 laid : (c : tie.After-put-epoch Inv-loop μ-loop)
-    → Laid (c .before .before .before .before) (c .before .before .before .before .loop .at + c .put-epoch .result) (then (c .before .before .before .before .loop .at) (c .before .before .before .before .loop .out) (c .put-epoch .last .1 .1 .1 .1 .0)) (rest (c .before .before .before))
-laid c = laying-more (epoch (c .before .before .before)) (rest (c .before .before .before)) (next (c .before .before .before)) (c .put-epoch .ensures)
+    → Laid (c .before .before .before .before) (c .before .before .before .before .loop .at + c .put-epoch .result) (then (c .before .before .before .before .loop .at) (c .before .before .before .before .loop .out) (c .put-epoch .last .1 .1 .1 .1 .0)) (rest (c .before .before .before .before))
+laid c = laying-more (epoch (c .before .before .before .before)) (rest (c .before .before .before .before)) (next (c .before .before .before)) (c .put-epoch .ensures)
 
 add-at8 : tie.Need-add-at8 Inv-loop μ-loop
 add-at8 c =
-    record { fits = clocked-fits (timed (c .before .before .before .before .before .before .before .before .before .before .before .args .h) (c .before .before .before .before .before .before .before .before .before .before .before .pre .0)) (c .before .before .before .before .before .before .before .loop .inv .0 .1) (c .before .before .before .before .before .before .loop-test .taken) }
+    let start = c .before .before .before .before .before .before .before .before .before .before .before in
+    record { fits = clocked-fits (timed (start .args .h) (start .pre .0)) (c .before .before .before .before .before .before .before .loop .inv .0 .1) (c .before .before .before .before .before .before .loop-test .taken) }
 
 loop-again : tie.Need-loop-again Inv-loop μ-loop
 loop-again c =
+    let start = c .before .before .before .before .before .before .before .before .before .before .before in
     let l = c .before .before .before .before .before .before .before .loop in
     let some = c .before .before .before .before .before .before .loop-test .taken in
-    ((left-next (l .inv .0 .0) some, clocked-next (timed (c .before .before .before .before .before .before .before .before .before .before .before .args .h) (c .before .before .before .before .before .before .before .before .before .before .before .pre .0)) (l .inv .0 .1) some), laid (c .before .before .before))
+    ((left-next (l .inv .0 .0) some, clocked-next (timed (start .args .h) (start .pre .0)) (l .inv .0 .1) some), laid (c .before .before .before))
 
 returns : tie.Need-returns Inv-loop μ-loop
 unfolding epochsLines

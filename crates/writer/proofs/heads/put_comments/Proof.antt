@@ -1,7 +1,7 @@
 -- `writer::heads::put_comments` meets its contract: the comments from here on are still to be laid.
 -- Assumes nothing.
 use mathlib.Core.Path.{_≡_, ap}
-use mathlib.Core.List.{[], _∷_}
+use mathlib.Core.List.{List, [], _∷_}
 use Prim.Native.Nat.{ℕ, _+_, _-_, _≤_}
 use native.Mathlib.Omega.{arith}
 use borrow.Author.Needs.{needs}
@@ -32,16 +32,19 @@ here : (c : tie.In-loop Inv-loop μ-loop) → c .before .loop .from + 77 ≤ len
 here c = left-here (c .before .loop .inv .0) (c .loop-test .taken)
 
 -- a comment more
+abbrev rest : tie.At-loop Inv-loop μ-loop → List (List ℕ)
+rest c = commentLines (c .loop .more - 1) (drop (c .loop .from + 77) (c .before .before .before .args .bytes .now))
+
+abbrev Laid : tie.At-loop Inv-loop μ-loop → ℕ → List ℕ → Type 0
+Laid c at now = Laying (commentLines (c .before .before .before .args .count) (c .before .before .before .args .bytes .now)) (c .before .before .before .args .out .now) at now (rest c)
+
 laid : (c : tie.After-write-comment Inv-loop μ-loop)
-    → Laying (commentLines (c .before .before .before .before .before .before .before .args .count) (c .before .before .before .before .before .before .before .args .bytes .now)) (c .before .before .before .before .before .before .before .args .out .now) (c .before .before .before .before .loop .at + c .write-comment .result)
-    (then (c .before .before .before .before .loop .at) (c .before .before .before .before .loop .out) (c .write-comment .last .1 .0))
-    (commentLines (c .before .before .before .before .loop .more - 1) (drop (c .before .before .before .before .loop .from + 77) (c .before .before .before .before .before .before .before .args .bytes .now)))
+    → Laid (c .before .before .before .before) (c .before .before .before .before .loop .at + c .write-comment .result) (then (c .before .before .before .before .loop .at) (c .before .before .before .before .loop .out) (c .write-comment .last .1 .0))
 laid c =
     let bytes = c .before .before .before .before .before .before .before .args .bytes .now in
     let l = c .before .before .before .before .loop in
     let line = commentLine (take (l .from + 77 - l .from) (drop (l .from) bytes)) in
-    let rest = commentLines (l .more - 1) (drop (l .from + 77) bytes) in
-    laying-more (line ∷ []) rest (laying-as (comments-next (l .more) (c .before .before .before .loop-test .taken) bytes (l .from)) (l .inv .1))
+    laying-more (line ∷ []) (rest (c .before .before .before .before)) (laying-as (comments-next (l .more) (c .before .before .before .loop-test .taken) bytes (l .from)) (l .inv .1))
     (one-line line (c .write-comment .ensures))
 
 loop-again : tie.Need-loop-again Inv-loop μ-loop

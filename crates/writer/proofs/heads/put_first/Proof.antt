@@ -17,36 +17,37 @@ third c = satellitesLine (c .args .rules) (satellitesShown (c .args .h .satellit
 abbrev second : tie.Start → List (List ℕ)
 second c = secondLine (secondShown (c .args .h)) ∷ third c
 
-abbrev first : tie.Start → List (List ℕ)
-first c = firstLine (c .args .rules) (firstShown (c .args .h)) ∷ second c
+abbrev Laid : tie.Start → ℕ → List ℕ → (tie.Start → List (List ℕ)) → Type 0
+Laid c at now rest = Laying (firstLine (c .args .rules) (firstShown (c .args .h)) ∷ second c) (c .args .out .now) at now (rest c)
 
-first-laid : (c : tie.After-write-first) → Laying (first (c .before .before .before .before .before)) (c .before .before .before .before .before .args .out .now) (c .write-first .result) (c .write-first .last .1 .1 .0) (second (c .before .before .before .before .before))
+first-laid : (c : tie.After-write-first) → Laid (c .before .before .before .before .before) (c .write-first .result) (c .write-first .last .1 .1 .0) second
 first-laid c =
     let start = c .before .before .before .before .before in
-    laying-first (firstLine (start .args .rules) (firstShown (start .args .h)) ∷ []) (second start) (start .pre .1)
-    (one-line (firstLine (start .args .rules) (firstShown (start .args .h))) (rw (c .before .before .first-shown .ensures) at (c .write-first .ensures)))
+    let line = firstLine (start .args .rules) (firstShown (start .args .h)) in
+    laying-first (line ∷ []) (second start) (start .pre .1) (one-line line (rw (c .before .before .first-shown .ensures) at (c .write-first .ensures)))
 
-abbrev at2 : tie.After-write-second → ℕ
-at2 c = c .before .before .before .before .before .write-first .result + c .write-second .result
+abbrev at-2 : tie.After-write-second → ℕ
+at-2 c = c .before .before .before .before .before .write-first .result + c .write-second .result
 
-abbrev out2 : (c : tie.After-write-second) → List ℕ
-out2 c = then (c .before .before .before .before .before .write-first .result) (c .before .before .before .before .before .write-first .last .1 .1 .0) (c .write-second .last .1 .0)
+abbrev out-2 : tie.After-write-second → List ℕ
+out-2 c = then (c .before .before .before .before .before .write-first .result) (c .before .before .before .before .before .write-first .last .1 .1 .0) (c .write-second .last .1 .0)
 
-second-laid : (c : tie.After-write-second) → Laying (first (c .before .before .before .before .before .before .before .before .before .before)) (c .before .before .before .before .before .before .before .before .before .before .args .out .now) (at2 c) (out2 c) (third (c .before .before .before .before .before .before .before .before .before .before))
+second-laid : (c : tie.After-write-second) → Laid (c .before .before .before .before .before .before .before .before .before .before) (at-2 c) (out-2 c) third
 second-laid c =
     let start = c .before .before .before .before .before .before .before .before .before .before in
-    laying-more (secondLine (secondShown (start .args .h)) ∷ []) (third start) (first-laid (c .before .before .before .before .before))
-    (one-line (secondLine (secondShown (start .args .h))) (rw (c .before .before .second-shown .ensures) at (c .write-second .ensures)))
+    let line = secondLine (secondShown (start .args .h)) in
+    laying-more (line ∷ []) (third start) (first-laid (c .before .before .before .before .before))
+    (one-line line (rw (c .before .before .second-shown .ensures) at (c .write-second .ensures)))
 
 third-laid : (c : tie.After-write-satellites)
-    → Laying (first (c .before .before .before .before .before .before .before .before .before .before .before .before .before .before .before)) (c .before .before .before .before .before .before .before .before .before .before .before .before .before .before .before .args .out .now) (at2 (c .before .before .before .before .before) + c .write-satellites .result)
-    (then (at2 (c .before .before .before .before .before)) (out2 (c .before .before .before .before .before)) (c .write-satellites .last .1 .1 .0)) []
+    → Laid (c .before .before .before .before .before .before .before .before .before .before .before .before .before .before .before) (at-2 (c .before .before .before .before .before) + c .write-satellites .result)
+    (then (at-2 (c .before .before .before .before .before)) (out-2 (c .before .before .before .before .before)) (c .write-satellites .last .1 .1 .0)) (λ start. [])
 unfolding satellitesShown
 third-laid c =
     let start = c .before .before .before .before .before .before .before .before .before .before .before .before .before .before .before in
+    let line = satellitesLine (start .args .rules) (satellitesShown (start .args .h .satellites) (start .args .names .now)) in
     laying-more (third start) [] (second-laid (c .before .before .before .before .before))
-    (one-line (satellitesLine (start .args .rules) (satellitesShown (start .args .h .satellites) (start .args .names .now)))
-    (rw (c .before .before .seventeen .ensures) at (c .write-satellites .ensures)))
+    (one-line line (rw (c .before .before .seventeen .ensures) at (c .write-satellites .ensures)))
 
 add-result : tie.Need-add-result
 add-result c = omega (arith, c .before .before .before .before .before .before .before .before .before .before .before .before .before .before .before .before .before .good, laying-fits (third-laid (c .before .before)))

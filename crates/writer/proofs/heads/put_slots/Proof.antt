@@ -1,7 +1,7 @@
 -- `writer::heads::put_slots` meets its contract: the lines of the numbers from here on are still to be laid.
 -- Assumes nothing.
 use mathlib.Core.Path.{_≡_, ap}
-use mathlib.Core.List.{[], _∷_}
+use mathlib.Core.List.{List, [], _∷_}
 use Prim.Native.Nat.{ℕ, _+_, _-_, _≤_, min}
 use native.Mathlib.Omega.{arith}
 use borrow.Author.Needs.{needs}
@@ -27,18 +27,24 @@ loop-holds c =
     (search needs, laying-none (slotLinesOf (start .args .accuracies) (start .args .lines) (start .args .numbers .now)) (start .args .out .now) (start .pre))
 
 -- a line more
+abbrev rest : tie.At-loop Inv-loop μ-loop → List (List ℕ)
+rest c =
+    let numbers = c .before .before .before .args .numbers .now in
+    slotLinesOf (c .before .before .before .args .accuracies) (c .loop .more - 1) (drop (min (c .loop .from + 17) (length numbers)) numbers)
+
+abbrev Laid : tie.At-loop Inv-loop μ-loop → ℕ → List ℕ → Type 0
+Laid c at now =
+    let start = c .before .before .before .args in
+    Laying (slotLinesOf (start .accuracies) (start .lines) (start .numbers .now)) (start .out .now) at now (rest c)
+
 laid : (c : tie.After-write-slots Inv-loop μ-loop)
-    → Laying (slotLinesOf (c .before .before .before .before .before .before .before .before .args .accuracies) (c .before .before .before .before .before .before .before .before .args .lines) (c .before .before .before .before .before .before .before .before .args .numbers .now)) (c .before .before .before .before .before .before .before .before .args .out .now)
-    (c .before .before .before .before .before .loop .at + c .write-slots .result) (then (c .before .before .before .before .before .loop .at) (c .before .before .before .before .before .loop .out) (c .write-slots .last .1 .1 .1 .0))
-    (slotLinesOf (c .before .before .before .before .before .before .before .before .args .accuracies) (c .before .before .before .before .before .loop .more - 1)
-    (drop (min (c .before .before .before .before .before .loop .from + 17) (length (c .before .before .before .before .before .before .before .before .args .numbers .now))) (c .before .before .before .before .before .before .before .before .args .numbers .now)))
+    → Laid (c .before .before .before .before .before) (c .before .before .before .before .before .loop .at + c .write-slots .result) (then (c .before .before .before .before .before .loop .at) (c .before .before .before .before .before .loop .out) (c .write-slots .last .1 .1 .1 .0))
 laid c =
     let start = c .before .before .before .before .before .before .before .before .args in
     let numbers = start .numbers .now in
     let l = c .before .before .before .before .before .loop in
     let line = moreLine (start .accuracies) (length (drop (l .from) numbers)) (slotsShown (drop (l .from) numbers)) in
-    let rest = slotLinesOf (start .accuracies) (l .more - 1) (drop (min (l .from + 17) (length numbers)) numbers) in
-    laying-more (line ∷ []) rest (laying-as (slots-next (l .more) (c .before .before .before .before .loop-test .taken) (start .accuracies) numbers (l .from)) (l .inv .1))
+    laying-more (line ∷ []) (rest (c .before .before .before .before .before)) (laying-as (slots-next (l .more) (c .before .before .before .before .loop-test .taken) (start .accuracies) numbers (l .from)) (l .inv .1))
     (one-line line (rw (c .before .before .seventeen .ensures, rest-part numbers (l .from)) at (c .write-slots .ensures)))
 
 loop-again : tie.Need-loop-again Inv-loop μ-loop

@@ -30,21 +30,24 @@ names c = slotLinesOf false (slotLines (c .args .h .satellites) - 1) (drop 17 (c
 abbrev exponents : tie.Start → List (List ℕ)
 exponents c = slotLinesOf true (slotLines (c .args .h .satellites)) (c .args .exponents .now)
 
-abbrev Laid : tie.Start → ℕ → List ℕ → List (List ℕ) → Type 0
-Laid c at now rest = Laying (opening c ++ (names c ++ (exponents c ++ descriptorLines (c .args .h)))) (c .args .out .now) at now rest
+abbrev descriptors : tie.Start → List (List ℕ)
+descriptors c = descriptorLines (c .args .h)
+
+abbrev Laid : tie.Start → ℕ → List ℕ → (tie.Start → List (List ℕ)) → Type 0
+Laid c at now rest = Laying (opening c ++ (names c ++ (exponents c ++ descriptors c))) (c .args .out .now) at now (rest c)
 
 put-first-requires : tie.Need-put-first-requires
 unfolding linesBefore
 put-first-requires c κs =
     let start = c .before .before .before .before .before in
-    (start .pre .0, first-room (opening start) (names start ++ (exponents start ++ descriptorLines (start .args .h))) (start .args .out .now) (start .pre .1))
+    (start .pre .0, first-room (opening start) (names start ++ (exponents start ++ descriptors start)) (start .args .out .now) (start .pre .1))
 
 first-laid : (c : tie.After-put-first)
-    → Laid (c .before .before .before .before .before .before) (c .put-first .result) (c .put-first .last .1 .1 .1 .0) (names (c .before .before .before .before .before .before) ++ (exponents (c .before .before .before .before .before .before) ++ descriptorLines (c .before .before .before .before .before .before .args .h)))
+    → Laid (c .before .before .before .before .before .before) (c .put-first .result) (c .put-first .last .1 .1 .1 .0) (λ start. names start ++ (exponents start ++ descriptors start))
 unfolding linesBefore
 first-laid c =
     let start = c .before .before .before .before .before .before in
-    laying-first (opening start) (names start ++ (exponents start ++ descriptorLines (start .args .h))) (start .pre .1) (c .put-first .ensures)
+    laying-first (opening start) (names start ++ (exponents start ++ descriptors start)) (start .pre .1) (c .put-first .ensures)
 
 sub-put-slots : tie.Need-sub-put-slots
 unfolding slotLines
@@ -63,7 +66,7 @@ put-slots-requires : tie.Need-put-slots-requires
 put-slots-requires c κs =
     let start = c .before .before .before .before .before .before .before .before .before .before .before in
     rw (rest-names (c .before .before))
-    (laying-room (names start) (exponents start ++ descriptorLines (start .args .h)) (first-laid (c .before .before .before .before .before)))
+    (laying-room (names start) (exponents start ++ descriptors start) (first-laid (c .before .before .before .before .before)))
 
 abbrev at-2 : tie.After-put-slots → ℕ
 at-2 c = c .before .before .before .before .before .before .put-first .result + c .put-slots .result
@@ -71,10 +74,10 @@ at-2 c = c .before .before .before .before .before .before .put-first .result + 
 abbrev out-2 : tie.After-put-slots → List ℕ
 out-2 c = then (c .before .before .before .before .before .before .put-first .result) (c .before .before .before .before .before .before .put-first .last .1 .1 .1 .0) (c .put-slots .last .1 .1 .1 .0)
 
-names-laid : (c : tie.After-put-slots) → Laid (c .before .before .before .before .before .before .before .before .before .before .before .before) (at-2 c) (out-2 c) (exponents (c .before .before .before .before .before .before .before .before .before .before .before .before) ++ descriptorLines (c .before .before .before .before .before .before .before .before .before .before .before .before .args .h))
+names-laid : (c : tie.After-put-slots) → Laid (c .before .before .before .before .before .before .before .before .before .before .before .before) (at-2 c) (out-2 c) (λ start. exponents start ++ descriptors start)
 names-laid c =
     let start = c .before .before .before .before .before .before .before .before .before .before .before .before in
-    laying-more (names start) (exponents start ++ descriptorLines (start .args .h)) (first-laid (c .before .before .before .before .before .before))
+    laying-more (names start) (exponents start ++ descriptors start) (first-laid (c .before .before .before .before .before .before))
     (rw (rest-names (c .before .before .before)) at (c .put-slots .ensures))
 
 add-at : tie.Need-add-at
@@ -84,7 +87,7 @@ put-slots-requires-2 : tie.Need-put-slots-requires-2
 put-slots-requires-2 c κs =
     let start = c .before .before .before .before .before .before .before .before .before .before .before .before .before .before .before in
     rw (c .before .before .before .before .before .before .before .before .before .before .before .slot-lines .ensures)
-    (laying-room (exponents start) (descriptorLines (start .args .h)) (names-laid (c .before .before .before)))
+    (laying-room (exponents start) (descriptors start) (names-laid (c .before .before .before)))
 
 abbrev at-3 : tie.After-put-slots2 → ℕ
 at-3 c = at-2 (c .before .before .before .before) + c .put-slots2 .result
@@ -92,22 +95,23 @@ at-3 c = at-2 (c .before .before .before .before) + c .put-slots2 .result
 abbrev out-3 : tie.After-put-slots2 → List ℕ
 out-3 c = then (at-2 (c .before .before .before .before)) (out-2 (c .before .before .before .before)) (c .put-slots2 .last .1 .1 .1 .0)
 
-exponents-laid : (c : tie.After-put-slots2) → Laid (c .before .before .before .before .before .before .before .before .before .before .before .before .before .before .before .before) (at-3 c) (out-3 c) (descriptorLines (c .before .before .before .before .before .before .before .before .before .before .before .before .before .before .before .before .args .h) ++ [])
+exponents-laid : (c : tie.After-put-slots2) → Laid (c .before .before .before .before .before .before .before .before .before .before .before .before .before .before .before .before) (at-3 c) (out-3 c) (λ start. descriptors start ++ [])
 exponents-laid c =
     let start = c .before .before .before .before .before .before .before .before .before .before .before .before .before .before .before .before in
     laying-alone
-    (laying-more (exponents start) (descriptorLines (start .args .h)) (names-laid (c .before .before .before .before))
+    (laying-more (exponents start) (descriptors start) (names-laid (c .before .before .before .before))
     (rw (c .before .before .before .before .before .before .before .before .before .before .before .before .slot-lines .ensures) at (c .put-slots2 .ensures)))
 
 add-at-2 : tie.Need-add-at-2
 add-at-2 c = omega (arith, c .before .before .before .before .before .before .before .before .before .before .before .before .before .before .before .before .before .before .good, laying-fits (exponents-laid (c .before .before)))
 
 put-descriptors-requires : tie.Need-put-descriptors-requires
-put-descriptors-requires c κs = laying-room (descriptorLines (c .before .before .before .before .before .before .before .before .before .before .before .before .before .before .before .before .before .before .before .args .h)) [] (exponents-laid (c .before .before .before))
+put-descriptors-requires c κs = laying-room (descriptors (c .before .before .before .before .before .before .before .before .before .before .before .before .before .before .before .before .before .before .before)) [] (exponents-laid (c .before .before .before))
 
 all-laid : (c : tie.After-put-descriptors)
-    → Laid (c .before .before .before .before .before .before .before .before .before .before .before .before .before .before .before .before .before .before .before .before) (at-3 (c .before .before .before .before) + c .put-descriptors .result) (then (at-3 (c .before .before .before .before)) (out-3 (c .before .before .before .before)) (c .put-descriptors .last .1 .0)) []
-all-laid c = laying-more (descriptorLines (c .before .before .before .before .before .before .before .before .before .before .before .before .before .before .before .before .before .before .before .before .args .h)) [] (exponents-laid (c .before .before .before .before)) (c .put-descriptors .ensures)
+    → Laid (c .before .before .before .before .before .before .before .before .before .before .before .before .before .before .before .before .before .before .before .before) (at-3 (c .before .before .before .before) + c .put-descriptors .result)
+    (then (at-3 (c .before .before .before .before)) (out-3 (c .before .before .before .before)) (c .put-descriptors .last .1 .0)) (λ start. [])
+all-laid c = laying-more (descriptors (c .before .before .before .before .before .before .before .before .before .before .before .before .before .before .before .before .before .before .before .before)) [] (exponents-laid (c .before .before .before .before)) (c .put-descriptors .ensures)
 
 add-result : tie.Need-add-result
 add-result c = omega (arith, c .before .before .before .before .before .before .before .before .before .before .before .before .before .before .before .before .before .before .before .before .before .before .good, laying-fits (all-laid (c .before .before)))

@@ -33,14 +33,14 @@ epochs c = epochsLines (c .args .h .velocity) (namesOf (table c)) (c .args .h .i
 abbrev ending : List (List ℕ)
 ending = fixedLine endItems ∷ []
 
-abbrev Laid : tie.Start → ℕ → List ℕ → List (List ℕ) → Type 0
-Laid c at now rest = Laying (opening c ++ (comments c ++ (epochs c ++ ending))) (c .args .out .now) at now rest
+abbrev Laid : tie.Start → ℕ → List ℕ → (tie.Start → List (List ℕ)) → Type 0
+Laid c at now rest = Laying (opening c ++ (comments c ++ (epochs c ++ ending))) (c .args .out .now) at now (rest c)
 
 fits : (c : tie.Start) → Fitting (table c)
 fits c = valid-fits (c .args .rules) (table c) (c .pre .0)
 
 -- so many numbers the rows have
-numbers : (c : tie.After-cell-width) → c .before .before .before .before .before .before .args .h .satellites * c .before .before .before .before .before .before .args .h .epochs * c .cell-width .result ≡ cellsIn (c .before .before .before .before .before .before .args .h) * cellWidth (c .before .before .before .before .before .before .args .h .velocity)
+numbers : (c : tie.After-cell-width) → cellsIn (c .before .before .before .before .before .before .args .h) * c .cell-width .result ≡ cellsIn (c .before .before .before .before .before .before .args .h) * cellWidth (c .before .before .before .before .before .before .args .h .velocity)
 numbers c = ap (λ (w : ℕ). cellsIn (c .before .before .before .before .before .before .args .h) * w) (c .cell-width .ensures)
 
 put-opening-requires : tie.Need-put-opening-requires
@@ -51,7 +51,7 @@ put-opening-requires c κs =
       rw (sub-zero (start .args .h .satellites)) (first-room (opening start) (comments start ++ (epochs start ++ ending)) (start .args .out .now) (start .pre .1)),
     )
 
-opening-laid : (c : tie.After-put-opening) → Laid (c .before .before .before .before .before .before .before .before .before) (c .put-opening .result) (c .put-opening .last .1 .1 .1 .1 .0) (comments (c .before .before .before .before .before .before .before .before .before) ++ (epochs (c .before .before .before .before .before .before .before .before .before) ++ ending))
+opening-laid : (c : tie.After-put-opening) → Laid (c .before .before .before .before .before .before .before .before .before) (c .put-opening .result) (c .put-opening .last .1 .1 .1 .1 .0) (λ start. comments start ++ (epochs start ++ ending))
 unfolding canonical canonicalLines
 opening-laid c =
     let start = c .before .before .before .before .before .before .before .before .before in
@@ -75,7 +75,7 @@ at-2 c = c .before .before .before .before .before .put-opening .result + c .put
 abbrev out-2 : tie.After-put-comments → List ℕ
 out-2 c = then (c .before .before .before .before .before .put-opening .result) (c .before .before .before .before .before .put-opening .last .1 .1 .1 .1 .0) (c .put-comments .last .1 .1 .0)
 
-comments-laid : (c : tie.After-put-comments) → Laid (c .before .before .before .before .before .before .before .before .before .before .before .before .before .before) (at-2 c) (out-2 c) (epochs (c .before .before .before .before .before .before .before .before .before .before .before .before .before .before) ++ ending)
+comments-laid : (c : tie.After-put-comments) → Laid (c .before .before .before .before .before .before .before .before .before .before .before .before .before .before) (at-2 c) (out-2 c) (λ start. epochs start ++ ending)
 comments-laid c =
     let start = c .before .before .before .before .before .before .before .before .before .before .before .before .before .before in
     laying-more (comments start) (epochs start ++ ending) (opening-laid (c .before .before .before .before .before))
@@ -89,14 +89,16 @@ part-put-epochs-end c = omega (arith, numbers (c .before .before .before .before
 
 -- the rows that are lent, and how many numbers they are
 lent-rows : (c : tie.After-cell-width)
-    → take (c .before .before .before .before .before .before .args .h .satellites * c .before .before .before .before .before .before .args .h .epochs * c .cell-width .result - 0) (c .before .before .before .before .before .before .args .rows .now) ≡ rowsOf (table (c .before .before .before .before .before .before))
+    → take (cellsIn (c .before .before .before .before .before .before .args .h) * c .cell-width .result - 0) (c .before .before .before .before .before .before .args .rows .now) ≡ rowsOf (table (c .before .before .before .before .before .before))
 lent-rows c = ap (λ (n : ℕ). take n (c .before .before .before .before .before .before .args .rows .now)) (sub-zero _ ∙ numbers c)
 
 many-rows : (c : tie.Start) → length (rowsOf (table c)) ≡ c .args .h .epochs * (length (namesOf (table c)) * cellWidth (c .args .h .velocity))
 many-rows c =
-    length-take-le (cellsIn (c .args .h) * cellWidth (c .args .h .velocity)) (c .args .rows .now) (fits c .rows)
-    ∙ by-epochs (c .args .h .satellites) (c .args .h .epochs) (cellWidth (c .args .h .velocity))
-    ∙ ap (λ (n : ℕ). c .args .h .epochs * (n * cellWidth (c .args .h .velocity))) (sym (length-take-le (c .args .h .satellites) (c .args .identifiers .now) (fits c .names)))
+    let h = c .args .h in
+    let w = cellWidth (h .velocity) in
+    length-take-le (cellsIn h * w) (c .args .rows .now) (fits c .rows)
+    ∙ by-epochs (h .satellites) (h .epochs) w
+    ∙ ap (λ (n : ℕ). h .epochs * (n * w)) (sym (length-take-le (h .satellites) (c .args .identifiers .now) (fits c .names)))
 
 put-epochs-requires : tie.Need-put-epochs-requires
 put-epochs-requires c κs =
@@ -110,7 +112,7 @@ at-3 c = at-2 (c .before .before .before .before .before) + c .put-epochs .resul
 abbrev out-3 : tie.After-put-epochs → List ℕ
 out-3 c = then (at-2 (c .before .before .before .before .before)) (out-2 (c .before .before .before .before .before)) (c .put-epochs .last .1 .1 .1 .0)
 
-epochs-laid : (c : tie.After-put-epochs) → Laid (c .before .before .before .before .before .before .before .before .before .before .before .before .before .before .before .before .before .before .before) (at-3 c) (out-3 c) ending
+epochs-laid : (c : tie.After-put-epochs) → Laid (c .before .before .before .before .before .before .before .before .before .before .before .before .before .before .before .before .before .before .before) (at-3 c) (out-3 c) (λ start. ending)
 epochs-laid c =
     let start = c .before .before .before .before .before .before .before .before .before .before .before .before .before .before .before .before .before .before .before in
     laying-more (epochs start) ending (comments-laid (c .before .before .before .before .before))

@@ -1,11 +1,12 @@
 -- `writer::whole::write` meets its contract: measured, and laid where the answer is no refusal.
 -- Assumes nothing.
-use mathlib.Core.Path.{_≡_, _∙_}
+use mathlib.Core.Path.{_≡_}
 use mathlib.Core.Bool.{true}
 use Prim.Native.Nat.{_≤_}
 use borrow.Author.Needs.{needs}
 use lib.ListN.{length}
 use Rattle.header.specs.Rules.{d}
+use Rattle.canon.specs.declared.types.Measured.{Measured}
 use Rattle.canon.specs.Table.{Table, tableOf}
 use Rattle.canon.specs.Valid.{valid}
 use Rattle.canon.specs.Canonical.{canonical}
@@ -17,20 +18,31 @@ use Rattle.writer.proofs.whole.write.Tie as tie
 abbrev table : tie.Start → Table
 table c = tableOf (c .args .h) (c .args .identifiers .now) (c .args .exponents .now) (c .args .comments .now) (c .args .rows .now)
 
-answered : (c : tie.After-measure) → c .measure .result ≡ measured d (table (c .before .before .before .before .before .before .before)) (length (c .before .before .before .before .before .before .before .args .out .now))
+abbrev answer : tie.Start → Measured
+answer c = measured d (table c) (length (c .args .out .now))
+
+answered : (c : tie.After-measure) → c .measure .result ≡ answer (c .before .before .before .before .before .before .before)
 answered c = rw (c .before .before .d .ensures) at (c .measure .ensures)
 
-fits : (c : tie.Else1) → (valid d (table (c .before .before .before .before .before .before .before .before .before)) ≡ true) × (length (canonical d (table (c .before .before .before .before .before .before .before .before .before))) ≤ length (c .before .before .before .before .before .before .before .before .before .args .out .now))
-fits c = written-fits d (table (c .before .before .before .before .before .before .before .before .before)) (c .before .before .before .before .before .before .before .before .before .args .out .now) (answered (c .before .before)) (c .if1 .left)
+abbrev Fits : tie.Start → Type 0
+Fits c = (valid d (table c) ≡ true) × (length (canonical d (table c)) ≤ length (c .args .out .now))
+
+fits : (c : tie.Else1) → Fits (c .before .before .before .before .before .before .before .before .before)
+fits c =
+    let start = c .before .before .before .before .before .before .before .before .before in
+    written-fits d (table start) (start .args .out .now) (answered (c .before .before)) (c .if1 .left)
 
 returns : tie.Need-returns
-returns c = (answered (c .before .before), refused-keeps d (table (c .before .before .before .before .before .before .before .before .before)) (c .before .before .before .before .before .before .before .before .before .args .out .now) (answered (c .before .before)) (c .if1 .taken))
+returns c =
+    let start = c .before .before .before .before .before .before .before .before .before in
+    let same = answered (c .before .before) in
+    (same, refused-keeps d (table start) (start .args .out .now) same (c .if1 .taken))
 
 returns-2 : tie.Need-returns-2
-returns-2 c = (
-  answered (c .before .before .before .before .before .before),
-  (rw (c .before .before .before .before .before .before .before .before .d .ensures) at (c .before .before .put-table .ensures)) ∙ written-lays d (table (c .before .before .before .before .before .before .before .before .before .before .before .before .before)) (c .before .before .before .before .before .before .before .before .before .before .before .before .before .args .out .now) (fits (c .before .before .before .before)),
-)
+returns-2 c =
+    let start = c .before .before .before .before .before .before .before .before .before .before .before .before .before in
+    let laid = rw (c .before .before .before .before .before .before .before .before .d .ensures) at (c .before .before .put-table .ensures) in
+    (answered (c .before .before .before .before .before .before), written-lays d (table start) (start .args .out .now) (fits (c .before .before .before .before)) laid)
 
 pub write-spec : {M : Type 1} → statement M
 write-spec =
