@@ -9,6 +9,8 @@
 //! Build: `rustc -O --edition 2021 -o BIN tests/forms.rs`
 //!
 //! * `BIN answer < batch`      prints the answers to a batch of cases;
+//! * `BIN answer-tables < batch` prints those to its tables alone;
+//! * `BIN generate SEED COUNT` prints a batch of that many generated cases;
 //! * `BIN case SEED NUMBER`    prints a generated case, counted from 1;
 //! * `BIN cases`               prints the stored batch;
 //! * `BIN check CRATE_DIR`     compares `CRATE_DIR/stdin` with the stored batch
@@ -1892,6 +1894,15 @@ fn main() {
     let words: Vec<&str> = arguments.iter().map(String::as_str).collect();
     match words[..] {
         ["answer"] => files::print(answers(&batch_from_standard_input()).as_bytes()),
+        ["answer-tables"] => {
+            let mut cases = batch_from_standard_input();
+            cases.retain(|case| matches!(case.body, Body::Table(_)));
+            files::print(answers(&cases).as_bytes());
+        }
+        ["generate", seed, count] => {
+            let seed = files::number(seed);
+            (1..=files::number(count)).for_each(|place| files::print(&generated(seed, place).show()));
+        }
         ["case", seed, place] => {
             files::print(&generated(files::number(seed), files::number(place)).show());
         }
@@ -1903,8 +1914,8 @@ fn main() {
             compare(files::number(seed), files::number(count), program, rest);
         }
         _ => fail(
-            "usage: answer | case SEED NUMBER | cases | check CRATE_DIR | self-test | count\n\
-             | compare SEED COUNT PROGRAM [ARGS..]",
+            "usage: answer | answer-tables | generate SEED COUNT | case SEED NUMBER | cases\n\
+             | check CRATE_DIR | self-test | count | compare SEED COUNT PROGRAM [ARGS..]",
         ),
     }
 }
