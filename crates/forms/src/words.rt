@@ -75,12 +75,20 @@ pub(crate) fn value(text: &[u8], at: usize) -> u64
     value_of(&text[at..end])
 }
 
-// Minus a magnitude of 1 to 2^63; 0 for another.
-fn minus(magnitude: u64) -> i64 {
-    if (magnitude == 0) | (magnitude > 9_223_372_036_854_775_808) {
-        return 0;
+// A number that is not below zero with a minus; any other as it is.
+fn opposite(v: i64) -> i64 {
+    if v < 0 {
+        return v;
     }
-    -((magnitude - 1) as i64) - 1
+    -v
+}
+
+// Minus a magnitude, of 2^63 at most.
+fn minus(magnitude: u64) -> i64 {
+    if magnitude > 9_223_372_036_854_775_807 {
+        return -9_223_372_036_854_775_807 - 1;
+    }
+    opposite(magnitude as i64)
 }
 
 // A magnitude below 2^63; 0 for another.
@@ -119,7 +127,10 @@ pub(crate) fn numbers(text: &[u8], at: usize, list: &mut [u64]) -> usize
 {
     let mut from = at;
     let mut k: usize = 0;
-    while (k < list.len()) & (from < text.len()) {
+    while k < list.len() {
+        if from >= text.len() {
+            return from;
+        }
         list[k] = value(text, from);
         from = next(text, from);
         k += 1;
@@ -134,7 +145,10 @@ pub(crate) fn signed_numbers(text: &[u8], at: usize, list: &mut [i64]) -> usize
 {
     let mut from = at;
     let mut k: usize = 0;
-    while (k < list.len()) & (from < text.len()) {
+    while k < list.len() {
+        if from >= text.len() {
+            return from;
+        }
         list[k] = signed(text, from);
         from = next(text, from);
         k += 1;
@@ -148,7 +162,10 @@ pub(crate) fn bytes(text: &[u8], at: usize, list: &mut [u8])
 {
     let mut from = at;
     let mut k: usize = 0;
-    while (k < list.len()) & (from < text.len()) {
+    while k < list.len() {
+        if from >= text.len() {
+            return;
+        }
         list[k] = text[from];
         from += 1;
         k += 1;
