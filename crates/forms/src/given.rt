@@ -68,18 +68,36 @@ fn body(h: Header, text: &[u8], at: usize, lengths: &[u64], size: u64)
     );
 }
 
-// One table: the header's answer, and what is written where it is accepted.
+// The table of an accepted header: `rest` has the field that is another, its value and the lengths of the lists, which stand at `at`.
+fn accepted(h: Header, n: &mut [u64], rest: &[u64], text: &[u8], at: usize, size: u64)
+    requires { ⌜ length (now n) ≡ 34 ⌝ }
+    requires { ⌜ length (now rest) ≡ 6 ⌝ }
+    requires { ⌜ at ≤ length (now text) ⌝ }
+{
+    let other = changed(h, n, rest[0], rest[1]);
+    body(other, text, at, &rest[2..6], size);
+}
+
+// The header's answer, and what is written where it is accepted.
+fn answered(n: &mut [u64], rest: &[u64], text: &[u8], at: usize, size: u64)
+    requires { ⌜ length (now n) ≡ 34 ⌝ }
+    requires { ⌜ length (now rest) ≡ 6 ⌝ }
+    requires { ⌜ at ≤ length (now text) ⌝ }
+{
+    let answer = fields::made(n);
+    print::text(b"new");
+    print::value(answer.refusal);
+    print::text(b"\n");
+    if answer.refusal == 0 {
+        accepted(answer.header, n, rest, text, at, size);
+    }
+}
+
+// One table.
 pub(crate) fn table(text: &[u8], size: u64) {
     let mut n = [0u64; 34];
     let mut rest = [0u64; 6];
     let first = words::numbers(text, 0, &mut n);
     let second = words::numbers(text, first, &mut rest);
-    let answer = fields::made(&n);
-    print::text(b"new");
-    print::value(answer.refusal);
-    print::text(b"\n");
-    if answer.refusal == 0 {
-        let h = changed(answer.header, &mut n, rest[0], rest[1]);
-        body(h, text, second, &rest[2..6], size);
-    }
+    answered(&mut n, &rest, text, second, size);
 }

@@ -75,20 +75,12 @@ pub(crate) fn value(text: &[u8], at: usize) -> u64
     value_of(&text[at..end])
 }
 
-// A number that is not below zero with a minus; any other as it is.
-fn opposite(v: i64) -> i64 {
-    if v < 0 {
-        return v;
-    }
-    -v
-}
-
 // Minus a magnitude, of 2^63 at most.
 fn minus(magnitude: u64) -> i64 {
     if magnitude > 9_223_372_036_854_775_807 {
         return -9_223_372_036_854_775_807 - 1;
     }
-    opposite(magnitude as i64)
+    -(magnitude as i64)
 }
 
 // A magnitude below 2^63; 0 for another.

@@ -1,5 +1,6 @@
 -- `forms::words::numbers` is safe and ends: the place stays between where it began and the end.
 -- Assumes nothing.
+use mathlib.Core.Path.{_≡_}
 use Prim.Native.Nat.{_≤_, _-_}
 use borrow.Author.Needs.{needs}
 use lib.ListN.{length}
@@ -7,10 +8,10 @@ use Rattle.forms.proofs.words.numbers.Statement.{statement}
 use Rattle.forms.proofs.words.numbers.Tie as tie
 
 abbrev Inv-loop : tie.InvT-loop
-Inv-loop text at list₀ from₀ k₀ list from k = ((at ≤ from) × (from ≤ length text)) × (k ≤ length list)
+Inv-loop text at list₀ from₀ k₀ list from k = ((at ≤ from) × (from ≤ length text)) × (k ≤ length list₀) × (length list ≡ length list₀)
 
 abbrev μ-loop : tie.MeasureT-loop
-μ-loop text at list₀ from₀ k₀ list from k = length list - k
+μ-loop text at list₀ from₀ k₀ list from k = length list₀ - k
 
 pub numbers-spec : {M : Type 1} → statement M
 numbers-spec =
