@@ -670,7 +670,8 @@ fn parse_batch(bytes: &[u8]) -> Vec<Case> {
     let mut words = Words(bytes);
     let mut cases = Vec::new();
     while !words.0.is_empty() {
-        let (kind, room, length): (usize, usize, usize) = (words.take(), words.take(), words.take());
+        let (kind, room, length): (usize, usize, usize) =
+            (words.take(), words.take(), words.take());
         let bytes = words.bytes(length);
         let body = if kind == 0 { Body::File(bytes) } else { Body::Table(parse_given(&bytes)) };
         cases.push(Case { room, body });
@@ -707,8 +708,8 @@ enum Change {
 
 use Base::{Many, Motion, Night, Paper, Talkative};
 use Change::{
-    Argument, Comment, CommentByte, Epochs, Exponent as Accuracy, Field, Identifier as Name, Length,
-    RowNumber, Start, System, Texts, Type,
+    Argument, Comment, CommentByte, Epochs, Exponent as Accuracy, Field, Identifier as Name,
+    Length, RowNumber, Start, System, Texts, Type,
 };
 use Edit::{Insert, Put};
 
@@ -813,7 +814,11 @@ const WRITTEN: &[(Base, &[Edit], Lines)] = &[
         &[(24, "PG07      0.000001     -1.000000 999999.000000      0.000000")],
     ),
     // Texts of line 1 that are blank, at the end or all.
-    (Paper, &[Put(1, 41, "                    ")], &[(1, "#dP2013  4  3  0  0  0.00000000       1")]),
+    (
+        Paper,
+        &[Put(1, 41, "                    ")],
+        &[(1, "#dP2013  4  3  0  0  0.00000000       1")],
+    ),
     (
         Paper,
         &[Put(1, 57, "    ")],
@@ -851,7 +856,11 @@ const WRITTEN: &[(Base, &[Edit], Lines)] = &[
     ),
     (Paper, &[Put(15, 4, "01.2500000 01.025000000")], &[]),
     (Paper, &[Put(15, 28, "00.00000000000 00.000000000000000")], &[]),
-    (Paper, &[Put(16, 4, "00.0000000 00.000000000"), Put(17, 4, "0000"), Put(18, 52, "000000000")], &[]),
+    (
+        Paper,
+        &[Put(16, 4, "00.0000000 00.000000000"), Put(17, 4, "0000"), Put(18, 52, "000000000")],
+        &[],
+    ),
     (
         Paper,
         &[Put(15, 4, "99.9999999 99.999999999")],
@@ -868,7 +877,11 @@ const WRITTEN: &[(Base, &[Edit], Lines)] = &[
     (Paper, &[Put(22, 4, "   x   y   ")], &[(22, "/*    x   y")]),
     (
         Paper,
-        &[Put(20, 4, "0123456789 0123456789 0123456789 0123456789 0123456789 0123456789 0123456789")],
+        &[Put(
+            20,
+            4,
+            "0123456789 0123456789 0123456789 0123456789 0123456789 0123456789 0123456789",
+        )],
         &[(20, "/* 0123456789 0123456789 0123456789 0123456789 0123456789 0123456789 0123456789")],
     ),
     (
@@ -1065,11 +1078,7 @@ const DATED: &[(Base, &[Change], Lines)] = &[
         &[Field(TEXTS + 16, b' ' as u64)],
         &[(1, "#dP2013  4  3  0  0  0.00000000       1 ORBIT WGS84 BCT POR")],
     ),
-    (
-        Paper,
-        &[Texts("                 ")],
-        &[(1, "#dP2013  4  3  0  0  0.00000000       1")],
-    ),
+    (Paper, &[Texts("                 ")], &[(1, "#dP2013  4  3  0  0  0.00000000       1")]),
     (
         Paper,
         &[Texts("~~~~~!!!!!|||    "), Type(b'M'), System("QZS")],
@@ -1232,12 +1241,32 @@ fn judged_ends() -> Vec<Judged> {
         (Paper, vec![Start([2099, 12, 31, 23, 30, 0]), Epochs(3)], 0, 13),
         (Paper, vec![Start(last_second), Epochs(2), Argument(INTERVAL, 1)], 0, 13),
         (Paper, vec![Start(last_second), Argument(INTERVAL, 9_999_999_999_999)], 0, 0),
-        (Paper, vec![Start([2099, 12, 31, 23, 59, 5_999_999_998]), Epochs(2), Field(INTERVAL, 1)], 0, 0),
-        (Paper, vec![Start([2099, 12, 31, 23, 59, 5_999_999_998]), Epochs(2), Field(INTERVAL, 2)], 0, 13),
+        (
+            Paper,
+            vec![Start([2099, 12, 31, 23, 59, 5_999_999_998]), Epochs(2), Field(INTERVAL, 1)],
+            0,
+            0,
+        ),
+        (
+            Paper,
+            vec![Start([2099, 12, 31, 23, 59, 5_999_999_998]), Epochs(2), Field(INTERVAL, 2)],
+            0,
+            13,
+        ),
         (Night, vec![Field(START, 88_069 * DAY as u64 - 1 - 1800 * SECOND as u64)], 0, 0),
         (Night, vec![Field(START, 88_069 * DAY as u64 - 1800 * SECOND as u64)], 0, 13),
-        (Motion, vec![Start([2099, 12, 31, 0, 0, 0]), Epochs(2), Field(INTERVAL, 8_639_999_999_999)], 0, 0),
-        (Motion, vec![Start([2099, 12, 31, 0, 0, 0]), Epochs(2), Field(INTERVAL, 8_640_000_000_000)], 0, 13),
+        (
+            Motion,
+            vec![Start([2099, 12, 31, 0, 0, 0]), Epochs(2), Field(INTERVAL, 8_639_999_999_999)],
+            0,
+            0,
+        ),
+        (
+            Motion,
+            vec![Start([2099, 12, 31, 0, 0, 0]), Epochs(2), Field(INTERVAL, 8_640_000_000_000)],
+            0,
+            13,
+        ),
     ]
 }
 
@@ -1266,9 +1295,15 @@ fn judged_satellites() -> Vec<Judged> {
         all.push((Paper, vec![Accuracy(0, exponent)], 0, number));
         all.push((Many(18), vec![Accuracy(17, exponent)], 0, number));
     }
-    for (place, byte, number) in
-        [(0, 31, 13), (0, 126, 0), (76, 127, 13), (76, 33, 0), (77, 10, 13), (307, 200, 13), (307, 126, 0)]
-    {
+    for (place, byte, number) in [
+        (0, 31, 13),
+        (0, 126, 0),
+        (76, 127, 13),
+        (76, 33, 0),
+        (77, 10, 13),
+        (307, 200, 13),
+        (307, 126, 0),
+    ] {
         all.push((Paper, vec![CommentByte(place, byte)], 0, number));
     }
     all.push((Paper, vec![Length(2, 309), CommentByte(308, 0)], 0, 0));
@@ -1296,7 +1331,8 @@ fn judged_rows() -> Vec<Judged> {
                 7 => CLOCK_EXPONENTS,
                 _ => flags,
             };
-            let row = |&number: &i64, answer| (base, vec![RowNumber(first + place, number)], 0, answer);
+            let row =
+                |&number: &i64, answer| (base, vec![RowNumber(first + place, number)], 0, answer);
             all.extend(right.iter().map(|number| row(number, 0)));
             all.extend(wrong.iter().map(|number| row(number, 13)));
         }
@@ -1364,44 +1400,11 @@ const ROOMS: &[(Base, &[Change], isize, u8)] = &[
 // ---------------------------------------------------------------------------
 
 /// Numbers near some bound or other, of any field.
-const NUMBERS: &[u64] = &[
-    0,
-    1,
-    2,
-    3,
-    4,
-    5,
-    9,
-    10,
-    17,
-    31,
-    32,
-    65,
-    71,
-    77,
-    80,
-    86,
-    90,
-    91,
-    99,
-    100,
-    126,
-    127,
-    128,
-    254,
-    255,
-    256,
-    999,
-    1000,
-    1001,
-    6501,
-    7100,
-    7101,
-    9099,
-    65_535,
-    65_536,
-    100_000,
-    100_001,
+const SMALL: &[u64] = &[
+    0, 1, 2, 3, 4, 5, 9, 10, 17, 31, 32, 65, 71, 77, 80, 86, 90, 91, 99, 100, 126, 127, 128, 254,
+    255, 256, 999, 1000, 1001, 6501, 7100, 7101, 9099, 65_535, 65_536, 100_000, 100_001,
+];
+const LARGE: &[u64] = &[
     999_999_999,
     1_000_000_000,
     99_999_999_999,
@@ -1410,10 +1413,10 @@ const NUMBERS: &[u64] = &[
     1_000_000_000_000,
     9_999_999_999_999,
     10_000_000_000_000,
-    382_268_160_000_000_000,
     382_268_159_999_999_999,
-    760_916_160_000_000_000,
+    382_268_160_000_000_000,
     760_916_159_999_999_999,
+    760_916_160_000_000_000,
     239_568_104_853_370_801,
     9_223_372_036_854_775_807,
     9_223_372_036_854_775_808,
@@ -1424,7 +1427,8 @@ fn choose_any(random: &mut Random) -> u64 {
     match random.below(6) {
         0 => random.next(),
         1 => random.next() % 1001,
-        _ => *random.pick(NUMBERS),
+        2 | 3 => *random.pick(LARGE),
+        _ => *random.pick(SMALL),
     }
 }
 
@@ -1551,13 +1555,16 @@ const SPOILS: &[Spoil] = &[
     spoil_length,
 ];
 
-/// Other rows, other times: a table that is valid still, mostly.
+/// Other rows, other times, many epochs: a table that is valid still, mostly.
 fn vary(given: &mut Given, random: &mut Random) {
+    let width = given.lists.rows.len() / given.numbers[EPOCHS] as usize;
+    if width <= 72 && files::once_in(random, 25) {
+        set_epochs(given, 1 + random.below(2400 / width));
+    }
     if files::once_in(random, 2) {
         let moment = moment_of(files::choose_start(random) as u64);
         let date = moment.date;
-        let numbers =
-            [date.year, date.month, date.day, moment.hour, moment.minute, moment.seconds];
+        let numbers = [date.year, date.month, date.day, moment.hour, moment.minute, moment.seconds];
         given.numbers[YEAR..=SECONDS].copy_from_slice(&numbers.map(|number| number as u64));
     }
     if files::once_in(random, 3) {
@@ -1580,8 +1587,7 @@ fn vary_row(row: &mut [i64], flags: bool, random: &mut Random) {
         row[place] =
             if place < 3 { files::choose_value(random) } else { files::choose_clock(random) };
         let most = if place < 3 { 100 } else { 1000 };
-        row[4 + place] =
-            if known >> place & 1 == 1 { random.below(most) as i64 } else { UNKNOWN };
+        row[4 + place] = if known >> place & 1 == 1 { random.below(most) as i64 } else { UNKNOWN };
         row[8 + place] = i64::from(flags && set >> place & 1 == 1);
     }
 }
@@ -1678,7 +1684,10 @@ fn stored_cases() -> Vec<Case> {
         cases.push(with_room(Body::Table(changed(base, &changes)), 1));
     }
     for base in [Base::Nothing, Paper] {
-        cases.push(Case { room: 1300, body: Body::File(files::hand_made(base, &[Put(25, 4, "x")])) });
+        cases.push(Case {
+            room: 1300,
+            body: Body::File(files::hand_made(base, &[Put(25, 4, "x")])),
+        });
     }
     cases.extend((1..=60).map(|number| generated(files::STORED_SEED, number)));
     cases
@@ -1901,7 +1910,8 @@ fn main() {
         }
         ["generate", seed, count] => {
             let seed = files::number(seed);
-            (1..=files::number(count)).for_each(|place| files::print(&generated(seed, place).show()));
+            (1..=files::number(count))
+                .for_each(|place| files::print(&generated(seed, place).show()));
         }
         ["case", seed, place] => {
             files::print(&generated(files::number(seed), files::number(place)).show());
