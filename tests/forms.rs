@@ -1867,6 +1867,21 @@ fn test_validity(tally: &mut Tally) {
     let _ = std::panic::take_hook();
 }
 
+/// The table of every accepted file is valid, and its form has the same table.
+fn test_files(tally: &mut Tally) {
+    for number in 1..=3000 {
+        let Body::File(file) = generated(files::STORED_SEED + 1, number).body else {
+            continue;
+        };
+        let Some(given) = given_of(&file) else {
+            continue;
+        };
+        let written = given.write(file.len()).unwrap_or_default();
+        let held = given.head().is_ok_and(|head| has_table(&written, &head, &given.lists));
+        tally.holds(held, || format!("case {number}: its table isn't that of its form"));
+    }
+}
+
 fn test_batches(tally: &mut Tally) {
     let cases = stored_cases();
     let again = parse_batch(&show_batch(&cases));
@@ -1879,6 +1894,7 @@ fn self_test() {
     test_judged(&mut tally);
     let by_hand = tally.made;
     test_validity(&mut tally);
+    test_files(&mut tally);
     test_batches(&mut tally);
     println!("{} comparisons, {by_hand} of them by hand, {} failed", tally.made, tally.failed);
     if tally.failed > 0 {
