@@ -29,6 +29,8 @@ doors() {
 
 reader_doors() { doors reader laws field calendar layout lines header record machine file scan accepted plain stored store reader questions; }
 
+writer_doors() { doors writer laws field calendar layout lines header record draw machine canon writer; }
+
 harness() {
     name=$1
     shift

@@ -1,6 +1,7 @@
-# A file in mode P for bench/reader.sh and bench/hostile.sh: `awk -v epochs=96 -v satellites=32 -f reader_file.awk`. It begins on 2013-04-03 and has
-# an epoch each 900 s, so at most 96 of them; every place, clock and exponent is known, rows have all their 80 columns, and flags stand in some of
-# them. `-v comments=9` says how many comments it has (else 4); `-v front=1` ends it after them.
+# A file in mode P for bench/reader.sh, bench/writer.sh and bench/hostile.sh: `awk -v epochs=96 -v satellites=32 -f reader_file.awk`. It begins on
+# 2013-04-03 and has an epoch each 900 s, so at most 96 of them, or with `-v minutes=5` one each 300 s and at most 288; every place, clock and
+# exponent is known, rows have all their 80 columns, and flags stand in some of them. `-v comments=9` says how many comments it has (else 4);
+# `-v front=1` ends it after them.
 function random(below) {
     seed = (seed * 16807) % 2147483647
     return seed % below
@@ -29,8 +30,9 @@ function slots(symbol, count, exponents, j, i, k) {
 BEGIN {
     seed = 20130403
     if (comments == "") comments = 4
+    if (minutes == "") minutes = 15
     printf "#dP2013  4  3  0  0  0.00000000 %7d ORBIT WGS84 BCT PORT\n", epochs
-    print "## 1734 259200.00000000   900.00000000 56385 0.0000000000000"
+    printf "## 1734 259200.00000000 %5d.00000000 56385 0.0000000000000\n", 60 * minutes
     slots("+", 1, 0)
     slots("++", 0, 1)
     print "%c " (satellites > 99 ? "M" : "G") "  cc GPS ccc cccc cccc cccc cccc ccccc ccccc ccccc ccccc"
@@ -41,7 +43,7 @@ BEGIN {
     for (j = 0; j < comments; j++) print "/* PLACES AND CLOCKS MADE BY A GENERATOR FOR COUNTING INSTRUCTIONS"
     if (front) exit
     for (e = 0; e < epochs; e++) {
-        printf "*  2013  4  3 %2d %2d  0.00000000\n", int(e / 4), 15 * (e % 4)
+        printf "*  2013  4  3 %2d %2d  0.00000000\n", int(e * minutes / 60), e * minutes % 60
         for (k = 1; k <= satellites; k++) {
             printf "P%s%s%s%s%s", name(k), coordinate(26000), coordinate(26000), coordinate(26000), coordinate(800)
             printf " %2d %2d %2d %3d", random(20), random(20), random(20), random(250)

@@ -44,7 +44,7 @@
 
 #[allow(dead_code)]
 #[path = "lines.rs"]
-mod lines;
+pub(crate) mod lines;
 
 use lines::{fail, without_trailing_blanks};
 use lines::{Exponent, Identifier, Line, Moment, Random, Reader, Tally};
@@ -59,9 +59,9 @@ use std::process::{exit, Command, ExitStatus, Stdio};
 
 /// A number of the paper's table and the line, counted from 1; 0 for none.
 #[derive(Clone, Copy, PartialEq, Eq, Debug)]
-struct Refusal {
-    number: u8,
-    line: usize,
+pub(crate) struct Refusal {
+    pub(crate) number: u8,
+    pub(crate) line: usize,
 }
 
 /// "no LF is left before the file's EOF line is complete"
@@ -154,13 +154,13 @@ impl<'a> Lines<'a> {
 // Instants: whole numbers of 10^-8 s since MJD 0
 // ---------------------------------------------------------------------------
 
-const SECOND: i64 = 100_000_000;
-const DAY: i64 = 86_400 * SECOND;
+pub(crate) const SECOND: i64 = 100_000_000;
+pub(crate) const DAY: i64 = 86_400 * SECOND;
 /// "44244 represents GPS zero time -- January 6, 1980"
-const GPS_ZERO: i64 = 44_244;
+pub(crate) const GPS_ZERO: i64 = 44_244;
 
 /// MJD of a date from 1980 on: whole years, whole months, days.
-fn modified_julian_day(date: lines::Date) -> i64 {
+pub(crate) fn modified_julian_day(date: lines::Date) -> i64 {
     let days_before_year: i64 = (1980..date.year).map(days_in_year).sum();
     let days_before_month: i64 = (1..date.month).map(|m| lines::days_in_month(date.year, m)).sum();
     GPS_ZERO - 5 + days_before_year + days_before_month + date.day - 1
@@ -170,7 +170,7 @@ fn days_in_year(year: i64) -> i64 {
     (1..=12).map(|month| lines::days_in_month(year, month)).sum()
 }
 
-fn time_of_day(moment: &Moment) -> i64 {
+pub(crate) fn time_of_day(moment: &Moment) -> i64 {
     (3600 * moment.hour + 60 * moment.minute) * SECOND + moment.seconds
 }
 
@@ -195,16 +195,16 @@ fn line_two_agrees(two: &lines::LineTwo, start: i64) -> bool {
 /// "An absent clock or rate is held as its twelve nines."
 const ABSENT_CLOCK: i64 = 999_999_999_999;
 /// How an unknown exponent is held.
-const UNKNOWN: i64 = 1000;
+pub(crate) const UNKNOWN: i64 = 1000;
 
-struct Row {
-    letter: char,
-    epoch: usize,
-    satellite: usize,
-    place: [i64; 3],
-    clock: i64,
-    exponents: [i64; 4],
-    flags: [i64; 4],
+pub(crate) struct Row {
+    pub(crate) letter: char,
+    pub(crate) epoch: usize,
+    pub(crate) satellite: usize,
+    pub(crate) place: [i64; 3],
+    pub(crate) clock: i64,
+    pub(crate) exponents: [i64; 4],
+    pub(crate) flags: [i64; 4],
 }
 
 impl Row {
@@ -219,7 +219,7 @@ impl Row {
     }
 
     /// The twelve numbers of a row.
-    fn held(&self) -> Vec<i64> {
+    pub(crate) fn held(&self) -> Vec<i64> {
         let parts = [&self.place[..], &[self.clock], &self.exponents, &self.flags];
         parts.concat()
     }
@@ -227,19 +227,19 @@ impl Row {
 
 /// Comments are held as the stretches of the file where their texts lie.
 #[derive(Default)]
-struct Table {
-    velocities: bool,
-    start: i64,
-    epochs: usize,
-    interval: i64,
-    texts: Vec<Vec<u8>>,
-    identifiers: Vec<u64>,
-    accuracies: Vec<u64>,
-    file_type: u8,
-    time_system: Vec<u8>,
-    bases: [i64; 2],
-    comments: Vec<Range<usize>>,
-    rows: Vec<Row>,
+pub(crate) struct Table {
+    pub(crate) velocities: bool,
+    pub(crate) start: i64,
+    pub(crate) epochs: usize,
+    pub(crate) interval: i64,
+    pub(crate) texts: Vec<Vec<u8>>,
+    pub(crate) identifiers: Vec<u64>,
+    pub(crate) accuracies: Vec<u64>,
+    pub(crate) file_type: u8,
+    pub(crate) time_system: Vec<u8>,
+    pub(crate) bases: [i64; 2],
+    pub(crate) comments: Vec<Range<usize>>,
+    pub(crate) rows: Vec<Row>,
 }
 
 impl Table {
@@ -281,7 +281,7 @@ fn take_start(lines: &mut Lines, table: &mut Table) -> Result<(), Refusal> {
 }
 
 /// "exactly n / 17 rounded up, or five where that is less than five"
-fn satellite_lines(n: usize) -> usize {
+pub(crate) fn satellite_lines(n: usize) -> usize {
     n.div_ceil(lines::SLOTS).max(5)
 }
 
@@ -319,7 +319,7 @@ fn take_satellites(lines: &mut Lines, table: &mut Table) -> Result<(), Refusal> 
 }
 
 /// "A type other than M needs all identifiers to begin with it."
-fn type_agrees(file_type: u8, identifiers: &[u64]) -> bool {
+pub(crate) fn type_agrees(file_type: u8, identifiers: &[u64]) -> bool {
     file_type == b'M' || identifiers.iter().all(|code| code / 100 == u64::from(file_type))
 }
 
@@ -417,10 +417,10 @@ fn make_row(
 // ---------------------------------------------------------------------------
 
 /// What an accepted file holds, and its length in bytes; or its refusal.
-type Judged = Result<(Table, usize), Refusal>;
+pub(crate) type Judged = Result<(Table, usize), Refusal>;
 
 /// One file at the front of a stretch: the records 1 to 10 in order.
-fn judge_front(stretch: &[u8]) -> Judged {
+pub(crate) fn judge_front(stretch: &[u8]) -> Judged {
     let (table, lines) = take_records(stretch)?;
     Ok((table, lines.place))
 }
@@ -438,7 +438,7 @@ fn take_records(stretch: &[u8]) -> Result<(Table, Lines<'_>), Refusal> {
 }
 
 /// The bytes as one file: 11 if any follow, "and the line is the one after EOF".
-fn judge(file: &[u8]) -> Judged {
+pub(crate) fn judge(file: &[u8]) -> Judged {
     let (table, lines) = take_records(file)?;
     if lines.place < file.len() {
         return Err(Refusal { number: BYTES_AFTER, line: lines.taken + 1 });
@@ -447,16 +447,17 @@ fn judge(file: &[u8]) -> Judged {
 }
 
 /// The lists that are lent for a reading.
-struct Lent {
-    identifiers: Vec<u64>,
-    exponents: Vec<u64>,
-    comments: Vec<u8>,
-    rows: Vec<i64>,
+#[derive(Clone, Default)]
+pub(crate) struct Lent {
+    pub(crate) identifiers: Vec<u64>,
+    pub(crate) exponents: Vec<u64>,
+    pub(crate) comments: Vec<u8>,
+    pub(crate) rows: Vec<i64>,
 }
 
 impl Lent {
     /// Rooms of these lengths, with a mark in every place.
-    fn marked([identifiers, exponents, comments, rows]: [usize; 4]) -> Lent {
+    pub(crate) fn marked([identifiers, exponents, comments, rows]: [usize; 4]) -> Lent {
         Lent {
             identifiers: vec![7777; identifiers],
             exponents: vec![7777; exponents],
@@ -509,7 +510,7 @@ fn lay(judged: &Judged, file: &[u8], lent: &mut Lent) -> Result<usize, Refusal> 
     Ok(*length)
 }
 
-fn read(file: &[u8], lent: &mut Lent) -> Result<usize, Refusal> {
+pub(crate) fn read(file: &[u8], lent: &mut Lent) -> Result<usize, Refusal> {
     lay(&judge(file), file, lent)
 }
 
@@ -552,8 +553,8 @@ struct Case {
 }
 
 /// The program under test has arrays of these lengths.
-const MOST_BYTES: usize = 40_000;
-const MOST_ROOMS: [usize; 4] = [300, 300, 8000, 8000];
+pub(crate) const MOST_BYTES: usize = 40_000;
+pub(crate) const MOST_ROOMS: [usize; 4] = [300, 300, 8000, 8000];
 const MOST_NUMBER: usize = 999_999_999;
 
 impl Case {
@@ -630,7 +631,7 @@ fn show_row_answer(answer: Result<Row, Refusal>) -> String {
     }
 }
 
-fn show_text(text: &[u8]) -> String {
+pub(crate) fn show_text(text: &[u8]) -> String {
     String::from_utf8_lossy(text).into_owned()
 }
 
@@ -750,14 +751,14 @@ fn answers(cases: &[Case]) -> String {
 
 /// Lines with their LF; bytes after the EOF line are one more.
 #[derive(Clone, Default)]
-struct Draft(Vec<Vec<u8>>);
+pub(crate) struct Draft(pub(crate) Vec<Vec<u8>>);
 
 impl Draft {
     fn of(lines: &[&str]) -> Draft {
         Draft(lines.iter().map(|line| format!("{line}\n").into_bytes()).collect())
     }
 
-    fn bytes(&self) -> Vec<u8> {
+    pub(crate) fn bytes(&self) -> Vec<u8> {
         self.0.concat()
     }
 
@@ -844,7 +845,7 @@ fn header(
 }
 
 /// The paper's "One file whole", 25 lines.
-fn paper_file() -> Draft {
+pub(crate) fn paper_file() -> Draft {
     let mut lines = header([
         "#dP2013  4  3  0  0  0.00000000       1 ORBIT WGS84 BCT PORT",
         "## 1734 259200.00000000   900.00000000 56385 0.0000000000000",
@@ -947,7 +948,7 @@ fn talkative_file(count: usize) -> Draft {
 
 /// What a file made by hand begins with.
 #[derive(Clone, Copy, Debug)]
-enum Base {
+pub(crate) enum Base {
     Nothing,
     Paper,
     Night,
@@ -958,7 +959,7 @@ enum Base {
 
 /// What is done to it then; lines and columns are counted from 1.
 #[derive(Clone, Copy, Debug)]
-enum Edit {
+pub(crate) enum Edit {
     Put(usize, usize, &'static str),
     Byte(usize, usize, u8),
     Line(usize, &'static str),
@@ -977,7 +978,7 @@ enum Edit {
     CarriageReturns,
 }
 
-fn base_file(base: Base) -> Draft {
+pub(crate) fn base_file(base: Base) -> Draft {
     match base {
         Base::Nothing => Draft::default(),
         Base::Paper => paper_file(),
@@ -1010,7 +1011,7 @@ fn apply(draft: &mut Draft, edit: Edit) {
     }
 }
 
-fn hand_made(base: Base, edits: &[Edit]) -> Vec<u8> {
+pub(crate) fn hand_made(base: Base, edits: &[Edit]) -> Vec<u8> {
     let mut draft = base_file(base);
     edits.iter().for_each(|&edit| apply(&mut draft, edit));
     draft.bytes()
@@ -1511,12 +1512,12 @@ const ONE_SECOND: [Edit; 3] =
 // ---------------------------------------------------------------------------
 
 /// True once in so many times.
-fn once_in(random: &mut Random, times: usize) -> bool {
+pub(crate) fn once_in(random: &mut Random, times: usize) -> bool {
     random.below(times) == 0
 }
 
 /// What a generated file says before its rows.
-struct Plan {
+pub(crate) struct Plan {
     velocities: bool,
     start: i64,
     interval: i64,
@@ -1572,7 +1573,7 @@ const INTERVALS: &[i64] = &[
     99_999 * SECOND + 99_999_999,
 ];
 
-fn choose_start(random: &mut Random) -> i64 {
+pub(crate) fn choose_start(random: &mut Random) -> i64 {
     let day = if once_in(random, 3) {
         GPS_ZERO + random.below(43_825) as i64
     } else {
@@ -1584,7 +1585,7 @@ fn choose_start(random: &mut Random) -> i64 {
     day * DAY + time
 }
 
-fn choose_interval(random: &mut Random) -> i64 {
+pub(crate) fn choose_interval(random: &mut Random) -> i64 {
     if once_in(random, 4) {
         1 + (random.next() % (100_000 * SECOND as u64 - 1)) as i64
     } else {
@@ -1736,7 +1737,7 @@ impl Pen<'_> {
 }
 
 /// The date of an MJD from 1980 on.
-fn date_of(modified_julian_day: i64) -> (i64, i64, i64) {
+pub(crate) fn date_of(modified_julian_day: i64) -> (i64, i64, i64) {
     let mut days = modified_julian_day - (GPS_ZERO - 5);
     let mut year = 1980;
     while days >= days_in_year(year) {
@@ -1866,7 +1867,7 @@ fn write_comment(pen: &mut Pen) -> Vec<u8> {
 const SIZES: &[i64] =
     &[0, 1, 500_000, 999_999, 1_000_000, 5_000_000_001, 26_560_123_456, 999_999_999_999];
 
-fn choose_value(random: &mut Random) -> i64 {
+pub(crate) fn choose_value(random: &mut Random) -> i64 {
     let size = match random.below(4) {
         0 => *random.pick(SIZES),
         1 => (random.next() % 1_000_000_000_000) as i64,
@@ -1879,7 +1880,7 @@ fn choose_value(random: &mut Random) -> i64 {
     }
 }
 
-fn choose_place(random: &mut Random) -> [i64; 3] {
+pub(crate) fn choose_place(random: &mut Random) -> [i64; 3] {
     let mut place = [0; 3].map(|_: i64| choose_value(random));
     match random.below(10) {
         0 | 1 => place = [0; 3],
@@ -1894,7 +1895,7 @@ fn choose_place(random: &mut Random) -> [i64; 3] {
 }
 
 /// The nines of an absent clock, numbers near them, and others.
-fn choose_clock(random: &mut Random) -> i64 {
+pub(crate) fn choose_clock(random: &mut Random) -> i64 {
     match random.below(8) {
         0 | 1 => ABSENT_CLOCK,
         2 => *random.pick(&[-ABSENT_CLOCK, ABSENT_CLOCK - 1, 999_999_000_000, 0]),
@@ -2277,7 +2278,7 @@ fn damage(draft: &mut Draft, plan: &Plan, random: &mut Random) {
 // ---------------------------------------------------------------------------
 
 /// Half of the files are damaged, some of them twice.
-fn generate_file(random: &mut Random) -> (Plan, Vec<u8>) {
+pub(crate) fn generate_file(random: &mut Random) -> (Plan, Vec<u8>) {
     loop {
         let plan = choose_plan(random);
         let odd = !once_in(random, 4);
@@ -2298,7 +2299,7 @@ fn generate_file(random: &mut Random) -> (Plan, Vec<u8>) {
 
 /// What stands after the first faulty line changes nothing; most files do
 /// without it, so that many fit into a batch.
-fn cut_after_fault(file: &mut Vec<u8>) {
+pub(crate) fn cut_after_fault(file: &mut Vec<u8>) {
     if let Err(refusal) = judge_front(file) {
         let ends = file.iter().enumerate().filter(|(_, &c)| c == b'\n').map(|(place, _)| place);
         if let Some(end) = ends.take(refusal.line).last().filter(|_| refusal.number != NO_LF) {
@@ -2371,8 +2372,8 @@ fn generated(seed: u64, number: u64) -> Case {
 // The stored cases
 // ---------------------------------------------------------------------------
 
-const MOST_BATCH: usize = 600_000;
-const STORED_SEED: u64 = 20_160_221;
+pub(crate) const MOST_BATCH: usize = 600_000;
+pub(crate) const STORED_SEED: u64 = 20_160_221;
 
 /// A file made by hand with rooms that suffice; most refused ones end after
 /// their faulty line.
@@ -2457,7 +2458,7 @@ fn count(cases: &[Case]) {
 }
 
 /// Gives the input to the program and takes what it prints.
-fn run(
+pub(crate) fn run(
     program: &str,
     arguments: &[&str],
     input: Vec<u8>,
@@ -2476,7 +2477,7 @@ fn run(
 }
 
 /// The first line in which two texts differ: wanted and found.
-fn first_difference(wanted: &[u8], found: &[u8]) -> Option<(usize, String, String)> {
+pub(crate) fn first_difference(wanted: &[u8], found: &[u8]) -> Option<(usize, String, String)> {
     if wanted == found {
         return None;
     }
@@ -2491,7 +2492,7 @@ fn first_difference(wanted: &[u8], found: &[u8]) -> Option<(usize, String, Strin
 }
 
 /// Which of the answers has line `line` of all of them.
-fn case_of_line(answers: &[String], line: usize) -> usize {
+pub(crate) fn case_of_line(answers: &[String], line: usize) -> usize {
     let mut lines = 0;
     let ends = |answer: &String| {
         lines += answer.lines().count();
@@ -2536,7 +2537,7 @@ fn compare(seed: u64, number: u64, program: &str, arguments: &[&str]) {
 }
 
 /// Fails at the first line in which the file differs from `wanted`.
-fn check_file(path: &str, wanted: &[u8]) {
+pub(crate) fn check_file(path: &str, wanted: &[u8]) {
     let found = std::fs::read(path).unwrap_or_else(|error| fail(&format!("{path}: {error}")));
     if let Some((line, wanted, found)) = first_difference(wanted, &found) {
         fail(&format!("{path}: line {line} is {found} and should be {wanted}"));
@@ -2963,7 +2964,7 @@ fn test_hand(tally: &mut Tally) {
 }
 
 /// Whether the wanted lines stand in the answer in this order.
-fn missing_line<'a>(answer: &str, wanted: &[&'a str]) -> Option<&'a str> {
+pub(crate) fn missing_line<'a>(answer: &str, wanted: &[&'a str]) -> Option<&'a str> {
     let mut lines = answer.lines();
     wanted.iter().copied().find(|wanted| !lines.any(|line| line == *wanted))
 }
@@ -3081,7 +3082,7 @@ fn self_test() {
 // The program
 // ---------------------------------------------------------------------------
 
-fn print(bytes: &[u8]) {
+pub(crate) fn print(bytes: &[u8]) {
     if let Err(error) = std::io::stdout().write_all(bytes) {
         fail(&format!("standard output: {error}"));
     }
@@ -3095,7 +3096,7 @@ fn batch_from_standard_input() -> Vec<Case> {
     parse_batch(&bytes)
 }
 
-fn number(word: &str) -> u64 {
+pub(crate) fn number(word: &str) -> u64 {
     word.parse().unwrap_or_else(|_| fail(&format!("{word:?} is no number")))
 }
 

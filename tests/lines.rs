@@ -184,7 +184,7 @@ pub(crate) fn days_in_month(year: i64, month: i64) -> i64 {
 }
 
 /// A day of the calendar within "1980-01-06 to 2099-12-31".
-fn date_is_allowed(date: Date) -> bool {
+pub(crate) fn date_is_allowed(date: Date) -> bool {
     let Date { year, month, day } = date;
     (1..=12).contains(&month)
         && (1..=days_in_month(year, month)).contains(&day)
@@ -853,7 +853,7 @@ fn write_moment(w: &mut Writer, moment: &Moment) {
     w.decimal(31, 8, moment.seconds);
 }
 
-fn write_first_line(line: &FirstLine) -> String {
+pub(crate) fn write_first_line(line: &FirstLine) -> String {
     let mut w = Writer::new("#d");
     w.text(3, &line.mode);
     write_moment(&mut w, &line.start);
@@ -865,7 +865,7 @@ fn write_first_line(line: &FirstLine) -> String {
     w.finish()
 }
 
-fn write_line_two(line: &LineTwo) -> String {
+pub(crate) fn write_line_two(line: &LineTwo) -> String {
     let mut w = Writer::new("##");
     w.integer(7, line.week);
     w.decimal(23, 8, line.seconds_of_week);
@@ -875,7 +875,7 @@ fn write_line_two(line: &LineTwo) -> String {
     w.finish()
 }
 
-fn write_satellites(line: &Satellites) -> String {
+pub(crate) fn write_satellites(line: &Satellites) -> String {
     let mut w = Writer::new("+ ");
     if let Some(number) = line.number {
         w.integer(6, number);
@@ -890,7 +890,7 @@ fn write_satellites(line: &Satellites) -> String {
     w.finish()
 }
 
-fn write_accuracies(exponents: &[i64]) -> String {
+pub(crate) fn write_accuracies(exponents: &[i64]) -> String {
     let mut w = Writer::new("++");
     for slot in 0..SLOTS {
         let (_, last) = slot_columns(slot);
@@ -899,14 +899,14 @@ fn write_accuracies(exponents: &[i64]) -> String {
     w.finish()
 }
 
-fn write_characters(file_type: &[u8], time_system: &[u8]) -> String {
+pub(crate) fn write_characters(file_type: &[u8], time_system: &[u8]) -> String {
     let mut w = Writer::new("%c cc cc ccc ccc cccc cccc cccc cccc ccccc ccccc ccccc ccccc");
     w.text(4, file_type);
     w.text(10, time_system);
     w.finish()
 }
 
-fn write_floats(position: i64, clock: i64) -> String {
+pub(crate) fn write_floats(position: i64, clock: i64) -> String {
     let mut w = Writer::new("%f");
     w.decimal(13, 7, position);
     w.decimal(26, 9, clock);
@@ -915,7 +915,7 @@ fn write_floats(position: i64, clock: i64) -> String {
     w.finish()
 }
 
-fn write_integers() -> String {
+pub(crate) fn write_integers() -> String {
     let mut w = Writer::new("%i");
     for last in [7, 12, 17, 22, 29, 36, 43, 50, 60] {
         w.integer(last, 0);
@@ -923,13 +923,13 @@ fn write_integers() -> String {
     w.finish()
 }
 
-fn write_comment(text: &[u8]) -> String {
+pub(crate) fn write_comment(text: &[u8]) -> String {
     let mut w = Writer::new("/*");
     w.text(4, text);
     w.finish()
 }
 
-fn write_epoch(moment: &Moment) -> String {
+pub(crate) fn write_epoch(moment: &Moment) -> String {
     let mut w = Writer::new("* ");
     write_moment(&mut w, moment);
     w.finish()
@@ -945,7 +945,7 @@ fn write_row(w: &mut Writer, row: &Row) {
     }
 }
 
-fn write_position(position: &Position) -> String {
+pub(crate) fn write_position(position: &Position) -> String {
     let mut w = Writer::new("P");
     write_row(&mut w, &position.row);
     for (place, column) in [75, 76, 79, 80].into_iter().enumerate() {
@@ -954,7 +954,7 @@ fn write_position(position: &Position) -> String {
     w.finish()
 }
 
-fn write_velocity(row: &Row) -> String {
+pub(crate) fn write_velocity(row: &Row) -> String {
     let mut w = Writer::new("V");
     write_row(&mut w, row);
     w.finish()

@@ -1,0 +1,105 @@
+// Answers the tables of a batch of tests/forms.rs from standard input with the writer of writer.c; its files are left out.
+//   gcc -O2 -o BIN bench/writer_test.c; FORMS generate SEED COUNT >batch; FORMS answer-tables <batch >right; BIN <batch >said
+#include <inttypes.h>
+#include <stdio.h>
+#include <stdlib.h>
+
+#include "writer.c"
+
+enum { ARGUMENTS = 34, MARK = 7 };
+
+static uint64_t number(void) {
+    uint64_t v;
+    if (scanf("%" SCNu64, &v) != 1 || getchar() < 0) exit(2);
+    return v;
+}
+
+static void *room(size_t count, size_t size) {
+    void *p = malloc(count * size + 1);
+    if (!p) exit(2);
+    return p;
+}
+
+static uint64_t *numbers(size_t count) {
+    uint64_t *list = room(count, 8);
+    for (size_t i = 0; i < count; i++) list[i] = number();
+    return list;
+}
+
+static int64_t *signed_numbers(size_t count) {
+    int64_t *list = room(count, 8);
+    for (size_t i = 0; i < count; i++)
+        if (scanf("%" SCNd64, list + i) != 1 || getchar() < 0) exit(2);
+    return list;
+}
+
+static struct head head_of(const uint64_t n[ARGUMENTS], uint64_t start) {
+    struct head h = {n[0] == 'V', start, n[7], n[8], {0}, n[9], n[10], (uint8_t)n[11], {0}, {n[15], n[16]}};
+    for (size_t i = 0; i < 17; i++) h.texts[i] = (uint8_t)n[17 + i];
+    for (size_t i = 0; i < 3; i++) h.time_system[i] = (uint8_t)n[12 + i];
+    return h;
+}
+
+// the start in 10^-8 s since MJD 0; 0 where it is no date within the bounds or no time of day
+static uint64_t start_of(const uint64_t n[ARGUMENTS]) {
+    uint64_t day = FIRST_DAY - 5;
+    if (n[1] < 1980 || n[1] > 2099 || n[2] < 1 || n[2] > 12 || n[3] < 1 || n[3] > month_days(n[1], n[2])) return 0;
+    if (n[4] > 23 || n[5] > 59 || n[6] >= 60 * SECOND) return 0;
+    for (uint64_t year = 1980; year < n[1]; year++) day += year_days(year);
+    for (uint64_t month = 1; month < n[2]; month++) day += month_days(n[1], month);
+    day += n[3] - 1;
+    return day < FIRST_DAY ? 0 : day * DAY + (3600 * n[4] + 60 * n[5]) * SECOND + n[6];
+}
+
+static unsigned made(const uint64_t n[ARGUMENTS]) {
+    struct head h = head_of(n, start_of(n));
+    if ((n[0] != 'P' && n[0] != 'V') || !letters_listed(&h)) return 6;
+    return h.start == 0 || !numbers_bounded(&h) ? 7 : 0;
+}
+
+static void table(const struct head *h, const struct lists *t, size_t size) {
+    uint8_t *out = room(size, 1);
+    size_t kept = 0;
+    memset(out, MARK, size);
+    struct written w = WRITER(write)(h, t, out, size);
+    printf("write %" PRIu64 " %zu\n", w.refusal, w.length);
+    fwrite(out, 1, w.length, stdout);
+    for (size_t i = w.length; i < size; i++) kept += out[i] == MARK;
+    printf(kept == size - w.length ? "kept\n" : "changed\n");
+    free(out);
+}
+
+static void table_case(size_t size) {
+    uint64_t n[ARGUMENTS];
+    for (size_t i = 0; i < ARGUMENTS; i++) n[i] = number();
+    uint64_t start = start_of(n), field = number(), value = number();
+    unsigned refusal = made(n);
+    struct lists t = {.identifier_count = number()};
+    t.exponent_count = number(), t.comment_count = number(), t.row_count = number();
+    uint64_t *identifiers = numbers(t.identifier_count), *exponents = numbers(t.exponent_count);
+    int64_t *rows = signed_numbers(t.row_count);
+    uint8_t *comments = room(t.comment_count, 1);
+    if (fread(comments, 1, t.comment_count, stdin) != t.comment_count) exit(2);
+    t.identifiers = identifiers, t.exponents = exponents, t.comments = comments, t.rows = rows;
+    printf("new %u\n", refusal);
+    if (refusal == 0) {
+        if (field < ARGUMENTS) n[field] = value;
+        struct head h = head_of(n, field == 1 ? value : start);
+        table(&h, &t, size);
+    }
+    free(identifiers), free(exponents), free(comments), free(rows);
+}
+
+int main(void) {
+    size_t kind, size, length;
+    while (scanf("%zu %zu %zu", &kind, &size, &length) == 3) {
+        if (getchar() != '\n') return 2;
+        if (kind == 1) {
+            printf("table %zu %zu\n", size, length);
+            table_case(size);
+        } else {
+            for (size_t i = 0; i < length; i++) getchar();
+        }
+    }
+    return 0;
+}

@@ -1,0 +1,100 @@
+// A table written, and the answer printed.
+use crate::print;
+use crate::words::at_most;
+use header::Header;
+use reader::Reading;
+
+// Whether each byte holds the mark.
+fn marked(bytes: &[u8]) -> bool {
+    let mut i = 0;
+    while i < bytes.len() {
+        if bytes[i] != 7 {
+            return false;
+        }
+        i += 1;
+    }
+    true
+}
+
+// What a writing left in the room: its bytes, and whether the others are as they were.
+fn left(length: usize, room: &[u8]) {
+    let n = at_most(length as u64, room.len());
+    print::text(&room[0..n]);
+    if marked(&room[n..]) {
+        print::text(b"kept\n");
+    } else {
+        print::text(b"changed\n");
+    }
+}
+
+// A table written into a room of marks.
+fn into(
+    h: Header,
+    identifiers: &[u64],
+    exponents: &[u64],
+    comments: &[u8],
+    rows: &[i64],
+    room: &mut [u8],
+) {
+    let answer = writer::write(h, identifiers, exponents, comments, rows, room);
+    print::told(b"write", answer.refusal as u64, answer.length as u64);
+    left(answer.length, room);
+}
+
+// A table written into a room of `size` bytes, 60,000 at most.
+pub(crate) fn table(
+    h: Header,
+    identifiers: &[u64],
+    exponents: &[u64],
+    comments: &[u8],
+    rows: &[i64],
+    size: u64,
+) {
+    let mut room = [7u8; 60_000];
+    let n = at_most(size, room.len());
+    into(h, identifiers, exponents, comments, rows, &mut room[0..n]);
+}
+
+// What a reading answers, and what it read written.
+fn again(
+    reading: Reading,
+    identifiers: &[u64],
+    exponents: &[u64],
+    comments: &[u8],
+    rows: &[i64],
+    size: u64,
+) {
+    print::told(b"read", reading.refusal as u64, reading.line);
+    if reading.refusal == 0 {
+        table(reading.header, identifiers, exponents, comments, rows, size);
+    }
+}
+
+// A file read into these lists.
+fn read(
+    bytes: &[u8],
+    identifiers: &mut [u64],
+    exponents: &mut [u64],
+    comments: &mut [u8],
+    rows: &mut [i64],
+    size: u64,
+) {
+    let reading = reader::read(bytes, identifiers, exponents, comments, rows);
+    again(reading, identifiers, exponents, comments, rows, size);
+}
+
+// A file read into lists of marks.
+pub(crate) fn file(bytes: &[u8], size: u64) {
+    let mut identifiers = [7777u64; 300];
+    let mut exponents = [7777u64; 300];
+    let mut comments = [b'#'; 8000];
+    let mut rows = [-7i64; 8000];
+    read(
+        bytes,
+        &mut identifiers,
+        &mut exponents,
+        &mut comments,
+        &mut rows,
+        size,
+    );
+}

@@ -1,0 +1,1947 @@
+//! A judge and a writer of SP3-d tables, written only from the documents.
+//!
+//! It says of a table whether it is valid, and what its canonical bytes are.
+//! It also makes the tables and files on which another implementation is
+//! compared with it. It shares no code with that implementation; files are
+//! judged by `files.rs` and single lines written by `lines.rs`, from the same
+//! documents.
+//!
+//! Build: `rustc -O --edition 2021 -o BIN tests/forms.rs`
+//!
+//! * `BIN answer < batch`      prints the answers to a batch of cases;
+//! * `BIN answer-tables < batch` prints those to its tables alone;
+//! * `BIN generate SEED COUNT` prints a batch of that many generated cases;
+//! * `BIN case SEED NUMBER`    prints a generated case, counted from 1;
+//! * `BIN cases`               prints the stored batch;
+//! * `BIN check CRATE_DIR`     compares `CRATE_DIR/stdin` with the stored batch
+//!   and `CRATE_DIR/stdout` with the answers to it;
+//! * `BIN self-test`           compares the writer with answers worked out by hand;
+//! * `BIN count < batch`       counts the answers by their numbers;
+//! * `BIN compare SEED COUNT PROGRAM [ARGS..]` gives generated batches to the
+//!   program and compares what it prints with the answers, byte for byte.
+//!
+//! A batch is cases one after the other. A case is a line `KIND ROOM LENGTH`
+//! and directly after its LF so many bytes. ROOM is the output lent, of which
+//! every byte holds a mark before. Of kind 0 the bytes are a file, which is
+//! read into lists with room for 300 identifiers, 300 exponents, 8,000 bytes of
+//! comments and 8,000 numbers of rows, and written again. Of kind 1 they are a
+//! table. Its numbers each have one blank or LF after them:
+//!
+//! ```text
+//! 34 numbers   the arguments of a header: mode, year, month, day, hour,
+//!              minute, seconds in 10^-8, epochs, interval in 10^-8 s,
+//!              satellites, comments, file type, time system (3), bases (2),
+//!              texts (17); letters as their bytes
+//! FIELD VALUE  which of these is another after the header was accepted, 1
+//!              standing for the start in 10^-8 s since MJD 0; 99 for none
+//! I X C R      how many identifiers, exponents, bytes of comments and numbers
+//!              of rows are lent
+//! ```
+//!
+//! and then these lists: I, X and R numbers, and C bytes as they are. The answer to a case:
+//!
+//! ```text
+//! file ROOM LENGTH      or  table ROOM LENGTH
+//! read R LINE               new R
+//! (the rest only where that is 0)
+//! write R LENGTH
+//! (the bytes written)
+//! kept                      every byte past them still holds the mark
+//! ```
+//!
+//! "The paper" is 01-scope.md, "000" is the SP3-d document.
+
+#[allow(dead_code)]
+#[path = "files.rs"]
+mod files;
+
+use files::lines::{self, fail, Exponent, Identifier, Moment, Random, Tally};
+use files::{Base, Edit, Lent, DAY, GPS_ZERO, SECOND, UNKNOWN};
+use std::collections::HashSet;
+use std::io::Read;
+use std::process::exit;
+
+// ---------------------------------------------------------------------------
+// What a table says
+// ---------------------------------------------------------------------------
+
+/// "lent room is too small"
+const NO_ROOM: u8 = 12;
+/// "the table to be written isn't valid"
+const NOT_VALID: u8 = 13;
+/// A letter, file type or time system that isn't listed, or a text's byte.
+const NOT_LISTED: u8 = 6;
+/// "a number or date is outside its bounds"
+const OUT_OF_BOUNDS: u8 = 7;
+
+/// What stands before the lists of a table, right or wrong; times in 10^-8 s,
+/// the start since MJD 0.
+#[derive(Clone)]
+struct Head {
+    velocities: bool,
+    start: u64,
+    epochs: u64,
+    interval: u64,
+    /// data used 5, coordinate system 5, orbit type 3, agency 4
+    texts: [u8; 17],
+    satellites: u64,
+    comments: u64,
+    file_type: u8,
+    time_system: [u8; 3],
+    bases: [u64; 2],
+}
+
+impl Head {
+    /// "n times epochs rows (twice that in mode V)"
+    fn rows(&self) -> u128 {
+        let rows = u128::from(self.satellites) * u128::from(self.epochs);
+        rows * if self.velocities { 2 } else { 1 }
+    }
+
+    fn text(&self, first: usize, length: usize) -> Vec<u8> {
+        self.texts[first..first + length].to_vec()
+    }
+}
+
+/// Width of a comment and of a row in the lists.
+const COMMENT: usize = 77;
+const ROW: usize = 12;
+
+// ---------------------------------------------------------------------------
+// Validity: "A table is valid exactly when some accepted file has it"
+// ---------------------------------------------------------------------------
+
+fn is_printable(bytes: &[u8]) -> bool {
+    bytes.iter().all(|byte| (32..=126).contains(byte))
+}
+
+fn is_file_type(letter: u8) -> bool {
+    lines::FILE_TYPES.iter().any(|listed| listed.as_bytes()[0] == letter)
+}
+
+fn is_time_system(text: &[u8]) -> bool {
+    lines::TIME_SYSTEMS.iter().any(|listed| listed.as_bytes() == text)
+}
+
+/// Whether an instant is on a day of "1980-01-06 to 2099-12-31".
+fn is_on_an_allowed_day(instant: u128) -> bool {
+    (44_244..=88_068).contains(&(instant / DAY as u128))
+}
+
+/// The largest number that so many digits show.
+fn most_of(digits: usize) -> u64 {
+    lines::power_of_ten(digits) as u64 - 1
+}
+
+/// I7 with "1 or more" and "at most 100,000"; F14.8 "above 0", which leaves 13
+/// digits; I3 with 1 to 255; "Four or more comments"; F10.7 and F12.9, which
+/// leave 9 and 11 digits.
+fn numbers_are_bounded(head: &Head) -> bool {
+    (1..=100_000).contains(&head.epochs)
+        && (1..=most_of(13)).contains(&head.interval)
+        && (1..=255).contains(&head.satellites)
+        && head.comments >= 4
+        && head.bases[0] <= most_of(9)
+        && head.bases[1] <= most_of(11)
+}
+
+/// "epoch k, counted from 0, is the start plus k times the interval", and each
+/// is a date within the bounds.
+fn epochs_are_bounded(head: &Head) -> bool {
+    let start = u128::from(head.start);
+    let last = start + u128::from(head.epochs.saturating_sub(1)) * u128::from(head.interval);
+    is_on_an_allowed_day(start) && is_on_an_allowed_day(last)
+}
+
+fn head_is_valid(head: &Head) -> bool {
+    numbers_are_bounded(head)
+        && epochs_are_bounded(head)
+        && is_printable(&head.texts)
+        && is_file_type(head.file_type)
+        && is_time_system(&head.time_system)
+}
+
+/// "lists shorter than its counts make it invalid"
+fn lists_suffice(head: &Head, lists: &Lent) -> bool {
+    let suffices = |length: usize, needed: u128| length as u128 >= needed;
+    suffices(lists.identifiers.len(), head.satellites.into())
+        && suffices(lists.exponents.len(), head.satellites.into())
+        && suffices(lists.comments.len(), COMMENT as u128 * u128::from(head.comments))
+        && suffices(lists.rows.len(), ROW as u128 * head.rows())
+}
+
+/// "a capital letter and 01 to 99": G07 is held as 7107.
+fn is_identifier(code: u64) -> bool {
+    (u64::from(b'A')..=u64::from(b'Z')).contains(&(code / 100)) && code % 100 != 0
+}
+
+fn identifiers_are_valid(file_type: u8, codes: &[u64]) -> bool {
+    let different: HashSet<u64> = codes.iter().copied().collect();
+    codes.iter().all(|&code| is_identifier(code))
+        && different.len() == codes.len()
+        && files::type_agrees(file_type, codes)
+}
+
+/// I2 or I3, or unknown.
+fn is_exponent(value: i64, most: i64) -> bool {
+    (0..=most).contains(&value) || value == UNKNOWN
+}
+
+fn row_is_valid(row: &[i64], velocity: bool) -> bool {
+    let most_flag = if velocity { 0 } else { 1 };
+    row[..4].iter().all(|&value| value.unsigned_abs() <= most_of(12))
+        && row[4..7].iter().all(|&value| is_exponent(value, 99))
+        && is_exponent(row[7], 999)
+        && row[8..].iter().all(|&flag| (0..=most_flag).contains(&flag))
+}
+
+fn is_valid(head: &Head, lists: &Lent) -> bool {
+    if !head_is_valid(head) || !lists_suffice(head, lists) {
+        return false;
+    }
+    let held = Held::of(head, lists);
+    let mut rows = held.rows.chunks(ROW).enumerate();
+    identifiers_are_valid(head.file_type, held.identifiers)
+        && held.exponents.iter().all(|&exponent| exponent <= 999)
+        && is_printable(held.comments)
+        && rows.all(|(place, row)| row_is_valid(row, head.velocities && place % 2 == 1))
+}
+
+/// The lists as far as the counts go: "places past them aren't looked at".
+struct Held<'a> {
+    identifiers: &'a [u64],
+    exponents: &'a [u64],
+    comments: &'a [u8],
+    rows: &'a [i64],
+}
+
+impl Held<'_> {
+    fn of<'a>(head: &Head, lists: &'a Lent) -> Held<'a> {
+        let n = head.satellites as usize;
+        Held {
+            identifiers: &lists.identifiers[..n],
+            exponents: &lists.exponents[..n],
+            comments: &lists.comments[..COMMENT * head.comments as usize],
+            rows: &lists.rows[..ROW * head.rows() as usize],
+        }
+    }
+}
+
+// ---------------------------------------------------------------------------
+// The canonical form
+// ---------------------------------------------------------------------------
+
+fn moment_of(instant: u64) -> Moment {
+    let (day, time) = (instant as i64 / DAY, instant as i64 % DAY);
+    let (year, month, day) = files::date_of(day);
+    let minutes = time / (60 * SECOND);
+    Moment {
+        date: lines::Date { year, month, day },
+        hour: minutes / 60,
+        minute: minutes % 60,
+        seconds: time % (60 * SECOND),
+    }
+}
+
+fn identifier_of(code: u64) -> Identifier {
+    Identifier { letter: (code / 100) as u8, number: (code % 100) as i64 }
+}
+
+/// "F as 125*S / 108 rounded to the nearest with halves upward"
+fn fraction_of(time: i64) -> i64 {
+    let (whole, rest) = (125 * time / 108, 125 * time % 108);
+    whole + i64::from(2 * rest >= 108)
+}
+
+/// Records 1 and 2.
+fn start_lines(head: &Head) -> [String; 2] {
+    let first = lines::FirstLine {
+        mode: if head.velocities { b"V".to_vec() } else { b"P".to_vec() },
+        start: moment_of(head.start),
+        epochs: head.epochs as i64,
+        data_used: head.text(0, 5),
+        coordinate_system: head.text(5, 5),
+        orbit_type: head.text(10, 3),
+        agency: head.text(13, 4),
+    };
+    let (day, time) = (head.start as i64 / DAY, head.start as i64 % DAY);
+    let two = lines::LineTwo {
+        week: (day - GPS_ZERO) / 7,
+        seconds_of_week: (day - GPS_ZERO) % 7 * DAY + time,
+        interval: head.interval as i64,
+        modified_julian_day: day,
+        fraction: fraction_of(time),
+    };
+    [lines::write_first_line(&first), lines::write_line_two(&two)]
+}
+
+/// Records 3 and 4: seventeen to a line, five lines at least of each.
+fn slot_lines(identifiers: &[u64], exponents: &[u64]) -> Vec<String> {
+    let n = identifiers.len();
+    let part = |line: usize| (17 * line).min(n)..(17 * line + 17).min(n);
+    let satellites = |line: usize| lines::Satellites {
+        number: (line == 0).then_some(n as i64),
+        identifiers: identifiers[part(line)].iter().map(|&code| identifier_of(code)).collect(),
+    };
+    let accuracies = |line: usize| -> Vec<i64> {
+        exponents[part(line)].iter().map(|&exponent| exponent as i64).collect()
+    };
+    let count = files::satellite_lines(n);
+    let plus = (0..count).map(|line| lines::write_satellites(&satellites(line)));
+    let double = (0..count).map(|line| lines::write_accuracies(&accuracies(line)));
+    plus.chain(double).collect()
+}
+
+/// Records 5 and 6.
+fn fixed_lines(head: &Head) -> [String; 6] {
+    [
+        lines::write_characters(&[head.file_type, b' '], &head.time_system),
+        lines::write_characters(b"cc", b"ccc"),
+        lines::write_floats(head.bases[0] as i64, head.bases[1] as i64),
+        lines::write_floats(0, 0),
+        lines::write_integers(),
+        lines::write_integers(),
+    ]
+}
+
+fn row_line(code: u64, row: &[i64], velocity: bool) -> String {
+    let exponent = |place: usize| match row[place] {
+        UNKNOWN => Exponent::Unknown,
+        value => Exponent::Known(value),
+    };
+    let record = lines::Row {
+        identifier: identifier_of(code),
+        numbers: [row[0], row[1], row[2], row[3]],
+        exponents: [exponent(4), exponent(5), exponent(6), exponent(7)],
+    };
+    if velocity {
+        return lines::write_velocity(&record);
+    }
+    let flag = |place: usize, letter: &[u8]| match row[place] {
+        0 => b" ".to_vec(),
+        _ => letter.to_vec(),
+    };
+    let flags = [flag(8, b"E"), flag(9, b"P"), flag(10, b"M"), flag(11, b"P")];
+    lines::write_position(&lines::Position { row: record, flags })
+}
+
+/// Records 8 and 9, without EP and EV.
+fn epoch_lines(head: &Head, held: &Held) -> Vec<String> {
+    let mut out = Vec::new();
+    let mut rows = held.rows.chunks(ROW);
+    for epoch in 0..head.epochs {
+        out.push(lines::write_epoch(&moment_of(head.start + epoch * head.interval)));
+        for &code in held.identifiers {
+            for velocity in [false, true] {
+                if head.velocities || !velocity {
+                    out.extend(rows.next().map(|row| row_line(code, row, velocity)));
+                }
+            }
+        }
+    }
+    out
+}
+
+/// The canonical bytes of a valid table.
+fn canonical(head: &Head, lists: &Lent) -> Vec<u8> {
+    let held = Held::of(head, lists);
+    let mut all = start_lines(head).to_vec();
+    all.extend(slot_lines(held.identifiers, held.exponents));
+    all.extend(fixed_lines(head));
+    all.extend(held.comments.chunks(COMMENT).map(lines::write_comment));
+    all.extend(epoch_lines(head, &held));
+    all.push("EOF".to_string());
+    all.iter().flat_map(|line| line.bytes().chain([b'\n'])).collect()
+}
+
+/// What is written into a room of so many bytes; 13, "but before 12".
+fn write(head: &Head, lists: &Lent, room: usize) -> Result<Vec<u8>, u8> {
+    if !is_valid(head, lists) {
+        return Err(NOT_VALID);
+    }
+    let bytes = canonical(head, lists);
+    if bytes.len() > room {
+        return Err(NO_ROOM);
+    }
+    Ok(bytes)
+}
+
+// ---------------------------------------------------------------------------
+// A header out of numbers
+// ---------------------------------------------------------------------------
+
+/// Places of the arguments of a header.
+const MODE: usize = 0;
+const START: usize = 1;
+const YEAR: usize = 1;
+const MONTH: usize = 2;
+const DAY_OF_MONTH: usize = 3;
+const HOUR: usize = 4;
+const MINUTE: usize = 5;
+const SECONDS: usize = 6;
+const EPOCHS: usize = 7;
+const INTERVAL: usize = 8;
+const SATELLITES: usize = 9;
+const COMMENTS: usize = 10;
+const TYPE: usize = 11;
+const TIME: usize = 12;
+const PLACE_BASE: usize = 15;
+const CLOCK_BASE: usize = 16;
+const TEXTS: usize = 17;
+const ARGUMENTS: usize = 34;
+/// No field is another after the header was accepted.
+const NO_FIELD: u64 = 99;
+
+type Arguments = [u64; ARGUMENTS];
+
+/// A header with these numbers, right or wrong.
+fn head_with(numbers: &Arguments, start: u64) -> Head {
+    let byte = |place: usize| numbers[place] as u8;
+    Head {
+        velocities: byte(MODE) == b'V',
+        start,
+        epochs: numbers[EPOCHS],
+        interval: numbers[INTERVAL],
+        texts: std::array::from_fn(|place| byte(TEXTS + place)),
+        satellites: numbers[SATELLITES],
+        comments: numbers[COMMENTS],
+        file_type: byte(TYPE),
+        time_system: std::array::from_fn(|place| byte(TIME + place)),
+        bases: [numbers[PLACE_BASE], numbers[CLOCK_BASE]],
+    }
+}
+
+/// The start, if it is a date within the bounds and a time of day.
+fn start_of(numbers: &Arguments) -> Option<u64> {
+    let number = |place: usize| i64::try_from(numbers[place]).unwrap_or(i64::MAX);
+    let date = lines::Date { year: number(YEAR), month: number(MONTH), day: number(DAY_OF_MONTH) };
+    let (hour, minute, seconds) = (number(HOUR), number(MINUTE), number(SECONDS));
+    let allowed = lines::date_is_allowed(date) && hour < 24 && minute < 60 && seconds < 60 * SECOND;
+    allowed.then(|| {
+        let time = (3600 * hour + 60 * minute) * SECOND + seconds;
+        (files::modified_julian_day(date) * DAY + time) as u64
+    })
+}
+
+/// A header of these numbers: 6 for what isn't listed, else 7 for a number
+/// outside its bounds.
+fn make_head(numbers: &Arguments) -> Result<Head, u8> {
+    let head = head_with(numbers, 0);
+    let listed = [b'P', b'V'].contains(&(numbers[MODE] as u8))
+        && is_printable(&head.texts)
+        && is_file_type(head.file_type)
+        && is_time_system(&head.time_system);
+    if !listed {
+        return Err(NOT_LISTED);
+    }
+    match start_of(numbers) {
+        Some(start) if numbers_are_bounded(&head) => Ok(Head { start, ..head }),
+        _ => Err(OUT_OF_BOUNDS),
+    }
+}
+
+/// A table as a case gives it.
+#[derive(Clone)]
+struct Given {
+    numbers: Arguments,
+    field: u64,
+    value: u64,
+    lists: Lent,
+}
+
+impl Given {
+    /// The header with one field changed after it was accepted.
+    fn head(&self) -> Result<Head, u8> {
+        let head = make_head(&self.numbers)?;
+        if self.field >= ARGUMENTS as u64 {
+            return Ok(head);
+        }
+        let field = self.field as usize;
+        let mut numbers = self.numbers;
+        numbers[field] = self.value;
+        Ok(head_with(&numbers, if field == START { self.value } else { head.start }))
+    }
+
+    fn write(&self, room: usize) -> Result<Vec<u8>, u8> {
+        self.head().and_then(|head| write(&head, &self.lists, room))
+    }
+}
+
+/// The table of an accepted file.
+fn given_of(file: &[u8]) -> Option<Given> {
+    let (table, _) = files::judge(file).ok()?;
+    let start = moment_of(table.start as u64);
+    let mut numbers = [0; ARGUMENTS];
+    let front = [
+        i64::from(if table.velocities { b'V' } else { b'P' }),
+        start.date.year,
+        start.date.month,
+        start.date.day,
+        start.hour,
+        start.minute,
+        start.seconds,
+        table.epochs as i64,
+        table.interval,
+        table.identifiers.len() as i64,
+        table.comments.len() as i64,
+        i64::from(table.file_type),
+        i64::from(table.time_system[0]),
+        i64::from(table.time_system[1]),
+        i64::from(table.time_system[2]),
+        table.bases[0],
+        table.bases[1],
+    ];
+    let texts = table.texts.concat();
+    let all = front.iter().map(|&number| number as u64).chain(texts.iter().map(|&b| b.into()));
+    numbers.iter_mut().zip(all).for_each(|(place, number)| *place = number);
+    let mut lists = Lent {
+        identifiers: table.identifiers.clone(),
+        exponents: table.accuracies.clone(),
+        comments: Vec::new(),
+        rows: table.rows.iter().flat_map(|row| row.held()).collect(),
+    };
+    for text in &table.comments {
+        let mut comment = file[text.clone()].to_vec();
+        comment.resize(COMMENT, b' ');
+        lists.comments.extend(comment);
+    }
+    Some(Given { numbers, field: NO_FIELD, value: 0, lists })
+}
+
+// ---------------------------------------------------------------------------
+// Cases and their answers
+// ---------------------------------------------------------------------------
+
+#[derive(Clone)]
+enum Body {
+    File(Vec<u8>),
+    Table(Given),
+}
+
+#[derive(Clone)]
+struct Case {
+    room: usize,
+    body: Body,
+}
+
+/// The program under test has an output of this length.
+const MOST_ROOM: usize = 60_000;
+
+/// Numbers with one byte after each of them.
+fn show_numbers<T: ToString>(numbers: &[T]) -> String {
+    let words: Vec<String> = numbers.iter().map(T::to_string).collect();
+    if words.is_empty() {
+        String::new()
+    } else {
+        words.join(" ") + "\n"
+    }
+}
+
+impl Given {
+    fn show(&self) -> Vec<u8> {
+        let lists = &self.lists;
+        let lengths = [
+            lists.identifiers.len(),
+            lists.exponents.len(),
+            lists.comments.len(),
+            lists.rows.len(),
+        ];
+        assert!(
+            lengths.iter().zip(files::MOST_ROOMS).all(|(&length, most)| length <= most),
+            "{lengths:?}"
+        );
+        let mut text = show_numbers(&self.numbers);
+        text += &show_numbers(&[self.field, self.value]);
+        text += &show_numbers(&lengths);
+        text += &show_numbers(&lists.identifiers);
+        text += &show_numbers(&lists.exponents);
+        text += &lists.rows.chunks(ROW).map(show_numbers).collect::<String>();
+        [text.as_bytes(), &lists.comments].concat()
+    }
+}
+
+impl Case {
+    fn bytes(&self) -> Vec<u8> {
+        match &self.body {
+            Body::File(file) => file.clone(),
+            Body::Table(given) => given.show(),
+        }
+    }
+
+    /// The case as it stands in a batch.
+    fn show(&self) -> Vec<u8> {
+        let kind = usize::from(matches!(self.body, Body::Table(_)));
+        let bytes = self.bytes();
+        assert!(self.room <= MOST_ROOM, "a room of {} is too large", self.room);
+        [show_numbers(&[kind, self.room, bytes.len()]).into_bytes(), bytes].concat()
+    }
+
+    fn answer(&self) -> String {
+        let length = self.bytes().len();
+        match &self.body {
+            Body::File(file) => format!("file {} {length}\n{}", self.room, self.answer_file(file)),
+            Body::Table(given) => {
+                format!("table {} {length}\n{}", self.room, self.answer_table(given))
+            }
+        }
+    }
+
+    fn answer_file(&self, file: &[u8]) -> String {
+        let mut lists = Lent::marked(files::MOST_ROOMS);
+        match files::read(file, &mut lists) {
+            Err(refusal) => format!("read {} {}\n", refusal.number, refusal.line),
+            Ok(_) => {
+                let head = given_of(file).and_then(|given| given.head().ok());
+                let Some(head) = head else {
+                    fail("a file was read that has no header");
+                };
+                format!("read 0 0\n{}", show_written(write(&head, &lists, self.room)))
+            }
+        }
+    }
+
+    fn answer_table(&self, given: &Given) -> String {
+        match given.head() {
+            Err(number) => format!("new {number}\n"),
+            Ok(head) => format!("new 0\n{}", show_written(write(&head, &given.lists, self.room))),
+        }
+    }
+}
+
+fn show_written(answer: Result<Vec<u8>, u8>) -> String {
+    match answer {
+        Ok(bytes) => format!("write 0 {}\n{}kept\n", bytes.len(), files::show_text(&bytes)),
+        Err(number) => format!("write {number} 0\nkept\n"),
+    }
+}
+
+fn show_batch(cases: &[Case]) -> Vec<u8> {
+    cases.iter().flat_map(Case::show).collect()
+}
+
+fn answers(cases: &[Case]) -> String {
+    cases.iter().map(Case::answer).collect()
+}
+
+/// Takes numbers from the front of a text, each with one byte after it.
+struct Words<'a>(&'a [u8]);
+
+impl Words<'_> {
+    fn word(&mut self) -> String {
+        let length = self.0.iter().position(|byte| b" \n".contains(byte));
+        let Some(length) = length else {
+            fail("a number has no blank or LF after it");
+        };
+        let word = files::show_text(&self.0[..length]);
+        self.0 = &self.0[length + 1..];
+        word
+    }
+
+    fn take<T: std::str::FromStr>(&mut self) -> T {
+        let word = self.word();
+        word.parse().unwrap_or_else(|_| fail(&format!("{word:?} is no number")))
+    }
+
+    fn list<T: std::str::FromStr>(&mut self, count: usize) -> Vec<T> {
+        (0..count).map(|_| self.take()).collect()
+    }
+
+    fn bytes(&mut self, count: usize) -> Vec<u8> {
+        let Some(bytes) = self.0.get(..count) else {
+            fail("a case ends too early");
+        };
+        self.0 = &self.0[count..];
+        bytes.to_vec()
+    }
+}
+
+fn parse_given(bytes: &[u8]) -> Given {
+    let mut words = Words(bytes);
+    let mut numbers = [0; ARGUMENTS];
+    numbers.iter_mut().for_each(|number| *number = words.take());
+    let (field, value) = (words.take(), words.take());
+    let [i, x, c, r] = [0; 4].map(|_: usize| words.take());
+    let (identifiers, exponents, rows) = (words.list(i), words.list(x), words.list(r));
+    let comments = words.bytes(c);
+    Given { numbers, field, value, lists: Lent { identifiers, exponents, comments, rows } }
+}
+
+fn parse_batch(bytes: &[u8]) -> Vec<Case> {
+    let mut words = Words(bytes);
+    let mut cases = Vec::new();
+    while !words.0.is_empty() {
+        let (kind, room, length): (usize, usize, usize) =
+            (words.take(), words.take(), words.take());
+        let bytes = words.bytes(length);
+        let body = if kind == 0 { Body::File(bytes) } else { Body::Table(parse_given(&bytes)) };
+        cases.push(Case { room, body });
+    }
+    cases
+}
+
+// ---------------------------------------------------------------------------
+// Tables made by hand
+// ---------------------------------------------------------------------------
+
+/// What is done to the table of a file made by hand.
+#[derive(Clone, Copy, Debug)]
+enum Change {
+    /// An argument of the header, before it is made.
+    Argument(usize, u64),
+    /// A field of the header, after it was accepted.
+    Field(usize, u64),
+    /// Year, month, day, hour, minute, seconds in 10^-8.
+    Start([u64; 6]),
+    /// So many epochs, each with the rows of the first.
+    Epochs(usize),
+    Type(u8),
+    System(&'static str),
+    Texts(&'static str),
+    Identifier(usize, u64),
+    Exponent(usize, u64),
+    CommentByte(usize, u8),
+    Comment(usize, &'static str),
+    RowNumber(usize, i64),
+    /// A list (I, X, C, R) of another length, rubbish in its further places.
+    Length(usize, usize),
+}
+
+use Base::{Many, Motion, Night, Paper, Talkative};
+use Change::{
+    Argument, Comment, CommentByte, Epochs, Exponent as Accuracy, Field, Identifier as Name,
+    Length, RowNumber, Start, System, Texts, Type,
+};
+use Edit::{Insert, Put};
+
+fn set_length(lists: &mut Lent, list: usize, length: usize) {
+    match list {
+        0 => lists.identifiers.resize(length, u64::MAX),
+        1 => lists.exponents.resize(length, 5000),
+        2 => lists.comments.resize(length, 200),
+        _ => lists.rows.resize(length, i64::MIN),
+    }
+}
+
+fn set_epochs(given: &mut Given, epochs: usize) {
+    let width = given.lists.rows.len() / given.numbers[EPOCHS] as usize;
+    given.lists.rows = given.lists.rows[..width].repeat(epochs);
+    given.numbers[EPOCHS] = epochs as u64;
+}
+
+fn change(given: &mut Given, change: Change) {
+    match change {
+        Argument(place, number) => given.numbers[place] = number,
+        Field(place, value) => (given.field, given.value) = (place as u64, value),
+        Start(numbers) => given.numbers[YEAR..=SECONDS].copy_from_slice(&numbers),
+        Epochs(number) => set_epochs(given, number),
+        Type(letter) => given.numbers[TYPE] = letter.into(),
+        System(text) => put_letters(&mut given.numbers[TIME..], text),
+        Texts(text) => put_letters(&mut given.numbers[TEXTS..], text),
+        Name(place, code) => given.lists.identifiers[place] = code,
+        Accuracy(place, exponent) => given.lists.exponents[place] = exponent,
+        CommentByte(place, byte) => given.lists.comments[place] = byte,
+        Comment(number, text) => {
+            let comment = &mut given.lists.comments[COMMENT * number..COMMENT * (number + 1)];
+            comment.fill(b' ');
+            comment[..text.len()].copy_from_slice(text.as_bytes());
+        }
+        RowNumber(place, number) => given.lists.rows[place] = number,
+        Length(list, length) => set_length(&mut given.lists, list, length),
+    }
+}
+
+fn put_letters(numbers: &mut [u64], text: &str) {
+    numbers.iter_mut().zip(text.bytes()).for_each(|(number, byte)| *number = byte.into());
+}
+
+fn base_table(base: Base) -> Given {
+    given_of(&files::base_file(base).bytes()).unwrap_or_else(|| fail("a base has no table"))
+}
+
+fn changed(base: Base, changes: &[Change]) -> Given {
+    let mut given = base_table(base);
+    changes.iter().for_each(|&each| change(&mut given, each));
+    given
+}
+
+// ---------------------------------------------------------------------------
+// Forms worked out by hand
+// ---------------------------------------------------------------------------
+
+const PAPER_ROW: &str = "PG07   5000.000001     -0.500000      0.000000 999999.999999";
+
+/// The lines of a canonical form that aren't those of the base's own form.
+type Lines = &'static [(usize, &'static str)];
+
+macro_rules! row {
+    ($tail:expr) => {
+        concat!("PG07   5000.000001     -0.500000      0.000000 999999.999999", $tail)
+    };
+}
+
+/// A file, and what is written of it.
+const WRITTEN: &[(Base, &[Edit], Lines)] = &[
+    // "Input: the file below with y as `-00.500000`", and its own form.
+    (Paper, &[Put(24, 19, "    -00.500000")], &[]),
+    (Paper, &[], &[]),
+    (Night, &[], &[]),
+    (Motion, &[], &[]),
+    // Each length of a row.
+    (Paper, &[Put(24, 80, " ")], &[]),
+    (Paper, &[Put(24, 62, " 5")], &[(24, row!("  5"))]),
+    (Paper, &[Put(24, 65, "99")], &[(24, row!("    99"))]),
+    (Paper, &[Put(24, 68, " 0")], &[(24, row!("        0"))]),
+    (Paper, &[Put(24, 71, "999")], &[(24, row!("          999"))]),
+    (Paper, &[Put(24, 75, "E")], &[(24, row!("              E"))]),
+    (Paper, &[Put(24, 76, "P")], &[(24, row!("               P"))]),
+    (Paper, &[Put(24, 79, "M")], &[(24, row!("                  M"))]),
+    (Paper, &[Put(24, 80, "P")], &[(24, row!("                   P"))]),
+    (Paper, &[Put(24, 61, " 18 18 18 219 EP  MP")], &[(24, row!(" 18 18 18 219 EP  MP"))]),
+    (Paper, &[Put(24, 61, " 99 99 99 999")], &[(24, row!(" 99 99 99 999"))]),
+    (Paper, &[Put(24, 61, " 05 09 00 007")], &[(24, row!("  5  9  0   7"))]),
+    (Paper, &[Put(24, 61, " 05       007  P")], &[(24, row!("  5         7  P"))]),
+    (Paper, &[Put(24, 61, "              E    P")], &[(24, row!("              E    P"))]),
+    // Numbers of a row: leading zeros, minus zero, the nines.
+    (Paper, &[Put(24, 5, "0005000.000001-000000.500000     -0.0000000999999.999999")], &[]),
+    (
+        Paper,
+        &[Put(24, 5, "-000000.000000     -0.000000-000000.000000-999999.999999")],
+        &[(24, "PG07      0.000000      0.000000      0.000000-999999.999999")],
+    ),
+    (
+        Paper,
+        &[Put(24, 5, "0000000.000001-000001.000000 999999.000000     -0.000000")],
+        &[(24, "PG07      0.000001     -1.000000 999999.000000      0.000000")],
+    ),
+    // Texts of line 1 that are blank, at the end or all.
+    (
+        Paper,
+        &[Put(1, 41, "                    ")],
+        &[(1, "#dP2013  4  3  0  0  0.00000000       1")],
+    ),
+    (
+        Paper,
+        &[Put(1, 57, "    ")],
+        &[(1, "#dP2013  4  3  0  0  0.00000000       1 ORBIT WGS84 BCT")],
+    ),
+    (
+        Paper,
+        &[Put(1, 57, "A   ")],
+        &[(1, "#dP2013  4  3  0  0  0.00000000       1 ORBIT WGS84 BCT A")],
+    ),
+    (
+        Paper,
+        &[Put(1, 41, "                   X")],
+        &[(1, "#dP2013  4  3  0  0  0.00000000       1                    X")],
+    ),
+    (
+        Paper,
+        &[Put(1, 41, "  a   ~~    \"    -  ")],
+        &[(1, "#dP2013  4  3  0  0  0.00000000       1   a   ~~    \"    -")],
+    ),
+    // Odd spellings of the other lines.
+    (Paper, &[Put(1, 9, "04 03 00 00 00.00000000 0000001")], &[]),
+    (Paper, &[Put(1, 80, " "), Put(2, 80, " "), Put(3, 80, " "), Put(8, 80, " ")], &[]),
+    (Paper, &[Put(2, 25, "00900.00000000")], &[]),
+    (Paper, &[Put(3, 4, "001"), Put(8, 10, "000")], &[]),
+    (
+        Paper,
+        &[Put(8, 10, "005")],
+        &[(8, "++         5  0  0  0  0  0  0  0  0  0  0  0  0  0  0  0  0")],
+    ),
+    (
+        Paper,
+        &[Put(8, 10, "999")],
+        &[(8, "++       999  0  0  0  0  0  0  0  0  0  0  0  0  0  0  0  0")],
+    ),
+    (Paper, &[Put(15, 4, "01.2500000 01.025000000")], &[]),
+    (Paper, &[Put(15, 28, "00.00000000000 00.000000000000000")], &[]),
+    (
+        Paper,
+        &[Put(16, 4, "00.0000000 00.000000000"), Put(17, 4, "0000"), Put(18, 52, "000000000")],
+        &[],
+    ),
+    (
+        Paper,
+        &[Put(15, 4, "99.9999999 99.999999999")],
+        &[(15, "%f 99.9999999 99.999999999  0.00000000000  0.000000000000000")],
+    ),
+    (
+        Paper,
+        &[Put(15, 4, "00.0000001 00.000000000")],
+        &[(15, "%f  0.0000001  0.000000000  0.00000000000  0.000000000000000")],
+    ),
+    (Paper, &[Put(23, 9, "04 03 00 00 00.00000000"), Put(23, 80, " "), Put(25, 80, " ")], &[]),
+    // Comments.
+    (Paper, &[Put(20, 80, " "), Put(21, 3, " "), Put(22, 3, "     ")], &[]),
+    (Paper, &[Put(22, 4, "   x   y   ")], &[(22, "/*    x   y")]),
+    (
+        Paper,
+        &[Put(
+            20,
+            4,
+            "0123456789 0123456789 0123456789 0123456789 0123456789 0123456789 0123456789",
+        )],
+        &[(20, "/* 0123456789 0123456789 0123456789 0123456789 0123456789 0123456789 0123456789")],
+    ),
+    (
+        Paper,
+        &[Put(21, 80, "z")],
+        &[(21, "/*                                                                             z")],
+    ),
+    // EP and EV have no place in the form.
+    (Paper, &[Insert(25, "EP  anything")], &[]),
+    (Night, &[Insert(25, "EP"), Insert(29, "EP x")], &[]),
+    // F follows from the start, however it was spelt.
+    (
+        Paper,
+        &[
+            Put(1, 21, " 1.00000000"),
+            Put(2, 9, "259201.00000000"),
+            Put(23, 21, "01.00000000"),
+            Put(2, 46, "0.0000115740740"),
+        ],
+        ONE_SECOND,
+    ),
+    (
+        Paper,
+        &[
+            Put(1, 21, "01.00000000"),
+            Put(2, 9, "259201.00000000"),
+            Put(23, 21, " 1.00000000"),
+            Put(2, 46, "0.0000115740741"),
+        ],
+        ONE_SECOND,
+    ),
+    (Many(1), &[], &[]),
+    (Many(17), &[], &[]),
+    (Many(18), &[], &[]),
+    (Many(85), &[], &[]),
+    (Many(86), &[], &[]),
+    (Many(255), &[], &[]),
+    (Talkative(5), &[], &[]),
+    (Talkative(103), &[], &[]),
+];
+
+const ONE_SECOND: Lines = &[
+    (1, "#dP2013  4  3  0  0  1.00000000       1 ORBIT WGS84 BCT PORT"),
+    (2, "## 1734 259201.00000000   900.00000000 56385 0.0000115740741"),
+    (23, "*  2013  4  3  0  0  1.00000000"),
+];
+
+/// A table, and what is written of it; times and dates.
+const DATED: &[(Base, &[Change], Lines)] = &[
+    (Paper, &[Start([2013, 4, 3, 0, 0, 100_000_000])], ONE_SECOND),
+    // Over midnight at the end of a year.
+    (
+        Paper,
+        &[Start([2012, 12, 31, 23, 45, 0]), Epochs(2)],
+        &[
+            (1, "#dP2012 12 31 23 45  0.00000000       2 ORBIT WGS84 BCT PORT"),
+            (2, "## 1721 171900.00000000   900.00000000 56292 0.9895833333333"),
+            (23, "*  2012 12 31 23 45  0.00000000"),
+            (25, "*  2013  1  1  0  0  0.00000000"),
+            (26, PAPER_ROW),
+            (27, "EOF"),
+        ],
+    ),
+    // Into a leap day, and past a day that is none.
+    (
+        Paper,
+        &[Start([2000, 2, 28, 23, 59, 5_999_999_999]), Epochs(2), Argument(INTERVAL, 1)],
+        &[
+            (1, "#dP2000  2 28 23 59 59.99999999       2 ORBIT WGS84 BCT PORT"),
+            (2, "## 1051 172799.99999999     0.00000001 51602 0.9999999999999"),
+            (23, "*  2000  2 28 23 59 59.99999999"),
+            (25, "*  2000  2 29  0  0  0.00000000"),
+            (26, PAPER_ROW),
+            (27, "EOF"),
+        ],
+    ),
+    (
+        Paper,
+        &[Start([2001, 2, 28, 0, 0, 0]), Epochs(3), Argument(INTERVAL, 8_640_000_000_000)],
+        &[
+            (1, "#dP2001  2 28  0  0  0.00000000       3 ORBIT WGS84 BCT PORT"),
+            (2, "## 1103 259200.00000000 86400.00000000 51968 0.0000000000000"),
+            (23, "*  2001  2 28  0  0  0.00000000"),
+            (25, "*  2001  3  1  0  0  0.00000000"),
+            (26, PAPER_ROW),
+            (27, "*  2001  3  2  0  0  0.00000000"),
+            (28, PAPER_ROW),
+            (29, "EOF"),
+        ],
+    ),
+    // The first and the last day; the longest interval.
+    (
+        Paper,
+        &[Start([1980, 1, 6, 0, 0, 0])],
+        &[
+            (1, "#dP1980  1  6  0  0  0.00000000       1 ORBIT WGS84 BCT PORT"),
+            (2, "##    0      0.00000000   900.00000000 44244 0.0000000000000"),
+            (23, "*  1980  1  6  0  0  0.00000000"),
+        ],
+    ),
+    (
+        Paper,
+        &[Start([2099, 12, 31, 23, 59, 5_999_999_999])],
+        &[
+            (1, "#dP2099 12 31 23 59 59.99999999       1 ORBIT WGS84 BCT PORT"),
+            (2, "## 6260 431999.99999999   900.00000000 88068 0.9999999999999"),
+            (23, "*  2099 12 31 23 59 59.99999999"),
+        ],
+    ),
+    (
+        Paper,
+        &[Start([2099, 12, 30, 0, 0, 0]), Epochs(2), Argument(INTERVAL, 9_999_999_999_999)],
+        &[
+            (1, "#dP2099 12 30  0  0  0.00000000       2 ORBIT WGS84 BCT PORT"),
+            (2, "## 6260 259200.00000000 99999.99999999 88067 0.0000000000000"),
+            (23, "*  2099 12 30  0  0  0.00000000"),
+            (25, "*  2099 12 31  3 46 39.99999999"),
+            (26, PAPER_ROW),
+            (27, "EOF"),
+        ],
+    ),
+    // The last epoch in the last 10^-8 s.
+    (
+        Paper,
+        &[Start([2099, 12, 31, 23, 44, 5_999_999_999]), Epochs(2)],
+        &[
+            (1, "#dP2099 12 31 23 44 59.99999999       2 ORBIT WGS84 BCT PORT"),
+            (2, "## 6260 431099.99999999   900.00000000 88068 0.9895833333332"),
+            (23, "*  2099 12 31 23 44 59.99999999"),
+            (25, "*  2099 12 31 23 59 59.99999999"),
+            (26, PAPER_ROW),
+            (27, "EOF"),
+        ],
+    ),
+    // 125 * 54 / 108 is 62 and a half, "halves upward".
+    (
+        Paper,
+        &[Start([2013, 4, 3, 0, 0, 53])],
+        &[
+            (1, "#dP2013  4  3  0  0  0.00000053       1 ORBIT WGS84 BCT PORT"),
+            (2, "## 1734 259200.00000053   900.00000000 56385 0.0000000000061"),
+            (23, "*  2013  4  3  0  0  0.00000053"),
+        ],
+    ),
+    (
+        Paper,
+        &[Start([2013, 4, 3, 0, 0, 54])],
+        &[
+            (1, "#dP2013  4  3  0  0  0.00000054       1 ORBIT WGS84 BCT PORT"),
+            (2, "## 1734 259200.00000054   900.00000000 56385 0.0000000000063"),
+            (23, "*  2013  4  3  0  0  0.00000054"),
+        ],
+    ),
+    (
+        Paper,
+        &[Start([2013, 4, 3, 0, 0, 55])],
+        &[
+            (1, "#dP2013  4  3  0  0  0.00000055       1 ORBIT WGS84 BCT PORT"),
+            (2, "## 1734 259200.00000055   900.00000000 56385 0.0000000000064"),
+            (23, "*  2013  4  3  0  0  0.00000055"),
+        ],
+    ),
+    (
+        Paper,
+        &[Start([2013, 4, 3, 0, 0, 162])],
+        &[
+            (1, "#dP2013  4  3  0  0  0.00000162       1 ORBIT WGS84 BCT PORT"),
+            (2, "## 1734 259200.00000162   900.00000000 56385 0.0000000000188"),
+            (23, "*  2013  4  3  0  0  0.00000162"),
+        ],
+    ),
+    (
+        Paper,
+        &[Start([2013, 4, 3, 12, 0, 54])],
+        &[
+            (1, "#dP2013  4  3 12  0  0.00000054       1 ORBIT WGS84 BCT PORT"),
+            (2, "## 1734 302400.00000054   900.00000000 56385 0.5000000000063"),
+            (23, "*  2013  4  3 12  0  0.00000054"),
+        ],
+    ),
+    (
+        Paper,
+        &[Start([2013, 4, 3, 23, 59, 5_999_999_946])],
+        &[
+            (1, "#dP2013  4  3 23 59 59.99999946       1 ORBIT WGS84 BCT PORT"),
+            (2, "## 1734 345599.99999946   900.00000000 56385 0.9999999999938"),
+            (23, "*  2013  4  3 23 59 59.99999946"),
+        ],
+    ),
+    // The start by its number, mode and letters by theirs, after the header was made.
+    (Paper, &[Field(START, 487_166_400_100_000_000)], ONE_SECOND),
+    (
+        Paper,
+        &[Field(TEXTS + 16, b' ' as u64)],
+        &[(1, "#dP2013  4  3  0  0  0.00000000       1 ORBIT WGS84 BCT POR")],
+    ),
+    (Paper, &[Texts("                 ")], &[(1, "#dP2013  4  3  0  0  0.00000000       1")]),
+    (
+        Paper,
+        &[Texts("~~~~~!!!!!|||    "), Type(b'M'), System("QZS")],
+        &[
+            (1, "#dP2013  4  3  0  0  0.00000000       1 ~~~~~ !!!!! |||"),
+            (13, "%c M  cc QZS ccc cccc cccc cccc cccc ccccc ccccc ccccc ccccc"),
+        ],
+    ),
+    (Paper, &[Comment(1, " leading"), Comment(0, "")], &[(19, "/*"), (20, "/*  leading")]),
+    // Lists that are longer than the counts: "places past them aren't looked at".
+    (Paper, &[Length(0, 2), Length(1, 3), Length(2, 309), Length(3, 13)], &[]),
+    (Night, &[Length(0, 30), Length(1, 20), Length(2, 400), Length(3, 200)], &[]),
+    (Motion, &[Length(0, 3), Length(1, 2), Length(2, 385), Length(3, 60)], &[]),
+    (Many(255), &[Length(0, 256), Length(1, 256), Length(3, 3061)], &[]),
+];
+
+/// The canonical form of a base, by hand.
+fn base_form(base: Base) -> Vec<String> {
+    let bytes = files::base_file(base).bytes();
+    let mut form: Vec<String> = files::show_text(&bytes).lines().map(str::to_string).collect();
+    match base {
+        // Minus zero is zero.
+        Night => form[29] = form[29].replace("     -0.000000", "      0.000000"),
+        // Without its EP and EV.
+        Motion => form.retain(|line| !line.starts_with("EP") && !line.starts_with("EV")),
+        _ => {}
+    }
+    form
+}
+
+/// The form of a base with these lines instead.
+fn form_with(base: Base, lines: Lines) -> Vec<u8> {
+    let mut form = base_form(base);
+    for &(number, text) in lines {
+        form.resize(form.len().max(number), String::new());
+        form[number - 1] = text.to_string();
+    }
+    form.iter().flat_map(|line| line.bytes().chain([b'\n'])).collect()
+}
+
+// ---------------------------------------------------------------------------
+// Tables judged by hand
+// ---------------------------------------------------------------------------
+
+/// A table, the number of its header, and the number of its writing.
+type Judged = (Base, Vec<Change>, u8, u8);
+
+/// A number of the header, values within its bounds, and values outside.
+const BOUNDS: &[(usize, &[u64], &[u64])] = &[
+    (EPOCHS, &[1], &[0, 100_001, u64::MAX]),
+    (INTERVAL, &[1, 9_999_999_999_999], &[0, 10_000_000_000_000, u64::MAX]),
+    (SATELLITES, &[1], &[0, 256, 257, u64::MAX]),
+    (COMMENTS, &[4], &[0, 3]),
+    (PLACE_BASE, &[0, 999_999_999], &[1_000_000_000, u64::MAX]),
+    (CLOCK_BASE, &[0, 99_999_999_999], &[100_000_000_000, u64::MAX]),
+];
+
+/// A count within its bounds for which the lists are too short; 77 times the
+/// last is 61 modulo 2^64.
+const TOO_MANY: &[(usize, u64)] = &[
+    (EPOCHS, 2),
+    (EPOCHS, 100_000),
+    (SATELLITES, 2),
+    (SATELLITES, 255),
+    (COMMENTS, 5),
+    (COMMENTS, 6),
+    (COMMENTS, u64::MAX),
+    (COMMENTS, 239_568_104_853_370_801),
+];
+
+/// Dates and times that are none within the bounds.
+const NO_STARTS: &[[u64; 6]] = &[
+    [1980, 1, 5, 23, 59, 5_999_999_999],
+    [2100, 1, 1, 0, 0, 0],
+    [2001, 2, 29, 0, 0, 0],
+    [2013, 0, 3, 0, 0, 0],
+    [2013, 13, 3, 0, 0, 0],
+    [2013, 4, 0, 0, 0, 0],
+    [2013, 4, 31, 0, 0, 0],
+    [2013, 4, 3, 24, 0, 0],
+    [2013, 4, 3, 0, 60, 0],
+    [2013, 4, 3, 0, 0, 6_000_000_000],
+    [0, 0, 0, 0, 0, 0],
+    [u64::MAX, 4, 3, 0, 0, 0],
+    [2013, 4, 3, 0, 0, u64::MAX],
+];
+
+/// Bytes of the texts: places of each text's first and last.
+const TEXT_PLACES: &[usize] = &[0, 4, 5, 9, 10, 12, 13, 16];
+
+fn judged_heads() -> Vec<Judged> {
+    let mut all: Vec<Judged> = Vec::new();
+    for &(place, within, outside) in BOUNDS {
+        for &number in within {
+            all.push((Paper, vec![Argument(place, number)], 0, 0));
+            all.push((Paper, vec![Field(place, number)], 0, 0));
+        }
+        for &number in outside {
+            all.push((Paper, vec![Argument(place, number)], 7, 0));
+            all.push((Paper, vec![Field(place, number)], 0, 13));
+        }
+    }
+    for &(place, number) in TOO_MANY {
+        all.push((Paper, vec![Argument(place, number)], 0, 13));
+        all.push((Motion, vec![Field(place, number.max(3))], 0, 13));
+    }
+    all.extend(NO_STARTS.iter().map(|&start| (Paper, vec![Start(start)], 7, 0)));
+    all.push((Paper, vec![Start([2000, 2, 29, 23, 59, 5_999_999_999])], 0, 0));
+    let (first, end) = (44_244 * DAY as u64, 88_069 * DAY as u64);
+    for (start, number) in
+        [(first - 1, 13), (first, 0), (end - 1, 0), (end, 13), (0, 13), (u64::MAX, 13)]
+    {
+        all.push((Paper, vec![Field(START, start)], 0, number));
+    }
+    all.extend(judged_letters());
+    all
+}
+
+fn judged_letters() -> Vec<Judged> {
+    let mut all: Vec<Judged> = Vec::new();
+    all.extend(b"QpvE".iter().map(|&mode| (Paper, vec![Argument(MODE, mode.into())], 6, 0)));
+    // Mode V needs twice the rows, mode P half of them, without flags in none.
+    all.push((Paper, vec![Argument(MODE, b'V'.into())], 0, 13));
+    all.push((Paper, vec![Field(MODE, b'V'.into())], 0, 13));
+    all.push((Motion, vec![Field(MODE, b'P'.into())], 0, 0));
+    all.push((Paper, vec![Argument(MODE, b'V'.into()), Length(3, 24), RowNumber(12, 0)], 0, 13));
+    for letter in [b'X', b'g', b'A', b' ', 0, 255] {
+        all.push((Paper, vec![Type(letter)], 6, 0));
+        all.push((Paper, vec![Field(TYPE, letter.into())], 0, 13));
+    }
+    for letter in *b"GRLSIECJ" {
+        let named = Name(0, u64::from(letter) * 100 + 7);
+        all.push((Paper, vec![Type(letter), named], 0, 0));
+        all.push((Paper, vec![Type(b'M'), named], 0, 0));
+        let other = if letter == b'G' { b'R' } else { b'G' };
+        all.push((Paper, vec![Type(other), named], 0, 13));
+    }
+    all.extend(lines::TIME_SYSTEMS.iter().map(|&text| (Paper, vec![System(text)], 0, 0)));
+    all.extend(["gps", "GPX", "   ", "GLS", "GAS"].map(|text| (Paper, vec![System(text)], 6, 0)));
+    all.extend([0, 1, 2].map(|place| (Paper, vec![Field(TIME + place, b'X'.into())], 0, 13)));
+    for &place in TEXT_PLACES {
+        for byte in [31, 127] {
+            all.push((Paper, vec![Argument(TEXTS + place, byte)], 6, 0));
+            all.push((Paper, vec![Field(TEXTS + place, byte)], 0, 13));
+        }
+    }
+    all.extend([32, 126].map(|byte| (Paper, vec![Field(TEXTS + 4, byte)], 0, 0)));
+    // "the lowest decides"
+    all.push((Paper, vec![Type(b'X'), Argument(SATELLITES, 256)], 6, 0));
+    all.push((Paper, vec![Argument(MODE, b'Q'.into()), Start([2100, 1, 1, 0, 0, 0])], 6, 0));
+    all
+}
+
+/// Epochs up to the end of the calendar.
+fn judged_ends() -> Vec<Judged> {
+    let last_second = [2099, 12, 31, 23, 59, 5_999_999_999];
+    vec![
+        (Paper, vec![Start([2099, 12, 31, 23, 45, 0]), Epochs(2)], 0, 13),
+        (Paper, vec![Start([2099, 12, 31, 23, 30, 0]), Epochs(2)], 0, 0),
+        (Paper, vec![Start([2099, 12, 31, 23, 30, 0]), Epochs(3)], 0, 13),
+        (Paper, vec![Start(last_second), Epochs(2), Argument(INTERVAL, 1)], 0, 13),
+        (Paper, vec![Start(last_second), Argument(INTERVAL, 9_999_999_999_999)], 0, 0),
+        (
+            Paper,
+            vec![Start([2099, 12, 31, 23, 59, 5_999_999_998]), Epochs(2), Field(INTERVAL, 1)],
+            0,
+            0,
+        ),
+        (
+            Paper,
+            vec![Start([2099, 12, 31, 23, 59, 5_999_999_998]), Epochs(2), Field(INTERVAL, 2)],
+            0,
+            13,
+        ),
+        (Night, vec![Field(START, 88_069 * DAY as u64 - 1 - 1800 * SECOND as u64)], 0, 0),
+        (Night, vec![Field(START, 88_069 * DAY as u64 - 1800 * SECOND as u64)], 0, 13),
+        (
+            Motion,
+            vec![Start([2099, 12, 31, 0, 0, 0]), Epochs(2), Field(INTERVAL, 8_639_999_999_999)],
+            0,
+            0,
+        ),
+        (
+            Motion,
+            vec![Start([2099, 12, 31, 0, 0, 0]), Epochs(2), Field(INTERVAL, 8_640_000_000_000)],
+            0,
+            13,
+        ),
+    ]
+}
+
+const CODES: &[u64] = &[6501, 9099, 7101, 7199, 7701];
+const NO_CODES: &[u64] =
+    &[7100, 6500, 9000, 6407, 6499, 9101, 9199, 10_307, 0, 7, 707, 32_707, 72_643, u64::MAX];
+
+fn judged_satellites() -> Vec<Judged> {
+    let mut all: Vec<Judged> = Vec::new();
+    let mixed = Type(b'M');
+    all.extend(CODES.iter().map(|&code| (Paper, vec![mixed, Name(0, code)], 0, 0)));
+    all.extend(NO_CODES.iter().map(|&code| (Paper, vec![mixed, Name(0, code)], 0, 13)));
+    all.extend(NO_CODES.iter().map(|&code| (Night, vec![Name(1, code)], 0, 13)));
+    all.push((Night, vec![Name(1, 7107)], 0, 13));
+    all.push((Night, vec![Type(b'G')], 0, 13));
+    all.push((Night, vec![Type(b'R')], 0, 13));
+    all.push((Night, vec![Type(b'G'), Name(1, 7108)], 0, 0));
+    for (place, code) in [(17, 7101), (17, 7117), (16, 7118), (0, 7118), (9, 7100)] {
+        all.push((Many(18), vec![Name(place, code)], 0, 13));
+    }
+    all.push((Many(18), vec![Type(b'G')], 0, 0));
+    all.push((Many(18), vec![Type(b'G'), Name(17, 8218)], 0, 13));
+    all.push((Many(255), vec![Name(254, 7101)], 0, 13));
+    all.push((Many(255), vec![Name(254, 9099)], 0, 0));
+    for (exponent, number) in [(0, 0), (999, 0), (1000, 13), (u64::MAX, 13)] {
+        all.push((Paper, vec![Accuracy(0, exponent)], 0, number));
+        all.push((Many(18), vec![Accuracy(17, exponent)], 0, number));
+    }
+    for (place, byte, number) in [
+        (0, 31, 13),
+        (0, 126, 0),
+        (76, 127, 13),
+        (76, 33, 0),
+        (77, 10, 13),
+        (307, 200, 13),
+        (307, 126, 0),
+    ] {
+        all.push((Paper, vec![CommentByte(place, byte)], 0, number));
+    }
+    all.push((Paper, vec![Length(2, 309), CommentByte(308, 0)], 0, 0));
+    all
+}
+
+const AMOUNTS: (&[i64], &[i64]) = (
+    &[999_999_999_999, -999_999_999_999, 0, -1, 999_999, -1_000_000],
+    &[1_000_000_000_000, -1_000_000_000_000, i64::MIN, i64::MAX],
+);
+const EXPONENTS: (&[i64], &[i64]) = (&[0, 9, 99, 1000], &[-1, 100, 999, 1001, -1000, i64::MIN]);
+const CLOCK_EXPONENTS: (&[i64], &[i64]) =
+    (&[0, 10, 100, 999, 1000], &[-1, 1001, -1000, i64::MIN, i64::MAX]);
+const FLAGS: (&[i64], &[i64]) = (&[0, 1], &[2, -1, 1000, i64::MIN]);
+const NO_FLAGS: (&[i64], &[i64]) = (&[0], &[1, 2, -1]);
+
+/// Each number of a P row, then of a V row.
+fn judged_rows() -> Vec<Judged> {
+    let mut all: Vec<Judged> = Vec::new();
+    for (base, first, flags) in [(Paper, 0, FLAGS), (Motion, 12, NO_FLAGS)] {
+        for place in 0..ROW {
+            let (right, wrong) = match place {
+                0..=3 => AMOUNTS,
+                4..=6 => EXPONENTS,
+                7 => CLOCK_EXPONENTS,
+                _ => flags,
+            };
+            let row =
+                |&number: &i64, answer| (base, vec![RowNumber(first + place, number)], 0, answer);
+            all.extend(right.iter().map(|number| row(number, 0)));
+            all.extend(wrong.iter().map(|number| row(number, 13)));
+        }
+    }
+    // The last row, and one that isn't of the table.
+    all.push((Night, vec![RowNumber(71, 2)], 0, 13));
+    all.push((Night, vec![RowNumber(60, i64::MIN)], 0, 13));
+    all.push((Motion, vec![RowNumber(44, 1)], 0, 13));
+    all.push((Motion, vec![RowNumber(32, 1)], 0, 0));
+    all.push((Night, vec![Length(3, 84), RowNumber(72, i64::MAX)], 0, 0));
+    all
+}
+
+/// Lists exactly long enough, and one too short.
+fn judged_lengths() -> Vec<Judged> {
+    let mut all: Vec<Judged> = Vec::new();
+    for (base, lengths) in
+        [(Paper, [1, 1, 308, 12]), (Night, [2, 2, 308, 72]), (Motion, [2, 2, 308, 48])]
+    {
+        for (list, &length) in lengths.iter().enumerate() {
+            all.push((base, vec![Length(list, length)], 0, 0));
+            all.push((base, vec![Length(list, length - 1)], 0, 13));
+            all.push((base, vec![Length(list, 0)], 0, 13));
+        }
+    }
+    all.push((Motion, vec![Length(3, 24)], 0, 13));
+    all.push((Paper, vec![Length(2, 231)], 0, 13));
+    all
+}
+
+fn judged_by_hand() -> Vec<Judged> {
+    [judged_heads(), judged_ends(), judged_satellites(), judged_rows(), judged_lengths()].concat()
+}
+
+/// A table, whether it is spoilt, and the room: as it is needed and so much
+/// more or less; then the answer. 13 comes before 12.
+const ROOMS: &[(Base, &[Change], isize, u8)] = &[
+    (Paper, &[], 0, 0),
+    (Paper, &[], -1, 12),
+    (Paper, &[], 1, 0),
+    (Paper, &[], 100, 0),
+    (Paper, &[], -4, 12),
+    (Paper, &[], -1214, 12),
+    (Paper, &[], -1215, 12),
+    (Night, &[], 0, 0),
+    (Night, &[], -1, 12),
+    (Motion, &[], 0, 0),
+    (Motion, &[], -1, 12),
+    (Many(86), &[], 0, 0),
+    (Many(86), &[], -1, 12),
+    (Talkative(103), &[], -1, 12),
+    (Paper, &[RowNumber(4, 7), RowNumber(11, 1)], 0, 0),
+    (Paper, &[RowNumber(4, 7), RowNumber(11, 1)], -1, 12),
+    (Paper, &[Name(0, 7100)], -1215, 13),
+    (Paper, &[RowNumber(11, 2)], -1215, 13),
+    (Paper, &[Length(3, 11)], -1215, 13),
+    (Paper, &[Field(TYPE, 0)], -1215, 13),
+    (Paper, &[CommentByte(307, 7)], -1, 13),
+    (Night, &[RowNumber(71, 2)], -1, 13),
+    (Night, &[RowNumber(71, 2)], -1000, 13),
+];
+
+// ---------------------------------------------------------------------------
+// Generated cases
+// ---------------------------------------------------------------------------
+
+/// Numbers near some bound or other, of any field.
+const SMALL: &[u64] = &[
+    0, 1, 2, 3, 4, 5, 9, 10, 17, 31, 32, 65, 71, 77, 80, 86, 90, 91, 99, 100, 126, 127, 128, 254,
+    255, 256, 999, 1000, 1001, 6501, 7100, 7101, 9099, 65_535, 65_536, 100_000, 100_001,
+];
+const LARGE: &[u64] = &[
+    999_999_999,
+    1_000_000_000,
+    99_999_999_999,
+    100_000_000_000,
+    999_999_999_999,
+    1_000_000_000_000,
+    9_999_999_999_999,
+    10_000_000_000_000,
+    382_268_159_999_999_999,
+    382_268_160_000_000_000,
+    760_916_159_999_999_999,
+    760_916_160_000_000_000,
+    239_568_104_853_370_801,
+    9_223_372_036_854_775_807,
+    9_223_372_036_854_775_808,
+    u64::MAX,
+];
+
+fn choose_any(random: &mut Random) -> u64 {
+    match random.below(6) {
+        0 => random.next(),
+        1 => random.next() % 1001,
+        2 | 3 => *random.pick(LARGE),
+        _ => *random.pick(SMALL),
+    }
+}
+
+/// A number that stands in its field rightly, mostly.
+fn choose_number(random: &mut Random, place: usize) -> u64 {
+    let (year, month, day) = files::date_of(files::choose_start(random) / DAY);
+    match place {
+        _ if files::once_in(random, 4) => choose_any(random),
+        MODE => u64::from(*random.pick(b"PV")),
+        YEAR => year as u64,
+        MONTH => month as u64,
+        DAY_OF_MONTH => day as u64,
+        HOUR => random.below(25) as u64,
+        MINUTE => random.below(61) as u64,
+        SECONDS => *random.pick(&[0, 54, 162, 270, 100_000_000, 5_999_999_999, 6_000_000_000]),
+        EPOCHS => 1 + random.below(6) as u64,
+        INTERVAL => files::choose_interval(random) as u64,
+        SATELLITES => 1 + random.below(6) as u64,
+        COMMENTS => 3 + random.below(4) as u64,
+        TYPE => u64::from(*random.pick(b"GMRLSIECJ")),
+        12..=14 => u64::from(*random.pick(b"GPSLOABDTIURNQZ")),
+        PLACE_BASE => random.next() % 1_000_000_000,
+        CLOCK_BASE => random.next() % 100_000_000_000,
+        _ => 32 + random.below(95) as u64,
+    }
+}
+
+fn spoil_argument(given: &mut Given, random: &mut Random) {
+    let place = random.below(ARGUMENTS);
+    given.numbers[place] = choose_number(random, place);
+}
+
+fn spoil_field(given: &mut Given, random: &mut Random) {
+    let place = if files::once_in(random, 2) { random.below(ARGUMENTS) } else { random.below(17) };
+    given.field = place as u64;
+    given.value = match place {
+        START if !files::once_in(random, 4) => files::choose_start(random) as u64,
+        _ => choose_number(random, place),
+    };
+}
+
+fn spoil_identifier(given: &mut Given, random: &mut Random) {
+    if given.lists.identifiers.is_empty() {
+        return;
+    }
+    let list = &mut given.lists.identifiers;
+    let (place, other) = (random.below(list.len()), random.below(list.len()));
+    list[place] = match random.below(6) {
+        0 => choose_any(random),
+        1 => list[other],
+        2 => list[place] + 1,
+        3 => list[place].wrapping_add(100),
+        4 => u64::from(*random.pick(b"GRLSIECJAMZ")) * 100 + random.below(100) as u64,
+        _ => list[place] - list[place] % 100,
+    };
+}
+
+fn spoil_exponent(given: &mut Given, random: &mut Random) {
+    if given.lists.exponents.is_empty() {
+        return;
+    }
+    let place = random.below(given.lists.exponents.len());
+    given.lists.exponents[place] =
+        if files::once_in(random, 2) { random.next() % 1002 } else { choose_any(random) };
+}
+
+fn spoil_comment(given: &mut Given, random: &mut Random) {
+    if given.lists.comments.is_empty() {
+        return;
+    }
+    let place = random.below(given.lists.comments.len());
+    given.lists.comments[place] =
+        if files::once_in(random, 2) { 30 + random.below(99) as u8 } else { random.next() as u8 };
+}
+
+fn choose_row_number(random: &mut Random, place: usize) -> i64 {
+    if files::once_in(random, 6) {
+        let number = choose_any(random) as i64;
+        return if files::once_in(random, 2) { number } else { number.wrapping_neg() };
+    }
+    match place {
+        0..=2 => files::choose_value(random),
+        3 => files::choose_clock(random),
+        4..=6 => *random.pick(&[0, 1, 9, 10, 98, 99, 99, 1000, 1000, 100]),
+        7 => *random.pick(&[0, 1, 9, 10, 99, 100, 998, 999, 1000, 1000, 1001]),
+        _ => *random.pick(&[0, 1, 0, 1, 0, 1, 0, 1, 0, 1, 2]),
+    }
+}
+
+fn spoil_row(given: &mut Given, random: &mut Random) {
+    let rows = given.lists.rows.len();
+    if rows == 0 {
+        return;
+    }
+    let place = random.below(rows);
+    given.lists.rows[place] = choose_row_number(random, place % ROW);
+}
+
+fn spoil_length(given: &mut Given, random: &mut Random) {
+    let lists = &given.lists;
+    let lengths =
+        [lists.identifiers.len(), lists.exponents.len(), lists.comments.len(), lists.rows.len()];
+    let list = random.below(4);
+    let length = match random.below(6) {
+        0 | 1 => lengths[list].saturating_sub(1),
+        2 => random.below(lengths[list] + 1),
+        _ => lengths[list] + 1 + random.below(30),
+    };
+    set_length(&mut given.lists, list, length.min(files::MOST_ROOMS[list]));
+}
+
+type Spoil = fn(&mut Given, &mut Random);
+
+const SPOILS: &[Spoil] = &[
+    spoil_argument,
+    spoil_field,
+    spoil_field,
+    spoil_identifier,
+    spoil_exponent,
+    spoil_comment,
+    spoil_row,
+    spoil_row,
+    spoil_row,
+    spoil_length,
+];
+
+/// Other rows, other times, many epochs: a table that is valid still, mostly.
+fn vary(given: &mut Given, random: &mut Random) {
+    let width = given.lists.rows.len() / given.numbers[EPOCHS] as usize;
+    if width <= 72 && files::once_in(random, 25) {
+        set_epochs(given, 1 + random.below(2400 / width));
+    }
+    if files::once_in(random, 2) {
+        let moment = moment_of(files::choose_start(random) as u64);
+        let date = moment.date;
+        let numbers = [date.year, date.month, date.day, moment.hour, moment.minute, moment.seconds];
+        given.numbers[YEAR..=SECONDS].copy_from_slice(&numbers.map(|number| number as u64));
+    }
+    if files::once_in(random, 3) {
+        given.numbers[INTERVAL] = files::choose_interval(random) as u64;
+    }
+    if files::once_in(random, 2) {
+        let velocities = given.numbers[MODE] == u64::from(b'V');
+        for (number, row) in given.lists.rows.chunks_mut(ROW).enumerate() {
+            let flags = !velocities || number % 2 == 0;
+            vary_row(row, flags, random);
+        }
+    }
+}
+
+/// A row of any numbers that it may hold.
+fn vary_row(row: &mut [i64], flags: bool, random: &mut Random) {
+    let known = random.below(16);
+    let set = random.below(16) * usize::from(random.below(2));
+    for place in 0..4 {
+        row[place] =
+            if place < 3 { files::choose_value(random) } else { files::choose_clock(random) };
+        let most = if place < 3 { 100 } else { 1000 };
+        row[4 + place] = if known >> place & 1 == 1 { random.below(most) as i64 } else { UNKNOWN };
+        row[8 + place] = i64::from(flags && set >> place & 1 == 1);
+    }
+}
+
+fn generate_table(random: &mut Random) -> Given {
+    loop {
+        let (_, file) = files::generate_file(random);
+        let rooms = files::MOST_ROOMS;
+        let Some(mut given) = given_of(&file) else {
+            continue;
+        };
+        let lists = &given.lists;
+        if lists.comments.len() > rooms[2] || lists.rows.len() > rooms[3] {
+            continue;
+        }
+        vary(&mut given, random);
+        for _ in 0..*random.pick(&[0, 0, 1, 1, 1, 2]) {
+            random.pick(SPOILS)(&mut given, random);
+        }
+        return given;
+    }
+}
+
+/// The length of what is written, where the room suffices.
+fn length_of(body: &Body) -> Option<usize> {
+    let given = match body {
+        Body::File(file) => given_of(file)?,
+        Body::Table(given) => given.clone(),
+    };
+    given.write(usize::MAX).ok().map(|bytes| bytes.len())
+}
+
+fn choose_room(random: &mut Random, needed: usize) -> usize {
+    let room = match random.below(12) {
+        0 | 1 => needed.saturating_sub(1),
+        2 => random.below(needed + 1),
+        3 => needed + 1,
+        4 | 5 => needed + random.below(300),
+        6 if files::once_in(random, 3) => 0,
+        _ => needed,
+    };
+    room.min(MOST_ROOM)
+}
+
+fn generate_case(random: &mut Random) -> Case {
+    let body = if files::once_in(random, 3) {
+        Body::File(files::generate_file(random).1)
+    } else {
+        Body::Table(generate_table(random))
+    };
+    let needed = length_of(&body).unwrap_or(random.below(3000));
+    Case { room: choose_room(random, needed), body }
+}
+
+/// Case `number` of a seed, whatever the others are.
+fn generated(seed: u64, number: u64) -> Case {
+    let mut random = Random(seed.wrapping_mul(0x9e37_79b9_7f4a_7c15) ^ number);
+    let seed = random.next();
+    generate_case(&mut Random(seed))
+}
+
+// ---------------------------------------------------------------------------
+// The stored cases
+// ---------------------------------------------------------------------------
+
+fn with_room(body: Body, more: isize) -> Case {
+    let needed = length_of(&body).unwrap_or(1215);
+    Case { room: needed.saturating_add_signed(more), body }
+}
+
+fn stored_cases() -> Vec<Case> {
+    let mut cases: Vec<Case> = Vec::new();
+    for &(base, edits, _) in WRITTEN {
+        let file = files::hand_made(base, edits);
+        cases.push(with_room(Body::File(file), 0));
+    }
+    for &(base, changes, _) in DATED {
+        cases.push(with_room(Body::Table(changed(base, changes)), 3));
+    }
+    for &(base, changes, more, _) in ROOMS {
+        let needed = form_with(base, &[]).len();
+        let given = changed(base, changes);
+        let needed = given.write(usize::MAX).map_or(needed, |bytes| bytes.len());
+        let room = needed.saturating_add_signed(more);
+        cases.push(Case { room, body: Body::Table(given) });
+    }
+    for (place, &(base, edits, more, _)) in ROOMS.iter().enumerate() {
+        if edits.is_empty() && place < 13 {
+            let file = files::base_file(base).bytes();
+            cases.push(with_room(Body::File(file), more));
+        }
+    }
+    for (base, changes, ..) in judged_by_hand() {
+        cases.push(with_room(Body::Table(changed(base, &changes)), 1));
+    }
+    for base in [Base::Nothing, Paper] {
+        cases.push(Case {
+            room: 1300,
+            body: Body::File(files::hand_made(base, &[Put(25, 4, "x")])),
+        });
+    }
+    cases.extend((1..=60).map(|number| generated(files::STORED_SEED, number)));
+    cases
+}
+
+// ---------------------------------------------------------------------------
+// Counting and comparing
+// ---------------------------------------------------------------------------
+
+/// How often each number 0 to 13 stands after a word of the answers.
+#[derive(Default)]
+struct Counts([[usize; 14]; 3]);
+
+const COUNTED: [&str; 3] = ["read", "new", "write"];
+
+impl Counts {
+    fn add(&mut self, answer: &str) {
+        for line in answer.lines() {
+            let mut words = line.split(' ');
+            let word = words.next().unwrap_or_default();
+            let number = words.next().and_then(|number| number.parse::<usize>().ok());
+            if let (Some(place), Some(number)) = (COUNTED.iter().position(|w| *w == word), number) {
+                self.0[place][number] += 1;
+            }
+        }
+    }
+
+    fn show(&self) -> String {
+        let row = |name: &str, numbers: [usize; 14]| {
+            let columns: String = numbers.iter().map(|number| format!("{number:7}")).collect();
+            format!("{name:10}{columns}\n")
+        };
+        let first = row("number", std::array::from_fn(|number| number));
+        let rest = COUNTED.iter().zip(self.0).map(|(name, numbers)| row(name, numbers));
+        first + &rest.collect::<String>()
+    }
+}
+
+fn count(cases: &[Case]) {
+    let mut counts = Counts::default();
+    cases.iter().for_each(|case| counts.add(&case.answer()));
+    println!("{} cases\n{}", cases.len(), counts.show().trim_end());
+}
+
+/// Cases from `first` on, as many as a batch may hold and `last` allows.
+fn next_batch(seed: u64, first: u64, last: u64) -> Vec<Case> {
+    let mut length = 0;
+    let cases = (first..=last).map(|number| generated(seed, number));
+    let fits = |case: &Case| {
+        length += case.show().len();
+        length <= files::MOST_BATCH
+    };
+    cases.take_while(fits).collect()
+}
+
+fn compare(seed: u64, number: u64, program: &str, arguments: &[&str]) {
+    let mut counts = Counts::default();
+    let mut done = 0;
+    while done < number {
+        let cases = next_batch(seed, done + 1, number);
+        let answers: Vec<String> = cases.iter().map(Case::answer).collect();
+        let (output, status) = files::run(program, arguments, show_batch(&cases))
+            .unwrap_or_else(|error| fail(&format!("{program}: {error}")));
+        let wanted = answers.concat();
+        if let Some((line, wanted, found)) = files::first_difference(wanted.as_bytes(), &output) {
+            let case = done + 1 + files::case_of_line(&answers, line) as u64;
+            println!("seed {seed} case {case}: wanted {wanted}, found {found}");
+            exit(1);
+        }
+        if !status.success() {
+            println!("seed {seed} cases {} and on: {status}", done + 1);
+            exit(1);
+        }
+        answers.iter().for_each(|answer| counts.add(answer));
+        done += cases.len() as u64;
+    }
+    println!("{number} cases agree\n{}", counts.show().trim_end());
+}
+
+fn check(directory: &str) {
+    let cases = stored_cases();
+    files::check_file(&format!("{directory}/stdin"), &show_batch(&cases));
+    files::check_file(&format!("{directory}/stdout"), answers(&cases).as_bytes());
+}
+
+// ---------------------------------------------------------------------------
+// Self-test
+// ---------------------------------------------------------------------------
+
+fn same(tally: &mut Tally, given: Result<Vec<u8>, u8>, wanted: &[u8], name: &str) {
+    tally.holds(given.as_deref() == Ok(wanted), || {
+        let found = given.as_ref().map_or_else(|number| vec![*number], Vec::clone);
+        let difference = files::first_difference(wanted, &found);
+        format!("{name}: {difference:?}")
+    });
+}
+
+/// What is written of files and tables, line by line.
+fn test_forms(tally: &mut Tally) {
+    for &(base, edits, lines) in WRITTEN {
+        let file = files::hand_made(base, edits);
+        let written = given_of(&file).map_or(Err(0), |given| given.write(usize::MAX));
+        same(tally, written, &form_with(base, lines), &format!("{base:?} {edits:?}"));
+    }
+    for &(base, changes, lines) in DATED {
+        let written = changed(base, changes).write(usize::MAX);
+        same(tally, written, &form_with(base, lines), &format!("{base:?} {changes:?}"));
+    }
+}
+
+/// The numbers of a table: of its header, and of its writing into a large room.
+fn numbers_of(given: &Given, room: usize) -> (u8, u8) {
+    match given.head() {
+        Err(number) => (number, 0),
+        Ok(head) => (0, write(&head, &given.lists, room).err().unwrap_or_default()),
+    }
+}
+
+fn test_judged(tally: &mut Tally) {
+    for (base, changes, new, written) in judged_by_hand() {
+        let found = numbers_of(&changed(base, &changes), usize::MAX);
+        tally.holds(found == (new, written), || {
+            format!("{base:?} {changes:?}: wanted {new} {written}, found {found:?}")
+        });
+    }
+    for &(base, changes, more, number) in ROOMS {
+        let given = changed(base, changes);
+        let needed = given.write(usize::MAX).map_or(form_with(base, &[]).len(), |b| b.len());
+        let found = numbers_of(&given, needed.saturating_add_signed(more));
+        tally.holds(found == (0, number), || format!("{base:?} {changes:?} {more}: {found:?}"));
+    }
+}
+
+/// Whether bytes are an accepted file that has exactly this table.
+fn has_table(bytes: &[u8], head: &Head, lists: &Lent) -> bool {
+    let Some(other) = given_of(bytes) else {
+        return false;
+    };
+    let Ok(again) = other.head() else {
+        return false;
+    };
+    let (one, two) = (Held::of(head, lists), Held::of(&again, &other.lists));
+    (again.velocities, again.start, again.epochs, again.interval)
+        == (head.velocities, head.start, head.epochs, head.interval)
+        && (again.texts, again.satellites, again.comments)
+            == (head.texts, head.satellites, head.comments)
+        && (again.file_type, again.time_system, again.bases)
+            == (head.file_type, head.time_system, head.bases)
+        && (one.identifiers, one.exponents) == (two.identifiers, two.exponents)
+        && (one.comments, one.rows) == (two.comments, two.rows)
+}
+
+/// "A table is valid exactly when some accepted file has it": the form of a
+/// valid table is such a file and its own form; what the writer would make of
+/// a table that isn't valid is none.
+fn test_validity(tally: &mut Tally) {
+    std::panic::set_hook(Box::new(|_| {}));
+    for number in 1..=3000 {
+        let Body::Table(given) = generated(files::STORED_SEED + 1, number).body else {
+            continue;
+        };
+        let Ok(head) = given.head() else {
+            continue;
+        };
+        let small = lists_suffice(&head, &given.lists);
+        let valid = is_valid(&head, &given.lists);
+        let made = std::panic::catch_unwind(|| small.then(|| canonical(&head, &given.lists)));
+        let bytes = made.ok().flatten().unwrap_or_default();
+        tally.holds(valid == has_table(&bytes, &head, &given.lists), || {
+            format!("case {number}: valid {valid}\n{}", files::show_text(&given.show()))
+        });
+        if valid {
+            let again = given_of(&bytes).map_or(Err(0), |given| given.write(bytes.len()));
+            same(tally, again, &bytes, &format!("case {number} again"));
+        }
+    }
+    let _ = std::panic::take_hook();
+}
+
+/// The table of every accepted file is valid, and its form has the same table.
+fn test_files(tally: &mut Tally) {
+    for number in 1..=3000 {
+        let Body::File(file) = generated(files::STORED_SEED + 1, number).body else {
+            continue;
+        };
+        let Some(given) = given_of(&file) else {
+            continue;
+        };
+        let written = given.write(file.len()).unwrap_or_default();
+        let held = given.head().is_ok_and(|head| has_table(&written, &head, &given.lists));
+        tally.holds(held, || format!("case {number}: its table isn't that of its form"));
+    }
+}
+
+fn test_batches(tally: &mut Tally) {
+    let cases = stored_cases();
+    let again = parse_batch(&show_batch(&cases));
+    tally.holds(answers(&cases) == answers(&again), || "a batch read again".to_string());
+}
+
+fn self_test() {
+    let mut tally = Tally::default();
+    test_forms(&mut tally);
+    test_judged(&mut tally);
+    let by_hand = tally.made;
+    test_validity(&mut tally);
+    test_files(&mut tally);
+    test_batches(&mut tally);
+    println!("{} comparisons, {by_hand} of them by hand, {} failed", tally.made, tally.failed);
+    if tally.failed > 0 {
+        exit(1);
+    }
+}
+
+// ---------------------------------------------------------------------------
+// The program
+// ---------------------------------------------------------------------------
+
+fn batch_from_standard_input() -> Vec<Case> {
+    let mut bytes = Vec::new();
+    if let Err(error) = std::io::stdin().read_to_end(&mut bytes) {
+        fail(&format!("standard input: {error}"));
+    }
+    parse_batch(&bytes)
+}
+
+fn main() {
+    let arguments: Vec<String> = std::env::args().skip(1).collect();
+    let words: Vec<&str> = arguments.iter().map(String::as_str).collect();
+    match words[..] {
+        ["answer"] => files::print(answers(&batch_from_standard_input()).as_bytes()),
+        ["answer-tables"] => {
+            let mut cases = batch_from_standard_input();
+            cases.retain(|case| matches!(case.body, Body::Table(_)));
+            files::print(answers(&cases).as_bytes());
+        }
+        ["generate", seed, count] => {
+            let seed = files::number(seed);
+            (1..=files::number(count))
+                .for_each(|place| files::print(&generated(seed, place).show()));
+        }
+        ["case", seed, place] => {
+            files::print(&generated(files::number(seed), files::number(place)).show());
+        }
+        ["cases"] => files::print(&show_batch(&stored_cases())),
+        ["check", directory] => check(directory),
+        ["self-test"] => self_test(),
+        ["count"] => count(&batch_from_standard_input()),
+        ["compare", seed, count, program, ref rest @ ..] => {
+            compare(files::number(seed), files::number(count), program, rest);
+        }
+        _ => fail(
+            "usage: answer | answer-tables | generate SEED COUNT | case SEED NUMBER | cases\n\
+             | check CRATE_DIR | self-test | count | compare SEED COUNT PROGRAM [ARGS..]",
+        ),
+    }
+}
