@@ -1,6 +1,9 @@
 pub mod Tests
 pub mod Reading
 pub mod Counting
+pub mod HeaderBounds
+pub mod Parts
+pub mod Parted
 pub mod Reach
 pub mod Spending
 pub mod Ends

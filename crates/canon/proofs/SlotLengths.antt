@@ -20,10 +20,10 @@ use Rattle.record.specs.SlotLines.{slotKind, satelliteItems, satellitesValues, 
 use Rattle.canon.specs.Canonical.{seventeen, satellitesShown, slotsShown, slotLinesOf}
 use Rattle.canon.specs.Measured.{textEnd}
 use Rattle.header.specs.declared.types.Rules.{Rules}
-use Rattle.laws.proofs.Bools.{and-left, and-right, and-both}
 use Rattle.laws.proofs.Lists.{every-append, every-replicate}
 use Rattle.field.proofs.Fitting.{fits-true}
 use Rattle.record.proofs.Tiled.{satellites-tiled, more-tiled}
+use Rattle.canon.proofs.Parted.{every-take, every-drop, every-at}
 use Rattle.canon.proofs.Ends.{endFrom, line-length}
 use Rattle.canon.proofs.Inked.{name-ends, whole-ends}
 
@@ -97,21 +97,6 @@ small n = leb n 999
 abbrev pub slotsFine : Bool → List ℕ → Bool
 slotsFine true ns = every small ns
 slotsFine false ns = true
-
-every-take : (test : ℕ → Bool) (k : ℕ) (ns : List ℕ) → every test ns ≡ true → every test (take k ns) ≡ true
-every-take test zero ns e = refl
-every-take test (suc k) [] e = refl
-every-take test (suc k) (n ∷ ns) e = and-both (test n) (every test (take k ns)) (and-left (test n) (every test ns) e) (every-take test k ns (and-right (test n) (every test ns) e))
-
-every-drop : (test : ℕ → Bool) (k : ℕ) (ns : List ℕ) → every test ns ≡ true → every test (drop k ns) ≡ true
-every-drop test zero ns e = e
-every-drop test (suc k) [] e = refl
-every-drop test (suc k) (n ∷ ns) e = every-drop test k ns (and-right (test n) (every test ns) e)
-
-every-at : (test : ℕ → Bool) → test 0 ≡ true → (ns : List ℕ) (i : ℕ) → every test ns ≡ true → test (getD ns i 0) ≡ true
-every-at test z [] i e = z
-every-at test z (n ∷ ns) zero e = and-left (test n) (every test ns) e
-every-at test z (n ∷ ns) (suc i) e = every-at test z ns i (and-right (test n) (every test ns) e)
 
 fine-drop : (accuracies : Bool) (k : ℕ) (ns : List ℕ) → slotsFine accuracies ns ≡ true → slotsFine accuracies (drop k ns) ≡ true
 fine-drop true k ns e = every-drop small k ns e

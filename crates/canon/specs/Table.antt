@@ -3,9 +3,9 @@
 -- "places past them aren't looked at": what belongs to the table are so many first places as its counts say.
 use mathlib.Core.Bool.{Bool, true, false}
 use mathlib.Core.List.{List}
-use Prim.Native.Nat.{ℕ, _+_, _*_}
+use Prim.Native.Nat.{ℕ, _*_}
 use lib.IntN.{ℤ}
-use lib.ListN.{length, take}
+use lib.ListN.{take}
 use Rattle.header.specs.declared.types.Header.{Header}
 
 pub record Table : Type 0 where

@@ -1,7 +1,7 @@
 -- Which tables are valid, over the rules of a version. 01, "The canonical form": "A table is valid exactly when some accepted file has it; lists
 -- shorter than its counts make it invalid". Said here by the bounds of 01 one by one; that it is the same is a theorem.
-use mathlib.Core.Bool.{Bool, true, false, cond, not, _&&_, _||_}
-use mathlib.Core.List.{List, [], _∷_}
+use mathlib.Core.Bool.{Bool, true, false, not, _&&_, _||_}
+use mathlib.Core.List.{List, []}
 use Prim.Native.Nat.{ℕ, zero, suc, _+_, _-_, _*_, _/_, min}
 use lib.Dec.{eqb, leb}
 use lib.IntN.{ℤ, pos, natAbs}

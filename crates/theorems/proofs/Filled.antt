@@ -1,6 +1,6 @@
 -- A whole file, read into lent lists with success: the answer has the file's length and header, and each list is filled from its first place on.
 -- Assumes nothing.
-use mathlib.Core.Path.{_≡_, refl, sym, ap, ap₂, _∙_}
+use mathlib.Core.Path.{_≡_, ap, ap₂, _∙_}
 use mathlib.Core.Bool.{Bool, true}
 use mathlib.Core.List.{List}
 use Prim.Native.Nat.{ℕ}
@@ -14,7 +14,6 @@ use Rattle.scan.specs.Run.{IsFile}
 use Rattle.reader.specs.Reading.{fileOf, acceptedAs, linesIn, filled, identifiersOf, exponentsOf, readAnswer, fills, identifiersAfter, exponentsAfter, commentsAfter, rowsAfter}
 use Rattle.accepted.proofs.Files.{whole-taken}
 use Rattle.theorems.proofs.Room.{answer-decides, fills-exactly, room-accepted}
-use Rattle.header.specs.declared.types.Header.{Header}
 use Rattle.reader.specs.declared.types.Reading.{Reading}
 
 module _ (bytes : List ℕ) (accepted : IsFile d bytes) (identifiers exponents comments : List ℕ) (rows : List ℤ)

@@ -1,11 +1,11 @@
 -- Writing and reading, one after the other, by what the two functions promise: what `write` wrote, `read` returns; what `read` returned, `write` writes
 -- as the canonical form of the file, and canonical bytes as they were.
 -- Assumes nothing.
-use mathlib.Core.Path.{_≡_, refl, sym, ap, ap₂, _∙_, subst}
-use mathlib.Core.Bool.{Bool, true, false}
-use mathlib.Core.List.{List, _++_}
+use mathlib.Core.Path.{_≡_, sym, ap, _∙_, subst}
+use mathlib.Core.Bool.{true}
+use mathlib.Core.List.{List}
 use mathlib.Core.Logic.{_↔_}
-use Prim.Native.Nat.{ℕ, _*_, _≤_}
+use Prim.Native.Nat.{ℕ, _*_}
 use native.Mathlib.Omega.{arith}
 use lib.IntN.{ℤ}
 use lib.ListN.{length, take, drop, length-take}
@@ -13,8 +13,7 @@ use lib.Seq.{take-append-le}
 use Rattle.header.specs.Rules.{d}
 use Rattle.lines.specs.Lent.{over}
 use Rattle.lines.specs.Lines.{linesOf}
-use Rattle.file.specs.Table.{headerIn, commentsIn, rowsIn}
-use Rattle.file.specs.Plain.{Accepted}
+use Rattle.file.specs.Table.{headerIn}
 use Rattle.scan.specs.Run.{IsFile}
 use Rattle.reader.specs.Reading.{fileOf, readAnswer, identifiersAfter, exponentsAfter, commentsAfter, rowsAfter}
 use Rattle.accepted.proofs.Files.{d-exactly, file-plain}
@@ -23,14 +22,14 @@ use Rattle.canon.specs.Valid.{valid}
 use Rattle.canon.specs.Canonical.{canonical}
 use Rattle.canon.specs.Measured.{measured}
 use Rattle.writer.specs.Writing.{outAfter}
-use Rattle.written.proofs.Facts.{d-proper}
-use Rattle.written.proofs.Parts.{parts}
+use Rattle.written.proofs.Versions.{d-proper}
+use Rattle.canon.proofs.Parts.{parts}
 use Rattle.written.proofs.Holding.{Holds}
 use Rattle.written.proofs.Trips.{form-accepted, form-holds}
 use Rattle.written.proofs.ValidTables.{held-valid}
 use Rattle.written.proofs.Rewriting as rewriting
 use Rattle.theorems.proofs.Filled.{identifiers-filled, exponents-filled, comments-filled, rows-filled, header-told}
-use Rattle.theorems.proofs.Writing.{valid-table, written-form, written-length}
+use Rattle.theorems.proofs.Writing.{valid-table, written-form}
 use Rattle.header.specs.declared.types.Header.{Header}
 
 -- A TABLE IS VALID EXACTLY WHEN SOME ACCEPTED FILE HAS IT.

@@ -1,48 +1,17 @@
 -- The instants of the epochs of a table: each lies between the start and the last epoch, so on a day of the bounds.
 -- Assumes nothing.
 use mathlib.Core.Path.{_≡_, refl}
-use mathlib.Core.Bool.{true, _&&_}
+use mathlib.Core.Bool.{true}
 use Prim.Native.Nat.{ℕ, _+_, _-_, _*_, _/_, _≤_, _<_, _^_}
 use native.Mathlib.Nat.{le-refl}
 use native.Mathlib.Omega.{arith}
-use Rattle.laws.specs.Tests.{within}
-use Rattle.laws.proofs.Bools.{both-true}
-use Rattle.laws.proofs.Bounds.{within-true, true-within}
+use Rattle.laws.proofs.Bounds.{within-true}
 use Rattle.calendar.specs.Gregorian.{firstMjd, lastMjd}
 use Rattle.calendar.specs.Clock.{dayUnits}
-use Rattle.header.specs.Rules.{maxEpochs}
-use Rattle.header.specs.Header.{maxInterval}
 use Rattle.header.specs.declared.types.Header.{Header}
-use Rattle.canon.specs.Valid.{isInstant, lastEpoch, timesValid}
+use Rattle.canon.specs.Valid.{isInstant, lastEpoch}
 use Rattle.writer.proofs.Blocks.{less-one}
-
--- what the test of the times says
-pub record Timed (h : Header) : Type 0 where
-  pub start : isInstant (h .start8) ≡ true
-  pub epochs : 1 ≤ h .epochs
-  pub interval : h .interval8 ≤ maxInterval
-  pub last : isInstant (lastEpoch h) ≡ true
-
-pub timed : (h : Header) → timesValid h ≡ true → Timed h
-unfolding timesValid
-timed h e =
-    let halves = both-true (isInstant (h .start8) && within 1 maxEpochs (h .epochs)) (within 1 maxInterval (h .interval8) && isInstant (lastEpoch h)) e in
-    let first = both-true (isInstant (h .start8)) (within 1 maxEpochs (h .epochs)) (halves .0) in
-    let second = both-true (within 1 maxInterval (h .interval8)) (isInstant (lastEpoch h)) (halves .1) in
-    record {
-      start = first .0;
-      epochs = within-true 1 maxEpochs (h .epochs) (first .1) .0;
-      interval = within-true 1 maxInterval (h .interval8) (second .0) .1;
-      last = second .1;
-    }
-
--- an instant between two of the bounds
-between : (a b c : ℕ) → isInstant a ≡ true → isInstant c ≡ true → a ≤ b → b ≤ c → isInstant b ≡ true
-unfolding isInstant
-between a b c p q h k =
-    let low = within-true firstMjd lastMjd (a / dayUnits) p in
-    let high = within-true firstMjd lastMjd (c / dayUnits) q in
-    true-within firstMjd lastMjd (b / dayUnits) (omega arith) (omega arith)
+use Rattle.canon.proofs.HeaderBounds.{Timed, between}
 
 instant-below : (a : ℕ) → isInstant a ≡ true → a < 88069 * dayUnits
 unfolding isInstant
@@ -60,13 +29,13 @@ clocked-first h = record { since = le-refl (h .start8); until = refl }
 
 module _ {h : Header} {at8 more : ℕ} (t : Timed h) (c : Clocked h at8 more) (some : 0 < more) where
   not-past : at8 ≤ lastEpoch h
-  not-past = omega (arith, less-one more (h .interval8) some, less-one (h .epochs) (h .interval8) (t .epochs), c .until)
+  not-past = omega (arith, less-one more (h .interval8) some, less-one (h .epochs) (h .interval8) (t .epochs .0), c .until)
 
   pub clocked-instant : isInstant at8 ≡ true
   clocked-instant = between (h .start8) at8 (lastEpoch h) (t .start) (t .last) (c .since) not-past
 
   pub clocked-fits : at8 + h .interval8 < 2 ^ 64
-  clocked-fits = omega (arith, instant-below at8 clocked-instant, t .interval)
+  clocked-fits = omega (arith, instant-below at8 clocked-instant, t .interval .1)
 
   pub clocked-next : Clocked h (at8 + h .interval8) (more - 1)
   clocked-next = record { since = omega (arith, c .since); until = omega (arith, less-one more (h .interval8) some, c .until) }

@@ -1,7 +1,7 @@
 -- A canonical line without its LF: its bytes, its columns, and what it is read as. One law over layouts, cited for every record.
 -- Assumes nothing.
 use mathlib.Core.Path.{_≡_, refl, sym, ap, ap₂, _∙_}
-use mathlib.Core.Bool.{true, _&&_}
+use mathlib.Core.Bool.{true}
 use mathlib.Core.List.{List, [], _∷_, _++_, map, append-nil, append-assoc}
 use Prim.Native.Nat.{ℕ, _≤_}
 use native.Mathlib.Omega.{arith}
@@ -21,7 +21,6 @@ use Rattle.layout.proofs.Layouts.{shown-wide, reads-back}
 use Rattle.layout.proofs.ReadBack.{line-back, written}
 use Rattle.record.specs.LineKinds.{toldKind, kindOf}
 use Rattle.machine.specs.Faults.{longest}
-use Rattle.file.specs.Kinds.{isKind}
 use Rattle.file.specs.Plain.{isLine, isRecord}
 use Rattle.header.specs.declared.types.Rules.{Rules}
 use Rattle.record.specs.declared.types.LineKind.{LineKind}

@@ -1,9 +1,9 @@
 -- The comments of the canonical form are such lines, and hold the bytes that they show.
 -- Assumes nothing.
-use mathlib.Core.Path.{_≡_, refl, sym, ap, ap₂, _∙_}
-use mathlib.Core.Bool.{Bool, true, _&&_}
+use mathlib.Core.Path.{_≡_, refl, ap, ap₂, _∙_}
+use mathlib.Core.Bool.{true}
 use mathlib.Core.List.{List, [], _∷_, _++_, map, append-nil}
-use Prim.Native.Nat.{ℕ, zero, suc, _+_, _-_, _*_, _≤_, _<_, min}
+use Prim.Native.Nat.{ℕ, zero, suc, _+_, _-_, _*_, _≤_}
 use native.Mathlib.Omega.{arith}
 use borrow.Author.Tests.{le-leb, leb-true, eq-eqb}
 use lib.Dec.{leb, eqb}
@@ -15,7 +15,7 @@ use Rattle.lines.specs.Lent.{flat}
 use Rattle.lines.proofs.Each.{Each}
 use Rattle.layout.specs.Kind.{printable, shownText}
 use Rattle.layout.specs.Kind.Held.{words}
-use Rattle.layout.specs.Layout.{canShow, showLine, faultOf, wordsAt}
+use Rattle.layout.specs.Layout.{canShow, faultOf, wordsAt}
 use Rattle.layout.specs.Line.{padded, lineOf, consTrimmed, trimmed}
 use Rattle.header.specs.declared.types.Rules.{Rules}
 use Rattle.record.specs.LineKinds.{toldKind, kindOf}
@@ -29,7 +29,7 @@ use Rattle.file.specs.Plain.{isLine, isCommentLine, everyLine}
 use Rattle.canon.specs.Valid.{commentColumns, commentValid, commentsValid}
 use Rattle.canon.specs.Canonical.{commentLines}
 use Rattle.written.proofs.Bare.{EndsLine, bare-ended, bare-is, bare-printable, bare-padded, bare-back}
-use Rattle.written.proofs.Facts.{Proper}
+use Rattle.written.proofs.Versions.{Proper}
 
 -- a symbol and a blank before a text: where the text is blank, the symbol alone
 symbol-length : (t : List ℕ) (n : ℕ) → length t ≤ n - 3 → 2 ≤ n → length (consTrimmed 47 (consTrimmed 42 (consTrimmed 32 t))) ≤ n

@@ -1,12 +1,12 @@
 -- The `%c`, `%f` and `%i` lines of the canonical form, and EOF, are such lines, and are read as what they show.
 -- Assumes nothing.
-use mathlib.Core.Path.{_≡_, refl, sym, ap, _∙_}
+use mathlib.Core.Path.{_≡_, refl, ap, _∙_}
 use mathlib.Core.Bool.{true}
-use mathlib.Core.List.{List, [], append-nil}
+use mathlib.Core.List.{List, []}
 use Prim.Native.Nat.{ℕ}
 use native.Mathlib.Omega.{arith}
 use Rattle.laws.proofs.Bools.{and-both}
-use Rattle.layout.specs.Layout.{canShow, faultOf, valuesOf}
+use Rattle.layout.specs.Layout.{canShow}
 use Rattle.layout.specs.Line.{padded, lineOf}
 use Rattle.lines.proofs.Each.{Each}
 use Rattle.header.specs.Header.{maxPlaceBase, maxClockBase}
@@ -24,7 +24,7 @@ use Rattle.file.specs.Plain.{isRecord, isDescriptorLine, isCharactersLine, isBa
 use Rattle.canon.specs.Canonical.{descriptorShown, basesShown, descriptorLines}
 use Rattle.written.proofs.Bare.{EndsLine, bare-ended, bare-record, bare-back}
 use Rattle.written.proofs.Fits.{can-decimal}
-use Rattle.written.proofs.Facts.{Bounded}
+use Rattle.canon.proofs.HeaderBounds.{Bounded}
 
 module _ (rules : Rules) (h : Header) (b : Bounded rules h) where
   descriptor-can : canShow descriptorItems (descriptorValues (descriptorShown h)) ≡ true
@@ -48,8 +48,8 @@ module _ (rules : Rules) (h : Header) (b : Bounded rules h) where
   unfolding basesShown
   bases-can =
       rw (
-        can-decimal 10 7 2 0 maxPlaceBase (h .bases .place) (omega arith) (omega arith) refl (omega arith) (b .place) (omega (arith, b .place)),
-        can-decimal 12 9 2 0 maxClockBase (h .bases .clock) (omega arith) (omega arith) refl (omega arith) (b .clock) (omega (arith, b .clock)),
+        can-decimal 10 7 2 0 maxPlaceBase (h .bases .place) (omega arith) (omega arith) refl (omega arith) (b .place-base) (omega (arith, b .place-base)),
+        can-decimal 12 9 2 0 maxClockBase (h .bases .clock) (omega arith) (omega arith) refl (omega arith) (b .clock-base) (omega (arith, b .clock-base)),
       )
 
   pub bases-read : baseOf (padded (lineOf (baseLine (basesShown h)))) ≡ basesShown h

@@ -4,12 +4,10 @@
 use mathlib.Core.Path.{_≡_, refl, ap, _∙_}
 use mathlib.Core.Bool.{true}
 use mathlib.Core.List.{List, [], _∷_, append-nil}
-use Prim.Native.Nat.{ℕ, suc, _+_, _-_, _*_, _/_, _≤_, _<_}
+use Prim.Native.Nat.{ℕ, suc, _+_, _-_, _*_, _≤_, _<_}
 use native.Mathlib.Nat.{zero-mul, suc-mul, mul-le-mul, le-refl}
 use native.Mathlib.Omega.{arith}
 use borrow.Author.Tests.{eq-eqb}
-use Rattle.calendar.specs.Gregorian.{firstMjd, lastMjd}
-use Rattle.calendar.specs.Clock.{dayUnits}
 use Rattle.layout.specs.Kind.Kind.{unused}
 use Rattle.layout.specs.Layout.{columns, canShow}
 use Rattle.layout.specs.Line.{padded, lineOf}
@@ -23,10 +21,10 @@ use Rattle.file.specs.Plain.{isRecord, isEpochLine}
 use Rattle.canon.specs.Valid.{isInstant}
 use Rattle.canon.specs.Canonical.{momentOf, epochShown}
 use Rattle.laws.proofs.Bools.{and-both}
-use Rattle.laws.proofs.Bounds.{within-true, true-within}
 use Rattle.record.proofs.Tiled.{epoch-tiled}
 use Rattle.record.proofs.RoundTrips.{epoch-back}
 use Rattle.written.proofs.Moments.{time-shows, moment-dated, moment-is, moment-back}
+use Rattle.canon.proofs.HeaderBounds.{between}
 use Rattle.written.proofs.Bare.{EndsLine, bare-ended, bare-record}
 
 -- the line of an epoch at an instant, without its LF
@@ -69,13 +67,10 @@ Instants interval8 epochs at8 = (k : ℕ) → k < epochs → isInstant (at8 + k 
 -- they are of the bounds where the first and the last are
 pub all-instants : (interval8 epochs at8 : ℕ) → isInstant at8 ≡ true → isInstant (at8 + (epochs - 1) * interval8) ≡ true
     → Instants interval8 epochs at8
-unfolding isInstant
 all-instants interval8 epochs at8 first last k h =
-    let low = within-true firstMjd lastMjd (at8 / dayUnits) first in
-    let high = within-true firstMjd lastMjd ((at8 + (epochs - 1) * interval8) / dayUnits) last in
     let before : k ≤ epochs - 1 = omega arith in
     let less : k * interval8 ≤ (epochs - 1) * interval8 = mul-le-mul before (le-refl interval8) in
-    true-within firstMjd lastMjd ((at8 + k * interval8) / dayUnits) (omega arith) (omega arith)
+    between at8 (at8 + k * interval8) (at8 + (epochs - 1) * interval8) first last (omega arith) (omega arith)
 
 -- and those after the first
 pub later-instants : (interval8 epochs at8 : ℕ) → Instants interval8 (suc epochs) at8 → Instants interval8 epochs (at8 + interval8)

@@ -1,24 +1,18 @@
 -- Lines 1 and 2 of the canonical form are such lines, and are read as what they show.
 -- Assumes nothing.
 use mathlib.Core.Path.{_≡_, refl, sym, ap, _∙_}
-use mathlib.Core.Bool.{Bool, true, false, cond, _&&_}
-use mathlib.Core.List.{List, [], _∷_, _++_, append-nil}
+use mathlib.Core.Bool.{Bool, true, false, cond}
+use mathlib.Core.List.{List, [], append-nil}
 use Prim.Native.Nat.{ℕ, _+_, _-_, _*_, _/_, _%_, _≤_, _<_}
 use native.Mathlib.Omega.{arith}
 use borrow.Author.Tests.{eq-eqb, lt-ltb}
-use lib.Dec.{leb, eqb}
-use lib.ListN.{length}
-use Rattle.laws.specs.Tests.{within}
-use Rattle.laws.specs.Texts.{isPrintable}
 use Rattle.laws.proofs.Bools.{and-both}
 use Rattle.laws.proofs.Bounds.{within-true, true-within}
 use Rattle.calendar.specs.Gregorian.{firstMjd, lastMjd}
 use Rattle.calendar.specs.Clock.{dayUnits}
 use Rattle.calendar.specs.Fraction.{agrees}
-use Rattle.field.specs.Show.{fitsWhole}
-use Rattle.layout.specs.Fault.{clean}
 use Rattle.layout.specs.Kind.{isOneOf}
-use Rattle.layout.specs.Layout.{canShow, showLine}
+use Rattle.layout.specs.Layout.{canShow}
 use Rattle.layout.specs.Line.{padded, lineOf}
 use Rattle.header.specs.Rules.{maxEpochs}
 use Rattle.header.specs.Letters.{modes}
@@ -29,7 +23,7 @@ use Rattle.record.specs.Opening.{firstItems, firstValues, firstOf, firstLine, s
 use Rattle.record.specs.declared.types.First.{First}
 use Rattle.record.specs.declared.types.Second.{Second}
 use Rattle.record.specs.declared.types.LineKind.the-variants as kind
-use Rattle.record.proofs.RoundTrips.{first-back, second-back, dated}
+use Rattle.record.proofs.RoundTrips.{first-back, second-back}
 use Rattle.record.proofs.Tiled.{first-tiled, second-tiled}
 use Rattle.machine.specs.Checks.{secondAgrees}
 use Rattle.file.specs.Plain.{isRecord, isFirstLine, isSecondLine}
@@ -37,7 +31,8 @@ use Rattle.canon.specs.Valid.{isInstant}
 use Rattle.canon.specs.Canonical.{momentOf, firstShown, secondShown}
 use Rattle.written.proofs.Bare.{EndsLine, bare-ended, bare-record}
 use Rattle.written.proofs.Fits.{can-whole, can-decimal}
-use Rattle.written.proofs.Facts.{Proper, Bounded}
+use Rattle.canon.proofs.HeaderBounds.{Bounded}
+use Rattle.written.proofs.Versions.{Proper}
 use Rattle.written.proofs.Moments.{Fitting, moment-dated}
 
 mode-listed : (velocity : Bool) → isOneOf (cond velocity 86 80) modes ≡ true
@@ -57,7 +52,7 @@ module _ (rules : Rules) (proper : Proper rules) (h : Header) (b : Bounded rules
         fits .hour,
         fits .minute,
         fits .second8,
-        can-whole 7 1 maxEpochs (h .epochs) (omega arith) (omega arith) (b .epochs .0) (b .epochs .1) (omega (arith, b .epochs .1)),
+        can-whole 7 1 maxEpochs (h .epochs) (omega arith) (omega arith) (b .clock .epochs .0) (b .clock .epochs .1) (omega (arith, b .clock .epochs .1)),
         b .used,
         b .coordinates,
         b .orbit,
@@ -69,7 +64,7 @@ module _ (rules : Rules) (proper : Proper rules) (h : Header) (b : Bounded rules
   unfolding firstShown
   first-read =
       ap (λ (s : List ℕ). firstOf rules (padded (lineOf s))) (sym (append-nil (firstLine rules (firstShown h))))
-      ∙ first-back rules (firstShown h) [] refl (moment-dated (h .start8) (b .start)) first-can
+      ∙ first-back rules (firstShown h) [] refl (moment-dated (h .start8) (b .clock .start)) first-can
 
   pub first-ends : EndsLine (firstLine rules (firstShown h))
   unfolding firstLine
@@ -86,7 +81,7 @@ module _ (rules : Rules) (proper : Proper rules) (h : Header) (b : Bounded rules
 module _ (rules : Rules) (h : Header) (b : Bounded rules h) where
   in-bounds : (firstMjd ≤ h .start8 / dayUnits) × (h .start8 / dayUnits ≤ lastMjd)
   unfolding isInstant
-  in-bounds = within-true firstMjd lastMjd (h .start8 / dayUnits) (b .start)
+  in-bounds = within-true firstMjd lastMjd (h .start8 / dayUnits) (b .clock .start)
 
   second-can : canShow secondItems (secondValues (secondShown h)) ≡ true
   unfolding secondShown
@@ -97,7 +92,7 @@ module _ (rules : Rules) (h : Header) (b : Bounded rules h) where
       rw (
         can-whole 4 0 9999 (s .week) (omega arith) (omega arith) (omega arith) (omega (arith, in-bounds)) (omega (arith, in-bounds)),
         can-decimal 15 8 6 0 60_479_999_999_999 (s .seconds8) (omega arith) (omega arith) refl (omega arith) (omega arith) (omega arith),
-        can-decimal 14 8 5 1 9_999_999_999_999 (h .interval8) (omega arith) (omega arith) refl (b .interval .0) (b .interval .1) (omega (arith, b .interval)),
+        can-decimal 14 8 5 1 9_999_999_999_999 (h .interval8) (omega arith) (omega arith) refl (b .clock .interval .0) (b .clock .interval .1) (omega (arith, b .clock .interval)),
         can-whole 5 0 99_999 (s .mjd) (omega arith) (omega arith) (omega arith) (omega (arith, in-bounds)) (omega (arith, in-bounds)),
         can-decimal 15 13 1 0 9_999_999_999_999 (s .fraction13) (omega arith) (omega arith) refl (omega arith) (omega arith) (omega arith),
       )

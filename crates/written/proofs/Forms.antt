@@ -1,12 +1,12 @@
 -- The lines of a valid table's canonical form are those of an accepted file.
 -- Assumes nothing.
-use mathlib.Core.Path.{_≡_, refl, sym, ap, ap₂, _∙_, subst}
+use mathlib.Core.Path.{_≡_, refl, sym, ap, _∙_, subst}
 use mathlib.Core.Bool.{Bool, true, false, cond}
 use mathlib.Core.List.{List, [], _∷_, _++_, map, map-append, append-assoc}
 use Prim.Native.Nat.{ℕ, suc, _-_}
 use native.Mathlib.Omega.{arith}
 use lib.Dec.{eqb}
-use lib.ListN.{length, drop, length-drop}
+use lib.ListN.{drop, length-drop}
 use Rattle.laws.specs.Tests.{within}
 use Rattle.layout.specs.Line.{padded, lineOf}
 use Rattle.header.specs.Rules.{slotLines}
@@ -24,12 +24,14 @@ use Rattle.file.specs.Plain.{Plain, Epochs, areSlots, namesOf, isSecondLine, is
 use Rattle.canon.specs.Table as table
 use Rattle.canon.specs.Table.{Table}
 use Rattle.canon.specs.Canonical.{momentOf, firstShown, secondShown, satellitesShown, slotLinesOf, descriptorShown, basesShown, descriptorLines, linesBefore, commentLines, epochsLines, canonicalLines}
-use Rattle.written.proofs.Facts.{Proper, Bounded}
-use Rattle.written.proofs.Parts.{Parts}
+use Rattle.canon.proofs.HeaderBounds.{Bounded}
+use Rattle.written.proofs.Versions.{Proper}
+use Rattle.canon.proofs.Parts.{Parts}
 use Rattle.written.proofs.Moments.{moment-is, moment-fits, moment-back}
 use Rattle.written.proofs.FirstLines.{first-read, first-is, second-read, second-is}
 use Rattle.written.proofs.NamesShown.{count-read, count-is, names-hold}
-use Rattle.written.proofs.SlotsShown.{every-drop, slots-are, slots-many}
+use Rattle.canon.proofs.Parted.{every-drop}
+use Rattle.written.proofs.SlotsShown.{slots-are, slots-many}
 use Rattle.written.proofs.DescriptorLines.{descriptor-is, characters-is, bases-is, floats-is, integers-is, last-is}
 use Rattle.written.proofs.CommentLines as comment
 
@@ -131,11 +133,11 @@ module _ (rules : Rules) (proper : Proper rules) (t : Table) (v : Parts rules t)
 
   -- what the first lines say
   pub reads-first : firstOf rules (padded first) ≡ firstShown h
-  reads-first = first-read rules proper h bound (moment-fits (momentOf (h .start8)) (moment-is (h .start8) (bound .start)))
+  reads-first = first-read rules proper h bound (moment-fits (momentOf (h .start8)) (moment-is (h .start8) (bound .clock .start)))
 
   pub says-start : instantIn (firstOf rules (padded first) .start) ≡ h .start8
   unfolding firstShown
-  says-start = ap (λ (f : First). instantIn (f .start)) reads-first ∙ moment-back (h .start8) (bound .start)
+  says-start = ap (λ (f : First). instantIn (f .start)) reads-first ∙ moment-back (h .start8) (bound .clock .start)
 
   pub says-mode : eqb (firstOf rules (padded first) .mode) 86 ≡ h .velocity
   unfolding firstShown
@@ -184,7 +186,7 @@ module _ (rules : Rules) (proper : Proper rules) (t : Table) (v : Parts rules t)
     epochs = epochs;
     last = lineOf (fixedLine endItems);
     lines-are = lines-are;
-    is-first = first-is rules proper h bound (moment-fits (momentOf (h .start8)) (moment-is (h .start8) (bound .start)));
+    is-first = first-is rules proper h bound (moment-fits (momentOf (h .start8)) (moment-is (h .start8) (bound .clock .start)));
     is-second = ap (λ (at8 : ℕ). isSecondLine rules at8 second) says-start ∙ second-is rules h bound;
     is-count = count-is rules proper n names (bound .satellites) (v .names-many) (v .names);
     are-slots = ap (λ (k : ℕ). areSlots rules false (k - 17) slots) says-count ∙ further-are;

@@ -1,7 +1,6 @@
 pub mod Bare
 pub mod Fits
-pub mod Facts
-pub mod Parts
+pub mod Versions
 pub mod Moments
 pub mod FirstLines
 pub mod DescriptorLines

@@ -3,14 +3,14 @@
 use mathlib.Core.Path.{_≡_, refl, sym}
 use mathlib.Core.Bool.{Bool, true, false, _&&_}
 use mathlib.Core.List.{List, _++_}
-use Prim.Native.Nat.{ℕ, _-_, _/_, _^_, _≤_, _<_}
+use Prim.Native.Nat.{ℕ, _-_, _≤_}
 use native.Mathlib.Omega.{arith}
-use borrow.Author.Tests.{le-leb, lt-ltb}
+use borrow.Author.Tests.{lt-ltb}
 use lib.Dec.{T, leb, leb→le}
 use Rattle.laws.specs.Tests.{within, everyBelow}
 use Rattle.calendar.specs.Gregorian.{isDate, leap, monthLength, dateOf}
 use Rattle.calendar.specs.Clock.{minuteUnits, isTime, clockOf}
-use Rattle.field.specs.Show.{fitsInteger, fitsWhole, fitsDecimal}
+use Rattle.field.specs.Show.{fitsWhole, fitsDecimal}
 use Rattle.layout.specs.Layout.{Item, Values, canShow}
 use Rattle.header.specs.Header.{isMoment, instantOf}
 use Rattle.record.specs.Times.{timeItems, momentValues}
@@ -19,7 +19,7 @@ use Rattle.header.specs.declared.types.Moment.{Moment}
 use Rattle.canon.specs.Valid.{isInstant}
 use Rattle.canon.specs.Canonical.{momentOf}
 use Rattle.laws.proofs.Bools.{and-left, and-right}
-use Rattle.laws.proofs.Bounds.{true-within, below}
+use Rattle.laws.proofs.Bounds.{below}
 use Rattle.calendar.proofs.Days.{day-is, inside}
 use Rattle.calendar.proofs.Instants.{InstantTold, time-is, instant-told}
 use Rattle.calendar.proofs.Theorems.{clock-forth}

@@ -10,7 +10,7 @@ use Rattle.laws.specs.Texts.{every}
 use Rattle.layout.specs.Kind.{isName}
 use Rattle.layout.specs.Layout.{canShow}
 use Rattle.layout.specs.Line.{padded, lineOf}
-use Rattle.header.specs.Rules.{slotLines, maxSatellites}
+use Rattle.header.specs.Rules.{slotLines}
 use Rattle.header.specs.declared.types.Rules.{Rules}
 use Rattle.record.specs.LineKinds.{kindOf}
 use Rattle.record.specs.SlotLines.{satelliteItems, satellitesValues, satellitesOf, satellitesLine}
@@ -23,8 +23,9 @@ use Rattle.accepted.proofs.Slots.{freshIn, first-fresh, names-cons}
 use Rattle.canon.specs.Canonical.{seventeen, satellitesShown, slotLinesOf}
 use Rattle.written.proofs.Bare.{EndsLine, bare-ended, bare-record}
 use Rattle.written.proofs.Fits.{can-whole}
-use Rattle.written.proofs.Facts.{Proper}
-use Rattle.written.proofs.SlotsShown.{zeros, every-drop, slots-can, seventeen-front, slots-hold}
+use Rattle.written.proofs.Versions.{Proper}
+use Rattle.canon.proofs.Parted.{every-drop}
+use Rattle.written.proofs.SlotsShown.{zeros, slots-can, seventeen-front, slots-hold}
 
 -- so many lines have room for the identifiers after the first seventeen
 room-after : (n : ℕ) → n - 17 ≤ 17 * (slotLines n - 1)

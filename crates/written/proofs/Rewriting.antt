@@ -3,12 +3,12 @@
 -- canonical bytes returns those bytes."
 -- Assumes nothing.
 use mathlib.Core.Path.{_≡_, refl, sym, ap, ap₂, _∙_, subst}
-use mathlib.Core.Bool.{Bool, true, false}
+use mathlib.Core.Bool.{true, false}
 use mathlib.Core.List.{List, [], _∷_, _++_}
 use mathlib.Core.Logic.{_↔_}
 use Prim.Native.Nat.{ℕ, _*_}
 use lib.IntN.{ℤ}
-use lib.ListN.{length, take}
+use lib.ListN.{length}
 use lib.Seq.{take-all}
 use native.Mathlib.Omega.{arith}
 use Rattle.lines.specs.Lent.{flat}
@@ -26,7 +26,7 @@ use Rattle.accepted.proofs.Files.{plain-lines}
 use Rattle.canon.specs.Table.{Table, tableOf, cellWidth, cellsIn, namesOf, exponentsOf, commentsOf, rowsOf}
 use Rattle.canon.specs.Valid.{valid}
 use Rattle.canon.specs.Canonical.{linesBefore, commentLines, epochsLines, canonicalLines, canonical}
-use Rattle.written.proofs.Facts.{Proper}
+use Rattle.written.proofs.Versions.{Proper}
 use Rattle.written.proofs.Holding.{Holds}
 use Rattle.written.proofs.ValidTables.{held-valid, rows-long}
 use Rattle.written.proofs.Trips.{form-accepted, form-holds}

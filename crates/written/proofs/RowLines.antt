@@ -4,10 +4,10 @@
 use mathlib.Core.Path.{_≡_, refl, ap, _∙_}
 use mathlib.Core.Bool.{Bool, true, false, cond, not, _&&_, _||_, false≢true}
 use mathlib.Core.List.{List, [], _∷_, _++_, append-nil}
-use Prim.Native.Nat.{ℕ, zero, suc, _+_, _/_, _≤_}
+use Prim.Native.Nat.{ℕ, zero, suc, _+_, _≤_}
 use native.Mathlib.Omega.{arith}
 use borrow.Author.Tests.{eq-eqb, eqb-true, eqb-false, lt-ltb, leb-true}
-use lib.Dec.{leb, eqb}
+use lib.Dec.{leb, eqb, ltb}
 use lib.IntN.{ℤ, pos, negsuc, natAbs}
 use lib.ListN.{length, take, drop}
 use lib.Seq.{drop-cons}
@@ -33,14 +33,18 @@ use Rattle.record.proofs.Tiled.{rows-tiled}
 use Rattle.record.proofs.RoundTrips.{flagless, row-back}
 use Rattle.file.proofs.Exact.{stored-exact}
 use Rattle.plain.proofs.Exact.{count-exact, mark-exact, row-in}
+use Rattle.canon.proofs.Inked as inked
 use Rattle.written.proofs.Bare.{EndsLine, bare-ended, bare-record}
 
 -- One number. A place or clock within the bound fits its columns, and is stored as it is.
 pub amount-fits : (v : ℤ) → amountValid v ≡ true → canAmount 14 6 (isNegative v) (natAbs v) ≡ true
-unfolding fitsDecimal fitsInteger
-amount-fits (pos n) e = rw e (rw (lt-ltb (n / 1_000_000) 10_000_000 (omega (arith, leb-true n largest e))))
-amount-fits (negsuc n) e =
-    rw (e, lt-ltb 0 (suc n) (omega arith)) (rw (lt-ltb (suc n / 1_000_000) 1_000_000 (omega (arith, leb-true (suc n) largest e))))
+amount-fits v e =
+    and-both (leb (natAbs v) largest) _ e
+    (and-both (fitsDecimal 14 6 (isNegative v) (natAbs v)) _ (inked.amount-fits (isNegative v) (natAbs v) (leb-true (natAbs v) largest e)) (no-minus-zero v))
+  where
+    no-minus-zero : (u : ℤ) → (not (isNegative u) || ltb 0 (natAbs u)) ≡ true
+    no-minus-zero (pos n) = refl
+    no-minus-zero (negsuc n) = lt-ltb 0 (suc n) (omega arith)
 
 pub amount-stored : (v : ℤ) → amountValid v ≡ true → storedInt (isNegative v) (natAbs v) ≡ v
 unfolding signedInt

@@ -1,26 +1,27 @@
 -- The `+ ` and `++` lines of the canonical form are such lines, and hold the numbers that they show.
 -- Assumes nothing.
 use mathlib.Core.Path.{_≡_, refl, sym, ap, ap₂, _∙_}
-use mathlib.Core.Bool.{Bool, true, false, cond, _&&_}
+use mathlib.Core.Bool.{Bool, true, false}
 use mathlib.Core.List.{List, [], _∷_, _++_, map, append-nil}
-use Prim.Native.Nat.{ℕ, zero, suc, _+_, _-_, _*_, _≤_, _<_, min}
+use Prim.Native.Nat.{ℕ, zero, suc, _+_, _-_, _*_, _≤_}
 use native.Mathlib.Omega.{arith}
 use native.Mathlib.Decide.{decLe}
-use borrow.Author.Tests.{le-leb, leb-true, eq-eqb, lt-ltb}
-use lib.Dec.{leb, eqb, ltb}
-use lib.ListN.{length, take, drop, replicate, length-drop, length-append, length-replicate, take-append-drop}
+use borrow.Author.Tests.{leb-true, lt-ltb}
+use lib.Dec.{leb, eqb}
+use lib.ListN.{length, take, drop, replicate, length-drop, length-append, take-append-drop}
 use lib.Seq.{length-take-le, take-at, take-all, take-take, take-append-le}
 use Rattle.laws.specs.Texts.{every}
 use Rattle.laws.proofs.Bools.{and-left, and-right, and-both}
 use Rattle.laws.proofs.Lists.{one-less}
 use Rattle.lines.specs.Lent.{flat}
 use Rattle.lines.proofs.Each.{Each}
-use Rattle.layout.specs.Kind.{Kind, silent, holdsIn, isName}
+use Rattle.layout.specs.Kind.{holdsIn, isName}
 use Rattle.layout.specs.Kind.Kind.{unused}
 use Rattle.layout.specs.Kind.Held.{one}
-use Rattle.layout.specs.Layout.{Item, Values, columns, canShow, slotsFrom, slotAt, widthOf, onesOf}
+use Rattle.layout.specs.Layout.{columns, canShow, slotsFrom, onesOf}
 use Rattle.layout.specs.Line.{padded, lineOf}
 use Rattle.record.specs.SlotLines.{slotKind, moreItems, moreOf, moreLine}
+use Rattle.canon.proofs.Parted.{every-drop}
 use Rattle.canon.specs.Canonical.{seventeen, slotsShown, slotLinesOf}
 use Rattle.header.specs.declared.types.Rules.{Rules}
 use Rattle.record.specs.LineKinds.{kindOf}
@@ -61,12 +62,6 @@ slots-can true (suc count) at [] (k ∷ zeros) p v z few =
 slots-can false (suc count) at [] (k ∷ zeros) p v z few =
     rw (and-left (eqb k 0) _ z) (slots-can false count (at + 3) [] zeros (omega arith) refl (and-right (eqb k 0) _ z) (omega arith))
 slots-can accuracies (suc count) at numbers [] p v z few = absurd (omega arith)
-
--- what holds of every number holds of those after the first
-pub every-drop : (test : ℕ → Bool) (n : ℕ) (s : List ℕ) → every test s ≡ true → every test (drop n s) ≡ true
-every-drop test zero s h = h
-every-drop test (suc n) [] h = refl
-every-drop test (suc n) (b ∷ s) h = every-drop test n s (and-right (test b) (every test s) h)
 
 -- zeros
 pub zeros : (n : ℕ) → every (λ k. eqb k 0) (replicate n 0) ≡ true

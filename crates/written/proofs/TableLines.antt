@@ -10,14 +10,14 @@ use Rattle.file.specs.Plain.{Epochs}
 use Rattle.canon.specs.Table.{Table, cellWidth, cellsIn, namesOf, rowsOf}
 use Rattle.canon.specs.Valid.{rowsValid}
 use Rattle.canon.specs.Canonical.{epochsLines}
-use Rattle.written.proofs.Parts.{Parts}
+use Rattle.canon.proofs.Parts.{Parts}
 use Rattle.written.proofs.EpochLines.{Instants, all-instants}
 use Rattle.written.proofs.BodyLines.{Carries, all-epochs-hold}
 
 module _ (rules : Rules) (t : Table) (v : Parts rules t) where
   -- the instants of its epochs are of the bounds
   instants : Instants (t .header .interval8) (t .header .epochs) (t .header .start8)
-  instants = all-instants (t .header .interval8) (t .header .epochs) (t .header .start8) (v .header .start) (v .header .last)
+  instants = all-instants (t .header .interval8) (t .header .epochs) (t .header .start8) (v .header .clock .start) (v .header .clock .last)
 
   -- THE LINES OF ITS EPOCHS: they are those of so many epochs, they store its rows, and each ends in its LF.
   pub table-epochs : Carries rules

@@ -1,16 +1,15 @@
 -- THE CANONICAL FORM, over the rules of a version: a valid table's form is accepted, whole, and holds exactly that table.
 -- Assumes nothing.
-use mathlib.Core.Path.{_≡_, refl, sym, ap, ap₂, _∙_, subst}
-use mathlib.Core.Bool.{Bool, true, false, cond}
+use mathlib.Core.Path.{_≡_, sym, ap, ap₂, _∙_, subst}
+use mathlib.Core.Bool.{Bool, true, false}
 use mathlib.Core.List.{List, [], _∷_, _++_, map}
 use Prim.Native.Nat.{ℕ, _-_, _*_, _≤_}
 use native.Mathlib.Omega.{arith}
 use lib.ListN.{length, take, drop}
-use lib.Dec.{eqb}
 use Rattle.lines.specs.Lent.{flat}
 use Rattle.lines.specs.Lines.{linesOf, joinLines}
 use Rattle.lines.proofs.Each.{Each, each-append}
-use Rattle.layout.specs.Line.{padded, lineOf}
+use Rattle.layout.specs.Line.{padded}
 use Rattle.header.specs.Rules.{slotLines}
 use Rattle.header.specs.declared.types.Rules.{Rules}
 use Rattle.header.specs.declared.types.Header.{Header}
@@ -19,7 +18,6 @@ use Rattle.record.specs.Plain.{endItems}
 use Rattle.record.specs.declared.types.First.{First}
 use Rattle.record.specs.declared.types.Descriptor.{Descriptor}
 use Rattle.record.specs.declared.types.BaseLine.{BaseLine}
-use Rattle.machine.specs.Checks.{instantIn}
 use Rattle.file.specs.Table.{headerFrom, headerIn, countOf, slotsIn, commentsIn, rowsIn, slotNumbers, commentText, numbersOfRows}
 use Rattle.file.specs.Plain.{Plain, Accepted}
 use Rattle.plain.proofs.Counts as plain
@@ -30,12 +28,13 @@ use Rattle.canon.specs.Table.{Table}
 use Rattle.canon.specs.Valid.{valid}
 use Rattle.canon.specs.Canonical.{momentOf, firstShown, descriptorShown, basesShown, slotLinesOf, descriptorLines, linesBefore, commentLines, epochsLines, canonicalLines, canonical}
 use Rattle.written.proofs.Bare.{EndsLine, lines-joined}
-use Rattle.written.proofs.Facts.{Proper, Bounded}
-use Rattle.written.proofs.Parts.{Parts, parts}
+use Rattle.written.proofs.Versions.{Proper}
+use Rattle.canon.proofs.Parts.{Parts, parts}
 use Rattle.written.proofs.Moments.{moment-is, moment-fits, moment-back}
 use Rattle.written.proofs.FirstLines.{first-ends, second-ends}
 use Rattle.written.proofs.NamesShown.{count-ends}
-use Rattle.written.proofs.SlotsShown.{every-drop, slots-end, slots-hold}
+use Rattle.canon.proofs.Parted.{every-drop}
+use Rattle.written.proofs.SlotsShown.{slots-end, slots-hold}
 use Rattle.written.proofs.DescriptorLines.{descriptor-read, bases-read, descriptors-end, last-ends}
 use Rattle.written.proofs.CommentLines as comment
 use Rattle.written.proofs.TableLines.{table-epochs}
@@ -67,7 +66,7 @@ module _ (rules : Rules) (proper : Proper rules) (t : Table) (ok : valid rules t
       let bound = v .header in
       let names = table.namesOf t in
       let exponents = table.exponentsOf t in
-      let fits = moment-fits (momentOf (h .start8)) (moment-is (h .start8) (bound .start)) in
+      let fits = moment-fits (momentOf (h .start8)) (moment-is (h .start8) (bound .clock .start)) in
       let plus = slotLinesOf false (slotLines (h .satellites) - 1) (drop 17 names) in
       let doubles = slotLinesOf true (slotLines (h .satellites)) exponents in
       let said = commentLines (h .comments) (table.commentsOf t) in
@@ -105,7 +104,7 @@ module _ (rules : Rules) (proper : Proper rules) (t : Table) (ok : valid rules t
       ap₂
       (λ (velocity : Bool) (start8 : ℕ). headerFrom′ velocity start8)
       (mode-back (h .velocity))
-      (moment-back (h .start8) (v .header .start))
+      (moment-back (h .start8) (v .header .clock .start))
     where
       headerFrom′ : Bool → ℕ → Header
       headerFrom′ velocity start8 = record {

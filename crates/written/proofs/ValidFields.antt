@@ -2,12 +2,12 @@
 -- Assumes nothing.
 use mathlib.Core.Path.{_≡_, refl, sym, ap, _∙_}
 use mathlib.Core.Bool.{Bool, true, _&&_}
-use mathlib.Core.List.{List, [], _∷_, _++_}
-use Prim.Native.Nat.{ℕ, zero, suc, _-_, _<_}
+use mathlib.Core.List.{List, _++_}
+use Prim.Native.Nat.{ℕ, _-_, _<_}
 use native.Mathlib.Omega.{arith}
 use borrow.Author.Tests.{leb-true}
 use lib.Dec.{leb, eqb}
-use lib.ListN.{length, getD, take, drop, length-drop}
+use lib.ListN.{length, getD, drop, length-drop}
 use lib.Seq.{length-take-le}
 use Rattle.laws.specs.Texts.{every, isPrintable, blanks}
 use Rattle.layout.specs.Fault.{clean}
@@ -18,23 +18,12 @@ use Rattle.layout.specs.Line.{padded}
 use Rattle.header.specs.declared.types.Rules.{Rules}
 use Rattle.record.specs.declared.types.LineKind.{LineKind}
 use Rattle.file.specs.Plain.{isLine, isRecord}
-use Rattle.laws.proofs.Bools.{and-left, and-right, and-both}
+use Rattle.laws.proofs.Bools.{and-left, and-right}
 use Rattle.laws.proofs.Lists.{every-append, every-replicate}
 use Rattle.layout.proofs.Again.{holds-again}
 use Rattle.layout.proofs.Lines.{padded-length}
+use Rattle.canon.proofs.Parted.{every-take, every-drop}
 use Rattle.plain.proofs.Clean.{record-clean, item-at}
-
--- what holds of every byte holds of those of a part
-module _ (test : ℕ → Bool) where
-  pub every-take : (n : ℕ) (s : List ℕ) → every test s ≡ true → every test (take n s) ≡ true
-  every-take zero s h = refl
-  every-take (suc n) [] h = refl
-  every-take (suc n) (b ∷ s) h = and-both (test b) _ (and-left (test b) (every test s) h) (every-take n s (and-right (test b) (every test s) h))
-
-  pub every-drop : (n : ℕ) (s : List ℕ) → every test s ≡ true → every test (drop n s) ≡ true
-  every-drop zero s h = h
-  every-drop (suc n) [] h = refl
-  every-drop (suc n) (b ∷ s) h = every-drop n s (and-right (test b) (every test s) h)
 
 -- a line stays printable as it is padded
 pub padded-printable : (l : List ℕ) → printable l ≡ true → printable (padded l) ≡ true

@@ -38,7 +38,8 @@ use Rattle.plain.proofs.Clean.{record-clean}
 use Rattle.plain.proofs.Selected.{satellites, names, kind-4, kind-8}
 use Rattle.plain.proofs.Slots.{slots-wide}
 use Rattle.plain.proofs.Counts.{comment-wide}
-use Rattle.written.proofs.ValidFields.{every-take, every-drop, inLine, item-holds, record-plain, record-holds}
+use Rattle.canon.proofs.Parted.{every-take, every-drop}
+use Rattle.written.proofs.ValidFields.{inLine, item-holds, record-plain, record-holds}
 
 -- the first places of two lists, one after the other
 every-first : (test : ℕ → Bool) (n : ℕ) (s t : List ℕ) → every test (take n s) ≡ true → every test (take (n - length s) t) ≡ true → every test (take n (s ++ t)) ≡ true

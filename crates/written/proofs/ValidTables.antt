@@ -24,6 +24,7 @@ use Rattle.plain.proofs.Selected.{satellites, names, velocities, interval8, epo
 use Rattle.plain.proofs.Slots.{names-many}
 use Rattle.plain.proofs.Counts as plain
 use Rattle.plain.proofs.Counts.{count-is, exponents-room, comments-room, places-room, motions-room}
+use Rattle.canon.proofs.Counting.{some-width}
 use Rattle.written.proofs.Holding.{Holds}
 use Rattle.written.proofs.ValidHeads.{header-valid}
 use Rattle.written.proofs.ValidLists.{names-valid, exponents-valid, comments-valid}
@@ -36,10 +37,6 @@ has-places n l e = omega (arith, length-take n l)
 -- and where they are k parts of w places, it has k whole parts
 has-parts : {A : Type 0} (k w : ℕ) (l : List A) → 0 < w → length (take (k * w) l) ≡ k * w → leb k (length l / w) ≡ true
 has-parts k w l some e = le-leb k (length l / w) (le-div-iff-mul-le {k = w} {x = k} {y = length l} some .1 (has-places (k * w) l e))
-
-cell-some : (velocity : Bool) → 0 < cellWidth velocity
-cell-some true = omega arith
-cell-some false = omega arith
 
 module _ (rules : Rules) (lines : List (List ℕ)) (p : Plain rules lines) where
   -- the rows have so many numbers as the cells of their width
@@ -84,7 +81,7 @@ module _ (rules : Rules) (lines : List (List ℕ)) (p : Plain rules lines) where
         let whole : leb (x .comments) (length (t .comments) / commentWidth) ≡ true =
         has-parts (x .comments) commentWidth (t .comments) (omega arith) (ap length (sym (h .comments-are)) ∙ comments-room p ∙ omega arith) in
         let each : leb (cellsIn x) (length (t .rows) / cellWidth (x .velocity)) ≡ true =
-        has-parts (cellsIn x) (cellWidth (x .velocity)) (t .rows) (cell-some (x .velocity))
+        has-parts (cellsIn x) (cellWidth (x .velocity)) (t .rows) (some-width (x .velocity))
         (ap length (sym (h .rows-are)) ∙ rows-long ∙ ap (λ (y : Header). cellsIn y * cellWidth (y .velocity)) (sym said)) in
         rw (some, same, whole, each)
 

@@ -10,7 +10,8 @@ use Rattle.record.specs.Opening.{epochLine}
 use Rattle.canon.specs.Table.{cellWidth}
 use Rattle.canon.specs.Canonical.{epochShown, cellsLines, epochsLines}
 use Rattle.writer.proofs.Blocks.{Left, left-all, left-here, left-next, block-length, epochs-next}
-use Rattle.writer.proofs.Times.{Clocked, timed, clocked-first, clocked-instant, clocked-fits, clocked-next}
+use Rattle.canon.proofs.HeaderBounds.{timed}
+use Rattle.writer.proofs.Times.{Clocked, clocked-first, clocked-instant, clocked-fits, clocked-next}
 use Rattle.writer.proofs.Laying.{Laying, then, laying-none, laying-as, laying-kept, laying-within, laying-fits, laying-room, laying-more, laying-end}
 use Rattle.writer.proofs.epochs.put_epochs.Statement.{statement}
 use Rattle.writer.proofs.epochs.put_epochs.Tie as tie
@@ -118,7 +119,7 @@ put-epochs-spec =
     Inv-loop
     μ-loop
     (λ c κs. search needs)
-    (λ c. omega (arith, c .before .before .before .good, left-here (all-left c) (timed (c .before .before .before .args .h) (c .before .before .before .pre .0) .epochs)))
+    (λ c. omega (arith, c .before .before .before .good, left-here (all-left c) (timed (c .before .before .before .args .h) (c .before .before .before .pre .0) .epochs .0)))
     loop-holds
     (λ c. omega (arith, c .before .before .before .before .before .good, here c))
     (λ c. search needs)

@@ -13,7 +13,7 @@ use Rattle.record.specs.Plain.{endItems}
 use Rattle.canon.specs.Table.{Table, tableOf, commentWidth, cellWidth, cellsIn, namesOf, exponentsOf, commentsOf, rowsOf}
 use Rattle.canon.specs.Canonical.{linesBefore, commentLines, epochsLines, canonicalLines, canonical}
 use Rattle.writer.proofs.Fitting.{Fitting, valid-fits, by-epochs}
-use Rattle.writer.proofs.Times.{timed}
+use Rattle.canon.proofs.HeaderBounds.{timed}
 use Rattle.writer.proofs.Laying.{Laying, then, lays-over, laying-first, first-room, laying-within, laying-fits, laying-room, laying-more, laying-end, one-line}
 use Rattle.writer.proofs.whole.put_table.Statement.{statement}
 use Rattle.writer.proofs.whole.put_table.Tie as tie
