@@ -2,7 +2,7 @@
 -- Assumes nothing.
 use mathlib.Core.Path.{_≡_, ap, ap₂, _∙_}
 use mathlib.Core.Bool.{Bool, true}
-use mathlib.Core.List.{List}
+use mathlib.Core.List.{List, []}
 use Prim.Native.Nat.{ℕ}
 use lib.IntN.{ℤ}
 use lib.ListN.{length}
@@ -13,6 +13,7 @@ use Rattle.file.specs.Table.{headerIn, commentsIn, rowsIn}
 use Rattle.scan.specs.Run.{IsFile}
 use Rattle.reader.specs.Reading.{fileOf, acceptedAs, linesIn, filled, identifiersOf, exponentsOf, readAnswer, fills, identifiersAfter, exponentsAfter, commentsAfter, rowsAfter}
 use Rattle.accepted.proofs.Files.{whole-taken}
+use Rattle.theorems.proofs.Judging.{file-then-anything}
 use Rattle.theorems.proofs.Room.{answer-decides, fills-exactly, room-accepted}
 use Rattle.reader.specs.declared.types.Reading.{Reading}
 
@@ -48,3 +49,6 @@ module _ (bytes : List ℕ) (accepted : IsFile d bytes) (identifiers exponents c
 
   pub header-told : readAnswer d bytes (fileOf d bytes) identifiers exponents comments rows .header ≡ headerIn d (linesOf bytes)
   header-told = ap (λ (r : Reading). r .header) answer-is ∙ ap (λ (s : List ℕ). headerIn d (linesOf s)) (whole-taken bytes (accepted .0) (accepted .1))
+
+  pub length-told : readAnswer d bytes (fileOf d bytes) identifiers exponents comments rows .length ≡ length bytes
+  length-told = ap (λ (r : Reading). r .length) answer-is ∙ file-then-anything bytes [] (accepted .0) (accepted .1) .1

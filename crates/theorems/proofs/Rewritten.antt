@@ -5,7 +5,7 @@ use mathlib.Core.Path.{_≡_, sym, ap, _∙_, subst}
 use mathlib.Core.Bool.{true}
 use mathlib.Core.List.{List}
 use mathlib.Core.Logic.{_↔_}
-use Prim.Native.Nat.{ℕ, _*_}
+use Prim.Native.Nat.{ℕ, _*_, _≤_}
 use native.Mathlib.Omega.{arith}
 use lib.IntN.{ℤ}
 use lib.ListN.{length, take, drop, length-take}
@@ -15,8 +15,8 @@ use Rattle.lines.specs.Lent.{over}
 use Rattle.lines.specs.Lines.{linesOf}
 use Rattle.file.specs.Table.{headerIn}
 use Rattle.scan.specs.Run.{IsFile}
-use Rattle.reader.specs.Reading.{fileOf, readAnswer, identifiersAfter, exponentsAfter, commentsAfter, rowsAfter}
-use Rattle.accepted.proofs.Files.{d-exactly, file-plain}
+use Rattle.reader.specs.Reading.{fileOf, linesTo, readAnswer, identifiersAfter, exponentsAfter, commentsAfter, rowsAfter}
+use Rattle.accepted.proofs.Files.{d-exactly, file-plain, whole-taken}
 use Rattle.canon.specs.Table.{Table, tableOf, commentWidth, cellWidth, cellsIn, namesOf, exponentsOf, commentsOf, rowsOf}
 use Rattle.canon.specs.Valid.{valid}
 use Rattle.canon.specs.Canonical.{canonical}
@@ -28,9 +28,12 @@ use Rattle.written.proofs.Holding.{Holds}
 use Rattle.written.proofs.Trips.{form-accepted, form-holds}
 use Rattle.written.proofs.ValidTables.{held-valid}
 use Rattle.written.proofs.Rewriting as rewriting
-use Rattle.theorems.proofs.Filled.{identifiers-filled, exponents-filled, comments-filled, rows-filled, header-told}
-use Rattle.theorems.proofs.Writing.{valid-table, written-form}
+use Rattle.theorems.proofs.Filled.{length-told, identifiers-filled, exponents-filled, comments-filled, rows-filled, header-told}
+use Rattle.theorems.proofs.Room.{Room, room-accepted}
+use Rattle.theorems.proofs.Writing.{written-0, valid-table, out-is, written-form, written-length}
 use Rattle.header.specs.declared.types.Header.{Header}
+use Rattle.reader.specs.declared.types.Reading.{Reading}
+use Rattle.canon.specs.declared.types.Measured.{Measured}
 
 -- A TABLE IS VALID EXACTLY WHEN SOME ACCEPTED FILE HAS IT.
 pub valid-exactly : (t : Table) → (valid d t ≡ true) ↔ ((bytes : List ℕ) × IsFile d bytes × Holds d (linesOf bytes) t)
@@ -66,11 +69,28 @@ module _ (t : Table) (out : List ℕ) (success : measured d t (length out) .refu
   written-holds =
       subst (λ (s : List ℕ). Holds d (linesOf s) t) (sym (written-form t out success)) (form-holds d d-proper t (valid-table t out success))
 
-  -- so `read`, given room, gives the header back and fills the lists with what belongs to the table.
+  -- so `read`, given room, accepts them,
+  pub room-reads : (identifiers exponents comments : List ℕ) (rows : List ℤ) → Room (t .header) (length identifiers) (length exponents) (length comments) (length rows)
+      → readAnswer d writtenBytes (fileOf d writtenBytes) identifiers exponents comments rows .refusal ≡ 0
+  room-reads identifiers exponents comments rows room =
+      let τ = written-accepted .0 in
+      let same : headerIn d (linesTo (τ .end) writtenBytes) ≡ t .header =
+      ap (λ (s : List ℕ). headerIn d (linesOf s)) (whole-taken writtenBytes τ (written-accepted .1)) ∙ written-holds .header-is in
+      ap (λ (r : Reading). r .refusal)
+      (room-accepted true writtenBytes τ (written-accepted .1) (length identifiers) (length exponents) (length comments) (length rows)
+      (subst (λ (h : Header). Room h (length identifiers) (length exponents) (length comments) (length rows)) (sym same) room))
+
+  -- gives length and header back, and fills the lists with what belongs to the table.
   module _ (identifiers exponents comments : List ℕ) (rows : List ℤ)
       (read : readAnswer d writtenBytes (fileOf d writtenBytes) identifiers exponents comments rows .refusal ≡ 0) where
     pub header-back : readAnswer d writtenBytes (fileOf d writtenBytes) identifiers exponents comments rows .header ≡ t .header
     header-back = header-told writtenBytes written-accepted identifiers exponents comments rows read ∙ written-holds .header-is
+
+    pub length-back : readAnswer d writtenBytes (fileOf d writtenBytes) identifiers exponents comments rows .length ≡ measured d t (length out) .length
+    length-back =
+        length-told writtenBytes written-accepted identifiers exponents comments rows read
+        ∙ ap length (written-form t out success)
+        ∙ sym (written-length t out success)
 
     pub identifiers-back : identifiersAfter d writtenBytes (fileOf d writtenBytes) identifiers exponents comments rows ≡ over (namesOf t) identifiers
     identifiers-back =
@@ -135,6 +155,18 @@ module _ (bytes : List ℕ) (accepted : IsFile d bytes) (identifiers exponents c
   -- and what `write` makes of them is the form of the file,
   pub lent-form : canonical d lentTable ≡ rewritten bytes
   lent-form = rewriting.one-form d (linesOf bytes) lentTable (rewriting.tableIn d (linesOf bytes)) lent-held own
+
+  -- answered by 0 and its length where there is room, and laid from the first byte of the output on,
+  module _ (out : List ℕ) (room : length (rewritten bytes) ≤ length out) where
+    enough : length (canonical d lentTable) ≤ length out
+    enough = rw lent-form room
+
+    pub lent-answer : measured d lentTable (length out) ≡ record { refusal = 0; length = length (rewritten bytes) }
+    lent-answer = written-0 lentTable out lent-valid enough ∙ ap (λ (s : List ℕ). record { refusal = 0; length = length s }) lent-form
+
+    pub lent-written : outAfter d lentTable out ≡ over (rewritten bytes) out
+    lent-written =
+        out-is lentTable out (ap (λ (m : Measured). m .refusal) lent-answer) ∙ ap (λ (s : List ℕ). over s out) lent-form
 
   -- which is accepted, has the same table, and written again stays as it is;
   pub form-file : IsFile d (rewritten bytes)

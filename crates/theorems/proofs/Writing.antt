@@ -74,7 +74,7 @@ module _ (t : Table) (out : List ℕ) where
     pub written-length : measured d t (length out) .length ≡ length form
     written-length = ap (λ (m : Measured). m .length) (written-0 valid-table room)
 
-    out-is : outAfter d t out ≡ over form out
+    pub out-is : outAfter d t out ≡ over form out
     unfolding outAfter
     out-is = rw (valid-table, le-leb (length form) (length out) room)
 
