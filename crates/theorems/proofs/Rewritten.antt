@@ -24,7 +24,7 @@ use Rattle.canon.specs.Measured.{measured}
 use Rattle.writer.specs.Writing.{outAfter}
 use Rattle.written.proofs.Versions.{d-proper}
 use Rattle.canon.proofs.Parts.{parts}
-use Rattle.written.proofs.Holding.{Holds}
+use Rattle.written.specs.Held.{Holds, tableIn, rewritten}
 use Rattle.written.proofs.Trips.{form-accepted, form-holds}
 use Rattle.written.proofs.ValidTables.{held-valid}
 use Rattle.written.proofs.Rewriting as rewriting
@@ -42,10 +42,6 @@ valid-exactly t =
       (λ ok. let f = e .0 ok in (f .0, d-exactly (f .0) .1 (f .1), f .2)),
       (λ f. e .1 (f .0, d-exactly (f .0) .0 (f .1), f .2)),
     )
-
--- the form of the table of a file
-abbrev pub rewritten : List ℕ → List ℕ
-rewritten bytes = rewriting.rewritten d bytes
 
 -- so many first places of a filled list are what it was filled with
 front-of : {A : Type 0} (n : ℕ) (new old now : List A) → now ≡ over new old → new ≡ take n new → length (take n new) ≡ n → new ≡ take n now
@@ -123,7 +119,7 @@ module _ (bytes : List ℕ) (accepted : IsFile d bytes) (identifiers exponents c
       (commentsAfter d bytes (fileOf d bytes) identifiers exponents comments rows)
       (rowsAfter d bytes (fileOf d bytes) identifiers exponents comments rows)
 
-  own : Holds d (linesOf bytes) (rewriting.tableIn d (linesOf bytes))
+  own : Holds d (linesOf bytes) (tableIn d (linesOf bytes))
   own = rewriting.table-held d (linesOf bytes) (file-plain bytes accepted)
 
   -- the file holds them, whatever stands past their counts,
@@ -131,7 +127,7 @@ module _ (bytes : List ℕ) (accepted : IsFile d bytes) (identifiers exponents c
   lent-held =
       let h = headerIn d (linesOf bytes) in
       let told = header-told bytes accepted identifiers exponents comments rows read in
-      let long = parts d (rewriting.tableIn d (linesOf bytes)) (held-valid d (linesOf bytes) (file-plain bytes accepted) (rewriting.tableIn d (linesOf bytes)) own) in
+      let long = parts d (tableIn d (linesOf bytes)) (held-valid d (linesOf bytes) (file-plain bytes accepted) (tableIn d (linesOf bytes)) own) in
       record {
         header-is = sym told;
         identifiers-are =
@@ -153,36 +149,36 @@ module _ (bytes : List ℕ) (accepted : IsFile d bytes) (identifiers exponents c
   lent-valid = held-valid d (linesOf bytes) (file-plain bytes accepted) lentTable lent-held
 
   -- and what `write` makes of them is the form of the file,
-  pub lent-form : canonical d lentTable ≡ rewritten bytes
-  lent-form = rewriting.one-form d (linesOf bytes) lentTable (rewriting.tableIn d (linesOf bytes)) lent-held own
+  pub lent-form : canonical d lentTable ≡ rewritten d bytes
+  lent-form = rewriting.one-form d (linesOf bytes) lentTable (tableIn d (linesOf bytes)) lent-held own
 
   -- answered by 0 and its length where there is room, and laid from the first byte of the output on,
-  module _ (out : List ℕ) (room : length (rewritten bytes) ≤ length out) where
+  module _ (out : List ℕ) (room : length (rewritten d bytes) ≤ length out) where
     enough : length (canonical d lentTable) ≤ length out
     enough = rw lent-form room
 
-    pub lent-answer : measured d lentTable (length out) ≡ record { refusal = 0; length = length (rewritten bytes) }
+    pub lent-answer : measured d lentTable (length out) ≡ record { refusal = 0; length = length (rewritten d bytes) }
     lent-answer = written-0 lentTable out lent-valid enough ∙ ap (λ (s : List ℕ). record { refusal = 0; length = length s }) lent-form
 
-    pub lent-written : outAfter d lentTable out ≡ over (rewritten bytes) out
+    pub lent-written : outAfter d lentTable out ≡ over (rewritten d bytes) out
     lent-written =
         out-is lentTable out (ap (λ (m : Measured). m .refusal) lent-answer) ∙ ap (λ (s : List ℕ). over s out) lent-form
 
   -- which is accepted, has the same table, and written again stays as it is;
-  pub form-file : IsFile d (rewritten bytes)
-  form-file = d-exactly (rewritten bytes) .1 (rewriting.rewritten-accepted d d-proper bytes (d-exactly bytes .0 accepted))
+  pub form-file : IsFile d (rewritten d bytes)
+  form-file = d-exactly (rewritten d bytes) .1 (rewriting.rewritten-accepted d d-proper bytes (d-exactly bytes .0 accepted))
 
-  pub form-same : Holds d (linesOf (rewritten bytes)) lentTable
+  pub form-same : Holds d (linesOf (rewritten d bytes)) lentTable
   form-same =
       subst (λ (s : List ℕ). Holds d (linesOf s) lentTable) lent-form (form-holds d d-proper lentTable lent-valid)
 
-  pub form-stays : rewritten (rewritten bytes) ≡ rewritten bytes
+  pub form-stays : rewritten d (rewritten d bytes) ≡ rewritten d bytes
   form-stays = rewriting.rewritten-twice d d-proper bytes (d-exactly bytes .0 accepted)
 
   -- and canonical bytes are written as they were.
   pub form-is-file : (t : Table) → valid d t ≡ true → bytes ≡ canonical d t → canonical d lentTable ≡ bytes
   form-is-file t ok is =
       lent-form
-      ∙ ap rewritten is
+      ∙ ap (rewritten d) is
       ∙ rewriting.form-again d d-proper t ok
       ∙ sym is

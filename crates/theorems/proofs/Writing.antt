@@ -27,7 +27,7 @@ module _ (t : Table) (out : List ℕ) where
   -- 13 where the table is not valid, whatever the room,
   pub not-valid-13 : valid d t ≡ false → measured d t (length out) ≡ refusedAs 13
   unfolding measured
-  not-valid-13 no′ = rw no′
+  not-valid-13 invalid = rw invalid
 
   -- then 12 where the output is shorter than the form,
   pub too-small-12 : valid d t ≡ true → length out < length form → measured d t (length out) ≡ refusedAs 12

@@ -29,7 +29,7 @@ use Rattle.file.specs.Plain.{isLine, isCommentLine, everyLine}
 use Rattle.canon.specs.Valid.{commentColumns, commentValid, commentsValid}
 use Rattle.canon.specs.Canonical.{commentLines}
 use Rattle.written.proofs.Bare.{EndsLine, bare-ended, bare-is, bare-printable, bare-padded, bare-back}
-use Rattle.written.proofs.Versions.{Proper}
+use Rattle.written.specs.Held.{Proper}
 
 -- a symbol and a blank before a text: where the text is blank, the symbol alone
 symbol-length : (t : List ℕ) (n : ℕ) → length t ≤ n - 3 → 2 ≤ n → length (consTrimmed 47 (consTrimmed 42 (consTrimmed 32 t))) ≤ n

@@ -32,7 +32,7 @@ use Rattle.canon.specs.Canonical.{momentOf, firstShown, secondShown}
 use Rattle.written.proofs.Bare.{EndsLine, bare-ended, bare-record}
 use Rattle.written.proofs.Fits.{can-whole, can-decimal}
 use Rattle.canon.proofs.HeaderBounds.{Bounded}
-use Rattle.written.proofs.Versions.{Proper}
+use Rattle.written.specs.Held.{Proper}
 use Rattle.written.proofs.Moments.{Fitting, moment-dated}
 
 mode-listed : (velocity : Bool) → isOneOf (cond velocity 86 80) modes ≡ true

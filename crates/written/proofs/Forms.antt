@@ -25,7 +25,7 @@ use Rattle.canon.specs.Table as table
 use Rattle.canon.specs.Table.{Table}
 use Rattle.canon.specs.Canonical.{momentOf, firstShown, secondShown, satellitesShown, slotLinesOf, descriptorShown, basesShown, descriptorLines, linesBefore, commentLines, epochsLines, canonicalLines}
 use Rattle.canon.proofs.HeaderBounds.{Bounded}
-use Rattle.written.proofs.Versions.{Proper}
+use Rattle.written.specs.Held.{Proper}
 use Rattle.canon.proofs.Parts.{Parts}
 use Rattle.written.proofs.Moments.{moment-is, moment-fits, moment-back}
 use Rattle.written.proofs.FirstLines.{first-read, first-is, second-read, second-is}

@@ -12,7 +12,6 @@ pub mod EpochLines
 pub mod BodyLines
 pub mod TableLines
 pub mod Forms
-pub mod Holding
 pub mod ValidFields
 pub mod ValidHeads
 pub mod ValidLists

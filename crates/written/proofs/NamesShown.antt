@@ -23,7 +23,7 @@ use Rattle.accepted.proofs.Slots.{freshIn, first-fresh, names-cons}
 use Rattle.canon.specs.Canonical.{seventeen, satellitesShown, slotLinesOf}
 use Rattle.written.proofs.Bare.{EndsLine, bare-ended, bare-record}
 use Rattle.written.proofs.Fits.{can-whole}
-use Rattle.written.proofs.Versions.{Proper}
+use Rattle.written.specs.Held.{Proper}
 use Rattle.canon.proofs.Parted.{every-drop}
 use Rattle.written.proofs.SlotsShown.{zeros, slots-can, seventeen-front, slots-hold}
 

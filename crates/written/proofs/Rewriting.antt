@@ -23,11 +23,10 @@ use Rattle.plain.proofs.Selected.{satellites, velocities, epochs}
 use Rattle.plain.proofs.Slots.{names-many}
 use Rattle.plain.proofs.Counts as plain
 use Rattle.accepted.proofs.Files.{plain-lines}
-use Rattle.canon.specs.Table.{Table, tableOf, cellWidth, cellsIn, namesOf, exponentsOf, commentsOf, rowsOf}
+use Rattle.canon.specs.Table.{Table, cellWidth, cellsIn, namesOf, exponentsOf, commentsOf, rowsOf}
 use Rattle.canon.specs.Valid.{valid}
 use Rattle.canon.specs.Canonical.{linesBefore, commentLines, epochsLines, canonicalLines, canonical}
-use Rattle.written.proofs.Versions.{Proper}
-use Rattle.written.proofs.Holding.{Holds}
+use Rattle.written.specs.Held.{Holds, tableIn, rewritten, Proper}
 use Rattle.written.proofs.ValidTables.{held-valid, rows-long}
 use Rattle.written.proofs.Trips.{form-accepted, form-holds}
 
@@ -44,14 +43,8 @@ module _ (rules : Rules) where
   unfolding canonical canonicalLines
   form-is t = refl
 
-  -- the table that some lines hold
-  abbrev pub tableIn : List (List ℕ) → Table
-  tableIn lines =
-      tableOf (headerIn rules lines) (slotsIn rules false (countOf rules lines) lines) (slotsIn rules true (countOf rules lines) lines) (commentsIn rules lines)
-      (rowsIn rules lines)
-
   -- the lines of an accepted file hold it: its lists have no place past its counts
-  pub table-held : (lines : List (List ℕ)) → Plain rules lines → Holds rules lines (tableIn lines)
+  pub table-held : (lines : List (List ℕ)) → Plain rules lines → Holds rules lines (tableIn rules lines)
   table-held lines p =
       let h = headerIn rules lines in
       let n : countOf rules lines ≡ h .satellites = plain.count-is p ∙ sym (ap (λ (x : Header). x .satellites) (plain.header-is p)) in
@@ -83,10 +76,6 @@ module _ (rules : Rules) where
       ∙ ap (λ (rs : List ℤ). formOf (u .header) (namesOf u) (exponentsOf u) (commentsOf u) rs) rows
       ∙ sym (form-is u)
 
-  -- what a file is written again as: the form of its table
-  abbrev pub rewritten : List ℕ → List ℕ
-  rewritten bytes = canonical rules (tableIn (linesOf bytes))
-
   module _ (proper : Proper rules) where
     -- the lines of an accepted file
     file-lines : (bytes : List ℕ) → Accepted rules bytes → Plain rules (linesOf bytes)
@@ -101,21 +90,21 @@ module _ (rules : Rules) where
     )
 
     -- READING WHAT WAS WRITTEN, WRITTEN AGAIN: canonical bytes are their own form.
-    pub form-again : (t : Table) → valid rules t ≡ true → rewritten (canonical rules t) ≡ canonical rules t
+    pub form-again : (t : Table) → valid rules t ≡ true → rewritten rules (canonical rules t) ≡ canonical rules t
     form-again t ok =
         let p = file-lines (canonical rules t) (form-accepted rules proper t ok) in
-        one-form (linesOf (canonical rules t)) (tableIn (linesOf (canonical rules t))) t (table-held (linesOf (canonical rules t)) p) (form-holds rules proper t ok)
+        one-form (linesOf (canonical rules t)) (tableIn rules (linesOf (canonical rules t))) t (table-held (linesOf (canonical rules t)) p) (form-holds rules proper t ok)
 
     -- ANY ACCEPTED FILE: its form is accepted, holds the same table, and written again changes nothing more.
     module _ (bytes : List ℕ) (accepted : Accepted rules bytes) where
-      table-valid : valid rules (tableIn (linesOf bytes)) ≡ true
-      table-valid = let p = file-lines bytes accepted in held-valid rules (linesOf bytes) p (tableIn (linesOf bytes)) (table-held (linesOf bytes) p)
+      table-valid : valid rules (tableIn rules (linesOf bytes)) ≡ true
+      table-valid = let p = file-lines bytes accepted in held-valid rules (linesOf bytes) p (tableIn rules (linesOf bytes)) (table-held (linesOf bytes) p)
 
-      pub rewritten-accepted : Accepted rules (rewritten bytes)
-      rewritten-accepted = form-accepted rules proper (tableIn (linesOf bytes)) table-valid
+      pub rewritten-accepted : Accepted rules (rewritten rules bytes)
+      rewritten-accepted = form-accepted rules proper (tableIn rules (linesOf bytes)) table-valid
 
-      pub rewritten-holds : Holds rules (linesOf (rewritten bytes)) (tableIn (linesOf bytes))
-      rewritten-holds = form-holds rules proper (tableIn (linesOf bytes)) table-valid
+      pub rewritten-holds : Holds rules (linesOf (rewritten rules bytes)) (tableIn rules (linesOf bytes))
+      rewritten-holds = form-holds rules proper (tableIn rules (linesOf bytes)) table-valid
 
-      pub rewritten-twice : rewritten (rewritten bytes) ≡ rewritten bytes
-      rewritten-twice = form-again (tableIn (linesOf bytes)) table-valid
+      pub rewritten-twice : rewritten rules (rewritten rules bytes) ≡ rewritten rules bytes
+      rewritten-twice = form-again (tableIn rules (linesOf bytes)) table-valid

@@ -28,7 +28,7 @@ use Rattle.canon.specs.Table.{Table}
 use Rattle.canon.specs.Valid.{valid}
 use Rattle.canon.specs.Canonical.{momentOf, firstShown, descriptorShown, basesShown, slotLinesOf, descriptorLines, linesBefore, commentLines, epochsLines, canonicalLines, canonical}
 use Rattle.written.proofs.Bare.{EndsLine, lines-joined}
-use Rattle.written.proofs.Versions.{Proper}
+use Rattle.written.specs.Held.{Proper}
 use Rattle.canon.proofs.Parts.{Parts, parts}
 use Rattle.written.proofs.Moments.{moment-is, moment-fits, moment-back}
 use Rattle.written.proofs.FirstLines.{first-ends, second-ends}
@@ -39,7 +39,7 @@ use Rattle.written.proofs.DescriptorLines.{descriptor-read, bases-read,
 use Rattle.written.proofs.CommentLines as comment
 use Rattle.written.proofs.TableLines.{table-epochs}
 use Rattle.written.proofs.Forms.{formLines, form-plain, mode-back, reads-first, says-interval, says-count, says-names}
-use Rattle.written.proofs.Holding.{Holds}
+use Rattle.written.specs.Held.{Holds}
 
 -- so many `++` lines have room for the exponents
 room-all : (n : ℕ) → n ≤ 17 * slotLines n

@@ -25,7 +25,7 @@ use Rattle.plain.proofs.Slots.{names-many}
 use Rattle.plain.proofs.Counts as plain
 use Rattle.plain.proofs.Counts.{count-is, exponents-room, comments-room, places-room, motions-room}
 use Rattle.canon.proofs.Counting.{some-width}
-use Rattle.written.proofs.Holding.{Holds}
+use Rattle.written.specs.Held.{Holds}
 use Rattle.written.proofs.ValidHeads.{header-valid}
 use Rattle.written.proofs.ValidLists.{names-valid, exponents-valid, comments-valid}
 use Rattle.written.proofs.ValidRows.{rows-valid}
