@@ -4,7 +4,6 @@
 #include <stdio.h>
 #include <stdlib.h>
 #include <string.h>
-#include <ucontext.h>
 
 #include "doors.h"
 #define READER(name) o2_##name
@@ -12,7 +11,7 @@
 struct outcome o3_judge(const uint8_t *bytes, size_t length);
 struct outcome o3_read(const uint8_t *bytes, size_t length, struct lent *to);
 
-enum { SATELLITES = 40, COMMENTS = 10 * 77, ROWS = 12 * 4000, BYTES = 1 << 19, STACK = 1 << 20, PAINT = 0xa5 };
+enum { SATELLITES = 40, COMMENTS = 10 * 77, ROWS = 12 * 4000, BYTES = 1 << 19 };
 
 static uint8_t file[BYTES];
 static size_t length;
@@ -66,22 +65,6 @@ static size_t altered(size_t count) {
         file[place] = before;
     }
     return different;
-}
-
-static uint8_t stack[STACK];
-static ucontext_t here, there;
-static void nothing(void) {}
-
-// how many bytes of a painted stack are touched by the run, above those that an empty function touches
-static size_t touched(void (*run)(void)) {
-    size_t low = 0;
-    memset(stack, PAINT, STACK);
-    getcontext(&there);
-    there.uc_stack.ss_sp = stack, there.uc_stack.ss_size = STACK, there.uc_link = &here;
-    makecontext(&there, run, 0);
-    swapcontext(&here, &there);
-    while (low < STACK && stack[low] == PAINT) low++;
-    return STACK - low;
 }
 
 int main(int count, char **words) {

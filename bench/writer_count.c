@@ -4,7 +4,6 @@
 #include <stdio.h>
 #include <stdlib.h>
 #include <string.h>
-#include <ucontext.h>
 
 #include "doors.h"
 #define WRITER(name) o2_##name
@@ -17,7 +16,7 @@ size_t our_write(uint64_t epochs, uint64_t interval, uint64_t satellites, uint64
                  size_t identifier_count, const uint64_t *exponents, size_t exponent_count, const uint8_t *comments, size_t comment_bytes,
                  const int64_t *rows, size_t row_count, uint8_t *out, size_t room);
 
-enum { SATELLITES = 255, COMMENTS = 10 * 77, ROWS = 12 * 36000, BYTES = 1 << 22, STACK = 1 << 20, PAINT = 0xa5, MARK = 7 };
+enum { SATELLITES = 255, COMMENTS = 10 * 77, ROWS = 12 * 36000, BYTES = 1 << 22, MARK = 7 };
 
 static uint8_t file[BYTES], outs[3][BYTES], comments[COMMENTS];
 static uint64_t identifiers[SATELLITES], exponents[SATELLITES];
@@ -56,22 +55,6 @@ static size_t altered(size_t count) {
         rows[place] = before;
     }
     return different;
-}
-
-static uint8_t stack[STACK];
-static ucontext_t here, there;
-static void nothing(void) {}
-
-// how many bytes of a painted stack are touched by the run, above those that an empty function touches
-static size_t touched(void (*run)(void)) {
-    size_t low = 0;
-    memset(stack, PAINT, STACK);
-    getcontext(&there);
-    there.uc_stack.ss_sp = stack, there.uc_stack.ss_size = STACK, there.uc_link = &here;
-    makecontext(&there, run, 0);
-    swapcontext(&here, &there);
-    while (low < STACK && stack[low] == PAINT) low++;
-    return STACK - low;
 }
 
 int main(int count, char **words) {

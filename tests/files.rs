@@ -543,6 +543,19 @@ fn row(file: &[u8], epoch: usize, satellite: usize) -> Result<Row, Refusal> {
 // Cases and their answers
 // ---------------------------------------------------------------------------
 
+/// What another implementation is compared on: a file with questions here, a
+/// file or a table to be written in `forms.rs`.
+pub(crate) trait Compared {
+    /// The words of an answer that have a number of the paper's table after
+    /// them.
+    const COUNTED: &'static [&'static str];
+
+    /// The case as it stands in a batch.
+    fn show(&self) -> Vec<u8>;
+
+    fn answer(&self) -> String;
+}
+
 #[derive(Clone, Default)]
 struct Case {
     file: Vec<u8>,
@@ -557,8 +570,10 @@ pub(crate) const MOST_BYTES: usize = 40_000;
 pub(crate) const MOST_ROOMS: [usize; 4] = [300, 300, 8000, 8000];
 const MOST_NUMBER: usize = 999_999_999;
 
-impl Case {
-    /// The case as it stands in a batch.
+impl Compared for Case {
+    const COUNTED: &'static [&'static str] =
+        &["front", "whole", "read", "read_front", "comment", "satellite", "row"];
+
     fn show(&self) -> Vec<u8> {
         let numbers = [&[self.file.len()], &self.rooms[..], &self.asked[..]].concat();
         let within = self.file.len() <= MOST_BYTES
@@ -590,7 +605,9 @@ impl Case {
         out += &format!("read_front {}\n{}", told(&answer), show_sums(&lent));
         out + &self.show_questions()
     }
+}
 
+impl Case {
     fn show_questions(&self) -> String {
         let (file, [k, epoch, satellite, code]) = (&self.file[..], self.asked);
         let comment = show_comment(comment_answer(file, k), file);
@@ -737,12 +754,12 @@ fn parse_batch(mut bytes: &[u8]) -> Vec<Case> {
     cases
 }
 
-fn show_batch(cases: &[Case]) -> Vec<u8> {
-    cases.iter().flat_map(Case::show).collect()
+pub(crate) fn show_batch<C: Compared>(cases: &[C]) -> Vec<u8> {
+    cases.iter().flat_map(C::show).collect()
 }
 
-fn answers(cases: &[Case]) -> String {
-    cases.iter().map(Case::answer).collect()
+pub(crate) fn answers<C: Compared>(cases: &[C]) -> String {
+    cases.iter().map(C::answer).collect()
 }
 
 // ---------------------------------------------------------------------------
@@ -2361,18 +2378,20 @@ fn generate_case(random: &mut Random) -> Case {
     Case { file, rooms, asked }
 }
 
+pub(crate) type Generate<C> = fn(&mut Random) -> C;
+
 /// Case `number` of a seed, whatever the others are.
-fn generated(seed: u64, number: u64) -> Case {
+pub(crate) fn generated<C>(generate: Generate<C>, seed: u64, number: u64) -> C {
     let mut random = Random(seed.wrapping_mul(0x9e37_79b9_7f4a_7c15) ^ number);
     let seed = random.next();
-    generate_case(&mut Random(seed))
+    generate(&mut Random(seed))
 }
 
 // ---------------------------------------------------------------------------
 // The stored cases
 // ---------------------------------------------------------------------------
 
-pub(crate) const MOST_BATCH: usize = 600_000;
+const MOST_BATCH: usize = 600_000;
 pub(crate) const STORED_SEED: u64 = 20_160_221;
 
 /// A file made by hand with rooms that suffice; most refused ones end after
@@ -2408,7 +2427,8 @@ fn stored_cases() -> Vec<Case> {
     let mut cases = hand_cases();
     let mut length = show_batch(&cases).len();
     let small = |case: &Case| case.file.len() < 4000;
-    for case in (1..).map(|number| generated(STORED_SEED, number)).filter(small) {
+    let made = (1..).map(|number| generated(generate_case, STORED_SEED, number));
+    for case in made.filter(small) {
         length += case.show().len();
         if length > MOST_BATCH {
             break;
@@ -2423,19 +2443,21 @@ fn stored_cases() -> Vec<Case> {
 // ---------------------------------------------------------------------------
 
 /// How often each number 0 to 13 stands after a word of the answers.
-#[derive(Default)]
-struct Counts([[usize; 14]; 7]);
-
-const COUNTED: [&str; 7] = ["front", "whole", "read", "read_front", "comment", "satellite", "row"];
+struct Counts(Vec<(&'static str, [usize; 14])>);
 
 impl Counts {
+    fn of(words: &[&'static str]) -> Counts {
+        Counts(words.iter().map(|&word| (word, [0; 14])).collect())
+    }
+
     fn add(&mut self, answer: &str) {
         for line in answer.lines() {
             let mut words = line.split(' ');
             let word = words.next().unwrap_or_default();
             let number = words.next().and_then(|number| number.parse::<usize>().ok());
-            if let (Some(place), Some(number)) = (COUNTED.iter().position(|w| *w == word), number) {
-                self.0[place][number] += 1;
+            let counted = self.0.iter_mut().find(|(counted, _)| *counted == word);
+            if let (Some((_, numbers)), Some(number)) = (counted, number) {
+                numbers[number] += 1;
             }
         }
     }
@@ -2446,19 +2468,19 @@ impl Counts {
             format!("{name:10}{columns}\n")
         };
         let first = row("number", std::array::from_fn(|number| number));
-        let rest = COUNTED.iter().zip(self.0).map(|(name, numbers)| row(name, numbers));
+        let rest = self.0.iter().map(|&(name, numbers)| row(name, numbers));
         first + &rest.collect::<String>()
     }
 }
 
-fn count(cases: &[Case]) {
-    let mut counts = Counts::default();
+fn count<C: Compared>(cases: &[C]) {
+    let mut counts = Counts::of(C::COUNTED);
     cases.iter().for_each(|case| counts.add(&case.answer()));
     println!("{} cases\n{}", cases.len(), counts.show().trim_end());
 }
 
 /// Gives the input to the program and takes what it prints.
-pub(crate) fn run(
+fn run(
     program: &str,
     arguments: &[&str],
     input: Vec<u8>,
@@ -2492,7 +2514,7 @@ pub(crate) fn first_difference(wanted: &[u8], found: &[u8]) -> Option<(usize, St
 }
 
 /// Which of the answers has line `line` of all of them.
-pub(crate) fn case_of_line(answers: &[String], line: usize) -> usize {
+fn case_of_line(answers: &[String], line: usize) -> usize {
     let mut lines = 0;
     let ends = |answer: &String| {
         lines += answer.lines().count();
@@ -2502,22 +2524,28 @@ pub(crate) fn case_of_line(answers: &[String], line: usize) -> usize {
 }
 
 /// Cases from `first` on, as many as a batch may hold and `last` allows.
-fn next_batch(seed: u64, first: u64, last: u64) -> Vec<Case> {
+fn next_batch<C: Compared>(generate: Generate<C>, seed: u64, first: u64, last: u64) -> Vec<C> {
     let mut length = 0;
-    let cases = (first..=last).map(|number| generated(seed, number));
-    let fits = |case: &Case| {
+    let cases = (first..=last).map(|number| generated(generate, seed, number));
+    let fits = |case: &C| {
         length += case.show().len();
         length <= MOST_BATCH
     };
     cases.take_while(fits).collect()
 }
 
-fn compare(seed: u64, number: u64, program: &str, arguments: &[&str]) {
-    let mut counts = Counts::default();
+fn compare<C: Compared>(
+    generate: Generate<C>,
+    seed: u64,
+    number: u64,
+    program: &str,
+    arguments: &[&str],
+) {
+    let mut counts = Counts::of(C::COUNTED);
     let mut done = 0;
     while done < number {
-        let cases = next_batch(seed, done + 1, number);
-        let answers: Vec<String> = cases.iter().map(Case::answer).collect();
+        let cases = next_batch(generate, seed, done + 1, number);
+        let answers: Vec<String> = cases.iter().map(C::answer).collect();
         let (output, status) = run(program, arguments, show_batch(&cases))
             .unwrap_or_else(|error| fail(&format!("{program}: {error}")));
         if let Some((line, wanted, found)) = first_difference(answers.concat().as_bytes(), &output)
@@ -2537,17 +2565,16 @@ fn compare(seed: u64, number: u64, program: &str, arguments: &[&str]) {
 }
 
 /// Fails at the first line in which the file differs from `wanted`.
-pub(crate) fn check_file(path: &str, wanted: &[u8]) {
+fn check_file(path: &str, wanted: &[u8]) {
     let found = std::fs::read(path).unwrap_or_else(|error| fail(&format!("{path}: {error}")));
     if let Some((line, wanted, found)) = first_difference(wanted, &found) {
         fail(&format!("{path}: line {line} is {found} and should be {wanted}"));
     }
 }
 
-fn check(directory: &str) {
-    let cases = stored_cases();
-    check_file(&format!("{directory}/stdin"), &show_batch(&cases));
-    check_file(&format!("{directory}/stdout"), answers(&cases).as_bytes());
+fn check<C: Compared>(directory: &str, cases: &[C]) {
+    check_file(&format!("{directory}/stdin"), &show_batch(cases));
+    check_file(&format!("{directory}/stdout"), answers(cases).as_bytes());
 }
 
 /// A file, rooms and questions, and lines of the answer in their order.
@@ -3088,38 +3115,51 @@ pub(crate) fn print(bytes: &[u8]) {
     }
 }
 
-fn batch_from_standard_input() -> Vec<Case> {
+pub(crate) fn standard_input() -> Vec<u8> {
     let mut bytes = Vec::new();
     if let Err(error) = std::io::stdin().read_to_end(&mut bytes) {
         fail(&format!("standard input: {error}"));
     }
-    parse_batch(&bytes)
+    bytes
 }
 
-pub(crate) fn number(word: &str) -> u64 {
+fn number(word: &str) -> u64 {
     word.parse().unwrap_or_else(|_| fail(&format!("{word:?} is no number")))
+}
+
+/// Does what the words ask of cases, or fails with the usage.
+pub(crate) fn obey<C: Compared>(
+    words: &[&str],
+    parse_batch: fn(&[u8]) -> Vec<C>,
+    generate: Generate<C>,
+    stored_cases: fn() -> Vec<C>,
+    usage: &str,
+) {
+    match *words {
+        ["answer"] => print(answers(&parse_batch(&standard_input())).as_bytes()),
+        ["generate", seed, count] => {
+            let seed = number(seed);
+            (1..=number(count)).for_each(|place| print(&generated(generate, seed, place).show()));
+        }
+        ["case", seed, place] => print(&generated(generate, number(seed), number(place)).show()),
+        ["cases"] => print(&show_batch(&stored_cases())),
+        ["check", directory] => check(directory, &stored_cases()),
+        ["count"] => count(&parse_batch(&standard_input())),
+        ["compare", seed, count, program, ref rest @ ..] => {
+            compare(generate, number(seed), number(count), program, rest);
+        }
+        _ => fail(usage),
+    }
 }
 
 fn main() {
     let arguments: Vec<String> = std::env::args().skip(1).collect();
     let words: Vec<&str> = arguments.iter().map(String::as_str).collect();
+    let usage =
+        "usage: answer | generate SEED COUNT | case SEED NUMBER | cases | check CRATE_DIR\n\
+         | self-test | count | compare SEED COUNT PROGRAM [ARGS..]";
     match words[..] {
-        ["answer"] => print(answers(&batch_from_standard_input()).as_bytes()),
-        ["generate", seed, count] => {
-            let seed = number(seed);
-            (1..=number(count)).for_each(|place| print(&generated(seed, place).show()));
-        }
-        ["case", seed, place] => print(&generated(number(seed), number(place)).show()),
-        ["cases"] => print(&show_batch(&stored_cases())),
-        ["check", directory] => check(directory),
         ["self-test"] => self_test(),
-        ["count"] => count(&batch_from_standard_input()),
-        ["compare", seed, count, program, ref rest @ ..] => {
-            compare(number(seed), number(count), program, rest);
-        }
-        _ => fail(
-            "usage: answer | generate SEED COUNT | case SEED NUMBER | cases | check CRATE_DIR\n\
-             | self-test | count | compare SEED COUNT PROGRAM [ARGS..]",
-        ),
+        _ => obey(&words, parse_batch, generate_case, stored_cases, usage),
     }
 }

@@ -56,9 +56,9 @@
 mod files;
 
 use files::lines::{self, fail, Exponent, Identifier, Moment, Random, Tally};
-use files::{Base, Edit, Lent, DAY, GPS_ZERO, SECOND, UNKNOWN};
+use files::{answers, generated, show_batch};
+use files::{Base, Compared, Edit, Lent, DAY, GPS_ZERO, SECOND, UNKNOWN};
 use std::collections::HashSet;
-use std::io::Read;
 use std::process::exit;
 
 // ---------------------------------------------------------------------------
@@ -568,24 +568,6 @@ impl Case {
         }
     }
 
-    /// The case as it stands in a batch.
-    fn show(&self) -> Vec<u8> {
-        let kind = usize::from(matches!(self.body, Body::Table(_)));
-        let bytes = self.bytes();
-        assert!(self.room <= MOST_ROOM, "a room of {} is too large", self.room);
-        [show_numbers(&[kind, self.room, bytes.len()]).into_bytes(), bytes].concat()
-    }
-
-    fn answer(&self) -> String {
-        let length = self.bytes().len();
-        match &self.body {
-            Body::File(file) => format!("file {} {length}\n{}", self.room, self.answer_file(file)),
-            Body::Table(given) => {
-                format!("table {} {length}\n{}", self.room, self.answer_table(given))
-            }
-        }
-    }
-
     fn answer_file(&self, file: &[u8]) -> String {
         let mut lists = Lent::marked(files::MOST_ROOMS);
         match files::read(file, &mut lists) {
@@ -608,19 +590,32 @@ impl Case {
     }
 }
 
+impl Compared for Case {
+    const COUNTED: &'static [&'static str] = &["read", "new", "write"];
+
+    fn show(&self) -> Vec<u8> {
+        let kind = usize::from(matches!(self.body, Body::Table(_)));
+        let bytes = self.bytes();
+        assert!(self.room <= MOST_ROOM, "a room of {} is too large", self.room);
+        [show_numbers(&[kind, self.room, bytes.len()]).into_bytes(), bytes].concat()
+    }
+
+    fn answer(&self) -> String {
+        let length = self.bytes().len();
+        match &self.body {
+            Body::File(file) => format!("file {} {length}\n{}", self.room, self.answer_file(file)),
+            Body::Table(given) => {
+                format!("table {} {length}\n{}", self.room, self.answer_table(given))
+            }
+        }
+    }
+}
+
 fn show_written(answer: Result<Vec<u8>, u8>) -> String {
     match answer {
         Ok(bytes) => format!("write 0 {}\n{}kept\n", bytes.len(), files::show_text(&bytes)),
         Err(number) => format!("write {number} 0\nkept\n"),
     }
-}
-
-fn show_batch(cases: &[Case]) -> Vec<u8> {
-    cases.iter().flat_map(Case::show).collect()
-}
-
-fn answers(cases: &[Case]) -> String {
-    cases.iter().map(Case::answer).collect()
 }
 
 /// Takes numbers from the front of a text, each with one byte after it.
@@ -1642,13 +1637,6 @@ fn generate_case(random: &mut Random) -> Case {
     Case { room: choose_room(random, needed), body }
 }
 
-/// Case `number` of a seed, whatever the others are.
-fn generated(seed: u64, number: u64) -> Case {
-    let mut random = Random(seed.wrapping_mul(0x9e37_79b9_7f4a_7c15) ^ number);
-    let seed = random.next();
-    generate_case(&mut Random(seed))
-}
-
 // ---------------------------------------------------------------------------
 // The stored cases
 // ---------------------------------------------------------------------------
@@ -1689,88 +1677,8 @@ fn stored_cases() -> Vec<Case> {
             body: Body::File(files::hand_made(base, &[Put(25, 4, "x")])),
         });
     }
-    cases.extend((1..=60).map(|number| generated(files::STORED_SEED, number)));
+    cases.extend((1..=60).map(|number| generated(generate_case, files::STORED_SEED, number)));
     cases
-}
-
-// ---------------------------------------------------------------------------
-// Counting and comparing
-// ---------------------------------------------------------------------------
-
-/// How often each number 0 to 13 stands after a word of the answers.
-#[derive(Default)]
-struct Counts([[usize; 14]; 3]);
-
-const COUNTED: [&str; 3] = ["read", "new", "write"];
-
-impl Counts {
-    fn add(&mut self, answer: &str) {
-        for line in answer.lines() {
-            let mut words = line.split(' ');
-            let word = words.next().unwrap_or_default();
-            let number = words.next().and_then(|number| number.parse::<usize>().ok());
-            if let (Some(place), Some(number)) = (COUNTED.iter().position(|w| *w == word), number) {
-                self.0[place][number] += 1;
-            }
-        }
-    }
-
-    fn show(&self) -> String {
-        let row = |name: &str, numbers: [usize; 14]| {
-            let columns: String = numbers.iter().map(|number| format!("{number:7}")).collect();
-            format!("{name:10}{columns}\n")
-        };
-        let first = row("number", std::array::from_fn(|number| number));
-        let rest = COUNTED.iter().zip(self.0).map(|(name, numbers)| row(name, numbers));
-        first + &rest.collect::<String>()
-    }
-}
-
-fn count(cases: &[Case]) {
-    let mut counts = Counts::default();
-    cases.iter().for_each(|case| counts.add(&case.answer()));
-    println!("{} cases\n{}", cases.len(), counts.show().trim_end());
-}
-
-/// Cases from `first` on, as many as a batch may hold and `last` allows.
-fn next_batch(seed: u64, first: u64, last: u64) -> Vec<Case> {
-    let mut length = 0;
-    let cases = (first..=last).map(|number| generated(seed, number));
-    let fits = |case: &Case| {
-        length += case.show().len();
-        length <= files::MOST_BATCH
-    };
-    cases.take_while(fits).collect()
-}
-
-fn compare(seed: u64, number: u64, program: &str, arguments: &[&str]) {
-    let mut counts = Counts::default();
-    let mut done = 0;
-    while done < number {
-        let cases = next_batch(seed, done + 1, number);
-        let answers: Vec<String> = cases.iter().map(Case::answer).collect();
-        let (output, status) = files::run(program, arguments, show_batch(&cases))
-            .unwrap_or_else(|error| fail(&format!("{program}: {error}")));
-        let wanted = answers.concat();
-        if let Some((line, wanted, found)) = files::first_difference(wanted.as_bytes(), &output) {
-            let case = done + 1 + files::case_of_line(&answers, line) as u64;
-            println!("seed {seed} case {case}: wanted {wanted}, found {found}");
-            exit(1);
-        }
-        if !status.success() {
-            println!("seed {seed} cases {} and on: {status}", done + 1);
-            exit(1);
-        }
-        answers.iter().for_each(|answer| counts.add(answer));
-        done += cases.len() as u64;
-    }
-    println!("{number} cases agree\n{}", counts.show().trim_end());
-}
-
-fn check(directory: &str) {
-    let cases = stored_cases();
-    files::check_file(&format!("{directory}/stdin"), &show_batch(&cases));
-    files::check_file(&format!("{directory}/stdout"), answers(&cases).as_bytes());
 }
 
 // ---------------------------------------------------------------------------
@@ -1846,7 +1754,8 @@ fn has_table(bytes: &[u8], head: &Head, lists: &Lent) -> bool {
 fn test_validity(tally: &mut Tally) {
     std::panic::set_hook(Box::new(|_| {}));
     for number in 1..=3000 {
-        let Body::Table(given) = generated(files::STORED_SEED + 1, number).body else {
+        let Body::Table(given) = generated(generate_case, files::STORED_SEED + 1, number).body
+        else {
             continue;
         };
         let Ok(head) = given.head() else {
@@ -1870,7 +1779,7 @@ fn test_validity(tally: &mut Tally) {
 /// The table of every accepted file is valid, and its form has the same table.
 fn test_files(tally: &mut Tally) {
     for number in 1..=3000 {
-        let Body::File(file) = generated(files::STORED_SEED + 1, number).body else {
+        let Body::File(file) = generated(generate_case, files::STORED_SEED + 1, number).body else {
             continue;
         };
         let Some(given) = given_of(&file) else {
@@ -1906,42 +1815,18 @@ fn self_test() {
 // The program
 // ---------------------------------------------------------------------------
 
-fn batch_from_standard_input() -> Vec<Case> {
-    let mut bytes = Vec::new();
-    if let Err(error) = std::io::stdin().read_to_end(&mut bytes) {
-        fail(&format!("standard input: {error}"));
-    }
-    parse_batch(&bytes)
-}
-
 fn main() {
     let arguments: Vec<String> = std::env::args().skip(1).collect();
     let words: Vec<&str> = arguments.iter().map(String::as_str).collect();
+    let usage = "usage: answer | answer-tables | generate SEED COUNT | case SEED NUMBER | cases\n\
+         | check CRATE_DIR | self-test | count | compare SEED COUNT PROGRAM [ARGS..]";
     match words[..] {
-        ["answer"] => files::print(answers(&batch_from_standard_input()).as_bytes()),
         ["answer-tables"] => {
-            let mut cases = batch_from_standard_input();
+            let mut cases = parse_batch(&files::standard_input());
             cases.retain(|case| matches!(case.body, Body::Table(_)));
             files::print(answers(&cases).as_bytes());
         }
-        ["generate", seed, count] => {
-            let seed = files::number(seed);
-            (1..=files::number(count))
-                .for_each(|place| files::print(&generated(seed, place).show()));
-        }
-        ["case", seed, place] => {
-            files::print(&generated(files::number(seed), files::number(place)).show());
-        }
-        ["cases"] => files::print(&show_batch(&stored_cases())),
-        ["check", directory] => check(directory),
         ["self-test"] => self_test(),
-        ["count"] => count(&batch_from_standard_input()),
-        ["compare", seed, count, program, ref rest @ ..] => {
-            compare(files::number(seed), files::number(count), program, rest);
-        }
-        _ => fail(
-            "usage: answer | answer-tables | generate SEED COUNT | case SEED NUMBER | cases\n\
-             | check CRATE_DIR | self-test | count | compare SEED COUNT PROGRAM [ARGS..]",
-        ),
+        _ => files::obey(&words, parse_batch, generate_case, stored_cases, usage),
     }
 }
