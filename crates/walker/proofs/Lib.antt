@@ -1,0 +1,3 @@
+-- What the walks of this crate share.
+mod Walking
+pub mod Places

@@ -1,0 +1,43 @@
+-- `walker::place_after` meets its contract.
+-- Assumes nothing.
+use mathlib.Core.Path.{_≡_}
+use borrow.Author.Needs.{needs}
+use Rattle.header.specs.Rules.{d}
+use Rattle.machine.specs.declared.types.LineRead.{LineRead}
+use Rattle.walker.specs.Places.{goneTo, placeAfter}
+use Rattle.walker.proofs.Places.{place-read}
+use Rattle.walker.proofs.place_after.Statement.{statement}
+use Rattle.walker.proofs.place_after.Tie as tie
+
+-- where the line has been read
+read : (c : tie.After-read-known) (w : LineRead) → c .read-known .result ≡ w
+    → let a = c .before .before .before .args in goneTo w (a .place) ≡ placeAfter d (a .file .now) (a .names .now) (a .place)
+read c w is =
+    let a = c .before .before .before .args in
+    place-read d (a .file .now) (a .names .now) (a .place) (c .read-known .result) w (c .read-known .ensures) is
+
+returns : tie.Need-returns
+returns c = read (c .before .before .before) _ (c .before .at .given .1)
+
+returns-2 : tie.Need-returns-2
+returns-2 c = read (c .before .before) _ (c .enum-told .given .1)
+
+returns-3 : tie.Need-returns-3
+returns-3 c = read (c .before .before) _ (c .enum-told2 .given .1)
+
+returns-4 : tie.Need-returns-4
+returns-4 c = read (c .before .before) _ (c .enum-told3 .given .1)
+
+pub place-after-spec : {M : Type 1} → statement M
+place-after-spec =
+    tie.close
+    (tie.spec
+    (λ c κs. search needs)
+    (λ c. search needs)
+    (λ c. search needs)
+    (λ c. search needs)
+    (λ c. search needs)
+    returns
+    returns-2
+    returns-3
+    returns-4)
