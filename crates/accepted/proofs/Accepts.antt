@@ -33,14 +33,14 @@ pub record PlainFront (rules : Rules) (t : Tally) (ls : List (List ℕ)) (t′ :
   pub tally : t′ ≡ countedOver rules t used
 
 module _ (rules : Rules) (sound : Sound rules) (names : List ℕ) (wide : length names ≡ maxSatellites) where
-  room : rules .«most_satellites» ≤ length names
+  pub room : rules .«most_satellites» ≤ length names
   room = omega (arith, sound .names-fit, wide)
 
-  seventeen-fit : 17 ≤ length names
+  pub seventeen-fit : 17 ≤ length names
   seventeen-fit = omega (arith, wide)
 
   -- the part of a plain file from the `++` lines on
-  abbrev tailOf : (used : List (List ℕ)) → Plain rules used → List (List ℕ)
+  abbrev pub tailOf : (used : List (List ℕ)) → Plain rules used → List (List ℕ)
   tailOf used p =
       p .accuracies
       ++ (p .descriptor ∷ p .characters ∷ p .bases ∷ p .floats ∷ p .integers ∷ p .integers′ ∷ (p .comments ++ (p .epochs ++ (p .last ∷ []))))
@@ -185,7 +185,7 @@ module _ (rules : Rules) (sound : Sound rules) (names : List ℕ) (wide : length
       (names-alone rules (x .line) (y .line)) (y .goes))
 
 -- no identifier is known before the first line, and there is room for as many as a version has
-names-wide : length noNames ≡ maxSatellites
+pub names-wide : length noNames ≡ maxSatellites
 names-wide = length-replicate {A = ℕ} maxSatellites 0
 
 -- A run that ends in a file has read the lines of a plain file, and tallied them.

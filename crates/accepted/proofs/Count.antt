@@ -33,7 +33,7 @@ use Rattle.accepted.proofs.Names.{namesFault, names-clean, clean-names,
 use Rattle.accepted.proofs.Bounds.{some-satellites}
 
 -- there are further `+ ` lines
-further : (n : ℕ) → slotLines n - 1 ≡ suc (slotLines n - 2)
+pub further : (n : ℕ) → slotLines n - 1 ≡ suc (slotLines n - 2)
 unfolding slotLines
 further n = omega arith
 
@@ -45,44 +45,45 @@ module _ (rules : Rules) where
   count-fit : (l : List ℕ) → isCountLine rules l ≡ true → (1 ≤ said l) × (said l ≤ rules .«most_satellites»)
   count-fit l is = some-satellites rules (padded l) (eqb-true (satellitesOf rules (padded l) .fault) 0 (and-right (isLine rules kind.Satellites l) _ is))
 
-  module _ (s : State) (names : List ℕ) (due : s .due ≡ 3) (none : s .satellites ≡ 0) (room : rules .«most_satellites» ≤ length names) (wide : 17 ≤ length names) where
+  module _ (s : State) (none : s .satellites ≡ 0) where
     is-first : eqb (s .satellites) 0 ≡ true
     is-first = eq-eqb (s .satellites) 0 none
 
     none-seen : s .satellites - s .left ≡ 0
     none-seen = omega (arith, none)
 
-    count-faults : (l : List ℕ) → satellitesFault rules s names (padded l) ≡ namesFault (satellitesOf rules (padded l) .fault) (repeats [] (freshIn (said l) l))
+    pub count-faults : (names l : List ℕ) → satellitesFault rules s names (padded l) ≡ namesFault (satellitesOf rules (padded l) .fault) (repeats [] (freshIn (said l) l))
     unfolding satellitesFault namesIn
-    count-faults l = rw (is-first, none-seen, first-fresh rules l)
+    count-faults names l = rw (is-first, none-seen, first-fresh rules l)
 
+  module _ (s : State) (names : List ℕ) (due : s .due ≡ 3) (none : s .satellites ≡ 0) (room : rules .«most_satellites» ≤ length names) (wide : 17 ≤ length names) where
     -- the identifiers after the first line
-    abbrev others : List ℕ → List ℕ
+    abbrev pub others : List ℕ → List ℕ
     others l = drop (length (freshIn (said l) l)) names
 
-    count-brought : (l : List ℕ) → namesBrought rules s names l ≡ freshIn (said l) l ++ others l
+    pub count-brought : (l : List ℕ) → namesBrought rules s names l ≡ freshIn (said l) l ++ others l
     unfolding namesBrought namesAfter namesIn
     count-brought l =
         let fits : take (length names) (freshIn (said l) l) ≡ freshIn (said l) l = take-all (length names) (freshIn (said l) l) (omega (arith, fresh-length (said l) l, wide)) in
-        rw (due, is-first, none-seen, first-fresh rules l, fits)
+        rw (due, is-first s none, none-seen s none, first-fresh rules l, fits)
 
-    count-next : (l : List ℕ) → afterSatellites rules s (padded l) ≡ afterCount (said l) s
+    pub count-next : (l : List ℕ) → afterSatellites rules s (padded l) ≡ afterCount (said l) s
     unfolding afterSatellites
-    count-next l = rw is-first
+    count-next l = rw (is-first s none)
 
-    count-due : (n : ℕ) (some : eqb (afterCount n s .satellites) 0 ≡ false) → afterCount n s ≡ namesDue rules (afterCount n s) some (suc (slotLines n - 2)) (n - 17)
+    pub count-due : (n : ℕ) (some : eqb (afterCount n s .satellites) 0 ≡ false) → afterCount n s ≡ namesDue rules (afterCount n s) some (suc (slotLines n - 2)) (n - 17)
     unfolding afterCount
     count-due n some = rw (further n)
 
-    some-said : (l : List ℕ) → isCountLine rules l ≡ true → eqb (afterCount (said l) s .satellites) 0 ≡ false
+    pub some-said : (l : List ℕ) → isCountLine rules l ≡ true → eqb (afterCount (said l) s .satellites) 0 ≡ false
     unfolding afterCount
     some-said l is = ne-eqb (said l) 0 (λ e. omega (arith, count-fit l is .0))
 
-    first-many : (l : List ℕ) → length (freshIn (said l) l) + (said l - 17) ≡ afterCount (said l) s .satellites
+    pub first-many : (l : List ℕ) → length (freshIn (said l) l) + (said l - 17) ≡ afterCount (said l) s .satellites
     unfolding afterCount
     first-many l = omega (arith, fresh-length (said l) l)
 
-    first-room : (l : List ℕ) → isCountLine rules l ≡ true → said l - 17 ≤ length (others l)
+    pub first-room : (l : List ℕ) → isCountLine rules l ≡ true → said l - 17 ≤ length (others l)
     first-room l is = omega (arith, length-drop (length (freshIn (said l) l)) names, fresh-length (said l) l, count-fit l is .1, room)
 
     -- all identifiers are known, and the `++` lines are due
@@ -94,7 +95,7 @@ module _ (rules : Rules) where
     count-reach l is new =
         let fault = satellitesOf rules (padded l) .fault in
         reach-one rules kind.Satellites s (afterCount (said l) s) names (freshIn (said l) l ++ others l) l due (and-left (isLine rules kind.Satellites l) _ is)
-        (count-faults l ∙ names-clean fault (repeats [] (freshIn (said l) l)) (eqb-true fault 0 (and-right (isLine rules kind.Satellites l) _ is)) new)
+        (count-faults s none names l ∙ names-clean fault (repeats [] (freshIn (said l) l)) (eqb-true fault 0 (and-right (isLine rules kind.Satellites l) _ is)) new)
         (ap verdict.Next (count-next l)) (count-brought l)
 
     -- all `+ ` lines
@@ -141,7 +142,7 @@ module _ (rules : Rules) where
     count-read t t′ ls also e =
         let x = due-line rules kind.Satellites s names t t′ ls due also e in
         let l = x .line in
-        let parts = clean-names (satellitesOf rules (padded l) .fault) (repeats [] (freshIn (said l) l)) (sym (count-faults l) ∙ x .clean) in
+        let parts = clean-names (satellitesOf rules (padded l) .fault) (repeats [] (freshIn (said l) l)) (sym (count-faults s none names l) ∙ x .clean) in
         record {
           line = l;
           more = x .others;

@@ -124,13 +124,16 @@ pub d-exactly : (bytes : List ℕ) → IsFile d bytes ↔ Accepted d bytes
 d-exactly bytes = accepts-exactly d d-sound bytes
 
 -- The lines of a file at the front of some bytes are those of a plain file.
-pub front-plain : (bytes : List ℕ) (t : Tally) → scanOf d bytes ≡ front.File t → Plain d (linesOf (take (t .end) bytes))
-front-plain bytes t e =
-    let p = run-plain d d-sound (linesOf bytes) nothing t e in
+pub plain-front : (rules : Rules) → Sound rules → (bytes : List ℕ) (t : Tally) → scanOf rules bytes ≡ front.File t → Plain rules (linesOf (take (t .end) bytes))
+plain-front rules sound bytes t e =
+    let p = run-plain rules sound (linesOf bytes) nothing t e in
     let parts = parted (p .used) bytes (p .rest) (p .split) in
-    let end : t .end ≡ length (joinLines (p .used)) = ap (λ (x : Tally). x .end) (p .tally) ∙ bytes-counted d nothing (p .used) ∙ omega arith in
+    let end : t .end ≡ length (joinLines (p .used)) = ap (λ (x : Tally). x .end) (p .tally) ∙ bytes-counted rules nothing (p .used) ∙ omega arith in
     let lines : linesOf (take (t .end) bytes) ≡ p .used = ap (λ (n : ℕ). linesOf (take n bytes)) end ∙ ap linesOf (parts .front) ∙ parts .front-lines in
     rw lines (p .plain)
+
+pub front-plain : (bytes : List ℕ) (t : Tally) → scanOf d bytes ≡ front.File t → Plain d (linesOf (take (t .end) bytes))
+front-plain bytes t e = plain-front d d-sound bytes t e
 
 -- a whole file takes up all of its bytes
 pub whole-taken : (bytes : List ℕ) (t : Tally) → wholeOf (length bytes) (scanOf d bytes) ≡ front.File t → take (t .end) bytes ≡ bytes

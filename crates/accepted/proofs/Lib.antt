@@ -23,3 +23,6 @@ pub mod Slots
 pub mod Bounds
 pub mod Accepts
 pub mod Files
+pub mod Known
+pub mod KnownNames
+pub mod KnownSteps

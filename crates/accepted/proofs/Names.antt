@@ -54,11 +54,11 @@ module _ (rules : Rules) (s : State) (some : eqb (s .satellites) 0 ≡ false) wh
   abbrev pub afterAll : State
   afterAll = leave (s .satellites) (expect 4 (slotLines (s .satellites)) s)
 
-  last-one : (left : ℕ) (p : List ℕ) → afterSatellites rules (namesDue 1 left) p ≡ afterAll
+  pub last-one : (left : ℕ) (p : List ℕ) → afterSatellites rules (namesDue 1 left) p ≡ afterAll
   unfolding afterSatellites afterNames
   last-one left p = rw some
 
-  one-of-more : (k left : ℕ) (p : List ℕ) → afterSatellites rules (namesDue (suc (suc k)) left) p ≡ namesDue (suc k) (left - 17)
+  pub one-of-more : (k left : ℕ) (p : List ℕ) → afterSatellites rules (namesDue (suc (suc k)) left) p ≡ namesDue (suc k) (left - 17)
   unfolding afterSatellites afterNames
   one-of-more k left p = rw (some, one-less (suc k), ne-eqb (suc k) 0 (λ e. omega arith))
 
@@ -69,25 +69,25 @@ module _ (rules : Rules) (s : State) (some : eqb (s .satellites) 0 ≡ false) wh
     rest-is : drop (s .satellites - left) (known ++ rest) ≡ rest
     rest-is = drop-at known rest (s .satellites - left) (omega (arith, many))
 
-    fault-is : (lines : ℕ) (l : List ℕ) → satellitesFault rules (namesDue lines left) (known ++ rest) (padded l)
+    pub fault-is : (lines : ℕ) (l : List ℕ) → satellitesFault rules (namesDue lines left) (known ++ rest) (padded l)
         ≡ namesFault (moreOf false left (padded l) .fault) (repeats known (freshIn left l))
     unfolding satellitesFault namesIn
     fault-is lines l = rw (some, known-are, more-fresh left l)
 
     -- the identifiers after one line more
-    abbrev brought : List ℕ → List ℕ
+    abbrev pub brought : List ℕ → List ℕ
     brought l = (known ++ freshIn left l) ++ drop (length (freshIn left l)) rest
 
-    brought-is : left ≤ length rest → (lines : ℕ) (l : List ℕ) → namesBrought rules (namesDue lines left) (known ++ rest) l ≡ brought l
+    pub brought-is : left ≤ length rest → (lines : ℕ) (l : List ℕ) → namesBrought rules (namesDue lines left) (known ++ rest) l ≡ brought l
     unfolding namesBrought namesAfter namesIn
     brought-is room lines l =
         let fits : take (length rest) (freshIn left l) ≡ freshIn left l = take-all (length rest) (freshIn left l) (omega (arith, fresh-length left l, room)) in
         rw (some, known-are, rest-is, more-fresh left l, fits) (sym (append-assoc known (freshIn left l) (drop (length (freshIn left l)) rest)))
 
-    many-on : (l : List ℕ) → length (known ++ freshIn left l) + (left - 17) ≡ s .satellites
+    pub many-on : (l : List ℕ) → length (known ++ freshIn left l) + (left - 17) ≡ s .satellites
     many-on l = omega (arith, length-append known (freshIn left l), fresh-length left l, many)
 
-    room-on : left ≤ length rest → (l : List ℕ) → left - 17 ≤ length (drop (length (freshIn left l)) rest)
+    pub room-on : left ≤ length rest → (l : List ℕ) → left - 17 ≤ length (drop (length (freshIn left l)) rest)
     room-on room l = omega (arith, length-drop (length (freshIn left l)) rest, fresh-length left l, room)
 
     -- one line

@@ -41,7 +41,7 @@ passed-on true v n c t t′ more e = (refl, e)
 passed-on false v n c t t′ more e = absurd (not-refused n (t .lines) c t′ e)
 
 -- a kind that may stand here, and its record without fault
-placed : (here : Bool) (fault : ℕ) → cond here fault (keyed 4 0) ≡ 0 → (here ≡ true) × (fault ≡ 0)
+pub placed : (here : Bool) (fault : ℕ) → cond here fault (keyed 4 0) ≡ 0 → (here ≡ true) × (fault ≡ 0)
 placed true fault e = (refl, e)
 placed false fault e = let z : _≡_ {A = ℕ} 512 0 = e in absurd (omega arith)
 

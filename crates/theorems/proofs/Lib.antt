@@ -9,3 +9,4 @@ pub mod Floats
 pub mod Lent
 pub mod Writing
 pub mod Rewritten
+pub mod Known

@@ -1,0 +1,34 @@
+-- Judged with all identifiers of its header in hand, every line of an accepted file does what it does where they are learnt on the way.
+-- Assumes nothing.
+use mathlib.Core.Path.{_≡_, sym, ap, _∙_}
+use mathlib.Core.Bool.{false}
+use mathlib.Core.List.{List}
+use Prim.Native.Nat.{ℕ, _<_}
+use lib.ListN.{take}
+use Rattle.lines.specs.Lines.{linesOf, nth}
+use Rattle.header.specs.declared.types.Rules.{Rules}
+use Rattle.machine.specs.Step.{stepOf}
+use Rattle.file.specs.Plain.{Sound}
+use Rattle.file.specs.Table.{countOf, slotsIn}
+use Rattle.scan.specs.Run.{scanOf, atFirst}
+use Rattle.scan.specs.declared.Tally.{Tally}
+use Rattle.scan.specs.declared.Front.the-variants as front
+use Rattle.plain.proofs.Counts.{count-is, identifiers-are}
+use Rattle.accepted.proofs.Used.{frontLines}
+use Rattle.accepted.proofs.Stepping.{behind}
+use Rattle.accepted.proofs.Files.{plain-front}
+use Rattle.accepted.proofs.KnownSteps.{known-plain}
+
+-- the first entries are the identifiers of the file at the front of some bytes
+abbrev pub Knows : Rules → List ℕ → Tally → List ℕ → Type 0
+Knows rules bytes t names =
+    take (countOf rules (frontLines bytes t)) names ≡ slotsIn rules false (countOf rules (frontLines bytes t)) (frontLines bytes t)
+
+-- With them, each of its lines does the same.
+pub known-steps : (rules : Rules) → Sound rules → (bytes : List ℕ) (t : Tally) → scanOf rules bytes ≡ front.File t → (names : List ℕ) → Knows rules bytes t names
+    → (k : ℕ) → k < t .lines
+    → stepOf rules (behind rules atFirst (linesOf bytes) k .state) names (nth k (linesOf bytes))
+    ≡ stepOf rules (behind rules atFirst (linesOf bytes) k .state) (behind rules atFirst (linesOf bytes) k .names) (nth k (linesOf bytes))
+known-steps rules sound bytes t e names knows k h =
+    let p = plain-front rules sound bytes t e in
+    known-plain rules sound bytes t e p names (ap (λ (n : ℕ). take n names) (sym (count-is p)) ∙ knows ∙ identifiers-are p) k h
