@@ -51,9 +51,9 @@ fn float_unless(absent: bool, s: Signed) -> f64
     float_of(s)
 }
 
-// The row of a P line as floats.
-fn float_row(row: Row) -> FloatRow
-    ensures { λ r. ⌜ r ≡ floatRow row ⌝ }
+// The row of a P line as floats: three zeros are no place, whatever the clock.
+pub fn float_row(row: Row) -> FloatRow
+    ensures result { λ r. ⌜ r ≡ floatRow row ⌝ }
 {
     let x = row.x;
     let y = row.y;

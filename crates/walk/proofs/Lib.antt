@@ -1,0 +1,4 @@
+pub mod Going
+pub mod Stepping
+pub mod Told
+pub mod Determined

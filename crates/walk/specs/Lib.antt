@@ -1,0 +1,3 @@
+pub mod Begin
+pub mod Rows
+pub mod Told
