@@ -23,5 +23,8 @@ pub enum RowStep {
         next: RowWalk,
     },
     End,
-    Refused { number: usize, line: u64 },
+    Refused {
+        number: usize,
+        line: u64,
+    },
 }

@@ -1,3 +1,4 @@
 -- What the walks of this crate share.
 mod Walking
 pub mod Places
+pub mod Determined

@@ -60,7 +60,10 @@ pub fn place_after<'a>(file: &'a [u8], names: &'a [u64], place: Place) -> Place
     match read_known(file, names, place) {
         LineRead::Next { at, state } => Place { at, state },
         LineRead::NoLine => place,
-        LineRead::Fault { number: _, column: _ } => place,
+        LineRead::Fault {
+            number: _,
+            column: _,
+        } => place,
         LineRead::Finished { at: _ } => place,
     }
 }
