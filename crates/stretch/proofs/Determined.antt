@@ -2,6 +2,7 @@
 -- Assumes nothing.
 use mathlib.Core.Path.{_≡_, sym, _∙_}
 use denote.Ref.{now}
+use Rattle.stretch.proofs.divide.Reads as divide
 
 pub divide-determined : (κs : _) (a : _) (r r′ : _) (s s′ : _) → divide.Post κs a r s → divide.Post κs a r′ s′
     → (r ≡ r′) × (now (s .1 .0) ≡ now (s′ .1 .0))
