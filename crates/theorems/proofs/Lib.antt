@@ -9,3 +9,5 @@ pub mod Floats
 pub mod Lent
 pub mod Writing
 pub mod Rewritten
+pub mod EndToEnd
+pub mod Dividing
