@@ -106,11 +106,12 @@ file-at rules bytes rest t h e = record {
 -- The loop that counts: the files counted and those of the rest are the files of all, and there was room for those counted.
 pub record Counting (rules : Rules) (bytes : List ℕ) (room count rest : ℕ) : Type 0 where
   pub within : rest ≤ length bytes
+  pub few : count ≤ rest
   pub fits : count ≤ room
   pub same : divisionFrom count rest (cutsOf rules (drop rest bytes)) ≡ divisionFrom 0 0 (cutsOf rules bytes)
 
 pub counting-first : (rules : Rules) (bytes : List ℕ) (room : ℕ) → Counting rules bytes room 0 0
-counting-first rules bytes room = record { within = zero-le; fits = zero-le; same = refl }
+counting-first rules bytes room = record { within = zero-le; few = zero-le; fits = zero-le; same = refl }
 
 module _ (rules : Rules) (bytes : List ℕ) (room count rest : ℕ) (g : Counting rules bytes room count rest) where
   -- how many there are
@@ -144,7 +145,7 @@ module _ (rules : Rules) (bytes : List ℕ) (room count rest : ℕ) (g : Countin
       file-here = file-at rules bytes rest t (g .within) (here ∙ e)
 
       -- one file more than room
-      pub counted-over : room ≤ count → noRoom ≡ divideOf rules bytes room
+      pub counted-over : room < count + 1 → noRoom ≡ divideOf rules bytes room
       unfolding divideOf
       counted-over h =
           let some : length (cutsOf rules (drop rest bytes) .lengths) ≡ suc (length (cutsOf rules (drop (rest + t .end) bytes) .lengths)) =
@@ -152,14 +153,15 @@ module _ (rules : Rules) (bytes : List ℕ) (room count rest : ℕ) (g : Countin
           rw (lt-leb (length (cutsOf rules bytes .lengths)) room (omega (arith, many)))
 
       -- one file more
-      pub counts-file : count < room → Counting rules bytes room (count + 1) (rest + t .end)
+      pub counts-file : count + 1 ≤ room → Counting rules bytes room (count + 1) (rest + t .end)
       unfolding sum
       counts-file h =
           let c = cutsOf rules (drop (rest + t .end) bytes) in
           let files : count + 1 + length (c .lengths) ≡ count + suc (length (c .lengths)) = omega arith in
           record {
             within = file-here .within;
-            fits = omega arith;
+            few = omega (arith, g .few, file-here .byte);
+            fits = h;
             same =
                 ap₂ (λ (a b : ℕ). division a b (c .refusal) (c .line)) files (add-assoc rest (t .end) (sum (c .lengths)))
                 ∙ ap (divisionFrom count rest) (sym (file-here .same))

@@ -5,7 +5,7 @@ ghost use lib.ListN.{length, take};
 ghost use Rattle.lines.specs.Lent.{over};
 ghost use Rattle.header.specs.Rules.{d};
 ghost use Rattle.scan.specs.Run.{scanOf};
-ghost use Rattle.stretch.specs.Dividing.{FileHere, endOf, cutsOf, divideOf, lengthsAfter};
+ghost use Rattle.stretch.specs.Dividing.{FileHere, endOf, cutsOf, division, divideOf, lengthsAfter};
 use header::Rules;
 use scan::Front;
 
@@ -16,6 +16,18 @@ pub struct Division {
     pub rest: usize,
     pub refusal: usize,
     pub line: u64,
+}
+
+// The parts of an answer.
+fn answer(count: u64, rest: usize, refusal: usize, line: u64) -> Division
+    ensures { λ r. ⌜ r ≡ division count rest refusal line ⌝ }
+{
+    Division {
+        count,
+        rest,
+        refusal,
+        line,
+    }
 }
 
 // Counts the files at the front, as many as there is room for: one more is 12 alone.
@@ -31,33 +43,18 @@ fn count_files(rules: Rules, stretch: &[u8], room: u64) -> Division
                 line,
                 column: _,
             } => {
-                return Division {
-                    count,
-                    rest,
-                    refusal: number,
-                    line,
-                };
+                return answer(count, rest, number, line);
             }
             Front::File(tally) => {
-                if count >= room {
-                    return Division {
-                        count: 0,
-                        rest: 0,
-                        refusal: 12,
-                        line: 0,
-                    };
-                }
                 count += 1;
+                if count > room {
+                    return answer(0, 0, 12, 0);
+                }
                 rest += tally.end;
             }
         }
     }
-    Division {
-        count,
-        rest,
-        refusal: 0,
-        line: 0,
-    }
+    answer(count, rest, 0, 0)
 }
 
 // The length of the file at the front, which is known to be accepted: it ends with its first EOF line.

@@ -1,5 +1,6 @@
 -- `stretch::count_files` meets its contract. The loop's invariant and its turn are in `Cutting`.
 -- Assumes nothing.
+use mathlib.Core.Path.{_∙_}
 use Prim.Native.Nat.{_-_}
 use native.Mathlib.Omega.{arith}
 use borrow.Author.Needs.{needs}
@@ -19,12 +20,13 @@ loop-holds c = let a = c .before .args in counting-first (a .rules) (a .stretch 
 
 returns : tie.Need-returns Inv-loop μ-loop
 returns c =
-    let known = c .before .number .given in
-    let ran = c .before .before .before in
+    let known = c .before .before .number .given in
+    let ran = c .before .before .before .before in
     let turn = ran .before .before in
     let at-loop = turn .before in
     let a = at-loop .before .before .args in
-    counted-refused (a .rules) (a .stretch .now) (a .room) (at-loop .loop .count) (at-loop .loop .rest) (at-loop .loop .inv)
+    c .answer .ensures
+    ∙ counted-refused (a .rules) (a .stretch .now) (a .room) (at-loop .loop .count) (at-loop .loop .rest) (at-loop .loop .inv)
     (ran .scan-front .result) (ran .scan-front .ensures) (known .0 .0) (known .0 .1 .0) (known .0 .1 .1 .0) (turn .loop-test .taken) (known .1)
 
 -- where the rest begins with a file
@@ -40,12 +42,13 @@ file-there c =
 
 returns-2 : tie.Need-returns-2 Inv-loop μ-loop
 returns-2 c =
-    let known = c .before .before in
+    let known = c .before .before .before in
     let ran = known .before .before in
     let at-loop = ran .before .before .before in
     let a = at-loop .before .before .args in
-    counted-over (a .rules) (a .stretch .now) (a .room) (at-loop .loop .count) (at-loop .loop .rest) (at-loop .loop .inv)
-    (ran .scan-front .result) (ran .scan-front .ensures) (known .tally .given .0 .0) (known .tally .given .1) (c .if1 .taken)
+    c .answer2 .ensures
+    ∙ counted-over (a .rules) (a .stretch .now) (a .room) (at-loop .loop .count) (at-loop .loop .rest) (at-loop .loop .inv)
+    (ran .scan-front .result) (ran .scan-front .ensures) (known .tally .given .0 .0) (known .tally .given .1) (c .before .if1 .taken)
 
 add-rest : tie.Need-add-rest Inv-loop μ-loop
 add-rest c = omega (arith, file-there (c .before .before .before) .within)
@@ -64,9 +67,10 @@ loop-again c =
 
 returns-3 : tie.Need-returns-3 Inv-loop μ-loop
 returns-3 c =
-    let at-loop = c .before in
+    let at-loop = c .before .before in
     let a = at-loop .before .before .args in
-    counted-end (a .rules) (a .stretch .now) (a .room) (at-loop .loop .count) (at-loop .loop .rest) (at-loop .loop .inv) (c .loop-test .left)
+    c .answer3 .ensures
+    ∙ counted-end (a .rules) (a .stretch .now) (a .room) (at-loop .loop .count) (at-loop .loop .rest) (at-loop .loop .inv) (c .before .loop-test .left)
 
 pub count-files-spec : {M : Type 1} → statement M
 count-files-spec =
@@ -80,11 +84,14 @@ count-files-spec =
     (λ c. search needs)
     (λ c κs. search needs)
     (λ c. search needs)
+    (λ c κs. search needs)
     returns
     (λ c. search needs)
-    returns-2
     (λ c. search needs)
+    (λ c κs. search needs)
+    returns-2
     add-rest
     loop-less
     loop-again
+    (λ c κs. search needs)
     returns-3)
