@@ -48,7 +48,7 @@ returns-2 c =
     let a = at-loop .before .before .args in
     c .answer2 .ensures
     ∙ counted-over (a .rules) (a .stretch .now) (a .room) (at-loop .loop .count) (at-loop .loop .rest) (at-loop .loop .inv)
-    (ran .scan-front .result) (ran .scan-front .ensures) (known .tally .given .0 .0) (known .tally .given .1) (c .before .if1 .taken)
+    (ran .scan-front .result) (ran .scan-front .ensures) (known .tally .given .0 .0) (known .tally .given .1) (omega (arith, c .before .if1 .taken))
 
 add-rest : tie.Need-add-rest Inv-loop μ-loop
 add-rest c = omega (arith, file-there (c .before .before .before) .within)
@@ -63,7 +63,7 @@ loop-again c =
     let at-loop = ran .before .before .before in
     let a = at-loop .before .before .args in
     counts-file (a .rules) (a .stretch .now) (a .room) (at-loop .loop .count) (at-loop .loop .rest) (at-loop .loop .inv)
-    (ran .scan-front .result) (ran .scan-front .ensures) (known .tally .given .0 .0) (known .tally .given .1) (c .before .if1 .left)
+    (ran .scan-front .result) (ran .scan-front .ensures) (known .tally .given .0 .0) (known .tally .given .1) (omega (arith, c .before .if1 .left))
 
 returns-3 : tie.Need-returns-3 Inv-loop μ-loop
 returns-3 c =
