@@ -22,15 +22,18 @@ use Rattle.machine.specs.Step.{onKey, judgedLine, printedLine, stepOf}
 use Rattle.machine.specs.declared.types.State.{State}
 use Rattle.machine.specs.declared.types.Verdict.{Verdict}
 use Rattle.machine.specs.declared.types.Verdict.the-variants as verdict
+use Rattle.file.specs.Kinds.{isKind}
 use Rattle.scan.specs.Run.{Going, goneOn, stepped}
 use Rattle.accepted.proofs.Passing.{placed}
 use Rattle.accepted.proofs.Reaching.{names-kept}
 
--- each of the lines does the same with these identifiers as in the run
-unfoldable pub Alike : Rules → List ℕ → Going → List (List ℕ) → Type 0
-Alike rules names g [] = Unit
-Alike rules names g (l ∷ ls) =
-    (stepOf rules (g .state) names l ≡ stepOf rules (g .state) (g .names) l) × Alike rules names (stepped rules g l) ls
+-- each of the lines does the same with these identifiers as in the run, and where a P line (10) stands the number of satellites is known
+unfoldable pub Alike : Rules → ℕ → List ℕ → Going → List (List ℕ) → Type 0
+Alike rules n names g [] = Unit
+Alike rules n names g (l ∷ ls) =
+    (stepOf rules (g .state) names l ≡ stepOf rules (g .state) (g .names) l)
+    × (isKind rules 10 l ≡ true → g .state .satellites ≡ n)
+    × Alike rules n names (stepped rules g l) ls
 
 -- what may stand besides the kind due after the `+ ` lines: nothing, a comment, a correlation record
 abbrev aside : ℕ → Bool
@@ -191,9 +194,9 @@ module _ (rules : Rules) (n : ℕ) (some : 1 ≤ n) (names : List ℕ) where
   gone-past g l p verdict.Finished goes = (p, refl)
 
   -- From behind the `+ ` lines on, every line does the same with any list that begins with the same n identifiers.
-  pub past-alike : (ls : List (List ℕ)) (g : Going) → Past n (g .state) → take n names ≡ take n (g .names) → Alike rules names g ls
+  pub past-alike : (ls : List (List ℕ)) (g : Going) → Past n (g .state) → take n names ≡ take n (g .names) → Alike rules n names g ls
   unfolding Alike stepped
   past-alike [] g p same = tt
   past-alike (l ∷ ls) g p same =
       let on = gone-past g l p (stepOf rules (g .state) (g .names) l) (step-past (g .state) (g .names) l p) in
-      (step-alike (g .state) (g .names) p same l, past-alike ls (stepped rules g l) (on .0) (same ∙ ap (take n) (sym (on .1))))
+      (step-alike (g .state) (g .names) p same l, λ row. p .many, past-alike ls (stepped rules g l) (on .0) (same ∙ ap (take n) (sym (on .1))))

@@ -1,7 +1,7 @@
 -- The `+ ` lines of a file do the same with all identifiers in hand: each looks only at those of the lines before it.
 -- Assumes nothing.
 use mathlib.Core.Path.{_≡_, refl, sym, ap, _∙_}
-use mathlib.Core.Bool.{true, false}
+use mathlib.Core.Bool.{true, false, false≢true}
 use mathlib.Core.List.{List, [], _∷_, _++_, append-assoc}
 use Prim.Native.Nat.{ℕ, zero, suc, _+_, _-_, _≤_}
 use native.Mathlib.Omega.{arith}
@@ -25,26 +25,30 @@ use Rattle.machine.specs.declared.types.State.{State}
 use Rattle.machine.specs.declared.types.Verdict.the-variants as verdict
 use Rattle.file.specs.Plain.{isLine, isRecord, isCountLine, areSlots, namesOf}
 use Rattle.scan.specs.Run.{stepped}
-use Rattle.accepted.proofs.Passing.{step-of}
+use Rattle.accepted.proofs.Passing.{line-kind, step-of}
 use Rattle.accepted.proofs.Slots.{freshIn, all-names, one-line, first-new}
 use Rattle.accepted.proofs.Names.{names-clean, namesDue, afterAll, last-one, one-of-more, fault-is, brought, brought-is, many-on, room-on}
 use Rattle.accepted.proofs.Count.{said, further, count-faults, others, count-brought, count-next, count-due, some-said, first-many, first-room, allKnown}
 use Rattle.accepted.proofs.Known.{Alike}
 
-module _ (rules : Rules) (names : List ℕ) where
+module _ (rules : Rules) (n : ℕ) (names : List ℕ) where
   -- the lines do the same from a state and the identifiers known there, wherever it is
   abbrev pub From : State → List ℕ → List (List ℕ) → Type 0
-  From s now ls = (at : ℕ) → Alike rules names (record { at = at; state = s; names = now }) ls
+  From s now ls = (at : ℕ) → Alike rules n names (record { at = at; state = s; names = now }) ls
 
   -- one line of the kind due that has no fault with either list
-  pub alike-one : (k : LineKind) (s s′ : State) (now now′ l : List ℕ) (ls : List (List ℕ)) → s .due ≡ toldKind k → isLine rules k l ≡ true
+  pub alike-one : (k : LineKind) (s s′ : State) (now now′ l : List ℕ) (ls : List (List ℕ)) → eqb (toldKind k) 10 ≡ false → s .due ≡ toldKind k → isLine rules k l ≡ true
       → recordFault k rules s names (padded l) ≡ 0 → recordFault k rules s now (padded l) ≡ 0 → nextOf k rules s (padded l) ≡ verdict.Next s′
       → namesBrought rules s now l ≡ now′ → From s′ now′ ls → From s now (l ∷ ls)
   unfolding Alike stepped
-  alike-one k s s′ now now′ l ls due is clean clean′ next kept more at =
+  alike-one k s s′ now now′ l ls other due is clean clean′ next kept more at =
       let here : stands s k ≡ true = rw (eq-eqb (toldKind k) (s .due) (sym due)) in
       let goes = step-of rules k s now l is here clean′ ∙ next in
-      (step-of rules k s names l is here clean ∙ next ∙ sym goes, rw (goes, kept) (more (at + length l + 1)))
+      (
+        step-of rules k s names l is here clean ∙ next ∙ sym goes,
+        λ row. absurd (false≢true (sym other ∙ ap (λ (x : LineKind). eqb (toldKind x) 10) (sym (line-kind rules k l is)) ∙ row)),
+        rw (goes, kept) (more (at + length l + 1)),
+      )
 
   module _ (s : State) (some : eqb (s .satellites) 0 ≡ false) where
     -- a further `+ ` line
@@ -56,7 +60,7 @@ module _ (rules : Rules) (names : List ℕ) where
         let clean =
         names-clean (moreOf false left (padded l) .fault) (repeats known (freshIn left l))
         (eqb-true (moreOf false left (padded l) .fault) 0 (and-right (isLine rules kind.Satellites l) _ is)) new in
-        alike-one kind.Satellites (namesDue rules s some lines left) next (known ++ rest) (brought rules s some left known rest many l) l ls refl
+        alike-one kind.Satellites (namesDue rules s some lines left) next (known ++ rest) (brought rules s some left known rest many l) l ls refl refl
         (and-left (isLine rules kind.Satellites l) _ is) (rw are (fault-is rules s some left known rest′ many lines l ∙ clean))
         (fault-is rules s some left known rest many lines l ∙ clean) (ap verdict.Next (nexts (padded l)))
         (brought-is rules s some left known rest many room lines l) more
@@ -96,7 +100,7 @@ module _ (rules : Rules) (names : List ℕ) where
       let both = first-new n [] l slots new in
       let fault = satellitesOf rules (padded l) .fault in
       let clean = names-clean fault (repeats [] (freshIn n l)) (eqb-true fault 0 (and-right (isLine rules kind.Satellites l) _ is)) (both .0) in
-      alike-one kind.Satellites s (afterCount n s) now (freshIn n l ++ others rules s now due none room wide l) l (slots ++ tail) due
+      alike-one kind.Satellites s (afterCount n s) now (freshIn n l ++ others rules s now due none room wide l) l (slots ++ tail) refl due
       (and-left (isLine rules kind.Satellites l) _ is) (count-faults rules s none names l ∙ clean) (count-faults rules s none now l ∙ clean)
       (ap verdict.Next (count-next rules s now due none room wide l)) (count-brought rules s now due none room wide l)
       (rw (count-due rules s now due none room wide n some)

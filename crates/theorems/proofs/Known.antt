@@ -8,6 +8,7 @@ use lib.ListN.{take}
 use Rattle.lines.specs.Lines.{linesOf, nth}
 use Rattle.header.specs.declared.types.Rules.{Rules}
 use Rattle.machine.specs.Step.{stepOf}
+use Rattle.file.specs.Kinds.{isKind}
 use Rattle.file.specs.Plain.{Sound}
 use Rattle.file.specs.Table.{countOf, slotsIn}
 use Rattle.scan.specs.Run.{scanOf, atFirst}
@@ -24,11 +25,13 @@ abbrev pub Knows : Rules → List ℕ → Tally → List ℕ → Type 0
 Knows rules bytes t names =
     take (countOf rules (frontLines bytes t)) names ≡ slotsIn rules false (countOf rules (frontLines bytes t)) (frontLines bytes t)
 
--- With them, each of its lines does the same.
+-- With them, each of its lines does the same; and where a P line stands, the number of satellites is that of the header.
 pub known-steps : (rules : Rules) → Sound rules → (bytes : List ℕ) (t : Tally) → scanOf rules bytes ≡ front.File t → (names : List ℕ) → Knows rules bytes t names
     → (k : ℕ) → k < t .lines
-    → stepOf rules (behind rules atFirst (linesOf bytes) k .state) names (nth k (linesOf bytes))
-    ≡ stepOf rules (behind rules atFirst (linesOf bytes) k .state) (behind rules atFirst (linesOf bytes) k .names) (nth k (linesOf bytes))
+    → (stepOf rules (behind rules atFirst (linesOf bytes) k .state) names (nth k (linesOf bytes))
+    ≡ stepOf rules (behind rules atFirst (linesOf bytes) k .state) (behind rules atFirst (linesOf bytes) k .names) (nth k (linesOf bytes)))
+    × (isKind rules 10 (nth k (linesOf bytes)) ≡ true → behind rules atFirst (linesOf bytes) k .state .satellites ≡ countOf rules (frontLines bytes t))
 known-steps rules sound bytes t e names knows k h =
     let p = plain-front rules sound bytes t e in
-    known-plain rules sound bytes t e p names (ap (λ (n : ℕ). take n names) (sym (count-is p)) ∙ knows ∙ identifiers-are p) k h
+    let both = known-plain rules sound bytes t e p names (ap (λ (n : ℕ). take n names) (sym (count-is p)) ∙ knows ∙ identifiers-are p) k h in
+    (both .0, λ row. both .1 row ∙ sym (count-is p))

@@ -10,3 +10,5 @@ pub mod Lent
 pub mod Writing
 pub mod Rewritten
 pub mod Known
+pub mod EndToEnd
+pub mod Dividing

@@ -1,0 +1,3 @@
+pub mod Ending
+pub mod Cutting
+pub mod Determined

@@ -1,0 +1,131 @@
+-- Accepted files laid end to end: their cuts, their lengths, and the file of each number; and every stretch is such files and a rest.
+-- Assumes nothing.
+use mathlib.Core.Path.{_≡_, refl, sym, ap, ap₂, _∙_, subst}
+use mathlib.Core.Logic.{_⊎_, inl, inr}
+use mathlib.Core.List.{List, [], _∷_, _++_, append-assoc, append-nil}
+use Prim.Native.Nat.{ℕ, zero, suc, _+_, _-_, _≤_, _<_}
+use native.Mathlib.Nat.{le-refl, le-of-suc-le-suc, not-suc-le-zero}
+use native.Mathlib.Omega.{arith}
+use lib.ListN.{length, getD, take, drop, length-append, length-drop, take-append-drop}
+use lib.Seq.{take-append-seam, drop-append-seam, drop-append-add, length-take-le}
+use Rattle.header.specs.declared.types.Rules.{Rules}
+use Rattle.scan.specs.Run.{scanOf, IsFile}
+use Rattle.scan.specs.declared.Tally.{Tally}
+use Rattle.scan.specs.declared.Front.{Front}
+use Rattle.scan.specs.declared.Front.the-variants as front
+use Rattle.accepted.proofs.Local.{scan-local, whole-ends, front-whole}
+use Rattle.accepted.proofs.Used.{accepted-front}
+use Rattle.stretch.specs.Dividing.{Divides, none, one, Cuts, noCuts, after, cuts, cutsOf, sum}
+use Rattle.stretch.proofs.Cutting.{takes-byte, cut-end, cut-file}
+
+-- files of these lengths before some cuts
+abbrev pub before : List ℕ → Cuts → Cuts
+before ls c = record { lengths = ls ++ c .lengths; refusal = c .refusal; line = c .line }
+
+module _ (rules : Rules) where
+  -- an accepted file before a stretch is its first cut
+  file-first : (a b : List ℕ) → IsFile rules a → cutsOf rules (a ++ b) ≡ after (length a) (cutsOf rules b)
+  file-first a b (t, e) =
+      let f = whole-ends rules a t e in
+      cut-file rules (a ++ b) t (scan-local rules a b t (f .0))
+      ∙ ap₂ (λ (n : ℕ) (c : Cuts). after n c) (f .1) (ap (cutsOf rules) (ap (λ (n : ℕ). drop n (a ++ b)) (f .1) ∙ drop-append-seam a b))
+
+  -- and so are several, laid end to end
+  pub files-first : {a ks : List ℕ} (b : List ℕ) → Divides rules a ks → cutsOf rules (a ++ b) ≡ before ks (cutsOf rules b)
+  files-first b none = refl
+  files-first b (one a {b = a′} f more) =
+      ap (cutsOf rules) (append-assoc a a′ b) ∙ file-first a (a′ ++ b) f ∙ ap (after (length a)) (files-first b more)
+
+  pub divided : {bytes ls : List ℕ} → Divides rules bytes ls → cutsOf rules bytes ≡ before ls noCuts
+  divided {bytes} {ls} x =
+      ap (cutsOf rules) (sym (append-nil bytes)) ∙ files-first [] x ∙ ap (before ls) (cut-end rules [] (le-refl 0))
+
+  -- the lengths of the files: their sum is that of all, and each file takes a byte at least
+  pub lengths-sum : {bytes ls : List ℕ} → Divides rules bytes ls → sum ls ≡ length bytes
+  unfolding sum
+  lengths-sum none = refl
+  lengths-sum (one a {b = b} f more) = ap (λ (n : ℕ). length a + n) (lengths-sum more) ∙ sym (length-append a b)
+
+  pub lengths-some : {bytes ls : List ℕ} → Divides rules bytes ls → (i : ℕ) → i < length ls → 1 ≤ getD ls i 0
+  lengths-some none i h = absurd (not-suc-le-zero h)
+  lengths-some (one a (t, e) more) zero h =
+      let f = whole-ends rules a t e in
+      omega (arith, f .1, takes-byte rules a t (f .0))
+  lengths-some (one a f more) (suc i) h = lengths-some more i (le-of-suc-le-suc h)
+
+  -- the file of number i begins where those before it end, whatever follows them all
+  pub file-numbered : {bytes ls : List ℕ} (rest : List ℕ) → Divides rules bytes ls → (i : ℕ) → i < length ls
+      → IsFile rules (take (getD ls i 0) (drop (sum (take i ls)) (bytes ++ rest)))
+  unfolding sum
+  file-numbered rest none i h = absurd (not-suc-le-zero h)
+  file-numbered rest (one a {b = b} f more) zero h =
+      subst (IsFile rules) (sym (ap (take (length a)) (append-assoc a b rest) ∙ take-append-seam a (b ++ rest))) f
+  file-numbered rest (one a {b = b} {ls = ls} f more) (suc i) h =
+      subst (λ (s : List ℕ). IsFile rules (take (getD ls i 0) s))
+      (sym (ap (drop (length a + sum (take i ls))) (append-assoc a b rest) ∙ drop-append-add a (b ++ rest) (sum (take i ls))))
+      (file-numbered rest more i (le-of-suc-le-suc h))
+
+  -- what is left after the files: nothing, with refusal and line 0; or a rest that is refused
+  abbrev pub Left : List ℕ → ℕ → ℕ → Type 0
+  Left rest refusal line =
+      ((rest ≡ []) × (refusal ≡ 0) × (line ≡ 0))
+      ⊎ ((column : ℕ) × (0 < length rest) × (scanOf rules rest ≡ front.Refused refusal line column))
+
+  -- files at the front and a rest
+  pub record Parts (bytes : List ℕ) (c : Cuts) : Type 0 where
+    pub files : List ℕ
+    pub rest : List ℕ
+    pub bytes-are : bytes ≡ files ++ rest
+    pub are-files : Divides rules files (c .lengths)
+    pub left : Left rest (c .refusal) (c .line)
+
+  -- one file more
+  more-parts : (bytes : List ℕ) (t : Tally) (c : Cuts) → scanOf rules bytes ≡ front.File t → Parts (drop (t .end) bytes) c → Parts bytes (after (t .end) c)
+  more-parts bytes t c e p =
+      let first = take (t .end) bytes in
+      record {
+        files = first ++ p .files;
+        rest = p .rest;
+        bytes-are =
+            sym (take-append-drop (t .end) bytes)
+            ∙ ap (λ (s : List ℕ). first ++ s) (p .bytes-are)
+            ∙ sym (append-assoc first (p .files) (p .rest));
+        are-files =
+            subst (λ (n : ℕ). Divides rules (first ++ p .files) (n ∷ c .lengths))
+            (length-take-le (t .end) bytes (accepted-front rules bytes t e .within))
+            (one first (front-whole rules bytes t e) (p .are-files));
+        left = p .left;
+      }
+
+  abbrev Found : ℕ → Type 0
+  Found most = (bytes : List ℕ) → length bytes ≤ most → Parts bytes (cuts rules most bytes)
+
+  nothing-left : Parts [] noCuts
+  nothing-left = record { files = []; rest = []; bytes-are = refl; are-files = none; left = inl (refl, refl, refl) }
+
+  found-none : Found zero
+  unfolding cuts
+  found-none [] h = nothing-left
+  found-none (b ∷ bs) h = absurd (omega arith)
+
+  found-more : (most : ℕ) → Found most → Found (suc most)
+  unfolding cuts
+  found-more most found [] h = nothing-left
+  found-more most found (b ∷ bs) h = go (scanOf rules (b ∷ bs)) refl
+    where
+      go : (f : Front) → scanOf rules (b ∷ bs) ≡ f → Parts (b ∷ bs) (cuts rules (suc most) (b ∷ bs))
+      go (front.Refused number line column) is =
+          rw is (record { files = []; rest = b ∷ bs; bytes-are = refl; are-files = none; left = inr (column, omega arith, is) })
+      go (front.File t) is =
+          let less : length (drop (t .end) (b ∷ bs)) ≡ length (b ∷ bs) - t .end = length-drop (t .end) (b ∷ bs) in
+          rw is
+          (more-parts (b ∷ bs) t (cuts rules most (drop (t .end) (b ∷ bs))) is
+          (found (drop (t .end) (b ∷ bs)) (omega (arith, takes-byte rules (b ∷ bs) t is))))
+
+  found : (most : ℕ) → Found most
+  found zero bytes h = found-none bytes h
+  found (suc most) bytes h = found-more most (found most) bytes h
+
+  -- every stretch is files laid end to end and a rest, by its cuts
+  pub parts : (bytes : List ℕ) → Parts bytes (cutsOf rules bytes)
+  parts bytes = found (length bytes) bytes (le-refl (length bytes))
