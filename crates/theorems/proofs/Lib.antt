@@ -10,5 +10,6 @@ pub mod Lent
 pub mod Writing
 pub mod Rewritten
 pub mod Known
+pub mod Walks
 pub mod EndToEnd
 pub mod Dividing
