@@ -43,8 +43,7 @@ module _ (rules : Rules) (n : ℕ) (names : List ℕ) where
   unfolding Alike stepped
   alike-one k s s′ now now′ l ls other due is clean clean′ next kept more at =
       let here : stands s k ≡ true = rw (eq-eqb (toldKind k) (s .due) (sym due)) in
-      let goes = step-of rules k s now l is here clean′ ∙ next in
-      (
+      let goes = step-of rules k s now l is here clean′ ∙ next in (
         step-of rules k s names l is here clean ∙ next ∙ sym goes,
         λ row. absurd (false≢true (sym other ∙ ap (λ (x : LineKind). eqb (toldKind x) 10) (sym (line-kind rules k l is)) ∙ row)),
         rw (goes, kept) (more (at + length l + 1)),

@@ -11,5 +11,7 @@ pub mod Writing
 pub mod Rewritten
 pub mod Known
 pub mod Walks
+pub mod WalkedRows
+pub mod Beginning
 pub mod EndToEnd
 pub mod Dividing

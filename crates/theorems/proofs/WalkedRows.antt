@@ -1,0 +1,383 @@
+-- The front page for the adjustment's loop: a walk over an accepted file, with its identifiers, gives every row of the file in order, each with its epoch
+-- and its satellite, absence a case, and then the end.
+-- Assumes nothing.
+use mathlib.Core.Path.{_≡_, refl, sym, ap, ap₂, _∙_, subst}
+use mathlib.Core.Bool.{Bool, true, false, cond, false≢true}
+use mathlib.Core.Logic.{_⊎_, inl, inr}
+use mathlib.Core.List.{List, [], _∷_}
+use Prim.Native.Nat.{ℕ, zero, suc, _+_, _-_, _*_, _/_, _%_, _^_, _≤_, _<_}
+use native.Mathlib.Nat.{le-of-suc-le-suc, not-suc-le-zero, add-zero, mod-eq-of-lt, div-eq-of-lt, mul-add-div-right, mul-add-mod-self-right, mul-le-mul, mul-le-mul-right, mul-comm, suc-mul}
+use native.Mathlib.Omega.{arith}
+use borrow.Author.Tests.{ne-eqb}
+use lib.Dec.{eqb, leb}
+use lib.ListN.{length, take, drop, drop-of-length-le}
+use Rattle.laws.specs.Texts.{every, isPrintable}
+use Rattle.layout.specs.Line.{padded}
+use Rattle.header.specs.Rules.{d}
+use Rattle.lines.specs.Lines.{linesOf, select, nth}
+use Rattle.record.specs.LineKinds.{toldKind, kindOf}
+use Rattle.record.specs.Rows.{rowOf}
+use Rattle.file.specs.Kinds.{isKind, ofKind}
+use Rattle.machine.specs.Faults.{longest, placeFault}
+use Rattle.machine.specs.Next.{nextOf}
+use Rattle.machine.specs.Step.{onKey, judgedLine, printedLine, stepOf, readFirst, lineRead}
+use Rattle.adjust.specs.Floats.{floatRow, lineFrom}
+use Rattle.reader.specs.Reading.{frontOf, fileOf, identifiersOf}
+use Rattle.file.specs.Table.{countOf, headerIn}
+use Rattle.scan.specs.Run.{steppedOver, atFirst}
+use Rattle.questions.proofs.Asking.{bounded}
+use Rattle.accepted.proofs.Files.{d-sound, whole-taken}
+use Rattle.accepted.proofs.Local.{whole-ends}
+use Rattle.accepted.proofs.Refused.{EndsAfter, accepted-steps}
+use Rattle.accepted.proofs.Stepping.{judged, behind-next, next-line, stepped-on}
+use Rattle.accepted.proofs.Used.{frontLines, accepted-front}
+use Rattle.theorems.proofs.Judging.{after}
+use Rattle.theorems.proofs.Known.{Knows, known-steps}
+use Rattle.theorems.proofs.Reading.{header, rowsOf, rowAt, There, rows-number}
+use Rattle.theorems.proofs.Floats.{asked, row-asked}
+use Rattle.theorems.proofs.Walks.{placeOf}
+use Rattle.walker.specs.Places.{firstPlace}
+use Rattle.walk.specs.Rows.{firstWalk, toRow, rowAhead, epochOf, satelliteOf, shown, stepAt, stepFrom, rowStep}
+use Rattle.walk.proofs.Going.{passed}
+use Rattle.record.specs.declared.types.LineKind.{LineKind}
+use Rattle.record.specs.declared.types.LineKind.the-variants as kind
+use Rattle.machine.specs.declared.types.State.{State}
+use Rattle.machine.specs.declared.types.Verdict.{Verdict}
+use Rattle.machine.specs.declared.types.Verdict.the-variants as verdict
+use Rattle.adjust.specs.declared.FloatRow.{FloatRow}
+use Rattle.adjust.specs.declared.RowAnswer.{RowAnswer}
+use Rattle.scan.specs.declared.Tally.{Tally}
+use Rattle.scan.specs.declared.Front.the-variants as front
+use Rattle.walker.specs.declared.Place.{Place}
+use Rattle.walk.specs.declared.types.RowWalk.{RowWalk}
+use Rattle.walk.specs.declared.types.RowStep.{RowStep}
+use Rattle.walk.specs.declared.types.RowStep.the-variants as step
+
+-- a line that ends the file is no P line
+past-test : (b : Bool) (v : Verdict) (m c : ℕ) → cond b v (verdict.Fault m c) ≡ verdict.Finished → v ≡ verdict.Finished
+past-test true v m c e = e
+past-test false v m c e = let z : _≡_ {A = ℕ} 0 1 = cc in absurd (omega arith)
+
+last-kind : (k : LineKind) (s : State) (line : List ℕ) → nextOf k d s line ≡ verdict.Finished → eqb (toldKind k) 10 ≡ false
+last-kind kind.Other s line e = refl
+last-kind kind.First s line e = refl
+last-kind kind.Second s line e = refl
+last-kind kind.Satellites s line e = refl
+last-kind kind.Accuracies s line e = refl
+last-kind kind.Characters s line e = refl
+last-kind kind.Floats s line e = refl
+last-kind kind.Integers s line e = refl
+last-kind kind.Comment s line e = refl
+last-kind kind.Epoch s line e = refl
+last-kind kind.Position s line e = let z : _≡_ {A = ℕ} 0 1 = cc in absurd (omega arith)
+last-kind kind.Velocity s line e = refl
+last-kind kind.PositionCorrelation s line e = refl
+last-kind kind.VelocityCorrelation s line e = refl
+last-kind kind.EndOfFile s line e = refl
+
+pub last-no-row : (s : State) (names l : List ℕ) → stepOf d s names l ≡ verdict.Finished → isKind d 10 l ≡ false
+unfolding stepOf printedLine judgedLine onKey
+last-no-row s names l e =
+    let k = kindOf d (padded l) in
+    last-kind k s (padded l)
+    (past-test (eqb (placeFault k d s names (padded l)) 0) _ _ _
+    (past-test (leb (length l) (longest d k)) _ _ _ (past-test (every isPrintable l) _ _ _ e)))
+
+-- the rows that follow, one after another: a step at a row leads to the next
+abbrev pub onRow : RowStep → (RowWalk → RowStep) → RowStep
+onRow (step.At epoch satellite row next) more = more next
+onRow (step.Absent epoch satellite row next) more = more next
+onRow step.End more = step.End
+onRow (step.Refused number line) more = step.Refused number line
+
+row-leads : (epoch satellite : ℕ) (row : FloatRow) (next : RowWalk) (more : RowWalk → RowStep) → onRow (shown epoch satellite row next) more ≡ more next
+unfolding shown
+row-leads epoch satellite row next more = go (row .«place_absent»)
+  where
+    go : (b : Bool) → onRow (cond b (step.Absent epoch satellite row next) (step.At epoch satellite row next)) more ≡ more next
+    go true = refl
+    go false = refl
+
+module _ (bytes names : List ℕ) where
+  -- the answer of step i of a walk, counted from 0
+  unfoldable pub stepsFrom : RowWalk → ℕ → RowStep
+  stepsFrom w zero = rowStep d bytes names w
+  stepsFrom w (suc i) = onRow (rowStep d bytes names w) (λ next. stepsFrom next i)
+
+  module _ (n : ℕ) where
+    abbrev behind : Place → List ℕ → State → Place
+    behind p l s = record { at = p .at + length l + 1; state = s }
+
+    -- each of the lines goes on with these identifiers, up to the one that ends the file, which is the last; where a P line stands there are n satellites
+    unfoldable pub Ahead : Place → List (List ℕ) → Type 0
+    Ahead p [] = ⊥
+    Ahead p (l ∷ ls) =
+        ((stepOf d (p .state) names l ≡ verdict.Finished) × (ls ≡ []))
+        ⊎ ((s : State) × (stepOf d (p .state) names l ≡ verdict.Next s) × (isKind d 10 l ≡ true → p .state .satellites ≡ n) × Ahead (behind p l s) ls)
+
+    -- what a walk to the next row finds
+    record Row (q : Place) (l : List ℕ) (more rows : List (List ℕ)) : Type 0 where
+      state : State
+      goes : stepOf d (q .state) names l ≡ verdict.Next state
+      many : q .state .satellites ≡ n
+      rows-are : rows ≡ l ∷ ofKind d 10 more
+      ahead : Ahead (behind q l state) more
+
+    record Found (p : Place) (ls : List (List ℕ)) : Type 0 where
+      q : Place
+      l : List ℕ
+      more : List (List ℕ)
+      is : toRow d names p ls ≡ q
+      here : linesOf (drop (q .at) bytes) ≡ l ∷ more
+      what : Row q l more (ofKind d 10 ls) ⊎ ((stepOf d (q .state) names l ≡ verdict.Finished) × (ofKind d 10 ls ≡ []))
+
+    found : (ls : List (List ℕ)) (p : Place) → Ahead p ls → linesOf (drop (p .at) bytes) ≡ ls → Found p ls
+    unfolding Ahead toRow select
+    found [] p ahead here = absurd ahead
+    found (l ∷ ls) p ahead here = go (isKind d 10 l) refl ahead (found ls)
+      where
+        go : (b : Bool) → isKind d 10 l ≡ b
+            → ((stepOf d (p .state) names l ≡ verdict.Finished) × (ls ≡ []))
+            ⊎ ((s : State) × (stepOf d (p .state) names l ≡ verdict.Next s) × (isKind d 10 l ≡ true → p .state .satellites ≡ n) × Ahead (behind p l s) ls)
+            → ((p′ : Place) → Ahead p′ ls → linesOf (drop (p′ .at) bytes) ≡ ls → Found p′ ls)
+            → Found p (l ∷ ls)
+        go true is (inl (last, none)) later = absurd (false≢true (sym (last-no-row (p .state) names l last) ∙ is))
+        go true is (inr (s, goes, many, more)) later = record {
+          q = p;
+          l = l;
+          more = ls;
+          is = rw is;
+          here = here;
+          what = inl (record { state = s; goes = goes; many = many is; rows-are = rw is; ahead = more });
+        }
+        go false is (inl (last, none)) later = record { q = p; l = l; more = ls; is = rw (is, last); here = here; what = inr (last, rw (is, none)) }
+        go false is (inr (s, goes, many, more)) later =
+            let f = later (behind p l s) more (passed bytes (p .at) l ls here .rest) in
+            record {
+              q = f .q;
+              l = f .l;
+              more = f .more;
+              is = rw (is, goes) (f .is);
+              here = f .here;
+              what = rw is (f .what);
+            }
+
+    -- the line at a place, as it is read
+    line-here : (q : Place) (l : List ℕ) (more : List (List ℕ)) → linesOf (drop (q .at) bytes) ≡ l ∷ more → lineFrom (q .at) bytes ≡ l
+    unfolding nth
+    line-here q l more e = rw e
+
+    -- one row of the walk
+    record Taken (passed-so : ℕ) (rows : List (List ℕ)) (w : RowWalk) : Type 0 where
+      l : List ℕ
+      others : List (List ℕ)
+      next : Place
+      rows-are : rows ≡ l ∷ ofKind d 10 others
+      gives : rowStep d bytes names w ≡ shown (epochOf passed-so n) (satelliteOf passed-so n) (floatRow (rowOf false l)) (record { place = next; passed = passed-so + 1 })
+      ahead : Ahead next others
+      here : linesOf (drop (next .at) bytes) ≡ others
+
+    module _ (p : Place) (ls : List (List ℕ)) (r : ℕ) (ahead : Ahead p ls) (here : linesOf (drop (p .at) bytes) ≡ ls) where
+      abbrev at-row : RowWalk
+      at-row = record { place = p; passed = r }
+
+      to-there : (q : Place) → toRow d names p ls ≡ q → rowStep d bytes names at-row ≡ stepFrom d bytes names r q
+      to-there q is = ap (stepFrom d bytes names r) (ap (toRow d names p) here ∙ is)
+
+      row-step : (q : Place) (l : List ℕ) (more : List (List ℕ)) (s : State) → linesOf (drop (q .at) bytes) ≡ l ∷ more → stepOf d (q .state) names l ≡ verdict.Next s
+          → q .state .satellites ≡ n → r + 1 < 2 ^ 64
+          → stepFrom d bytes names r q ≡ shown (epochOf r n) (satelliteOf r n) (floatRow (rowOf false l)) (record { place = behind q l s; passed = r + 1 })
+      unfolding stepFrom stepAt readFirst
+      row-step q l more s e goes many small =
+          let fits : (r + 1) % 2 ^ 64 ≡ r + 1 = mod-eq-of-lt small in
+          let next : RowWalk = record { place = behind q l s; passed = r + 1 } in
+          rw (e, goes, many, fits) (ap (λ (x : List ℕ). shown (epochOf r n) (satelliteOf r n) (floatRow (rowOf false x)) next) (line-here q l more e))
+
+      end-step : (q : Place) (l : List ℕ) (more : List (List ℕ)) → linesOf (drop (q .at) bytes) ≡ l ∷ more → stepOf d (q .state) names l ≡ verdict.Finished
+          → stepFrom d bytes names r q ≡ step.End
+      unfolding stepFrom stepAt readFirst
+      end-step q l more e last = rw (e, last)
+
+      -- where rows are left, the next of them; where none is, the end
+      next-row : r + 1 < 2 ^ 64 → Taken r (ofKind d 10 ls) at-row ⊎ ((ofKind d 10 ls ≡ []) × (rowStep d bytes names at-row ≡ step.End))
+      next-row small = go (found ls p ahead here)
+        where
+          go : Found p ls → Taken r (ofKind d 10 ls) at-row ⊎ ((ofKind d 10 ls ≡ []) × (rowStep d bytes names at-row ≡ step.End))
+          go f = by (f .what)
+            where
+              by : Row (f .q) (f .l) (f .more) (ofKind d 10 ls) ⊎ ((stepOf d (f .q .state) names (f .l) ≡ verdict.Finished) × (ofKind d 10 ls ≡ []))
+                  → Taken r (ofKind d 10 ls) at-row ⊎ ((ofKind d 10 ls ≡ []) × (rowStep d bytes names at-row ≡ step.End))
+              by (inl row) = inl (record {
+                l = f .l;
+                others = f .more;
+                next = behind (f .q) (f .l) (row .state);
+                rows-are = row .rows-are;
+                gives = to-there (f .q) (f .is) ∙ row-step (f .q) (f .l) (f .more) (row .state) (f .here) (row .goes) (row .many) small;
+                ahead = row .ahead;
+                here = passed bytes (f .q .at) (f .l) (f .more) (f .here) .rest;
+              })
+              by (inr (last, none)) = inr (none, to-there (f .q) (f .is) ∙ end-step (f .q) (f .l) (f .more) (f .here) last)
+
+    -- the answer of step i: row i of those that follow, or the end after the last
+    record Gives (w : RowWalk) (r i : ℕ) (rows : List (List ℕ)) : Type 0 where
+      row : i < length rows
+          → (next : RowWalk) × (stepsFrom w i ≡ shown (epochOf (r + i) n) (satelliteOf (r + i) n) (floatRow (rowOf false (nth i rows))) next)
+      end : i ≡ length rows → stepsFrom w i ≡ step.End
+
+    -- the first of them
+    gives-first : (p : Place) (r : ℕ) (rows : List (List ℕ))
+        → Taken r rows (record { place = p; passed = r }) ⊎ ((rows ≡ []) × (rowStep d bytes names (record { place = p; passed = r }) ≡ step.End))
+        → Gives (record { place = p; passed = r }) r 0 rows
+    unfolding stepsFrom nth
+    gives-first p r rows (inl x) = record {
+      row = λ some. (record { place = x .next; passed = r + 1 }, rw (x .rows-are, add-zero r) (x .gives));
+      end = λ none. absurd (omega (arith, ap length (x .rows-are)));
+    }
+    gives-first p r rows (inr (none, end)) = record { row = λ some. absurd (omega (arith, ap length none)); end = λ all. end }
+
+    -- a later one
+    gives-later : (i : ℕ) (p next : Place) (r : ℕ) (l : List ℕ) (others : List (List ℕ))
+        → rowStep d bytes names (record { place = p; passed = r })
+        ≡ shown (epochOf r n) (satelliteOf r n) (floatRow (rowOf false l)) (record { place = next; passed = r + 1 })
+        → Gives (record { place = next; passed = r + 1 }) (r + 1) i others → Gives (record { place = p; passed = r }) r (suc i) (l ∷ others)
+    unfolding stepsFrom nth
+    gives-later i p next r l others first more =
+        let leads : stepsFrom (record { place = p; passed = r }) (suc i) ≡ stepsFrom (record { place = next; passed = r + 1 }) i =
+        ap (λ (x : RowStep). onRow x (λ (w : RowWalk). stepsFrom w i)) first
+        ∙ row-leads (epochOf r n) (satelliteOf r n) (floatRow (rowOf false l)) (record { place = next; passed = r + 1 }) (λ w. stepsFrom w i) in
+        let sum : r + 1 + i ≡ r + suc i = omega arith in
+        record {
+          row = λ some. let x = more .row (le-of-suc-le-suc some) in (x .0, leads ∙ rw (← sum) (x .1));
+          end = λ all. leads ∙ more .end (omega arith);
+        }
+
+    gives : (i : ℕ) (p : Place) (ls : List (List ℕ)) (r : ℕ) → Ahead p ls → linesOf (drop (p .at) bytes) ≡ ls → r + length (ofKind d 10 ls) + 1 < 2 ^ 64
+        → Gives (record { place = p; passed = r }) r i (ofKind d 10 ls)
+    gives zero p ls r ahead here small = gives-first p r (ofKind d 10 ls) (next-row p ls r ahead here (omega arith))
+    gives (suc i) p ls r ahead here small = by (next-row p ls r ahead here (omega arith)) (gives i)
+      where
+        by : Taken r (ofKind d 10 ls) (record { place = p; passed = r }) ⊎ ((ofKind d 10 ls ≡ []) × (rowStep d bytes names (record { place = p; passed = r }) ≡ step.End))
+            → ((p′ : Place) (ls′ : List (List ℕ)) (r′ : ℕ) → Ahead p′ ls′ → linesOf (drop (p′ .at) bytes) ≡ ls′ → r′ + length (ofKind d 10 ls′) + 1 < 2 ^ 64
+            → Gives (record { place = p′; passed = r′ }) r′ i (ofKind d 10 ls′))
+            → Gives (record { place = p; passed = r }) r (suc i) (ofKind d 10 ls)
+        by (inl x) more =
+            rw (x .rows-are)
+            (gives-later i p (x .next) r (x .l) (ofKind d 10 (x .others)) (x .gives)
+            (more (x .next) (x .others) (r + 1) (x .ahead) (x .here) (omega (arith, ap length (x .rows-are)))))
+        by (inr (none, end)) more =
+            record { row = λ some. absurd (omega (arith, ap length none)); end = λ all. absurd (omega (arith, ap length none)) }
+
+-- a list begins with the identifiers of a file
+abbrev pub Identified : List ℕ → List ℕ → Type 0
+Identified bytes names = take (header bytes .satellites) names ≡ identifiersOf d (linesOf bytes)
+
+-- AN ACCEPTED FILE, and a list that begins with its identifiers.
+module _ (bytes : List ℕ) (t : Tally) (accepted : fileOf d bytes ≡ front.File t) (names : List ℕ) (identified : Identified bytes names) where
+  at-front : frontOf d bytes ≡ front.File t
+  at-front = whole-ends d bytes t accepted .0
+
+  lines-all : frontLines bytes t ≡ linesOf bytes
+  lines-all = ap linesOf (whole-taken bytes t accepted)
+
+  lines-many : t .lines ≡ length (linesOf bytes)
+  lines-many = accepted-front d bytes t at-front .lines ∙ ap length lines-all
+
+  knows : Knows d bytes t names
+  unfolding headerIn
+  knows = rw lines-all identified
+
+  ends : EndsAfter d bytes t (t .lines - 1)
+  ends = accepted-steps d bytes t at-front
+
+  abbrev n : ℕ
+  n = header bytes .satellites
+
+  abbrev lines : List (List ℕ)
+  lines = linesOf bytes
+
+  same : (k : ℕ) → k < t .lines
+      → (stepOf d (after bytes k .state) names (nth k lines) ≡ judged d (after bytes k) (nth k lines))
+      × (isKind d 10 (nth k lines) ≡ true → after bytes k .state .satellites ≡ n)
+  unfolding headerIn
+  same k h =
+      let both = known-steps d d-sound bytes t at-front names knows k h in
+      (both .0, λ row. both .1 row ∙ ap (countOf d) lines-all)
+
+  -- from behind each line but the last
+  ahead : (m k : ℕ) → k + m ≡ t .lines - 1 → Ahead bytes names n (placeOf (after bytes k)) (drop k lines)
+  unfolding Ahead
+  ahead zero k e =
+      let some : k < t .lines = omega (arith, ends .lines) in
+      let below : k < length lines = omega (arith, lines-many) in
+      let past : length lines ≤ suc k = omega (arith, lines-many) in
+      let none : drop (suc k) lines ≡ [] = drop-of-length-le lines past in
+      let last : k ≡ t .lines - 1 = omega arith in
+      rw (next-line k lines below) (inl (same k some .0 ∙ ap (λ (i : ℕ). judged d (after bytes i) (nth i lines)) last ∙ ends .last, none))
+  ahead (suc m) k e =
+      let some : k < t .lines = omega arith in
+      let below : k < length lines = omega (arith, lines-many) in
+      let on = ends .goes k (omega arith) in
+      let next : placeOf (after bytes (suc k)) ≡ record { at = after bytes k .at + length (nth k lines) + 1; state = on .0 } =
+      ap placeOf (behind-next d k lines atFirst below ∙ stepped-on d (after bytes k) (nth k lines) (on .0) (on .1)) in
+      rw (next-line k lines below)
+      (inr (on .0, same k some .0 ∙ on .1, same k some .1, subst (λ (p : Place). Ahead bytes names n p (drop (suc k) lines)) next (ahead m (suc k) (omega arith))))
+
+  rows-many : length (rowsOf false bytes) ≡ header bytes .satellites * header bytes .epochs
+  rows-many = rows-number bytes (t, accepted)
+
+  few : length (rowsOf false bytes) ≤ 25500000
+  unfolding headerIn
+  few =
+      let bounds = bounded bytes t accepted in
+      let satellites-few : header bytes .satellites ≤ 255 = rw lines-all at (bounds .1) in
+      let epochs-few : header bytes .epochs ≤ 100000 = rw lines-all at (bounds .0) in
+      let product : header bytes .satellites * header bytes .epochs ≤ 255 * 100000 = mul-le-mul satellites-few epochs-few in
+      omega (arith, rows-many)
+
+  given : (i : ℕ) → Gives bytes names n firstWalk 0 i (rowsOf false bytes)
+  unfolding steppedOver
+  given i =
+      let first : 0 + (t .lines - 1) ≡ t .lines - 1 = omega arith in
+      gives bytes names n i firstPlace lines 0 (ahead (t .lines - 1) 0 first) refl (omega (arith, few))
+
+  -- the answer of step i of a walk from the first line on
+  abbrev pub walkStep : ℕ → RowStep
+  walkStep i = stepsFrom bytes names firstWalk i
+
+  -- THE WALK: step k * n + j gives epoch k and satellite j, and the row that the row question gives for them.
+  pub walk-gives : (k j : ℕ) → There bytes k j → (next : RowWalk) × (walkStep (rowAt bytes k j) ≡ shown k j (asked bytes k j .row) next)
+  unfolding epochOf satelliteOf
+  walk-gives k j there =
+      let some : 0 < n = omega (arith, there .satellite) in
+      let number : rowAt bytes k j < length (rowsOf false bytes) = row-below k j there in
+      let x = given (rowAt bytes k j) .row number in
+      let not-none : eqb n 0 ≡ false = ne-eqb n 0 (λ e. omega arith) in
+      let epoch : rowAt bytes k j / n ≡ k = mul-add-div-right some k j ∙ ap (λ (q : ℕ). k + q) (div-eq-of-lt (there .satellite)) ∙ add-zero k in
+      let satellite : rowAt bytes k j % n ≡ j = mul-add-mod-self-right k n j ∙ mod-eq-of-lt (there .satellite) in
+      let whole : 0 + rowAt bytes k j ≡ rowAt bytes k j = omega arith in
+      let row : floatRow (rowOf false (nth (rowAt bytes k j) (rowsOf false bytes))) ≡ asked bytes k j .row =
+      sym (ap (λ (a : RowAnswer). a .row) (row-asked bytes (t, accepted) k j there)) in
+      (x .0, x .1 ∙ rw (whole, not-none, epoch, satellite, row))
+    where
+      row-below : (k j : ℕ) → There bytes k j → rowAt bytes k j < length (rowsOf false bytes)
+      row-below k j there =
+          let more : suc k * n ≤ header bytes .epochs * n = mul-le-mul-right n (there .epoch) in
+          let turn : header bytes .epochs * n ≡ n * header bytes .epochs = mul-comm (header bytes .epochs) n in
+          let one : suc k * n ≡ k * n + n = suc-mul k n in
+          omega (arith, there .satellite, rows-many)
+
+  -- After all rows, satellites times epochs of them, comes the end.
+  pub walk-ends : walkStep (header bytes .satellites * header bytes .epochs) ≡ step.End
+  walk-ends = given (header bytes .satellites * header bytes .epochs) .end (sym rows-many)
+
+  -- ABSENCE IS A CASE: a row comes as absent exactly when its place is marked so, that is when its three fields are zero, whatever its clock.
+  module _ (k j : ℕ) (there : There bytes k j) where
+    pub walk-absent : asked bytes k j .row .«place_absent» ≡ true
+        → (next : RowWalk) × (walkStep (rowAt bytes k j) ≡ step.Absent k j (asked bytes k j .row) next)
+    unfolding shown
+    walk-absent e = let x = walk-gives k j there in (x .0, x .1 ∙ rw e)
+
+    pub walk-at : asked bytes k j .row .«place_absent» ≡ false
+        → (next : RowWalk) × (walkStep (rowAt bytes k j) ≡ step.At k j (asked bytes k j .row) next)
+    unfolding shown
+    walk-at e = let x = walk-gives k j there in (x .0, x .1 ∙ rw e)
