@@ -1,7 +1,7 @@
 -- The front page for the beginning of a walk: the file's own refusal first, then 12, and on success the identifiers that the walk asks for.
 -- Assumes nothing.
-use mathlib.Core.Path.{_≡_, refl, sym, ap, _∙_}
-use mathlib.Core.Bool.{Bool, true, false}
+use mathlib.Core.Path.{_≡_, ap, _∙_}
+use mathlib.Core.Bool.{true, false}
 use mathlib.Core.List.{List}
 use Prim.Native.Nat.{ℕ, _≤_, _<_}
 use native.Mathlib.Omega.{arith}
@@ -12,7 +12,7 @@ use lib.Seq.{take-at, drop-at}
 use Rattle.header.specs.Rules.{d}
 use Rattle.lines.specs.Lines.{linesOf}
 use Rattle.lines.specs.Lent.{over}
-use Rattle.file.specs.Table.{headerIn, slotsIn}
+use Rattle.file.specs.Table.{headerIn}
 use Rattle.reader.specs.Reading.{refusedWith, linesTo, acceptedAs, fileOf, judged, identifiersOf}
 use Rattle.walk.specs.Begin.{begunAs, namesBegun}
 use Rattle.accepted.proofs.Files.{whole-taken}

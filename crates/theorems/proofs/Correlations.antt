@@ -18,26 +18,27 @@ abbrev pub OnlyAfterTwo : List ℕ → List ℕ → Type 0
 OnlyAfterTwo a b = AfterTwo d (linesOf a) (linesOf b)
 
 module _ (a b : List ℕ) (same : OnlyAfterTwo a b) where
-  both : SameTable d (linesOf a) (linesOf b)
-  both = after-two d (linesOf a) (linesOf b) same
+  -- Files that differ only after column 2 of EP and EV lines have the same table:
+  pub same-table : SameTable d (linesOf a) (linesOf b)
+  same-table = after-two d (linesOf a) (linesOf b) same
 
-  -- Files that differ only after column 2 of EP and EV lines have the same header,
+  -- the same header,
   pub same-header : headerIn d (linesOf a) ≡ headerIn d (linesOf b)
-  same-header = both .header
+  same-header = same-table .header
 
   -- the same identifiers (false) and exponents (true) of the satellites,
   pub same-slots : (exponents : Bool) → slotsIn d exponents (countOf d (linesOf a)) (linesOf a) ≡ slotsIn d exponents (countOf d (linesOf b)) (linesOf b)
   unfolding headerIn
   same-slots exponents =
-      ap (λ (h : Header). slotsIn d exponents (h .satellites) (linesOf a)) same-header ∙ both .slots exponents (countOf d (linesOf b))
+      ap (λ (h : Header). slotsIn d exponents (h .satellites) (linesOf a)) same-header ∙ same-table .slots exponents (countOf d (linesOf b))
 
   -- the same comments,
   pub same-comments : commentsIn d (linesOf a) ≡ commentsIn d (linesOf b)
-  same-comments = both .comments
+  same-comments = same-table .comments
 
   -- and the same rows.
   pub same-rows : rowsIn d (linesOf a) ≡ rowsIn d (linesOf b)
-  same-rows = both .rows
+  same-rows = same-table .rows
 
 -- Where EP lines are replaced by EP lines and EV lines by EV lines, an accepted file stays accepted.
 pub still-accepted : (a : List ℕ) (lines : List (List ℕ)) → IsFile d a → SameBut d (linesOf a) lines → IsFile d (joinLines lines)

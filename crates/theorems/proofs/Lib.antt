@@ -13,5 +13,6 @@ pub mod Known
 pub mod Walks
 pub mod WalkedRows
 pub mod Beginning
+pub mod FrontPage
 pub mod EndToEnd
 pub mod Dividing

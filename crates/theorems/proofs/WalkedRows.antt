@@ -1,12 +1,12 @@
 -- The front page for the adjustment's loop: a walk over an accepted file, with its identifiers, gives every row of the file in order, each with its epoch
 -- and its satellite, absence a case, and then the end.
 -- Assumes nothing.
-use mathlib.Core.Path.{_≡_, refl, sym, ap, ap₂, _∙_, subst}
+use mathlib.Core.Path.{_≡_, refl, sym, ap, _∙_, subst}
 use mathlib.Core.Bool.{Bool, true, false, cond, false≢true}
 use mathlib.Core.Logic.{_⊎_, inl, inr}
 use mathlib.Core.List.{List, [], _∷_}
 use Prim.Native.Nat.{ℕ, zero, suc, _+_, _-_, _*_, _/_, _%_, _^_, _≤_, _<_}
-use native.Mathlib.Nat.{le-of-suc-le-suc, not-suc-le-zero, add-zero, mod-eq-of-lt, div-eq-of-lt, mul-add-div-right, mul-add-mod-self-right, mul-le-mul, mul-le-mul-right, mul-comm, suc-mul}
+use native.Mathlib.Nat.{le-of-suc-le-suc, add-zero, mod-eq-of-lt, div-eq-of-lt, mul-add-div-right, mul-add-mod-self-right, mul-le-mul, mul-le-mul-right, mul-comm, suc-mul}
 use native.Mathlib.Omega.{arith}
 use borrow.Author.Tests.{ne-eqb}
 use lib.Dec.{eqb, leb}
@@ -20,7 +20,7 @@ use Rattle.record.specs.Rows.{rowOf}
 use Rattle.file.specs.Kinds.{isKind, ofKind}
 use Rattle.machine.specs.Faults.{longest, placeFault}
 use Rattle.machine.specs.Next.{nextOf}
-use Rattle.machine.specs.Step.{onKey, judgedLine, printedLine, stepOf, readFirst, lineRead}
+use Rattle.machine.specs.Step.{onKey, judgedLine, printedLine, stepOf, readFirst}
 use Rattle.adjust.specs.Floats.{floatRow, lineFrom}
 use Rattle.reader.specs.Reading.{frontOf, fileOf, identifiersOf}
 use Rattle.file.specs.Table.{countOf, headerIn}
@@ -37,7 +37,7 @@ use Rattle.theorems.proofs.Reading.{header, rowsOf, rowAt, There, rows-
 use Rattle.theorems.proofs.Floats.{asked, row-asked}
 use Rattle.theorems.proofs.Walks.{placeOf}
 use Rattle.walker.specs.Places.{firstPlace}
-use Rattle.walk.specs.Rows.{firstWalk, toRow, rowAhead, epochOf, satelliteOf, shown, stepAt, stepFrom, rowStep}
+use Rattle.walk.specs.Rows.{firstWalk, toRow, epochOf, satelliteOf, shown, stepAt, stepFrom, rowStep}
 use Rattle.walk.proofs.Going.{passed}
 use Rattle.record.specs.declared.types.LineKind.{LineKind}
 use Rattle.record.specs.declared.types.LineKind.the-variants as kind

@@ -2,7 +2,6 @@
 -- its identifiers, they are those of the judge's own run.
 -- Assumes nothing.
 use mathlib.Core.Path.{_≡_, refl, sym, ap, _∙_}
-use mathlib.Core.Bool.{Bool, true, false}
 use mathlib.Core.List.{List, [], _∷_}
 use Prim.Native.Nat.{ℕ, zero, suc, _+_, _-_, _≤_, _<_}
 use native.Mathlib.Nat.{le-of-suc-le-suc, not-suc-le-zero, add-zero, zero-add}
@@ -10,10 +9,10 @@ use native.Mathlib.Omega.{arith}
 use lib.ListN.{length, take, drop}
 use Rattle.header.specs.Rules.{d}
 use Rattle.lines.specs.Lines.{linesOf, nth}
-use Rattle.machine.specs.Step.{stepOf, readFirst, lineRead}
+use Rattle.machine.specs.Step.{stepOf, readFirst}
 use Rattle.scan.specs.Run.{Going, stepped, steppedOver, atFirst}
 use Rattle.reader.specs.Reading.{frontOf}
-use Rattle.walker.specs.Places.{firstPlace, goneTo, placeAfter, placesAfter}
+use Rattle.walker.specs.Places.{firstPlace, placeAfter, placesAfter}
 use Rattle.walk.specs.Rows.{onward}
 use Rattle.walk.proofs.Going.{passed}
 use Rattle.accepted.proofs.Files.{d-sound}
@@ -22,7 +21,6 @@ use Rattle.accepted.proofs.Stepping.{judged, behind, GoOn, next-line, go-first,
 use Rattle.theorems.proofs.Judging.{after}
 use Rattle.theorems.proofs.Known.{Knows, known-steps}
 use Rattle.header.specs.declared.types.Rules.{Rules}
-use Rattle.machine.specs.declared.types.State.{State}
 use Rattle.machine.specs.declared.types.Verdict.{Verdict}
 use Rattle.machine.specs.declared.types.Verdict.the-variants as verdict
 use Rattle.scan.specs.declared.Tally.{Tally}

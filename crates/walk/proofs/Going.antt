@@ -1,14 +1,14 @@
 -- A walk over rows, on plain values: what its loops do in a turn.
 -- Assumes nothing.
-use mathlib.Core.Path.{_≡_, refl, sym, ap, _∙_, subst}
+use mathlib.Core.Path.{_≡_, refl, sym, ap, _∙_}
 use mathlib.Core.Bool.{Bool, true, false, cond, _&&_}
-use mathlib.Core.List.{List, [], _∷_, _++_}
-use Prim.Native.Nat.{ℕ, zero, suc, _+_, _-_, _≤_, _<_}
+use mathlib.Core.List.{List, [], _∷_}
+use Prim.Native.Nat.{ℕ, suc, _+_, _-_, _≤_, _<_}
 use native.Mathlib.Nat.{add-zero}
 use native.Mathlib.Omega.{arith}
-use borrow.Author.Tests.{eq-eqb, eqb-true}
+use borrow.Author.Tests.{eqb-true}
 use lib.Dec.{eqb}
-use lib.ListN.{length, getD, take, drop, length-drop}
+use lib.ListN.{length, getD, drop, length-drop}
 use lib.Seq.{drop-drop, getD-drop}
 use Rattle.layout.specs.Line.{padded}
 use Rattle.lines.specs.Lines.{isLf, lineLength, linesOf, onFirst, joinLines, bytesIn}
@@ -17,8 +17,8 @@ use Rattle.lines.proofs.Split.{bytes-in, parted}
 use Rattle.record.specs.LineKinds.{toldKind, kindOf, kindBy, starKind, eKind, plusKind, slashKind, percentKind, hashKind}
 use Rattle.file.specs.Kinds.{isKind}
 use Rattle.file.proofs.Finding.{padded-column}
-use Rattle.machine.specs.Step.{stepOf, readAs, readFirst, lineRead}
-use Rattle.walker.specs.Places.{goneTo, placeAfter, placesAfter}
+use Rattle.machine.specs.Step.{stepOf, readFirst}
+use Rattle.walker.specs.Places.{placeAfter, placesAfter}
 use Rattle.header.specs.declared.types.Rules.{Rules}
 use Rattle.record.specs.declared.types.LineKind.{LineKind}
 use Rattle.record.specs.declared.types.LineKind.the-variants as kind

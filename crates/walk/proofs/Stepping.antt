@@ -1,14 +1,13 @@
 -- One row of a walk, and its beginning, on plain values.
 -- Assumes nothing.
 use mathlib.Core.Path.{_≡_, refl, sym, ap, _∙_}
-use mathlib.Core.Bool.{Bool, true, false, _&&_}
+use mathlib.Core.Bool.{true, false}
 use mathlib.Core.List.{List}
-use Prim.Native.Nat.{ℕ, _+_, _%_, _^_, _≤_, _<_}
+use Prim.Native.Nat.{ℕ, _≤_, _<_}
 use native.Mathlib.Omega.{arith}
 use borrow.Author.Tests.{eq-eqb, ne-eqb, le-leb, lt-leb}
-use lib.Dec.{eqb, leb}
 use lib.ListN.{length, length-take}
-use Rattle.lines.specs.Lent.{laid, over}
+use Rattle.lines.specs.Lent.{laid}
 use Rattle.lines.specs.Lines.{linesOf}
 use Rattle.lines.proofs.Laying.{laid-fits}
 use Rattle.header.specs.Rules.{d}
@@ -20,11 +19,10 @@ use Rattle.machine.proofs.Told.{toldRead-one}
 use Rattle.reader.specs.Reading.{refusedWith}
 use Rattle.adjust.specs.Floats.{floatRow, lineFrom}
 use Rattle.walk.specs.Begin.{begunAs, namesBegun}
-use Rattle.walk.specs.Rows.{epochOf, satelliteOf, shown, rowGiven, walkOn, rowAhead, stepAt, stepFrom, rowStep}
+use Rattle.walk.specs.Rows.{epochOf, satelliteOf, shown, rowGiven, rowAhead, stepAt, stepFrom, rowStep}
 use Rattle.walk.specs.Told.{toldStep}
 use Rattle.header.specs.declared.types.Rules.{Rules}
 use Rattle.record.specs.declared.types.Row.{Row}
-use Rattle.machine.specs.declared.types.State.{State}
 use Rattle.machine.specs.declared.types.LineRead.{LineRead}
 use Rattle.reader.specs.declared.types.Reading.{Reading}
 use Rattle.adjust.specs.declared.FloatRow.{FloatRow}

@@ -1,7 +1,7 @@
 -- A walk over the rows of a file. 01: "afterwards a walker that holds the file's bytes and its place serves the adjustment's loop"; "The adjustment asks
 -- for a row of an accepted file and gets its three coordinates and the clock as f64 in the same units, exactly, or the word absent in place of either;
 -- in mode V too this is the P row."
-use mathlib.Core.Bool.{Bool, false, cond}
+use mathlib.Core.Bool.{false, cond}
 use mathlib.Core.List.{List, [], _∷_}
 use Prim.Native.Nat.{ℕ, _+_, _/_, _%_, _^_}
 use lib.Dec.{eqb}

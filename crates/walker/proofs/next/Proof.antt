@@ -1,7 +1,7 @@
 -- `walker::next` meets its contract: a walk of its MIR, by hand. The struct is taken apart, and `read_known` is called on the slices and the place, of which the proof knows only that it meets its contract.
 -- The struct is Copy: what it owns is had twice, one copy is kept whole for the exit, and of the other the callee takes the fields in their order, beside the lifetime's token, which comes back.
 -- Assumes nothing.
-use Rattle.walker.proofs.Walking.{_≡_, refl, ap, subst, List, [], _∷_, Holds, length, fullShare, URA, named, Val, WT, hasTy, SProp, ent, sep, emp, via, fst∗, snd∗, exE, id⊢, Lft, Share, Fml, ftrue, fat, flft, Memory, Routine, Heap, Calls, Loops, WpFn, Tables, Atoms, sem, Lfts, Fun, fact, givenOf, tables, tablesOf, Given, ‵, raw, _⊛_, given, ⋆, some, later, _$_, _∵_, !, qed, by, move, drop, use1, use2, rewrite, split, join, learn, pick, fsplit, fjoin, suffices, frame, await, done, whole, sub, look-in, agg, look, init, forget, stop, fld, from, load, of-opd, and-then, no-more, assigns, land, returns, enter, alloc1, alloc0, params1, pass1, pass0, free1, free0, FmC, fmOf, WpFn-mono, RattleType, owns, Is, shows, u8, u64, now, namedLft, sliceVal, ShrSlice, only, peeks, heard, nothing, Declared, all-own, own-open, own-put, Values, Contract, Triple, calls-at, Vals, onEntry, Meets, tripleOf, entered, cited, says, Stays, stay-none, walkOf, goes-none, Walks, ends-at, walked, walk-meets, yes, ensured, lasts}
+use Rattle.walker.proofs.Walking.{_≡_, refl, [], _∷_, Holds, length, URA, named, Val, WT, hasTy, SProp, ent, sep, emp, via, fst∗, snd∗, exE, id⊢, Lft, Share, Fml, ftrue, flft, Memory, Routine, Heap, Calls, Loops, WpFn, Tables, Atoms, sem, Lfts, Fun, fact, givenOf, tables, tablesOf, Given, ‵, raw, _⊛_, given, ⋆, some, later, _$_, _∵_, !, qed, by, move, drop, use1, use2, split, join, learn, pick, fsplit, fjoin, suffices, frame, await, done, whole, sub, look-in, look, init, forget, stop, fld, from, load, of-opd, and-then, no-more, assigns, land, returns, enter, alloc1, alloc0, params1, pass1, pass0, free1, free0, FmC, fmOf, WpFn-mono, RattleType, owns, Is, shows, u8, u64, now, namedLft, sliceVal, ShrSlice, only, peeks, heard, nothing, Declared, all-own, own-open, Values, Contract, Triple, calls-at, Vals, onEntry, Meets, tripleOf, entered, cited, says, Stays, stay-none, walkOf, goes-none, Walks, ends-at, walked, walk-meets, yes, ensured, lasts}
 use denote.Enum.Laws as EL
 use denote.Struct.Laws as LL
 use Rattle.header.specs.Rules.{d as rules-d}
@@ -9,7 +9,6 @@ use Rattle.machine.specs.Step.{lineRead}
 use Rattle.machine.specs.Told.{toldRead}
 use Rattle.machine.specs.declared.types.LineRead.{LineRead}
 use Rattle.walker.specs.declared.Walker.{Walker}
-use Rattle.walker.specs.declared.Place.{Place}
 use Rattle.walker.proofs.Walker as T
 use Rattle.walker.proofs.Walker.Laws as T′
 use Rattle.walker.proofs.Place as S

@@ -1,7 +1,7 @@
 -- `walker::place_of` meets its contract: a walk of its MIR, by hand. The place that the struct holds is handed back.
 -- The struct is Copy: what it owns is had twice, one copy is kept whole for the exit, and of the other what the place owns is taken, for the result.
 -- Assumes nothing.
-use Rattle.walker.proofs.Walking.{_≡_, refl, [], _∷_, Holds, length, URA, named, Val, WT, hasTy, SProp, ent, emp, via, fst∗, Lft, Share, Fml, ftrue, flft, Memory, Routine, Heap, Calls, Loops, WpFn, Tables, Atoms, Lfts, Fun, givenOf, tables, tablesOf, Given, ‵, _⊛_, given, _$_, _∵_, !, qed, by, move, drop, use1, split, learn, fsplit, fjoin, suffices, frame, done, whole, sub, look-in, look, init, forget, stop, fld, from, load, of-opd, assigns, returns, enter, alloc1, alloc0, params1, pass1, pass0, free1, free0, WpFn-mono, RattleType, owns, namedLft, sliceVal, Declared, all-own, ownAt, rest, own-open, own-out, Values, onEntry, Meets, tripleOf, entered, says, Stays, stay-none, walkOf, goes-none, Walks, ends-at, walked, walk-meets, yes}
+use Rattle.walker.proofs.Walking.{_≡_, refl, [], _∷_, Holds, URA, named, Val, WT, hasTy, SProp, ent, emp, via, fst∗, Lft, Share, Fml, ftrue, flft, Memory, Routine, Heap, Calls, Loops, WpFn, Tables, Atoms, Lfts, Fun, givenOf, tables, tablesOf, Given, ‵, _⊛_, given, _$_, _∵_, !, qed, by, move, drop, use1, split, learn, fsplit, fjoin, suffices, frame, done, whole, sub, look-in, look, init, forget, stop, fld, from, load, of-opd, assigns, returns, enter, alloc1, alloc0, params1, pass1, pass0, free1, free0, WpFn-mono, RattleType, owns, namedLft, Declared, all-own, ownAt, rest, own-open, own-out, Values, onEntry, Meets, tripleOf, entered, says, Stays, stay-none, walkOf, goes-none, Walks, ends-at, walked, walk-meets, yes}
 use denote.Struct.Laws as LL
 use Rattle.walker.specs.declared.Walker.{Walker}
 use Rattle.walker.proofs.Walker as T

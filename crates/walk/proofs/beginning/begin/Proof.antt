@@ -1,19 +1,13 @@
 -- `walk::beginning::begin` meets its contract.
 -- Assumes nothing.
-use mathlib.Core.Path.{_≡_, sym, ap, _∙_, subst}
+use mathlib.Core.Path.{ap, _∙_}
 use mathlib.Core.Bool.{false}
-use mathlib.Core.List.{List}
-use native.Mathlib.Omega.{arith}
 use borrow.Author.Needs.{needs}
-use lib.ListN.{length}
 use Rattle.lines.specs.Lent.{laid}
 use Rattle.lines.specs.Lines.{linesOf}
 use Rattle.header.specs.Rules.{d}
 use Rattle.file.specs.Table.{slotsIn}
-use Rattle.reader.specs.Reading.{fileOf, judged}
-use Rattle.walk.specs.Begin.{begunAs, namesBegun}
 use Rattle.header.specs.declared.types.Rules.{Rules}
-use Rattle.reader.specs.declared.types.Reading.{Reading}
 use Rattle.walk.proofs.Stepping.{refused-begins, short-begins, begins-so}
 use Rattle.walk.proofs.beginning.begin.Statement.{statement}
 use Rattle.walk.proofs.beginning.begin.Tie as tie

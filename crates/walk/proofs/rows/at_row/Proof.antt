@@ -1,10 +1,9 @@
 -- `walk::rows::at_row` meets its contract. The loop's invariant: the next row from here is the next row from the start.
 -- Assumes nothing.
-use mathlib.Core.Path.{_≡_, refl, sym, ap, _∙_, subst}
-use Prim.Native.Nat.{ℕ, _-_}
+use mathlib.Core.Path.{_≡_, refl, sym, _∙_, subst}
+use Prim.Native.Nat.{_-_}
 use native.Mathlib.Omega.{arith}
 use borrow.Author.Needs.{needs}
-use borrow.Author.Tests.{not-false}
 use lib.ListN.{length}
 use Rattle.header.specs.Rules.{d}
 use Rattle.walk.specs.Rows.{rowAhead}

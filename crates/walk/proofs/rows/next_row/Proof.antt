@@ -1,14 +1,12 @@
 -- `walk::rows::next_row` meets its contract: the row, the end or the refusal at the place of the next row.
 -- Assumes nothing.
-use mathlib.Core.Path.{_≡_, refl, ap, ap₂, _∙_}
+use mathlib.Core.Path.{_≡_, refl, ap, _∙_}
 use Prim.Native.Nat.{ℕ}
 use borrow.Author.Needs.{needs}
 use Rattle.header.specs.Rules.{d}
 use Rattle.walk.specs.Rows.{rowGiven, stepAt, rowStep}
 use Rattle.walk.specs.Told.{toldStep}
 use Rattle.machine.specs.declared.types.LineRead.{LineRead}
-use Rattle.walker.specs.declared.Place.{Place}
-use Rattle.walk.specs.declared.types.RowWalk.{RowWalk}
 use Rattle.walk.specs.declared.types.RowStep.{RowStep}
 use Rattle.walk.specs.declared.types.RowStep.the-variants as step
 use Rattle.walk.proofs.Stepping.{steps-so}

@@ -1,0 +1,268 @@
+-- THE FRONT PAGE: what is proved of the SP3-d reader and writer, in the order of its three demands. Each statement is one sentence above it, and each
+-- proof is one citation. The definitions that it rests on are listed in docs/READING.md; an accepted file is `IsFile d bytes`, and it is exactly a file of
+-- the paper's records in their order (`accepted-files`).
+-- Assumes nothing.
+use mathlib.Core.Path.{_≡_}
+use mathlib.Core.Bool.{Bool, true, false, not}
+use mathlib.Core.Logic.{_↔_}
+use mathlib.Core.List.{List, [], _++_, map}
+use Prim.Native.Nat.{ℕ, _+_, _*_, _≤_, _<_}
+use lib.IntN.{ℤ, pos}
+use lib.ListN.{length, getD, take, drop}
+use Rattle.header.specs.Rules.{d}
+use Rattle.lines.specs.Lent.{over}
+use Rattle.lines.specs.Lines.{linesOf, select}
+use Rattle.file.specs.Plain.{Accepted}
+use Rattle.file.specs.Table.{rowLines}
+use Rattle.scan.specs.Run.{IsFile}
+use Rattle.reader.specs.Reading.{refusedWith, acceptedAs, frontOf, fileOf, filled, readAnswer}
+use Rattle.canon.specs.Table.{Table, rowsOf}
+use Rattle.canon.specs.Table as table
+use Rattle.canon.specs.Valid.{valid}
+use Rattle.canon.specs.Canonical.{canonical}
+use Rattle.canon.specs.Measured.{measured}
+use Rattle.writer.specs.Writing.{outAfter}
+use Rattle.written.specs.Held.{Holds, rewritten as formOf}
+use Rattle.stretch.specs.Dividing.{Divides, sum, division, divideOf, lengthsAfter}
+use Rattle.walker.specs.Places.{firstPlace, placesAfter}
+use Rattle.plain.proofs.Exact.{exactSigned}
+use Rattle.plain.proofs.Notes.{SameTable}
+use Rattle.plain.proofs.Rule.{absentIn}
+use Rattle.accepted.proofs.Stepping.{Stands}
+use Rattle.theorems.proofs.Judging as judging
+use Rattle.theorems.proofs.Judging.{FirstFault, after}
+use Rattle.theorems.proofs.Reading as reading
+use Rattle.theorems.proofs.Reading.{header, rowAt, There, RowOf}
+use Rattle.theorems.proofs.Floats as floats
+use Rattle.theorems.proofs.Floats.{Exactly, asked, held}
+use Rattle.theorems.proofs.Room as room
+use Rattle.theorems.proofs.Room.{foundIn, Room, Short}
+use Rattle.theorems.proofs.Writing as writing
+use Rattle.theorems.proofs.Rewritten as rewritten
+use Rattle.theorems.proofs.Rewritten.{writtenBytes, lentTable}
+use Rattle.theorems.proofs.Correlations as correlations
+use Rattle.theorems.proofs.Correlations.{OnlyAfterTwo}
+use Rattle.theorems.proofs.Dividing as dividing
+use Rattle.theorems.proofs.Dividing.{AtFront, TooMany}
+use Rattle.theorems.proofs.Walks as walks
+use Rattle.theorems.proofs.Walks.{placeOf}
+use Rattle.theorems.proofs.Known.{Knows}
+use Rattle.theorems.proofs.WalkedRows as walked
+use Rattle.theorems.proofs.WalkedRows.{Identified, walkStep}
+use Rattle.theorems.proofs.Cases as cases
+use Rattle.theorems.proofs.Cases.{Case}
+use Rattle.scan.specs.declared.Tally.{Tally}
+use Rattle.scan.specs.declared.Front.the-variants as front
+use Rattle.stretch.specs.declared.Division.{Division}
+use Rattle.walk.specs.declared.types.RowWalk.{RowWalk}
+use Rattle.walk.specs.declared.types.RowStep.the-variants as step
+-- SAID ONCE. What holds for a number field holds at every width and number of places; for a line, of every layout; for a file, by the rules of every
+-- version: a number that is shown reads back, a line that is shown reads back, and the machine accepts exactly the plain files.
+pub use Rattle.field.proofs.Back.{whole-back, signed-back, exponent-back, decimal-back}
+pub use Rattle.layout.proofs.Layouts.{reads-back}
+pub use Rattle.accepted.proofs.Files.{accepts-exactly}
+-- NOTHING LEFT OPEN. Any two outcomes that a contract allows agree, in the answer and in every lent place; so of each function that a user calls, and
+-- of every other public function in its crate's `Determined`.
+pub use Rattle.reader.proofs.Determined.{judge-determined, judge-front-determined, read-determined, read-front-determined}
+pub use Rattle.writer.proofs.Determined.{write-determined}
+pub use Rattle.stretch.proofs.Determined.{divide-determined}
+pub use Rattle.questions.proofs.Determined.{comment-determined, comment-answer-determined, satellite-of-determined}
+pub use Rattle.adjust.proofs.Determined.{row-determined}
+pub use Rattle.calendar.proofs.Determined.{date-determined}
+pub use Rattle.header.proofs.Determined.{header-new-determined}
+pub use Rattle.stored.proofs.Determined.{place-of-determined, clock-of-determined, exponent-of-determined, flag-of-determined}
+pub use Rattle.machine.proofs.Determined.{read-line-determined}
+pub use Rattle.walker.proofs.Determined.{new-determined, next-determined, moved-determined, after-lines-determined}
+pub use Rattle.walk.proofs.Determined.{begin-determined, next-row-determined}
+
+-- DEMAND 1. Bytes of every kind and length, every table, room of every size are answered, since no public function asks anything of its caller. A
+-- refusal has a number, a refused reading its line too, and changes nothing that was lent.
+
+-- A reading that is refused leaves each list as it was, whatever it was to be filled with; whole files and files at the front at once.
+pub reading-keeps : (whole : Bool) (bytes : List ℕ) {A : Type 0} (i x c r : ℕ) (new old : List A) → (room.answer whole bytes i x c r .refusal ≡ 0 → ⊥)
+    → filled (room.fills whole bytes i x c r) new old ≡ old
+reading-keeps whole bytes i x c r new old refused = room.refusal-keeps whole bytes i x c r new old refused
+
+-- A writing that is refused changes no byte.
+pub writing-keeps : (t : Table) (out : List ℕ) → (measured d t (length out) .refusal ≡ 0 → ⊥) → outAfter d t out ≡ out
+writing-keeps t out refused = writing.refusal-keeps-out t out refused
+
+-- A division without room writes no length.
+pub dividing-keeps : (bytes old : List ℕ) → divideOf d bytes (length old) .refusal ≡ 12 → lengthsAfter d bytes old ≡ old
+dividing-keeps bytes old twelve = dividing.refusal-keeps bytes old twelve
+
+-- DEMAND 2, READING. Given room, reading gives exactly the table that the format gives to the file, and refuses exactly the files that break its rules.
+
+-- A file is accepted exactly when it has the paper's records in their order, with their counts and conditions.
+pub accepted-files : (bytes : List ℕ) → IsFile d bytes ↔ Accepted d bytes
+accepted-files bytes = judging.accepts-exactly bytes
+
+-- A file is refused at its first faulty line, with the lowest number of that line;
+pub refused-first : (bytes : List ℕ) (number line column : ℕ) → frontOf d bytes ≡ front.Refused number line column → FirstFault bytes number line
+refused-first bytes number line column e = judging.refused-first bytes number line column e
+
+-- and where a line is the first faulty one it is refused so.
+pub first-refused : (bytes : List ℕ) (number line : ℕ) → FirstFault bytes number line → (column : ℕ) × (frontOf d bytes ≡ front.Refused number line column)
+first-refused bytes number line f = judging.first-refused bytes number line f
+
+-- An accepted file with room is answered by 0, its length and its header; with one place less anywhere by 12.
+pub enough-room : (whole : Bool) (bytes : List ℕ) (t : Tally) → foundIn whole bytes ≡ front.File t → (i x c r : ℕ)
+    → Room (room.headerTo whole bytes t) i x c r → room.answer whole bytes i x c r ≡ acceptedAs d bytes t
+enough-room whole bytes t found i x c r enough = room.room-accepted whole bytes t found i x c r enough
+
+pub short-room : (whole : Bool) (bytes : List ℕ) (t : Tally) → foundIn whole bytes ≡ front.File t → (i x c r : ℕ)
+    → Short (room.headerTo whole bytes t) i x c r → room.answer whole bytes i x c r ≡ refusedWith 12 0
+short-room whole bytes t found i x c r short = room.short-refused whole bytes t found i x c r short
+
+-- Where the answer is 0 each list has what it was to be filled with from its first place on, and past that it is as it was.
+pub reading-fills : (whole : Bool) (bytes : List ℕ) {A : Type 0} (i x c r : ℕ) (new old : List A) → room.answer whole bytes i x c r .refusal ≡ 0
+    → (take (length new) (filled (room.fills whole bytes i x c r) new old) ≡ new)
+    × (drop (length new) (filled (room.fills whole bytes i x c r) new old) ≡ drop (length new) old)
+reading-fills whole bytes i x c r new old zero = room.success-fills whole bytes i x c r new old zero
+
+module _ (bytes : List ℕ) (accepted : IsFile d bytes) where
+  -- EVERY SATELLITE OF THE HEADER STAYS IN EVERY EPOCH, IN HEADER ORDER: the P rows number satellites times epochs,
+  pub rows-number : length (reading.rowsOf false bytes) ≡ header bytes .satellites * header bytes .epochs
+  rows-number = reading.rows-number bytes accepted
+
+  -- and row k * n + j is the P line of epoch k that names identifier j.
+  pub the-row : (k j : ℕ) → There bytes k j → RowOf false bytes k j
+  the-row k j there = reading.the-row bytes accepted k j there
+
+  -- In mode V the V rows likewise.
+  pub the-motion : (k j : ℕ) → There bytes k j → header bytes .velocity ≡ true → RowOf true bytes k j
+  the-motion k j there both = reading.the-motion bytes accepted k j there both
+
+  -- The rows with a place and those without are all of them.
+  pub with-and-without : length (select (absentIn d) (reading.rowsOf false bytes)) + length (select (λ (l : List ℕ). not (absentIn d l)) (reading.rowsOf false bytes))
+      ≡ header bytes .satellites * header bytes .epochs
+  with-and-without = reading.with-and-without bytes accepted
+
+  -- A file has at least 61 bytes for each row, 32 for each epoch and 3 for each comment.
+  pub file-bytes : 61 * length (rowLines d (linesOf bytes)) + 32 * header bytes .epochs + 3 * header bytes .comments ≤ length bytes
+  file-bytes = reading.file-bytes bytes accepted
+
+  -- ABSENT IS A CASE: the row question marks a place absent exactly when its three fields are zero, whatever the clock,
+  pub absent-exactly : (k j : ℕ) (there : There bytes k j) → (asked bytes k j .row .«place_absent» ≡ true)
+      ↔ ((exactSigned (held bytes accepted k j there .x) ≡ pos 0)
+      × (exactSigned (held bytes accepted k j there .y) ≡ pos 0)
+      × (exactSigned (held bytes accepted k j there .z) ≡ pos 0))
+  absent-exactly k j there = floats.asked-no-place bytes accepted k j there
+
+  -- and a clock exactly at +999,999,999,999, whatever the place;
+  pub no-clock-exactly : (k j : ℕ) (there : There bytes k j)
+      → (asked bytes k j .row .«clock_absent» ≡ true) ↔ (exactSigned (held bytes accepted k j there .clock) ≡ pos 999_999_999_999)
+  no-clock-exactly k j there = floats.asked-no-clock bytes accepted k j there
+
+  -- a place that is there comes as three floats that are exactly the whole numbers of its line.
+  pub place-exact : (k j : ℕ) (there : There bytes k j) → asked bytes k j .row .«place_absent» ≡ false
+      → Exactly (asked bytes k j .row .x) (exactSigned (held bytes accepted k j there .x))
+      × Exactly (asked bytes k j .row .y) (exactSigned (held bytes accepted k j there .y))
+      × Exactly (asked bytes k j .row .z) (exactSigned (held bytes accepted k j there .z))
+  place-exact k j there = floats.asked-place bytes accepted k j there
+
+-- Files that differ only after column 2 of EP and EV lines have the same table.
+pub same-table : (a b : List ℕ) → OnlyAfterTwo a b → SameTable d (linesOf a) (linesOf b)
+same-table a b same = correlations.same-table a b same
+
+-- LINE BY LINE: after k lines of an accepted file the place is the length of those lines, the state is the machine's after them, and there the line
+-- reader reads the next, for every k.
+pub stepping : (bytes : List ℕ) (t : Tally) → frontOf d bytes ≡ front.File t → (k : ℕ) → k < t .lines → Stands d bytes k (after bytes k)
+stepping bytes t accepted k h = judging.stepping-file bytes t accepted k h
+
+-- THE WALKER: after k steps from the first line its place and its state are the same, for every k.
+pub walker-steps : (bytes : List ℕ) (t : Tally) → frontOf d bytes ≡ front.File t → (names : List ℕ) → Knows d bytes t names → (k : ℕ) → k < t .lines
+    → placesAfter d bytes names firstPlace k ≡ placeOf (after bytes k)
+walker-steps bytes t accepted names knows k h = walks.walker-steps bytes t accepted names knows k h
+
+-- THE ADJUSTMENT'S LOOP: step k * n + j of a walk over the rows gives epoch k, satellite j and the row that the row question gives, as absent exactly
+-- when it is marked so,
+module _ (bytes : List ℕ) (t : Tally) (accepted : fileOf d bytes ≡ front.File t) (names : List ℕ) (identified : Identified bytes names) where
+  pub walk-absent : (k j : ℕ) → There bytes k j → asked bytes k j .row .«place_absent» ≡ true
+      → (next : RowWalk) × (walkStep bytes t accepted names identified (rowAt bytes k j) ≡ step.Absent k j (asked bytes k j .row) next)
+  walk-absent k j there absent = walked.walk-absent bytes t accepted names identified k j there absent
+
+  pub walk-at : (k j : ℕ) → There bytes k j → asked bytes k j .row .«place_absent» ≡ false
+      → (next : RowWalk) × (walkStep bytes t accepted names identified (rowAt bytes k j) ≡ step.At k j (asked bytes k j .row) next)
+  walk-at k j there present = walked.walk-at bytes t accepted names identified k j there present
+
+  -- and after all of them the end.
+  pub walk-ends : walkStep bytes t accepted names identified (header bytes .satellites * header bytes .epochs) ≡ step.End
+  walk-ends = walked.walk-ends bytes t accepted names identified
+
+-- DEMAND 2, WRITING. Each valid table has one canonical form; writing makes it, reading it returns the table, writing what was read from canonical
+-- bytes returns those bytes.
+
+-- A table is valid exactly when some accepted file has it.
+pub valid-exactly : (t : Table) → (valid d t ≡ true) ↔ ((bytes : List ℕ) × IsFile d bytes × Holds d (linesOf bytes) t)
+valid-exactly t = rewritten.valid-exactly t
+
+-- Writing answers 0 exactly when the table is valid and its form has room, and then the form stands in the output.
+pub writes-exactly : (t : Table) (out : List ℕ) → (measured d t (length out) .refusal ≡ 0) ↔ ((valid d t ≡ true) × (length (canonical d t) ≤ length out))
+writes-exactly t out = writing.writes-exactly t out
+
+pub written-form : (t : Table) (out : List ℕ) → measured d t (length out) .refusal ≡ 0
+    → take (measured d t (length out) .length) (outAfter d t out) ≡ canonical d t
+written-form t out success = writing.written-form t out success
+
+-- What was written is one accepted file that has exactly the table;
+pub written-accepted : (t : Table) (out : List ℕ) (success : measured d t (length out) .refusal ≡ 0) → IsFile d (writtenBytes t out success)
+written-accepted t out success = rewritten.written-accepted t out success
+
+pub written-holds : (t : Table) (out : List ℕ) (success : measured d t (length out) .refusal ≡ 0) → Holds d (linesOf (writtenBytes t out success)) t
+written-holds t out success = rewritten.written-holds t out success
+
+module _ (bytes : List ℕ) (accepted : IsFile d bytes) (identifiers exponents comments : List ℕ) (rows : List ℤ)
+    (read : readAnswer d bytes (fileOf d bytes) identifiers exponents comments rows .refusal ≡ 0) where
+  -- what was read is written as the form of the file,
+  pub read-written : (out : List ℕ) → length (formOf d bytes) ≤ length out
+      → outAfter d (lentTable bytes accepted identifiers exponents comments rows read) out ≡ over (formOf d bytes) out
+  read-written out enough = rewritten.lent-written bytes accepted identifiers exponents comments rows read out enough
+
+  -- and canonical bytes as they were.
+  pub canonical-stays : (t : Table) → valid d t ≡ true → bytes ≡ canonical d t
+      → canonical d (lentTable bytes accepted identifiers exponents comments rows read) ≡ bytes
+  canonical-stays t ok is = rewritten.form-is-file bytes accepted identifiers exponents comments rows read t ok is
+
+-- DEMAND 3. No accepted file is the beginning of a longer accepted file, so a stretch divides into files in at most one way; that division is given
+-- exactly when there is one, else the accepted files at the front and the refusal after them.
+
+-- An accepted file followed by anything is read from the front as it is read whole, and its length is told.
+pub then-anything : (a b : List ℕ) (t : Tally) → fileOf d a ≡ front.File t → (frontOf d (a ++ b) ≡ front.File t) × (t .end ≡ length a)
+then-anything a b t accepted = judging.file-then-anything a b t accepted
+
+pub not-longer : (a b : List ℕ) → IsFile d a → IsFile d (a ++ b) → b ≡ []
+not-longer a b f g = judging.not-longer a b f g
+
+pub one-way : {bytes ls ks : List ℕ} → Divides d bytes ls → Divides d bytes ks → ls ≡ ks
+one-way x y = dividing.one-way x y
+
+-- With room the answer is a division and its lengths are written exactly when it is one.
+pub divides-exactly : (bytes old ls : List ℕ) → length ls ≤ length old
+    → Divides d bytes ls ↔ ((divideOf d bytes (length old) ≡ division (length ls) (length bytes) 0 0) × (lengthsAfter d bytes old ≡ over ls old))
+divides-exactly bytes old ls enough = dividing.divides-exactly bytes old ls enough
+
+-- Wherever the answer is not 12 it tells the accepted files at the front, as many as there are, with their lengths written;
+pub files-at-front : (bytes old : List ℕ) → (divideOf d bytes (length old) .refusal ≡ 12 → ⊥) → AtFront bytes old (divideOf d bytes (length old))
+files-at-front bytes old enough = dividing.front-found bytes old enough
+
+-- what is left after them, if anything is, is refused with the number and line of the answer.
+pub rest-refused : {bytes old : List ℕ} {answer : Division} (f : AtFront bytes old answer) → (answer .refusal ≡ 0 → ⊥)
+    → (column : ℕ) × (0 < length (f .rest)) × (frontOf d (f .rest) ≡ front.Refused (answer .refusal) (answer .line) column)
+rest-refused f some = dividing.rest-refused f some
+
+-- 12 comes exactly where more accepted files stand at the front than there is room for, and 11 never.
+pub no-room : (bytes : List ℕ) (room : ℕ) → (divideOf d bytes room .refusal ≡ 12) ↔ TooMany bytes room
+no-room bytes room = dividing.twelve-exactly bytes room
+
+pub never-11 : (bytes : List ℕ) (room : ℕ) → divideOf d bytes room .refusal ≡ 11 → ⊥
+never-11 bytes room e = dividing.never-11 bytes room e
+
+-- The file of number i begins at the sum of the first i lengths, and is an accepted file of the length of number i.
+pub file-at-sum : (bytes old : List ℕ) (i : ℕ) → i < divideOf d bytes (length old) .count
+    → IsFile d (take (getD (lengthsAfter d bytes old) i 0) (drop (sum (take i (lengthsAfter d bytes old))) bytes))
+file-at-sum bytes old i h = dividing.file-at-sum bytes old i h
+
+-- THE PAPER'S TWELVE CASES, one table.
+pub twelve-cases : (length cases.cases ≡ 12) × (map (λ (c : Case). c .found) cases.cases ≡ map (λ (c : Case). c .paper) cases.cases)
+twelve-cases = cases.twelve-cases
