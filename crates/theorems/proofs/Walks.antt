@@ -1,12 +1,13 @@
 -- The front page for the walker: after k steps the place and the state are those of the first k lines, for every k; and over an accepted file, with
 -- its identifiers, they are those of the judge's own run.
 -- Assumes nothing.
-use mathlib.Core.Path.{_≡_, refl, sym, ap, _∙_}
+use mathlib.Core.Path.{_≡_, refl, sym, ap, ap₂, _∙_}
 use mathlib.Core.List.{List, [], _∷_}
 use Prim.Native.Nat.{ℕ, zero, suc, _+_, _-_, _≤_, _<_}
 use native.Mathlib.Nat.{le-of-suc-le-suc, not-suc-le-zero, add-zero, zero-add}
 use native.Mathlib.Omega.{arith}
 use lib.ListN.{length, take, drop}
+use denote.Ref.{RefT, now}
 use Rattle.header.specs.Rules.{d}
 use Rattle.lines.specs.Lines.{linesOf, nth}
 use Rattle.machine.specs.Step.{stepOf, readFirst}
@@ -26,6 +27,7 @@ use Rattle.machine.specs.declared.types.Verdict.the-variants as verdict
 use Rattle.scan.specs.declared.Tally.{Tally}
 use Rattle.scan.specs.declared.Front.the-variants as front
 use Rattle.walker.specs.declared.Place.{Place}
+use Rattle.walker.specs.declared.Walker.{Walker}
 
 -- the place after some lines, judged one after another with these identifiers: it stays where a line is refused or ends the file
 unfoldable pub overLines : Rules → List ℕ → Place → List (List ℕ) → Place
@@ -138,3 +140,50 @@ module _ (bytes : List ℕ) (t : Tally) (accepted : frontOf d bytes ≡ front.Fi
       ∙ walked last (k - last) some
       ∙ ap (λ (ls : List (List ℕ)). overLines d names (placeOf (after bytes last)) (take (k - last) ls)) (next-line last (linesOf bytes) (ends .within))
       ∙ stays-at d bytes names (placeOf (after bytes last)) (nth last (linesOf bytes)) (drop (suc last) (linesOf bytes)) (rw stay) (k - last)
+
+-- one step more at the end
+last-step : (rules : Rules) (bytes names : List ℕ) (k : ℕ) (p : Place)
+    → placeAfter rules bytes names (placesAfter rules bytes names p k) ≡ placesAfter rules bytes names p (suc k)
+unfolding placesAfter
+last-step rules bytes names zero p = refl
+last-step rules bytes names (suc k) p = last-step rules bytes names k (placeAfter rules bytes names p)
+
+-- what `moved` promises of a walker v, moved from w: the same slices, and the place after the line
+pub record Moves (w v : Walker) : Type 0 where
+  pub file : v .file ≡ w .file
+  pub names : v .names ≡ w .names
+  pub place : v .place ≡ placeAfter d (now (w .file)) (now (w .names)) (w .place)
+
+-- a walker, so many moves after another
+pub data After (from : Walker) : ℕ → Walker → Type 0 where
+  none : After from 0 from
+  more : {k : ℕ} {w v : Walker} → After from k w → Moves w v → After from (suc k) v
+
+-- BY THE PROMISES OF `new` AND `moved`: k moves after a walker, the slices are the same and the place is k lines further, for every k;
+pub record Further (from : Walker) (k : ℕ) (w : Walker) : Type 0 where
+  pub file : w .file ≡ from .file
+  pub names : w .names ≡ from .names
+  pub place : w .place ≡ placesAfter d (now (from .file)) (now (from .names)) (from .place) k
+
+pub after-moves : (from : Walker) {k : ℕ} {w : Walker} → After from k w → Further from k w
+unfolding placesAfter
+after-moves from none = record { file = refl; names = refl; place = refl }
+after-moves from (more {k} {w} steps move) =
+    let so-far = after-moves from steps in
+    record {
+      file = move .file ∙ so-far .file;
+      names = move .names ∙ so-far .names;
+      place =
+          move .place
+          ∙ ap₂ (λ (f n : RefT (List ℕ)). placeAfter d (now f) (now n) (w .place)) (so-far .file) (so-far .names)
+          ∙ ap (placeAfter d (now (from .file)) (now (from .names))) (so-far .place)
+          ∙ last-step d (now (from .file)) (now (from .names)) k (from .place);
+    }
+
+-- so from `new` at the first line of an accepted file, with its identifiers, they are those of its first k lines.
+pub walker-walks : (from : Walker) (t : Tally) → frontOf d (now (from .file)) ≡ front.File t → Knows d (now (from .file)) t (now (from .names)) → from .place ≡ firstPlace
+    → (k : ℕ) (w : Walker) → After from k w → k < t .lines → w .place ≡ placeOf (after (now (from .file)) k)
+walker-walks from t accepted knows first k w steps h =
+    after-moves from steps .place
+    ∙ ap (λ (p : Place). placesAfter d (now (from .file)) (now (from .names)) p k) first
+    ∙ walker-steps (now (from .file)) t accepted (now (from .names)) knows k h
