@@ -29,6 +29,8 @@ doors() {
 
 reader_doors() { doors reader laws field calendar layout lines header record machine file scan accepted plain stored store reader questions; }
 
+stretch_doors() { doors stretch laws field calendar layout lines header record machine file scan accepted plain stored store reader questions adjust stretch walker walk; }
+
 writer_doors() { doors writer laws field calendar layout lines header record draw machine canon writer; }
 
 harness() {
