@@ -209,7 +209,7 @@ pub(crate) struct Row {
 
 impl Row {
     /// "A place or velocity is absent exactly when all three are zero."
-    fn place_is_absent(&self) -> bool {
+    pub(crate) fn place_is_absent(&self) -> bool {
         self.place == [0, 0, 0]
     }
 
@@ -240,11 +240,19 @@ pub(crate) struct Table {
     pub(crate) bases: [i64; 2],
     pub(crate) comments: Vec<Range<usize>>,
     pub(crate) rows: Vec<Row>,
+    /// Taken for the identifiers of the header, where others are lent.
+    lent: Option<Vec<u64>>,
 }
 
 impl Table {
     fn satellites(&self) -> usize {
         self.identifiers.len()
+    }
+
+    /// The identifiers so far, or as many of those lent for them.
+    fn known(&self) -> &[u64] {
+        let names = self.lent.as_ref().unwrap_or(&self.identifiers);
+        &names[..names.len().min(self.satellites())]
     }
 
     /// Identifiers, exponents, bytes of comments, numbers of rows.
@@ -259,7 +267,7 @@ fn code(identifier: &Identifier) -> u64 {
     u64::from(identifier.letter) * 100 + identifier.number as u64
 }
 
-fn show_code(code: u64) -> String {
+pub(crate) fn show_code(code: u64) -> String {
     format!("{}{:02}", (code / 100) as u8 as char, code % 100)
 }
 
@@ -301,7 +309,7 @@ fn take_identifiers(lines: &mut Lines, table: &mut Table) -> Result<usize, Refus
     for _ in 1..satellite_lines(n) {
         let left = n - table.satellites();
         let further = |r: &mut Reader| lines::read_further_satellites(r, left);
-        let line = lines.checked(further, DISAGREES, |line| all_new(&table.identifiers, line))?;
+        let line = lines.checked(further, DISAGREES, |line| all_new(table.known(), line))?;
         table.identifiers.extend(line.identifiers.iter().map(code));
     }
     Ok(n)
@@ -325,7 +333,7 @@ pub(crate) fn type_agrees(file_type: u8, identifiers: &[u64]) -> bool {
 
 /// Rules 5 and 6.
 fn take_fixed_lines(lines: &mut Lines, table: &mut Table) -> Result<(), Refusal> {
-    let agrees = |line: &lines::FirstCharacters| type_agrees(line.file_type[0], &table.identifiers);
+    let agrees = |line: &lines::FirstCharacters| type_agrees(line.file_type[0], table.known());
     let characters = lines.checked(lines::read_first_characters, DISAGREES, agrees)?;
     table.file_type = characters.file_type[0];
     table.time_system = characters.time_system;
@@ -374,14 +382,14 @@ fn take_satellite(
     epoch: usize,
     satellite: usize,
 ) -> Result<(), Refusal> {
-    let here = table.identifiers[satellite];
-    let named = |line: &lines::Position| code(&line.row.identifier) == here;
+    let here = table.known().get(satellite).copied();
+    let named = |line: &lines::Position| Some(code(&line.row.identifier)) == here;
     let line = lines.checked(lines::read_position, OTHER_SATELLITE, named)?;
     let flags = line.flags.map(|flag| i64::from(flag != b" "));
     table.rows.push(make_row('P', epoch, satellite, &line.row, flags));
     take_correlation(lines, "EP")?;
     if table.velocities {
-        let named = |row: &lines::Row| code(&row.identifier) == here;
+        let named = |row: &lines::Row| Some(code(&row.identifier)) == here;
         let row = lines.checked(lines::read_velocity, OTHER_SATELLITE, named)?;
         table.rows.push(make_row('V', epoch, satellite, &row, [0; 4]));
         take_correlation(lines, "EV")?;
@@ -419,31 +427,47 @@ fn make_row(
 /// What an accepted file holds, and its length in bytes; or its refusal.
 pub(crate) type Judged = Result<(Table, usize), Refusal>;
 
-/// One file at the front of a stretch: the records 1 to 10 in order.
-pub(crate) fn judge_front(stretch: &[u8]) -> Judged {
-    let (table, lines) = take_records(stretch)?;
-    Ok((table, lines.place))
+/// The lines of some bytes read one by one, up to EOF or the first refused.
+pub(crate) struct Followed {
+    /// What the lines before it hold.
+    pub(crate) table: Table,
+    /// How many lines were read, the last of them too.
+    pub(crate) taken: usize,
+    pub(crate) refusal: Option<Refusal>,
+    /// Where the line after them begins.
+    place: usize,
 }
 
-fn take_records(stretch: &[u8]) -> Result<(Table, Lines<'_>), Refusal> {
-    let mut lines = Lines::new(stretch);
-    let mut table = Table::default();
-    take_start(&mut lines, &mut table)?;
-    take_satellites(&mut lines, &mut table)?;
-    take_fixed_lines(&mut lines, &mut table)?;
-    take_comments(&mut lines, &mut table)?;
-    take_epochs(&mut lines, &mut table)?;
-    lines.record(lines::read_end)?;
-    Ok((table, lines))
+/// The records 1 to 10 in order, with these names for the identifiers of the
+/// header where they are given.
+pub(crate) fn follow(bytes: &[u8], names: Option<&[u64]>) -> Followed {
+    let mut lines = Lines::new(bytes);
+    let mut table = Table { lent: names.map(<[u64]>::to_vec), ..Table::default() };
+    let refusal = take_records(&mut lines, &mut table).err();
+    Followed { table, taken: lines.taken, refusal, place: lines.place }
+}
+
+fn take_records(lines: &mut Lines, table: &mut Table) -> Result<(), Refusal> {
+    take_start(lines, table)?;
+    take_satellites(lines, table)?;
+    take_fixed_lines(lines, table)?;
+    take_comments(lines, table)?;
+    take_epochs(lines, table)?;
+    lines.record(lines::read_end)
+}
+
+/// One file at the front of a stretch.
+pub(crate) fn judge_front(stretch: &[u8]) -> Judged {
+    let read = follow(stretch, None);
+    read.refusal.map_or(Ok((read.table, read.place)), Err)
 }
 
 /// The bytes as one file: 11 if any follow, "and the line is the one after EOF".
 pub(crate) fn judge(file: &[u8]) -> Judged {
-    let (table, lines) = take_records(file)?;
-    if lines.place < file.len() {
-        return Err(Refusal { number: BYTES_AFTER, line: lines.taken + 1 });
-    }
-    Ok((table, lines.place))
+    let read = follow(file, None);
+    let after = Refusal { number: BYTES_AFTER, line: read.taken + 1 };
+    let more = (read.place < file.len()).then_some(after);
+    read.refusal.or(more).map_or(Ok((read.table, read.place)), Err)
 }
 
 /// The lists that are lent for a reading.
@@ -533,7 +557,7 @@ fn satellite_of(file: &[u8], code: u64) -> Result<usize, Refusal> {
 }
 
 /// "in mode V too this is the P row"
-fn row(file: &[u8], epoch: usize, satellite: usize) -> Result<Row, Refusal> {
+pub(crate) fn row(file: &[u8], epoch: usize, satellite: usize) -> Result<Row, Refusal> {
     let (table, _) = judge(file)?;
     let asked = |row: &Row| (row.letter, row.epoch, row.satellite) == ('P', epoch, satellite);
     table.rows.into_iter().find(asked).ok_or(NOT_THERE)
@@ -544,7 +568,7 @@ fn row(file: &[u8], epoch: usize, satellite: usize) -> Result<Row, Refusal> {
 // ---------------------------------------------------------------------------
 
 /// What another implementation is compared on: a file with questions here, a
-/// file or a table to be written in `forms.rs`.
+/// file or a table to be written in `forms.rs`, a stretch in `stretches.rs`.
 pub(crate) trait Compared {
     /// The words of an answer that have a number of the paper's table after
     /// them.
@@ -652,7 +676,7 @@ pub(crate) fn show_text(text: &[u8]) -> String {
     String::from_utf8_lossy(text).into_owned()
 }
 
-fn show_place(row: &Row) -> String {
+pub(crate) fn show_place(row: &Row) -> String {
     let [x, y, z] = row.place;
     if row.place_is_absent() {
         "absent".to_string()
@@ -661,7 +685,7 @@ fn show_place(row: &Row) -> String {
     }
 }
 
-fn show_clock(row: &Row) -> String {
+pub(crate) fn show_clock(row: &Row) -> String {
     if row.clock_is_absent() {
         "absent".to_string()
     } else {
@@ -1539,7 +1563,7 @@ pub(crate) struct Plan {
     start: i64,
     interval: i64,
     epochs: usize,
-    identifiers: Vec<u64>,
+    pub(crate) identifiers: Vec<u64>,
     file_type: u8,
     time_system: &'static str,
     comments: usize,

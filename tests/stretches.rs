@@ -1,0 +1,1203 @@
+//! A divider of stretches and a walker of SP3-d files, written only from the
+//! documents.
+//!
+//! It says how a stretch of bytes divides into files, which rows a walk of one
+//! file gives, and where the walk stands after so many lines. It also makes the
+//! stretches on which another implementation is compared with it. It shares no
+//! code with that implementation; single files are judged by `files.rs`, from
+//! the same documents.
+//!
+//! Build: `rustc -O --edition 2021 -o BIN tests/stretches.rs`
+//!
+//! * `BIN answer < batch`      prints the answers to a batch of cases;
+//! * `BIN generate SEED COUNT` prints a batch of that many generated cases;
+//! * `BIN case SEED NUMBER`    prints a generated case, counted from 1;
+//! * `BIN cases`               prints the stored batch;
+//! * `BIN check CRATE_DIR`     compares `CRATE_DIR/stdin` with the stored batch
+//!   and `CRATE_DIR/stdout` with the answers to it;
+//! * `BIN self-test`           compares the divider and the walker with answers
+//!   worked out by hand;
+//! * `BIN count < batch`       counts the answers by their numbers;
+//! * `BIN compare SEED COUNT PROGRAM [ARGS..]` gives generated batches to the
+//!   program and compares what it prints with the answers, byte for byte.
+//!
+//! A batch is cases one after the other. A case is a line of numbers,
+//! `ROOM WALK I N LENGTH` and N names, and directly after its LF the LENGTH
+//! bytes of a stretch. ROOM is the room lent for lengths; WALK is 1 where the
+//! bytes are walked as one file, with room for I identifiers; the names (G07 is
+//! 7107) stand for the identifiers of its header where it is refused. Lent
+//! places hold a mark before. The answer to a case:
+//!
+//! ```text
+//! case LENGTH
+//! divide R LINE COUNT REST
+//! length L                      of each file
+//! kept                          every lent place past them holds the mark
+//! (the rest only where WALK is 1)
+//! begin R LINE LENGTH SATELLITES EPOCHS
+//! name G07                      each identifier
+//! kept
+//! row E S at X Y Z CLOCK        each P row; `absent` in place of `at X Y Z`
+//! row E S absent CLOCK          or of CLOCK
+//! end                           or  refused R line LINE
+//! place K AT DUE LEFT EPOCHS    after K lines, or as many as may be passed
+//! then K AT DUE LEFT EPOCHS     the same after half of the lines and the others
+//! ```
+//!
+//! K is 0, 1, 3, half of the lines, all (`then` before `place`), five more. AT
+//! is the byte, DUE the record that must stand there (1 `#d` to 14 `EOF` in
+//! their order), LEFT how many satellites have their slot, or their rows of
+//! this epoch, still to come, EPOCHS how many epochs are still to come.
+//!
+//! "The paper" is 01-scope.md, "000" is the SP3-d document.
+
+#[allow(dead_code)]
+#[path = "files.rs"]
+mod files;
+
+use files::lines::{fail, Line, Random, Tally};
+use files::{answers, generated, once_in, show_batch};
+use files::{Base, Compared, Edit, Refusal, Row, Table};
+use std::process::exit;
+
+// ---------------------------------------------------------------------------
+// Dividing
+// ---------------------------------------------------------------------------
+
+/// "lent room is too small", and "12 only, every other part .. being 0".
+const NO_ROOM: Refusal = Refusal { number: 12, line: 0 };
+/// "When nothing is left .. refusal and line are both 0."
+const NOTHING_LEFT: Refusal = Refusal { number: 0, line: 0 };
+
+/// "the lengths of the accepted files at the front .., the byte where the rest
+/// begins, and the refusal and line there, counted from that byte"
+struct Division {
+    lengths: Vec<usize>,
+    rest: usize,
+    refusal: Refusal,
+}
+
+fn divide(stretch: &[u8]) -> Division {
+    let mut division = Division { lengths: Vec::new(), rest: 0, refusal: NOTHING_LEFT };
+    while division.rest < stretch.len() {
+        match files::judge_front(&stretch[division.rest..]) {
+            Ok((_, length)) => {
+                division.lengths.push(length);
+                division.rest += length;
+            }
+            Err(refusal) => {
+                division.refusal = refusal;
+                break;
+            }
+        }
+    }
+    division
+}
+
+/// "If there are more lengths than room, it gives 12 only".
+fn divide_into(stretch: &[u8], room: usize) -> Division {
+    let division = divide(stretch);
+    if division.lengths.len() > room {
+        return Division { lengths: Vec::new(), rest: 0, refusal: NO_ROOM };
+    }
+    division
+}
+
+// ---------------------------------------------------------------------------
+// Walking
+// ---------------------------------------------------------------------------
+
+/// A file for a walk: its table and length, the file's own refusal, or 12.
+fn begin(file: &[u8], room: usize) -> Result<(Table, usize), Refusal> {
+    let (table, length) = files::judge(file)?;
+    if table.identifiers.len() > room {
+        return Err(NO_ROOM);
+    }
+    Ok((table, length))
+}
+
+/// What a walk of some bytes meets, in order: P rows, then the refused line or
+/// EOF. Bytes after EOF are not met.
+struct Walk<'a> {
+    bytes: &'a [u8],
+    rows: Vec<Row>,
+    refusal: Option<Refusal>,
+    /// Lines before EOF or the refused one.
+    passed: usize,
+}
+
+fn walk<'a>(bytes: &'a [u8], names: &[u64]) -> Walk<'a> {
+    let read = files::follow(bytes, Some(names));
+    let rows = read.table.rows.into_iter().filter(|row| row.letter == 'P').collect();
+    Walk { bytes, rows, refusal: read.refusal, passed: read.taken - 1 }
+}
+
+/// Where a walk stands between two lines.
+#[derive(PartialEq, Debug)]
+struct Standing {
+    at: usize,
+    due: usize,
+    left: usize,
+    epochs: usize,
+}
+
+impl Standing {
+    fn show(&self, word: &str, lines: usize) -> String {
+        let Standing { at, due, left, epochs } = self;
+        format!("{word} {lines} {at} {due} {left} {epochs}\n")
+    }
+}
+
+/// The records in the order of the paper's list; P and V by their letter.
+const RECORDS: [&str; 14] =
+    ["#d", "##", "+ ", "++", "%c", "%f", "%i", "/*", "* ", "P", "V", "EP", "EV", "EOF"];
+
+/// The number in some columns of a line without fault.
+fn number_in(line: &[u8], first: usize, last: usize) -> usize {
+    files::show_text(&line[first - 1..last]).trim().parse().unwrap_or_default()
+}
+
+/// Lines without fault from the front of a file.
+struct Passed<'a>(Vec<&'a [u8]>);
+
+impl Passed<'_> {
+    fn of(bytes: &[u8], count: usize) -> Passed<'_> {
+        let lines = bytes.split_inclusive(|&c| c == b'\n').take(count);
+        Passed(lines.map(|line| &line[..line.len() - 1]).collect())
+    }
+
+    /// How many of them are this record.
+    fn count(&self, record: &str) -> usize {
+        self.0.iter().filter(|line| Line::padded(line).begins(record)).count()
+    }
+
+    /// Those after the last epoch header; none before the first.
+    fn in_epoch(&self) -> Passed<'_> {
+        let header = self.0.iter().rposition(|line| Line::padded(line).begins("* "));
+        Passed(self.0[header.map_or(self.0.len(), |place| place + 1)..].to_vec())
+    }
+
+    fn length(&self) -> usize {
+        self.0.iter().map(|line| line.len() + 1).sum()
+    }
+
+    /// n, the number of epochs, and whether there are velocities; as far as
+    /// their lines were passed.
+    fn said(&self) -> (usize, usize, bool) {
+        let n = self.0.get(2).map_or(0, |line| number_in(line, 4, 6));
+        let epochs = self.0.first().map_or(0, |line| number_in(line, 33, 39));
+        (n, epochs, self.0.first().is_some_and(|line| line[2] == b'V'))
+    }
+
+    /// Satellites of this epoch of which all rows were passed.
+    fn satellites_done(&self) -> usize {
+        self.in_epoch().count(if self.said().2 { "V" } else { "P" })
+    }
+
+    /// Rules 1 to 10: the first record of which there are too few.
+    fn due(&self) -> &'static str {
+        let (n, epochs, velocities) = self.said();
+        let slots = files::satellite_lines(n);
+        let needed = [1, 1, slots, slots, 2, 2, 2, 4];
+        let mut header = RECORDS.into_iter().zip(needed);
+        if let Some((record, _)) = header.find(|&(record, needed)| self.count(record) < needed) {
+            return record;
+        }
+        let here = self.in_epoch();
+        match self.count("* ") {
+            0 => "* ",
+            _ if velocities && here.count("P") > here.count("V") => "V",
+            _ if self.satellites_done() < n => "P",
+            passed if passed < epochs => "* ",
+            _ => "EOF",
+        }
+    }
+
+    /// Satellites of which a slot in the lines of this kind, or a row of this
+    /// epoch, is still to come.
+    fn left(&self) -> usize {
+        let (n, ..) = self.said();
+        let (plus, double) = (self.count("+ "), self.count("++"));
+        match () {
+            _ if self.count("* ") > 0 => n - self.satellites_done(),
+            _ if double > 0 => n.saturating_sub(17 * double),
+            _ if plus == files::satellite_lines(n) => n,
+            _ => n.saturating_sub(17 * plus),
+        }
+    }
+}
+
+impl Walk<'_> {
+    /// Where the walk stands after so many lines; "a line that is refused, or
+    /// that ends the file" isn't passed.
+    fn after(&self, lines: usize) -> Standing {
+        let passed = Passed::of(self.bytes, lines.min(self.passed));
+        let due = RECORDS.iter().position(|&record| record == passed.due());
+        Standing {
+            at: passed.length(),
+            due: due.map_or(0, |place| place + 1),
+            left: passed.left(),
+            epochs: passed.said().1 - passed.count("* "),
+        }
+    }
+}
+
+// ---------------------------------------------------------------------------
+// Cases and their answers
+// ---------------------------------------------------------------------------
+
+#[derive(Clone)]
+struct Case {
+    stretch: Vec<u8>,
+    room: usize,
+    walked: bool,
+    identifiers: usize,
+    names: Vec<u64>,
+}
+
+/// The program under test has lists of these lengths.
+const MOST_LENGTHS: usize = 1000;
+const MOST_NAMES: usize = 300;
+
+impl Compared for Case {
+    const COUNTED: &'static [&'static str] = &["divide", "begin", "refused"];
+
+    fn show(&self) -> Vec<u8> {
+        let within = self.stretch.len() <= files::MOST_BYTES
+            && self.room <= MOST_LENGTHS
+            && self.identifiers <= MOST_NAMES
+            && self.names.len() <= MOST_NAMES;
+        assert!(within, "a case is too large: {} bytes", self.stretch.len());
+        let walked = usize::from(self.walked);
+        let front = [self.room, walked, self.identifiers, self.names.len(), self.stretch.len()];
+        let words: Vec<String> = front.iter().map(usize::to_string).collect();
+        let names: Vec<String> = self.names.iter().map(u64::to_string).collect();
+        let line = [words, names].concat().join(" ") + "\n";
+        [line.as_bytes(), &self.stretch].concat()
+    }
+
+    fn answer(&self) -> String {
+        let mut out = format!("case {}\n", self.stretch.len());
+        out += &show_division(&divide_into(&self.stretch, self.room));
+        if self.walked {
+            out += &self.show_walked();
+        }
+        out
+    }
+}
+
+fn show_division(division: &Division) -> String {
+    let Division { lengths, rest, refusal } = division;
+    let Refusal { number, line } = refusal;
+    let written: String = lengths.iter().map(|length| format!("length {length}\n")).collect();
+    format!("divide {number} {line} {} {rest}\n{written}kept\n", lengths.len())
+}
+
+impl Case {
+    fn show_walked(&self) -> String {
+        let begun = begin(&self.stretch, self.identifiers);
+        let names = begun.as_ref().map_or(&self.names, |(table, _)| &table.identifiers);
+        show_begun(&begun) + &show_walk(&walk(&self.stretch, names))
+    }
+}
+
+fn show_begun(begun: &Result<(Table, usize), Refusal>) -> String {
+    match begun {
+        Err(Refusal { number, line }) => format!("begin {number} {line} 0 0 0\nkept\n"),
+        Ok((table, length)) => {
+            let names = &table.identifiers;
+            let shown: String =
+                names.iter().map(|&name| format!("name {}\n", files::show_code(name))).collect();
+            format!("begin 0 0 {length} {} {}\n{shown}kept\n", names.len(), table.epochs)
+        }
+    }
+}
+
+fn show_row(row: &Row) -> String {
+    let place = files::show_place(row);
+    let word = if row.place_is_absent() { "" } else { "at " };
+    format!("row {} {} {word}{place} {}\n", row.epoch, row.satellite, files::show_clock(row))
+}
+
+fn show_walk(walk: &Walk) -> String {
+    let mut out: String = walk.rows.iter().map(show_row).collect();
+    out += &match walk.refusal {
+        None => "end\n".to_string(),
+        Some(Refusal { number, line }) => format!("refused {number} line {line}\n"),
+    };
+    let all = walk.bytes.iter().filter(|&&c| c == b'\n').count();
+    for lines in [0, 1, 3, all / 2] {
+        out += &walk.after(lines).show("place", lines);
+    }
+    out += &walk.after(all).show("then", all);
+    for lines in [all, all + 5] {
+        out += &walk.after(lines).show("place", lines);
+    }
+    out
+}
+
+/// The numbers of a line, and how many bytes it has with its LF.
+fn parse_line(bytes: &[u8]) -> Option<(Vec<u64>, usize)> {
+    let length = bytes.iter().position(|&c| c == b'\n')?;
+    let words = std::str::from_utf8(&bytes[..length]).ok()?.split(' ');
+    let numbers: Option<Vec<u64>> = words.map(|word| word.parse().ok()).collect();
+    Some((numbers?, length + 1))
+}
+
+fn parse_batch(mut bytes: &[u8]) -> Vec<Case> {
+    let mut cases = Vec::new();
+    while !bytes.is_empty() {
+        let place = cases.len() + 1;
+        let line = parse_line(bytes).filter(|(numbers, _)| {
+            numbers.len() >= 5 && numbers.len() as u64 == 5 + numbers[3] && numbers[1] < 2
+        });
+        let Some((numbers, line)) = line else {
+            fail(&format!("case {place} has no line of numbers"));
+        };
+        let length = numbers[4] as usize;
+        let Some(stretch) = bytes.get(line..line + length) else {
+            fail(&format!("case {place} ends too early"));
+        };
+        cases.push(Case {
+            stretch: stretch.to_vec(),
+            room: numbers[0] as usize,
+            walked: numbers[1] == 1,
+            identifiers: numbers[2] as usize,
+            names: numbers[5..].to_vec(),
+        });
+        bytes = &bytes[line + length..];
+    }
+    cases
+}
+
+// ---------------------------------------------------------------------------
+// Stretches made by hand
+// ---------------------------------------------------------------------------
+
+/// A part of a stretch: a file, perhaps altered, or bytes.
+#[derive(Clone, Copy, Debug)]
+enum Part {
+    File(Base, &'static [Edit]),
+    Bytes(&'static [u8]),
+    Many(u8, usize),
+}
+
+use Base::{Many as ManyFile, Motion, Night, Nothing, Paper};
+use Edit::{
+    After, AfterItself, Byte, CarriageReturns, Drop, Insert, Join, Keep, Line as Whole, Put, Swap,
+};
+use Part::{Bytes, File, Many};
+
+fn joined(parts: &[Part]) -> Vec<u8> {
+    let bytes = |part: &Part| match *part {
+        File(base, edits) => files::hand_made(base, edits),
+        Bytes(bytes) => bytes.to_vec(),
+        Many(byte, count) => vec![byte; count],
+    };
+    parts.iter().flat_map(bytes).collect()
+}
+
+/// 1,215 bytes and 25 lines; 1,636 and 32; 1,605 and 30.
+const P: Part = File(Paper, &[]);
+const N: Part = File(Night, &[]);
+const M: Part = File(Motion, &[]);
+/// Refused with 5 at line 24.
+const X: Part = File(Paper, &[Put(24, 61, "x")]);
+
+/// Parts and room; refusal, line, number of files, where the rest begins; lengths.
+type Divided = (&'static [Part], usize, [usize; 4], &'static [usize]);
+
+const DIVIDED: &[Divided] = &[
+    // "When nothing is left, as with an empty stretch".
+    (&[], 0, [0, 0, 0, 0], &[]),
+    (&[], 3, [0, 0, 0, 0], &[]),
+    // One to five files, of both modes.
+    (&[P], 1, [0, 0, 1, 1215], &[1215]),
+    (&[N], 1, [0, 0, 1, 1636], &[1636]),
+    (&[M], 1, [0, 0, 1, 1605], &[1605]),
+    (&[P, P], 2, [0, 0, 2, 2430], &[1215, 1215]),
+    (&[P, N], 2, [0, 0, 2, 2851], &[1215, 1636]),
+    (&[N, P], 2, [0, 0, 2, 2851], &[1636, 1215]),
+    (&[M, M], 2, [0, 0, 2, 3210], &[1605, 1605]),
+    (&[P, N, M], 3, [0, 0, 3, 4456], &[1215, 1636, 1605]),
+    (&[M, P, N, M], 4, [0, 0, 4, 6061], &[1605, 1215, 1636, 1605]),
+    (&[P, N, M, P, N], 5, [0, 0, 5, 7307], &[1215, 1636, 1605, 1215, 1636]),
+    // Room: short by one, none, more than needed.
+    (&[P, N, M, P, N], 4, [12, 0, 0, 0], &[]),
+    (&[P, N, M, P, N], 0, [12, 0, 0, 0], &[]),
+    (&[P, N, M, P, N], 6, [0, 0, 5, 7307], &[1215, 1636, 1605, 1215, 1636]),
+    (&[P, N, M, P, N], 1000, [0, 0, 5, 7307], &[1215, 1636, 1605, 1215, 1636]),
+    (&[P], 0, [12, 0, 0, 0], &[]),
+    (&[P], 2, [0, 0, 1, 1215], &[1215]),
+    (&[P, P], 1, [12, 0, 0, 0], &[]),
+    (&[N, M], 1, [12, 0, 0, 0], &[]),
+    // 12 though the rest is refused; the rest itself needs no room.
+    (&[P, P, X], 1, [12, 0, 0, 0], &[]),
+    (&[P, P, X], 2, [5, 24, 2, 2430], &[1215, 1215]),
+    (&[P, X], 0, [12, 0, 0, 0], &[]),
+    (&[X], 0, [5, 24, 0, 0], &[]),
+    (&[X, P], 0, [5, 24, 0, 0], &[]),
+    (&[Bytes(b"x")], 0, [1, 1, 0, 0], &[]),
+    // A line of 80 characters.
+    (&[File(Paper, &[Put(24, 80, " ")]), P], 2, [0, 0, 2, 2450], &[1235, 1215]),
+    // EP and EV, and files without: their own lengths.
+    (&[File(Motion, &[Drop(27), Drop(25)]), P], 2, [0, 0, 2, 2658], &[1443, 1215]),
+    (&[File(Motion, &[Drop(25)])], 1, [0, 0, 1, 1524], &[1524]),
+    (&[File(Paper, &[Insert(25, "EP")]), M], 2, [0, 0, 2, 2823], &[1218, 1605]),
+    (&[File(Motion, &[Insert(30, "EV")]), P], 2, [0, 0, 2, 2823], &[1608, 1215]),
+    (&[P, File(Paper, &[Insert(25, "EV")])], 2, [4, 25, 1, 1215], &[1215]),
+    // Rests that are no file: half of one, one byte, a lone LF, EOF.
+    (&[P, File(Night, &[Keep(16)])], 2, [1, 17, 1, 1215], &[1215]),
+    (&[P, File(Paper, &[Keep(24), After(b"EO")])], 2, [1, 25, 1, 1215], &[1215]),
+    (&[P, File(Motion, &[Keep(25), After(b"VG01")])], 2, [1, 26, 1, 1215], &[1215]),
+    (&[File(Paper, &[Keep(24)])], 2, [1, 25, 0, 0], &[]),
+    (&[P, Bytes(b"x")], 2, [1, 1, 1, 1215], &[1215]),
+    (&[P, Bytes(b"#")], 2, [1, 1, 1, 1215], &[1215]),
+    (&[P, Bytes(b"\x00")], 1, [1, 1, 1, 1215], &[1215]),
+    (&[P, Bytes(b"\n")], 2, [4, 1, 1, 1215], &[1215]),
+    (&[P, N, Bytes(b"\n\n\n")], 2, [4, 1, 2, 2851], &[1215, 1636]),
+    (&[P, Bytes(b"EOF")], 2, [1, 1, 1, 1215], &[1215]),
+    (&[P, Bytes(b"EOF\n")], 2, [4, 1, 1, 1215], &[1215]),
+    (&[Bytes(b"\n"), P], 2, [4, 1, 0, 0], &[]),
+    (&[P, Bytes(b" "), P], 2, [4, 1, 1, 1215], &[1215]),
+    (&[P, Bytes(b"\n"), P], 2, [4, 1, 1, 1215], &[1215]),
+    (&[P, Bytes(b"EP\n"), P], 2, [4, 1, 1, 1215], &[1215]),
+    (&[P, Bytes(b"#dP\n")], 1, [6, 1, 1, 1215], &[1215]),
+    (&[P, Bytes(b"#cP\n")], 1, [4, 1, 1, 1215], &[1215]),
+    // A last LF that is missing: of the last file, of one before another.
+    (&[File(Paper, &[Join(25)])], 1, [1, 25, 0, 0], &[]),
+    (&[N, File(Paper, &[Join(25)])], 2, [1, 25, 1, 1636], &[1636]),
+    (&[File(Paper, &[Join(25)]), P], 2, [5, 25, 0, 0], &[]),
+    (&[M, File(Night, &[Join(32)]), P], 3, [5, 32, 1, 1605], &[1605]),
+    // Garbage.
+    (&[P, Many(0xff, 300)], 2, [1, 1, 1, 1215], &[1215]),
+    (&[P, Many(0xff, 300), Bytes(b"\n")], 2, [2, 1, 1, 1215], &[1215]),
+    (&[P, Bytes(b"\x00\n")], 2, [2, 1, 1, 1215], &[1215]),
+    (&[Bytes(b"xyz\n"), P], 2, [4, 1, 0, 0], &[]),
+    (&[N, Many(b' ', 80), Bytes(b"\n")], 1, [4, 1, 1, 1636], &[1636]),
+    (&[N, Many(b' ', 81), Bytes(b"\n")], 1, [3, 1, 1, 1636], &[1636]),
+    (&[N, Many(b'x', 5000)], 1, [1, 1, 1, 1636], &[1636]),
+    (&[P, File(Paper, &[CarriageReturns])], 2, [2, 1, 1, 1215], &[1215]),
+    // A second file refused with 1 to 10: the line counted from its first byte.
+    (&[N, File(Paper, &[Drop(25)])], 2, [1, 25, 1, 1636], &[1636]),
+    (&[N, File(Paper, &[Byte(24, 40, 0x80)])], 2, [2, 24, 1, 1636], &[1636]),
+    (&[N, File(Paper, &[Put(24, 81, " ")])], 2, [3, 24, 1, 1636], &[1636]),
+    (&[N, File(Paper, &[Drop(1)])], 2, [4, 1, 1, 1636], &[1636]),
+    (&[N, File(Paper, &[Drop(22)])], 2, [4, 22, 1, 1636], &[1636]),
+    (&[N, X], 2, [5, 24, 1, 1636], &[1636]),
+    (&[N, File(Paper, &[Put(3, 10, "G 7")])], 2, [6, 3, 1, 1636], &[1636]),
+    (&[N, File(Paper, &[Put(24, 5, "1000000.000000")])], 2, [7, 24, 1, 1636], &[1636]),
+    (&[N, File(ManyFile(256), &[Keep(40)])], 2, [7, 3, 1, 1636], &[1636]),
+    (&[N, File(Paper, &[Put(2, 4, "1735")])], 2, [8, 2, 1, 1636], &[1636]),
+    (&[P, File(Night, &[Put(26, 18, "15")])], 2, [9, 26, 1, 1215], &[1215]),
+    (&[P, File(Night, &[Swap(24, 25)])], 2, [10, 24, 1, 1215], &[1215]),
+    // The middle one of three or four damaged, at each kind of line: the files
+    // after it don't count.
+    (&[P, File(Motion, &[Put(1, 61, "x")]), P], 3, [5, 1, 1, 1215], &[1215]),
+    (&[P, File(Motion, &[Put(2, 3, "x")]), P], 3, [5, 2, 1, 1215], &[1215]),
+    (&[P, File(Motion, &[Put(3, 9, "x")]), P], 3, [5, 3, 1, 1215], &[1215]),
+    (&[P, File(Motion, &[Put(4, 6, "0")]), P], 3, [5, 4, 1, 1215], &[1215]),
+    (&[P, File(Motion, &[Put(8, 3, "0")]), P], 3, [5, 8, 1, 1215], &[1215]),
+    (&[P, File(Motion, &[Put(12, 58, "  7")]), P], 3, [8, 12, 1, 1215], &[1215]),
+    (&[P, File(Motion, &[Put(13, 4, "R ")]), P], 3, [8, 13, 1, 1215], &[1215]),
+    (&[P, File(Motion, &[Put(14, 4, "G ")]), P], 3, [5, 14, 1, 1215], &[1215]),
+    (&[P, File(Motion, &[Put(15, 4, "-1.2500000")]), P], 3, [6, 15, 1, 1215], &[1215]),
+    (&[P, File(Motion, &[Put(16, 4, " 1.2500000")]), P], 3, [5, 16, 1, 1215], &[1215]),
+    (&[P, File(Motion, &[Put(17, 4, "   1")]), P], 3, [5, 17, 1, 1215], &[1215]),
+    (&[P, File(Motion, &[Put(18, 2, "I")]), P], 3, [4, 18, 1, 1215], &[1215]),
+    (&[P, File(Motion, &[Put(19, 3, "x")]), P], 3, [5, 19, 1, 1215], &[1215]),
+    (&[P, File(Motion, &[Put(23, 32, "x")]), P], 3, [5, 23, 1, 1215], &[1215]),
+    (&[P, File(Motion, &[Put(24, 2, "G02")]), P], 3, [10, 24, 1, 1215], &[1215]),
+    (&[P, File(Motion, &[Byte(25, 60, 200)]), P], 3, [2, 25, 1, 1215], &[1215]),
+    (&[P, File(Motion, &[Put(26, 75, "E")]), P], 3, [5, 26, 1, 1215], &[1215]),
+    (&[P, File(Motion, &[Put(27, 81, " ")]), P], 3, [3, 27, 1, 1215], &[1215]),
+    (&[P, File(Motion, &[Drop(29)]), P], 3, [4, 29, 1, 1215], &[1215]),
+    (&[P, N, File(Motion, &[Put(30, 4, "X")]), P], 4, [5, 30, 2, 2851], &[1215, 1636]),
+    (&[P, N, X, M], 4, [5, 24, 2, 2851], &[1215, 1636]),
+    (&[X, P, N, M], 4, [5, 24, 0, 0], &[]),
+    // "an epoch too many": a file's rows once more, and then EOF.
+    (&[P, File(Paper, &[Insert(25, "*")]), P], 3, [4, 25, 1, 1215], &[1215]),
+    // The EOF line twice, or with blanks after it.
+    (&[P, Bytes(b"EOF   \n"), P], 3, [4, 1, 1, 1215], &[1215]),
+    (&[File(Paper, &[Whole(25, "EOF   ")]), P], 2, [0, 0, 2, 2433], &[1218, 1215]),
+    // 255 satellites, of 17,929 bytes.
+    (&[File(ManyFile(255), &[]), P], 2, [0, 0, 2, 19144], &[17929, 1215]),
+    (&[P, File(ManyFile(255), &[Join(299)])], 2, [1, 299, 1, 1215], &[1215]),
+];
+
+/// A file, room for identifiers, names that stand for them where it is refused;
+/// lines of the answer in their order.
+type Walked = (Base, &'static [Edit], usize, &'static [u64], &'static [&'static str]);
+
+const WALKED: &[Walked] = &[
+    (
+        Paper,
+        &[],
+        1,
+        &[],
+        &[
+            "begin 0 0 1215 1 1",
+            "name G07",
+            "kept",
+            "row 0 0 at 5000000001 -500000 0 absent",
+            "end",
+            "place 0 0 1 0 0",
+            "place 1 61 2 0 1",
+            "place 3 183 3 0 1",
+            "place 12 732 5 0 1",
+            "then 25 1211 14 0 0",
+            "place 25 1211 14 0 0",
+            "place 30 1211 14 0 0",
+        ],
+    ),
+    (
+        Night,
+        &[],
+        9,
+        &[],
+        &[
+            "begin 0 0 1636 2 3",
+            "name G07",
+            "name R24",
+            "kept",
+            "row 0 0 at 15000000000 -20000500000 0 123456789",
+            "row 0 1 absent absent",
+            "row 1 0 absent -1",
+            "row 1 1 at 0 0 1 absent",
+            "row 2 0 at -500000 0 0 999999000000",
+            "row 2 1 at 999999999999 -999999999999 999999999999 -999999999999",
+            "end",
+            "place 3 183 3 0 3",
+            "place 16 976 7 0 3",
+            "place 32 1632 14 0 0",
+        ],
+    ),
+    // Mode V: the P rows alone, past EP, V and EV.
+    (
+        Motion,
+        &[],
+        2,
+        &[],
+        &[
+            "begin 0 0 1605 2 1",
+            "name G01",
+            "name G02",
+            "kept",
+            "row 0 0 at -11044805800 -10475672350 21929418200 189163300",
+            "row 0 1 at -12593593500 10170327650 -20354534400 -55976000",
+            "end",
+            "place 15 915 6 0 1",
+            "then 30 1601 14 0 0",
+        ],
+    ),
+    (
+        Motion,
+        &[Drop(27), Drop(25)],
+        3,
+        &[],
+        &[
+            "begin 0 0 1443 2 1",
+            "row 0 0 at -11044805800 -10475672350 21929418200 189163300",
+            "row 0 1 at -12593593500 10170327650 -20354534400 -55976000",
+            "end",
+        ],
+    ),
+    // Places: absent, alone zero, minus zero; clocks: absent, near it.
+    (
+        Paper,
+        &[Put(24, 5, "      0.000000      0.000000      0.000000 999999.999999")],
+        1,
+        &[],
+        &["row 0 0 absent absent", "end"],
+    ),
+    (
+        Paper,
+        &[Put(24, 5, "      0.000000      0.000000      0.000000     12.734450")],
+        1,
+        &[],
+        &["row 0 0 absent 12734450", "end"],
+    ),
+    (
+        Paper,
+        &[Put(24, 5, "-000000.000000     -0.000000-000000.000000-999999.999999")],
+        1,
+        &[],
+        &["row 0 0 absent -999999999999", "end"],
+    ),
+    (
+        Paper,
+        &[Put(24, 5, "      0.000000      0.000001      0.000000      0.000000")],
+        1,
+        &[],
+        &["row 0 0 at 0 1 0 0", "end"],
+    ),
+    (
+        Paper,
+        &[Put(24, 5, "     -0.000001      0.000000      0.000000 999999.999998")],
+        1,
+        &[],
+        &["row 0 0 at -1 0 0 999999999998", "end"],
+    ),
+    (
+        Paper,
+        &[Put(24, 5, "      1.000000      1.000000      0.0000000999999.999999")],
+        1,
+        &[],
+        &["row 0 0 at 1000000 1000000 0 absent", "end"],
+    ),
+    // Too little room: 12 with line 0, and the names that are given.
+    (
+        Night,
+        &[],
+        1,
+        &[7107, 8224],
+        &["begin 12 0 0 0 0", "kept", "row 0 0 at 15000000000 -20000500000 0 123456789", "end"],
+    ),
+    (
+        Paper,
+        &[],
+        0,
+        &[7107],
+        &["begin 12 0 0 0 0", "kept", "row 0 0 at 5000000001 -500000 0 absent"],
+    ),
+    (Paper, &[], 0, &[7108], &["begin 12 0 0 0 0", "kept", "refused 10 line 24"]),
+    (Paper, &[Join(25)], 0, &[7107], &["begin 1 25 0 0 0", "kept", "refused 1 line 25"]),
+    // No bytes, a byte, an empty line.
+    (
+        Nothing,
+        &[],
+        1,
+        &[],
+        &[
+            "begin 1 1 0 0 0",
+            "kept",
+            "refused 1 line 1",
+            "place 0 0 1 0 0",
+            "place 1 0 1 0 0",
+            "place 3 0 1 0 0",
+            "place 0 0 1 0 0",
+            "then 0 0 1 0 0",
+            "place 0 0 1 0 0",
+            "place 5 0 1 0 0",
+        ],
+    ),
+    (Nothing, &[After(b"x")], 1, &[], &["begin 1 1 0 0 0", "refused 1 line 1"]),
+    (Nothing, &[After(b"\n")], 1, &[], &["begin 4 1 0 0 0", "refused 4 line 1", "place 1 0 1 0 0"]),
+    // Bytes after EOF: 11 at `begin`, and a walk that ends there.
+    (
+        Paper,
+        &[After(b"x")],
+        1,
+        &[7107],
+        &[
+            "begin 11 26 0 0 0",
+            "kept",
+            "row 0 0 at 5000000001 -500000 0 absent",
+            "end",
+            "place 25 1211 14 0 0",
+        ],
+    ),
+    (
+        Motion,
+        &[AfterItself],
+        2,
+        &[7101, 7102],
+        &[
+            "begin 11 31 0 0 0",
+            "row 0 0 at -11044805800 -10475672350 21929418200 189163300",
+            "row 0 1 at -12593593500 10170327650 -20354534400 -55976000",
+            "end",
+            "place 30 1601 14 0 0",
+            "then 60 1601 14 0 0",
+            "place 65 1601 14 0 0",
+        ],
+    ),
+    // Other names than the header's: none, another, of another letter, more.
+    (Paper, &[After(b"x")], 1, &[], &["begin 11 26 0 0 0", "refused 10 line 24"]),
+    (Paper, &[After(b"x")], 1, &[7108], &["begin 11 26 0 0 0", "refused 10 line 24"]),
+    (
+        Paper,
+        &[After(b"x")],
+        1,
+        &[8207],
+        &["begin 11 26 0 0 0", "refused 8 line 13", "place 12 732 5 0 1", "then 25 732 5 0 1"],
+    ),
+    (
+        Paper,
+        &[After(b"x")],
+        1,
+        &[7107, 8207, 0],
+        &["begin 11 26 0 0 0", "row 0 0 at 5000000001 -500000 0 absent", "end"],
+    ),
+    (
+        Night,
+        &[After(b"x")],
+        2,
+        &[7107],
+        &["row 0 0 at 15000000000 -20000500000 0 123456789", "refused 10 line 25"],
+    ),
+    (
+        Night,
+        &[After(b"x")],
+        2,
+        &[7107, 8224, 7107],
+        &["row 2 1 at 999999999999 -999999999999 999999999999 -999999999999", "end"],
+    ),
+    (ManyFile(20), &[After(b"x")], 20, &[7118], &["begin 11 45 0 0 0", "refused 8 line 4"]),
+    (ManyFile(20), &[After(b"x")], 20, &[7117], &["begin 11 45 0 0 0", "refused 10 line 24"]),
+    // Refused before the first row.
+    (
+        Paper,
+        &[Put(2, 4, "1735")],
+        1,
+        &[7107],
+        &[
+            "begin 8 2 0 0 0",
+            "kept",
+            "refused 8 line 2",
+            "place 1 61 2 0 1",
+            "place 3 61 2 0 1",
+            "place 12 61 2 0 1",
+            "then 25 61 2 0 1",
+        ],
+    ),
+    (Paper, &[Drop(22)], 1, &[7107], &["refused 4 line 22", "place 24 1115 8 0 1"]),
+    (Paper, &[Drop(23)], 1, &[7107], &["refused 4 line 23", "place 24 1118 9 0 1"]),
+    (Paper, &[Put(24, 61, "x")], 1, &[7107], &["refused 5 line 24", "place 25 1150 10 1 0"]),
+    (Paper, &[Keep(24)], 1, &[7107], &["refused 1 line 25", "place 24 1211 14 0 0"]),
+    (Night, &[Put(3, 13, "G07")], 2, &[7107, 8224], &["begin 8 3 0 0 0", "refused 8 line 3"]),
+    // Refused between rows.
+    (
+        Night,
+        &[Put(29, 18, "30")],
+        2,
+        &[7107, 8224],
+        &[
+            "begin 9 29 0 0 0",
+            "kept",
+            "row 0 0 at 15000000000 -20000500000 0 123456789",
+            "row 0 1 absent absent",
+            "row 1 0 absent -1",
+            "row 1 1 at 0 0 1 absent",
+            "refused 9 line 29",
+            "then 32 1459 9 0 1",
+            "place 37 1459 9 0 1",
+        ],
+    ),
+    (
+        Night,
+        &[Swap(27, 28)],
+        2,
+        &[7107, 8224],
+        &[
+            "begin 10 27 0 0 0",
+            "row 0 1 absent absent",
+            "refused 10 line 27",
+            "place 32 1304 10 2 1",
+        ],
+    ),
+    (
+        Night,
+        &[Insert(26, "EP"), Insert(27, "EP")],
+        2,
+        &[7107, 8224],
+        &["begin 4 27 0 0 0", "row 0 1 absent absent", "refused 4 line 27", "place 34 1275 9 0 2"],
+    ),
+    (
+        Motion,
+        &[Byte(25, 60, 200)],
+        2,
+        &[7101, 7102],
+        &[
+            "begin 2 25 0 0 0",
+            "row 0 0 at -11044805800 -10475672350 21929418200 189163300",
+            "refused 2 line 25",
+            "place 30 1224 11 2 0",
+        ],
+    ),
+    (
+        Motion,
+        &[Put(26, 2, "G02")],
+        2,
+        &[7101, 7102],
+        &[
+            "begin 10 26 0 0 0",
+            "row 0 0 at -11044805800 -10475672350 21929418200 189163300",
+            "refused 10 line 26",
+            "place 30 1305 11 2 0",
+        ],
+    ),
+    (
+        Motion,
+        &[Put(27, 81, " ")],
+        2,
+        &[7101, 7102],
+        &[
+            "begin 3 27 0 0 0",
+            "row 0 0 at -11044805800 -10475672350 21929418200 189163300",
+            "refused 3 line 27",
+            "place 30 1379 10 1 0",
+        ],
+    ),
+    (
+        Motion,
+        &[Put(28, 5, "1000000.000000")],
+        2,
+        &[7101, 7102],
+        &[
+            "begin 7 28 0 0 0",
+            "row 0 0 at -11044805800 -10475672350 21929418200 189163300",
+            "refused 7 line 28",
+            "place 30 1460 10 1 0",
+        ],
+    ),
+    (
+        Motion,
+        &[Put(30, 4, "X")],
+        2,
+        &[7101, 7102],
+        &[
+            "begin 5 30 0 0 0",
+            "row 0 0 at -11044805800 -10475672350 21929418200 189163300",
+            "row 0 1 at -12593593500 10170327650 -20354534400 -55976000",
+            "refused 5 line 30",
+            "place 30 1601 14 0 0",
+        ],
+    ),
+    // Slots: 20 satellites in two lines, 86 in six.
+    (
+        ManyFile(20),
+        &[],
+        20,
+        &[],
+        &[
+            "begin 0 0 2374 20 1",
+            "name G18",
+            "row 0 19 at 19000001 -500000 0 1000000",
+            "place 3 183 3 3 1",
+        ],
+    ),
+    (
+        ManyFile(86),
+        &[Keep(9), After(b"EOF\n")],
+        86,
+        &[],
+        &["begin 4 10 0 0 0", "refused 4 line 10", "place 5 305 3 35 1", "then 10 549 4 69 1"],
+    ),
+    (
+        ManyFile(86),
+        &[Keep(8)],
+        86,
+        &[],
+        &["refused 1 line 9", "place 4 244 3 52 1", "then 8 488 4 86 1"],
+    ),
+    (
+        ManyFile(255),
+        &[],
+        255,
+        &[],
+        &["begin 0 0 17929 255 1", "name E57", "row 0 254 at 254000001 -500000 0 1000000", "end"],
+    ),
+    (
+        ManyFile(255),
+        &[Put(3, 4, "256")],
+        300,
+        &[],
+        &["begin 7 3 0 0 0", "kept", "refused 7 line 3"],
+    ),
+];
+
+// ---------------------------------------------------------------------------
+// Generated cases
+// ---------------------------------------------------------------------------
+
+/// A generated file of moderate length with the names that it was planned with.
+fn generate_part(random: &mut Random) -> (Vec<u64>, Vec<u8>) {
+    loop {
+        let (plan, file) = files::generate_file(random);
+        if file.len() <= 6000 || once_in(random, 20) {
+            return (plan.identifiers, file);
+        }
+    }
+}
+
+fn generate_accepted(random: &mut Random) -> (Vec<u64>, Vec<u8>) {
+    loop {
+        let (names, file) = generate_part(random);
+        if files::judge(&file).is_ok() {
+            return (names, file);
+        }
+    }
+}
+
+const SHORT_RESTS: &[&[u8]] = &[
+    b"\n", b"x", b"#", b"#d", b"#d\n", b"#dP", b"EOF", b"EOF\n", b"EOF \n", b"\x00", b"\xff\n",
+    b" \n", b"\n\n", b"EP\n", b"/*\n", b"\r\n", b"\x1a", b"* \n",
+];
+
+/// What may stand after accepted files: nothing, a beginning of one, garbage,
+/// a damaged one.
+fn generate_rest(random: &mut Random) -> Vec<u8> {
+    match random.below(10) {
+        0..=2 => Vec::new(),
+        3 => random.pick(SHORT_RESTS).to_vec(),
+        4 => (0..random.below(100)).map(|_| random.next() as u8).collect(),
+        5 => {
+            let (_, mut file) = generate_accepted(random);
+            let kept = file.len() - 1 - random.below(file.len().min(80));
+            file.truncate(if once_in(random, 2) { kept } else { random.below(file.len()) });
+            file
+        }
+        _ => generate_part(random).1,
+    }
+}
+
+/// One byte another, gone or more; one line gone, twice or exchanged.
+fn spoil(stretch: &mut Vec<u8>, random: &mut Random) {
+    if stretch.is_empty() {
+        return;
+    }
+    let place = random.below(stretch.len());
+    let byte = *random.pick(b"\n\n 09xGP\r\x00\x7f\xff");
+    match random.below(6) {
+        0 => stretch[place] = byte,
+        1 => stretch.insert(place, byte),
+        2 => drop(stretch.remove(place)),
+        kind => {
+            let mut lines: Vec<Vec<u8>> =
+                stretch.split_inclusive(|&c| c == b'\n').map(<[u8]>::to_vec).collect();
+            let (line, other) = (random.below(lines.len()), random.below(lines.len()));
+            match kind {
+                3 => drop(lines.remove(line)),
+                4 => lines.insert(line, lines[line].clone()),
+                _ => lines.swap(line, other),
+            }
+            *stretch = lines.concat();
+        }
+    }
+}
+
+/// Mostly the names of the header; sometimes others, fewer or more.
+fn spoil_names(names: &mut Vec<u64>, random: &mut Random) {
+    let place = random.below(names.len());
+    match random.below(12) {
+        0 => names.truncate(place),
+        1 => names[place] = *random.pick(&[0, 1, 7101, 7107, 8224, 9099, 999_999_999_999]),
+        2 => names.push(*random.pick(&[0, 7101, 7107, 8224])),
+        3 => names.swap(0, place),
+        4 => names[place] += *random.pick(&[1, 100]),
+        _ => {}
+    }
+    names.truncate(MOST_NAMES);
+}
+
+fn generate_files(random: &mut Random) -> (Vec<u64>, Vec<u8>) {
+    let count = *random.pick(&[1, 1, 1, 2, 2, 3, 4, 5]);
+    let parts: Vec<_> = (0..count).map(|_| generate_accepted(random)).collect();
+    let rest = generate_rest(random);
+    let bytes = parts.iter().flat_map(|(_, file)| file.clone()).chain(rest).collect();
+    (parts[0].0.clone(), bytes)
+}
+
+fn choose_room(random: &mut Random, needed: usize, most: usize) -> usize {
+    let room = match random.below(10) {
+        0 | 1 => needed.saturating_sub(1),
+        2 => random.below(needed + 1),
+        3 => 0,
+        4 | 5 => needed + 1 + random.below(9),
+        6 => most,
+        _ => needed,
+    };
+    room.min(most)
+}
+
+fn generate_case(random: &mut Random) -> Case {
+    loop {
+        let single = once_in(random, 2);
+        let made = if single { generate_part(random) } else { generate_files(random) };
+        let (mut names, mut stretch) = made;
+        if once_in(random, if single { 6 } else { 3 }) {
+            spoil(&mut stretch, random);
+        }
+        if stretch.len() > files::MOST_BYTES {
+            continue;
+        }
+        let room = choose_room(random, divide(&stretch).lengths.len(), MOST_LENGTHS);
+        let identifiers = choose_room(random, names.len(), MOST_NAMES);
+        spoil_names(&mut names, random);
+        let walked = single || once_in(random, 3);
+        return Case { stretch, room, walked, identifiers, names };
+    }
+}
+
+// ---------------------------------------------------------------------------
+// The stored cases
+// ---------------------------------------------------------------------------
+
+const MOST_STORED: usize = 600_000;
+
+/// Those worked out by hand; every fifth of the stretches is walked too.
+fn hand_cases() -> Vec<Case> {
+    let divided = DIVIDED.iter().enumerate().map(|(place, &(parts, room, ..))| Case {
+        stretch: joined(parts),
+        room,
+        walked: place % 5 == 0,
+        identifiers: 2,
+        names: vec![7107, 8224],
+    });
+    let walked = WALKED.iter().map(|&(base, edits, identifiers, names, _)| Case {
+        stretch: files::hand_made(base, edits),
+        room: 1,
+        walked: true,
+        identifiers,
+        names: names.to_vec(),
+    });
+    divided.chain(walked).collect()
+}
+
+fn stored_cases() -> Vec<Case> {
+    let mut cases = hand_cases();
+    let mut length = show_batch(&cases).len();
+    let small = |case: &Case| case.stretch.len() < 5000;
+    let made = (1..).map(|number| generated(generate_case, files::STORED_SEED, number));
+    for case in made.filter(small) {
+        length += case.show().len();
+        if length > MOST_STORED {
+            break;
+        }
+        cases.push(case);
+    }
+    cases
+}
+
+// ---------------------------------------------------------------------------
+// Self-test
+// ---------------------------------------------------------------------------
+
+fn test_divided(tally: &mut Tally) {
+    for &(parts, room, wanted, lengths) in DIVIDED {
+        let found = divide_into(&joined(parts), room);
+        let Refusal { number, line } = found.refusal;
+        let numbers = [number.into(), line, found.lengths.len(), found.rest];
+        tally.holds(numbers == wanted && found.lengths == lengths, || {
+            format!(
+                "{parts:?} {room}\n  wanted {wanted:?}\n  given  {numbers:?} {:?}",
+                found.lengths
+            )
+        });
+    }
+}
+
+fn test_walked(tally: &mut Tally) {
+    for &(base, edits, identifiers, names, wanted) in WALKED {
+        let stretch = files::hand_made(base, edits);
+        let case = Case { stretch, room: 1, walked: true, identifiers, names: names.to_vec() };
+        let answer = case.show_walked();
+        let missing = files::missing_line(&answer, wanted);
+        tally.holds(missing.is_none(), || {
+            format!("{base:?} {edits:?}\n  wanted {missing:?}\n  given {answer}")
+        });
+        tally.made += wanted.len() - 1;
+    }
+}
+
+/// Every cut of two files: the first is found as soon as it is whole, and what
+/// is left of the second is refused with 1 in its unfinished line.
+fn test_cuts(tally: &mut Tally) {
+    let stretch = joined(&[P, M]);
+    for length in 0..=stretch.len() {
+        let found = divide(&stretch[..length]);
+        let first = if length < 1215 { 0 } else { 1215 };
+        let line = 1 + stretch[first..length].iter().filter(|&&c| c == b'\n').count();
+        let wanted = match length {
+            0 | 1215 => (NOTHING_LEFT, usize::from(length > 0), first),
+            2820 => (NOTHING_LEFT, 2, 2820),
+            _ => (Refusal { number: 1, line }, usize::from(first > 0), first),
+        };
+        let found = (found.refusal, found.lengths.len(), found.rest);
+        tally.holds(found == wanted, || format!("cut to {length}: {found:?}"));
+    }
+}
+
+/// Accepted files laid end to end divide into just these.
+fn test_joined(tally: &mut Tally) {
+    for number in 1..=300 {
+        let make = |random: &mut Random| -> Vec<Vec<u8>> {
+            (0..1 + random.below(5)).map(|_| generate_accepted(random).1).collect()
+        };
+        let parts = generated(make, files::STORED_SEED + 2, number);
+        let found = divide(&parts.concat());
+        let same = found.lengths == parts.iter().map(Vec::len).collect::<Vec<_>>();
+        let all = found.rest == parts.concat().len() && found.refusal == NOTHING_LEFT;
+        tally.holds(same && all, || format!("files {number}: {:?}", found.lengths));
+    }
+}
+
+/// A walk of an accepted file gives what the row question gives for each epoch
+/// and satellite, in order; with its own names it is refused as the file is;
+/// and places go on from one to the next.
+fn test_walks(tally: &mut Tally) {
+    for number in 1..=1500 {
+        let stretch = generated(generate_case, files::STORED_SEED + 3, number).stretch;
+        let front = files::judge_front(&stretch);
+        let own = files::follow(&stretch, None).table.identifiers;
+        let walk = walk(&stretch, &own);
+        let refused = front.as_ref().err().copied();
+        tally.holds(walk.refusal == refused, || format!("walk {number}: {:?}", walk.refusal));
+        if let Ok((table, length)) = front {
+            let pairs =
+                |epoch| (0..table.identifiers.len()).map(move |satellite| (epoch, satellite));
+            let asked = (0..table.epochs).flat_map(pairs).map(|(epoch, satellite)| {
+                files::row(&stretch[..length], epoch, satellite).map(|row| show_row(&row))
+            });
+            let same = asked.eq(walk.rows.iter().map(|row| Ok(show_row(row))));
+            tally.holds(same, || format!("walk {number}: its rows"));
+        }
+        let all = walk.passed;
+        let ends: Vec<usize> = (0..=all).map(|lines| walk.after(lines).at).collect();
+        let is_line = |pair: &[usize]| {
+            let line = &stretch[pair[0]..pair[1]];
+            line.iter().position(|&c| c == b'\n') == Some(line.len() - 1)
+        };
+        let lines = ends[0] == 0 && ends.windows(2).all(is_line);
+        tally.holds(lines, || format!("walk {number}: its places"));
+        tally.holds(walk.after(all) == walk.after(all + 7), || format!("walk {number}: its end"));
+    }
+}
+
+fn test_batches(tally: &mut Tally) {
+    let cases = stored_cases();
+    let again = parse_batch(&show_batch(&cases));
+    tally.holds(answers(&cases) == answers(&again), || "a batch read again".to_string());
+}
+
+fn self_test() {
+    let mut tally = Tally::default();
+    test_divided(&mut tally);
+    test_walked(&mut tally);
+    let by_hand = tally.made;
+    test_cuts(&mut tally);
+    test_joined(&mut tally);
+    test_walks(&mut tally);
+    test_batches(&mut tally);
+    println!("{} comparisons, {by_hand} of them by hand, {} failed", tally.made, tally.failed);
+    if tally.failed > 0 {
+        exit(1);
+    }
+}
+
+// ---------------------------------------------------------------------------
+// The program
+// ---------------------------------------------------------------------------
+
+fn main() {
+    let arguments: Vec<String> = std::env::args().skip(1).collect();
+    let words: Vec<&str> = arguments.iter().map(String::as_str).collect();
+    let usage =
+        "usage: answer | generate SEED COUNT | case SEED NUMBER | cases | check CRATE_DIR\n\
+         | self-test | count | compare SEED COUNT PROGRAM [ARGS..]";
+    match words[..] {
+        ["self-test"] => self_test(),
+        _ => files::obey(&words, parse_batch, generate_case, stored_cases, usage),
+    }
+}
