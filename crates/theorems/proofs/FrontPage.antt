@@ -7,13 +7,14 @@ use mathlib.Core.Bool.{Bool, true, false, not}
 use mathlib.Core.Logic.{_↔_}
 use mathlib.Core.List.{List, [], _++_, map}
 use Prim.Native.Nat.{ℕ, _+_, _*_, _≤_, _<_}
+use denote.Ref.{now}
 use lib.IntN.{ℤ, pos}
 use lib.ListN.{length, getD, take, drop}
 use Rattle.header.specs.Rules.{d}
 use Rattle.lines.specs.Lent.{over}
 use Rattle.lines.specs.Lines.{linesOf, select}
 use Rattle.file.specs.Plain.{Accepted}
-use Rattle.file.specs.Table.{rowLines}
+use Rattle.file.specs.Table.{rowLines, rowsIn}
 use Rattle.scan.specs.Run.{IsFile}
 use Rattle.reader.specs.Reading.{refusedWith, acceptedAs, frontOf, fileOf, filled, readAnswer}
 use Rattle.canon.specs.Table.{Table, rowsOf}
@@ -45,15 +46,17 @@ use Rattle.theorems.proofs.Correlations.{OnlyAfterTwo}
 use Rattle.theorems.proofs.Dividing as dividing
 use Rattle.theorems.proofs.Dividing.{AtFront, TooMany}
 use Rattle.theorems.proofs.Walks as walks
-use Rattle.theorems.proofs.Walks.{placeOf}
+use Rattle.theorems.proofs.Walks.{placeOf, After}
 use Rattle.theorems.proofs.Known.{Knows}
 use Rattle.theorems.proofs.WalkedRows as walked
 use Rattle.theorems.proofs.WalkedRows.{Identified, walkStep}
+use Rattle.theorems.proofs.Exist as exist
 use Rattle.theorems.proofs.Cases as cases
 use Rattle.theorems.proofs.Cases.{Case}
 use Rattle.scan.specs.declared.Tally.{Tally}
 use Rattle.scan.specs.declared.Front.the-variants as front
 use Rattle.stretch.specs.declared.Division.{Division}
+use Rattle.walker.specs.declared.Walker.{Walker}
 use Rattle.walk.specs.declared.types.RowWalk.{RowWalk}
 use Rattle.walk.specs.declared.types.RowStep.the-variants as step
 -- SAID ONCE. What holds for a number field holds at every width and number of places; for a line, of every layout; for a file, by the rules of every
@@ -96,6 +99,10 @@ dividing-keeps bytes old twelve = dividing.refusal-keeps bytes old twelve
 -- A file is accepted exactly when it has the paper's records in their order, with their counts and conditions.
 pub accepted-files : (bytes : List ℕ) → IsFile d bytes ↔ Accepted d bytes
 accepted-files bytes = judging.accepts-exactly bytes
+
+-- Accepted files exist, and their tables differ.
+pub tables-differ : (a : List ℕ) × (b : List ℕ) × IsFile d a × IsFile d b × (rowsIn d (linesOf a) ≡ rowsIn d (linesOf b) → ⊥)
+tables-differ = exist.tables-differ
 
 -- A file is refused at its first faulty line, with the lowest number of that line;
 pub refused-first : (bytes : List ℕ) (number line column : ℕ) → frontOf d bytes ≡ front.Refused number line column → FirstFault bytes number line
@@ -174,6 +181,11 @@ stepping bytes t accepted k h = judging.stepping-file bytes t accepted k h
 pub walker-steps : (bytes : List ℕ) (t : Tally) → frontOf d bytes ≡ front.File t → (names : List ℕ) → Knows d bytes t names → (k : ℕ) → k < t .lines
     → placesAfter d bytes names firstPlace k ≡ placeOf (after bytes k)
 walker-steps bytes t accepted names knows k h = walks.walker-steps bytes t accepted names knows k h
+
+-- By the promises of `new` and `moved`: so it is k moves after a new walker at the first line.
+pub walker-walks : (from : Walker) (t : Tally) → frontOf d (now (from .file)) ≡ front.File t → Knows d (now (from .file)) t (now (from .names)) → from .place ≡ firstPlace
+    → (k : ℕ) (w : Walker) → After from k w → k < t .lines → w .place ≡ placeOf (after (now (from .file)) k)
+walker-walks from t accepted knows first k w steps h = walks.walker-walks from t accepted knows first k w steps h
 
 -- THE ADJUSTMENT'S LOOP: step k * n + j of a walk over the rows gives epoch k, satellite j and the row that the row question gives, as absent exactly
 -- when it is marked so,

@@ -13,6 +13,7 @@ pub mod Known
 pub mod Walks
 pub mod WalkedRows
 pub mod Beginning
+pub mod Exist
 pub mod FrontPage
 pub mod EndToEnd
 pub mod Dividing

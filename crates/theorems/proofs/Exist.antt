@@ -1,0 +1,79 @@
+-- Accepted files exist, and their tables differ: so neither a reader or writer that only refuses keeps its promise, nor one with a constant table.
+-- Assumes nothing.
+use mathlib.Core.Path.{_≡_, refl, sym, ap, _∙_}
+use mathlib.Core.Bool.{true, false}
+use mathlib.Core.List.{List, [], _∷_}
+use Prim.Native.Nat.{ℕ, _*_}
+use native.Mathlib.Omega.{arith}
+use lib.IntN.{ℤ, pos}
+use lib.ListN.{replicate}
+use Rattle.header.specs.Rules.{d}
+use Rattle.lines.specs.Lines.{linesOf}
+use Rattle.file.specs.Table.{rowsIn}
+use Rattle.scan.specs.Run.{IsFile}
+use Rattle.machine.specs.Checks.{repeats, typeAgrees}
+use Rattle.canon.specs.Table.{Table, tableOf, rowsOf}
+use Rattle.canon.specs.Valid.{isInstant, textsFit, timesValid, countsValid, wordsValid, headerValid, listsLong, namesValid, exponentsValid, commentValid, commentsValid, rowValid, cellValid, rowsValid, countsHold, valid}
+use Rattle.written.specs.Held.{Holds}
+use Rattle.theorems.proofs.Rewritten.{valid-exactly}
+use Rattle.header.specs.declared.types.Header.{Header}
+
+-- the header of the paper's own file: mode P, 2013-04-03, one epoch, 900 s, one satellite, four comments, type G, GPS
+unfoldable pub header : Header
+header = record {
+  velocity = false;
+  start8 = 56385 * 8_640_000_000_000;
+  epochs = 1;
+  interval8 = 90_000_000_000;
+  texts = record {
+    «data_used» = 79 ∷ 82 ∷ 66 ∷ 73 ∷ 84 ∷ [];
+    coordinates = 87 ∷ 71 ∷ 83 ∷ 56 ∷ 52 ∷ [];
+    orbit = 66 ∷ 67 ∷ 84 ∷ [];
+    agency = 80 ∷ 79 ∷ 82 ∷ 84 ∷ [];
+  };
+  satellites = 1;
+  comments = 4;
+  «file_type» = 71;
+  «time_system» = 71 ∷ 80 ∷ 83 ∷ [];
+  bases = record { place = 12_500_000; clock = 1_025_000_000 };
+}
+
+-- its table with this x: G07, no exponent known, no flag
+unfoldable pub oneRow : ℤ → Table
+oneRow x =
+    tableOf header (7107 ∷ []) (0 ∷ []) (replicate 308 32)
+    (x ∷ pos 0 ∷ pos 0 ∷ pos 999_999_999_999 ∷ pos 1000 ∷ pos 1000 ∷ pos 1000 ∷ pos 1000 ∷ pos 0 ∷ pos 0 ∷ pos 0 ∷ pos 0 ∷ [])
+
+valid-one : valid d (oneRow (pos 1)) ≡ true
+unfolding isInstant textsFit timesValid countsValid wordsValid headerValid listsLong namesValid exponentsValid commentValid commentsValid rowValid cellValid rowsValid countsHold valid oneRow header repeats typeAgrees
+valid-one = refl
+
+valid-two : valid d (oneRow (pos 2)) ≡ true
+unfolding isInstant textsFit timesValid countsValid wordsValid headerValid listsLong namesValid exponentsValid commentValid commentsValid rowValid cellValid rowsValid countsHold valid oneRow header repeats typeAgrees
+valid-two = refl
+
+-- A FILE IS ACCEPTED that has this table,
+pub accepted-one : (bytes : List ℕ) × IsFile d bytes × Holds d (linesOf bytes) (oneRow (pos 1))
+accepted-one = valid-exactly (oneRow (pos 1)) .0 valid-one
+
+pub accepted-two : (bytes : List ℕ) × IsFile d bytes × Holds d (linesOf bytes) (oneRow (pos 2))
+accepted-two = valid-exactly (oneRow (pos 2)) .0 valid-two
+
+-- the first number of the rows
+firstOf : List ℤ → ℤ
+firstOf [] = pos 0
+firstOf (n ∷ ns) = n
+
+apart : rowsOf (oneRow (pos 1)) ≡ rowsOf (oneRow (pos 2)) → ⊥
+unfolding oneRow header firstOf
+apart e =
+    let same : pos 1 ≡ pos 2 = ap firstOf e in
+    let z : _≡_ {A = ℕ} 1 2 = cc in
+    omega arith
+
+-- and two accepted files have different rows.
+pub tables-differ : (a : List ℕ) × (b : List ℕ) × IsFile d a × IsFile d b × (rowsIn d (linesOf a) ≡ rowsIn d (linesOf b) → ⊥)
+tables-differ =
+    let one = accepted-one in
+    let two = accepted-two in
+    (one .0, two .0, one .1, two .1, λ e. apart (sym (one .2 .rows-are) ∙ e ∙ two .2 .rows-are))
