@@ -43,6 +43,20 @@ fn clock(row: FloatRow) {
     print::text(b"\n");
 }
 
+// A row with a place.
+fn row_at(epoch: u64, satellite: u64, row: FloatRow) {
+    head(epoch, satellite);
+    known_place(row);
+    clock(row);
+}
+
+// A row without one.
+fn row_absent(epoch: u64, satellite: u64, row: FloatRow) {
+    head(epoch, satellite);
+    no_place(row);
+    clock(row);
+}
+
 // The line at which a walk is refused.
 fn refused(number: usize, line: u64) {
     print::text(b"refused");
@@ -64,9 +78,7 @@ fn rows<'a>(file: &'a [u8], header: &'a [u64]) {
                 row,
                 next,
             } => {
-                head(epoch, satellite);
-                known_place(row);
-                clock(row);
+                row_at(epoch, satellite, row);
                 from = next;
             }
             RowStep::Absent {
@@ -75,9 +87,7 @@ fn rows<'a>(file: &'a [u8], header: &'a [u64]) {
                 row,
                 next,
             } => {
-                head(epoch, satellite);
-                no_place(row);
-                clock(row);
+                row_absent(epoch, satellite, row);
                 from = next;
             }
             RowStep::End => {
