@@ -1,5 +1,5 @@
 // Judges the named file, then divides stretches of 1, 4 and 16 of it, with a mark for bench/insns.c after each: 0 is the judgement, 1 to 3 the
-// divisions. Prints the bytes of the file.
+// divisions, 4 the beginning of a walk and 5 the walk over all rows. Prints the bytes of the file and its rows.
 #include <stdint.h>
 #include <stdio.h>
 #include <string.h>
@@ -8,6 +8,8 @@
 size_t our_judge(const uint8_t *file, size_t length);
 uint64_t our_divide(const uint8_t *stretch, size_t length, uint64_t *lengths, size_t room);
 uint64_t our_begin(const uint8_t *file, size_t length, uint64_t *identifiers, size_t room);
+void our_first(uint64_t *kept);
+uint64_t our_next(const uint8_t *file, size_t length, const uint64_t *names, size_t satellites, uint64_t *kept);
 
 enum { MOST = 16, BYTES = 1 << 20, START = 999 };
 
@@ -23,7 +25,6 @@ int main(int count, char **words) {
     fclose(from);
     if (length == BYTES) return 2;
     for (int k = 1; k < MOST; k++) memcpy(stretch + k * length, stretch, length);
-    printf("%zu\n", length);
     mark(START);
     size_t refused = our_judge(stretch, length);
     mark(0);
@@ -36,7 +37,11 @@ int main(int count, char **words) {
         for (int i = 0; i < files; i++) wrong |= lengths[i] != length;
     }
     mark(START);
-    wrong |= our_begin(stretch, length, identifiers, 255) == 0;
+    uint64_t satellites = our_begin(stretch, length, identifiers, 255), kept[13], rows = 0, next;
     mark(4);
-    return wrong;
+    our_first(kept);
+    while ((next = our_next(stretch, length, identifiers, satellites, kept)) == 1 || next == 2) rows++;
+    mark(5);
+    printf("%zu %llu\n", length, (unsigned long long)rows);
+    return wrong | (next != 0) | (rows == 0);
 }

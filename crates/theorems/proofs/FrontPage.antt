@@ -50,6 +50,8 @@ use Rattle.theorems.proofs.Walks.{placeOf, After}
 use Rattle.theorems.proofs.Known.{Knows}
 use Rattle.theorems.proofs.WalkedRows as walked
 use Rattle.theorems.proofs.WalkedRows.{Identified, walkStep}
+use Rattle.theorems.proofs.Beginning as beginning
+use Rattle.theorems.proofs.Beginning.{begun, namesAfter}
 use Rattle.theorems.proofs.Exist as exist
 use Rattle.theorems.proofs.Cases as cases
 use Rattle.theorems.proofs.Cases.{Case}
@@ -89,6 +91,15 @@ reading-keeps whole bytes i x c r new old refused = room.refusal-keeps whole byt
 -- A writing that is refused changes no byte.
 pub writing-keeps : (t : Table) (out : List ℕ) → (measured d t (length out) .refusal ≡ 0 → ⊥) → outAfter d t out ≡ out
 writing-keeps t out refused = writing.refusal-keeps-out t out refused
+
+-- The beginning of a walk that is refused, by the file's own refusal or by 12, leaves the identifiers as they were.
+pub beginning-keeps : (bytes : List ℕ) (number line column : ℕ) → fileOf d bytes ≡ front.Refused number line column → (old : List ℕ)
+    → (begun bytes (length old) ≡ refusedWith number line) × (namesAfter bytes old ≡ old)
+beginning-keeps bytes number line column refused old = beginning.begin-refused bytes number line column refused old
+
+pub beginning-short : (bytes : List ℕ) (t : Tally) → fileOf d bytes ≡ front.File t → (old : List ℕ) → length old < header bytes .satellites
+    → (begun bytes (length old) ≡ refusedWith 12 0) × (namesAfter bytes old ≡ old)
+beginning-short bytes t accepted old short = beginning.begin-short bytes t accepted old short
 
 -- A division without room writes no length.
 pub dividing-keeps : (bytes old : List ℕ) → divideOf d bytes (length old) .refusal ≡ 12 → lengthsAfter d bytes old ≡ old

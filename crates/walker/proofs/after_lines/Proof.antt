@@ -126,7 +126,7 @@ module _ {M : Type 1} (𝓤 : URA M) (H : Heap 𝓤) (A : Atoms 𝓤) (W : Given
   new-said : (r : Walker) → ent 𝓤 (ensured 𝓤 H A new.ended (new.clauses 𝓤 H A mem run) (κ, tt) (f, (g, (s, tt))) tt r) (fact 𝓤 ((r .file ≡ f) × (r .names ≡ g) × (r .place ≡ s)))
   new-said r = exE 𝓤 _ (λ ws. snd∗ 𝓤 (sem 𝓤 H A (lasts new.ended (κ, tt) (f, (g, (s, tt))) ws)) (fact 𝓤 ((r .file ≡ f) × (r .names ≡ g) × (r .place ≡ s))))
 
-  -- the calls of `moved` and of `state_of`, at the walker w
+  -- the calls of `moved` and of `place_of`, at the walker w
   abbrev OwnAt : Walker → Fml
   OwnAt w = B (κ, tt) .own w (T′.lowered w ∷ [])
 
@@ -157,7 +157,7 @@ module _ {M : Type 1} (𝓤 : URA M) (H : Heap 𝓤) (A : Atoms 𝓤) (W : Given
       suffices ! _ (ends-at 𝓤 H A after.ended stayed (after.clauses 𝓤 H A mem run) W (((κ, tt), (q, tt), tt, (f, (g, (s, (n, tt)))), at), tt) u r (tt, (tt, (tt, (tt, tt)))) (tt, (tt, (tt, (tt, tt))))) $ says ! e $
       move ! (1 ∷ []) $ frame ! $ move ! (1 ∷ []) $ frame ! $ done !
 
-  -- where the loop stands: the walker, the number of steps left, and what is known of them
+  -- where the loop stands: the walker, the number of lines left, and what is known of them
   pub record Turn : Type 0 where
     pub w : Walker
     pub left : ℕ
@@ -172,7 +172,7 @@ module _ {M : Type 1} (𝓤 : URA M) (H : Heap 𝓤) (A : Atoms 𝓤) (W : Given
   Nearer-wf : WellFounded Nearer
   Nearer-wf = InvImage·wf (λ (i : Turn). i .left) (Nat·lt-wfRel .wf)
 
-  -- a step taken
+  -- a line passed
   next : (i : Turn) (r : Walker) → Next (i .w) r → 0 < i .left → Turn
   next i r e h = record {
     w = r;
@@ -204,7 +204,7 @@ module _ {M : Type 1} (𝓤 : URA M) (H : Heap 𝓤) (A : Atoms 𝓤) (W : Given
         ‵ (fat fullShare word l₄ 0 (vint w64 n)) ∷ ‵ (fdies word l₄) ∷ ‵ (fat fullShare S′.mir l₃ 0 (S′.lowered s)) ∷ ‵ (fdies S′.mir l₃) ∷
         ‵ (fat fullShare words l₂ 0 m) ∷ ‵ (fdies words l₂) ∷ ‵ (fat fullShare bytes l₁ 0 v) ∷ ‵ (fdies bytes l₁) ∷ ‵ (froom S′.mir l₀ 0) ∷ ‵ (fdies S′.mir l₀) ∷ []
 
-    -- a turn's postcondition: one step fewer is left, or the loop is left and the rest of the body runs
+    -- a turn's postcondition: one line fewer is left, or the loop is left and the rest of the body runs
     abbrev Turned : Turn → Out → SProp 𝓤
     Turned i = afterTurn 𝓤 H (Below 𝓤 H A Nearer At i) (afterBlock 𝓤 H (afterSeq 𝓤 H (Wp 𝓤 H C Λ En rest (atReturn 𝓤 H En Post)) (atReturn 𝓤 H En Post)))
 
@@ -214,7 +214,7 @@ module _ {M : Type 1} (𝓤 : URA M) (H : Heap 𝓤) (A : Atoms 𝓤) (W : Given
         assigns ! (bin ! (lit ! tt) (load ! (from ! (stop !)) (look ! 9 refl)) tt) (from ! (stop !)) (init ! 7 refl (tt, tt)) $
         peeks ! (B (κ, tt)) (Is (B (κ, tt))) (shows 𝓤 H A (B (κ, tt))) (i .w) (T′.lowered (i .w) ∷ []) (λ is.
         first ! $ branches ! (load ! (from ! (stop !)) (look ! 7 refl))
-        -- a step is left: the walker is passed to `moved`, and what comes back takes its place
+        -- a line is left: the walker is passed to `moved`, and what comes back takes its place
         (λ less. skips ! $ exec ! C Λ En more (anyQ (Turned i)) $
         assigns ! (of-opd ! (load ! (from ! (stop !)) (look ! 11 refl))) (from ! (stop !)) (init ! 5 refl (LL.lawful (T.the-type αᵉ) (T′.the-laws αᵉ) 𝓤 H A W .typed (i .w) _ is .0)) $
         use2 W (raw (Moved 𝓤 H A mem run .pre (to-moved (i .w)))) (goes-moved (i .w)) $
@@ -227,7 +227,7 @@ module _ {M : Type 1} (𝓤 : URA M) (H : Heap 𝓤) (A : Atoms 𝓤) (W : Given
         rewrite ! 0 (λ (us : List Val). ‵ (B (κ, tt) .own r us)) (LL.tells (T.the-type (namedLft 1 0 tt (κ, tt))) (T′.the-laws (namedLft 1 0 tt (κ, tt))) r _ is′) refl $
         assigns-last ! (bin ! (load ! (from ! (stop !)) (look ! 9 refl)) (lit ! tt) (ltb→lt 0 (i .left) less)) (from ! (stop !)) (store ! 9 refl (tt, record { fits = next i r e (ltb→lt 0 (i .left) less) .small })) $
         forget ! 7 refl $ forget ! 5 refl $ again ! Nearer At i (next i r e (ltb→lt 0 (i .left) less)) (omega (arith, ltb→lt 0 (i .left) less)))))))
-        -- none is left: the walker's state is the result
+        -- none is left: the walker's place is the result
         (λ over. jumps ! $ exec ! C Λ En rest (atRet En Post) $
         assigns ! (of-opd ! (load ! (from ! (stop !)) (look ! 11 refl))) (from ! (stop !)) (init ! 3 refl (LL.lawful (T.the-type αᵉ) (T′.the-laws αᵉ) 𝓤 H A W .typed (i .w) _ is .0)) $
         use2 W (raw (PlaceOf 𝓤 H A mem run .pre (to-place-of (i .w)))) (goes-place-of (i .w)) $
