@@ -40,7 +40,7 @@ module _ (rules : Rules) where
   isLast l = isKind rules 14 l
 
   -- a line of kind EOF ends the file, and from one of any other kind the file goes on
-  ends-or-on : (k : LineKind) (s : State) (line : List ℕ)
+  pub ends-or-on : (k : LineKind) (s : State) (line : List ℕ)
       → ((toldKind k ≡ 14) × (nextOf k rules s line ≡ verdict.Finished))
       ⊎ ((s′ : State) × (eqb (toldKind k) 14 ≡ false) × (nextOf k rules s line ≡ verdict.Next s′))
   ends-or-on kind.Other s line = inr (_, refl, refl)

@@ -39,8 +39,8 @@ use Rattle.theorems.proofs.Walks.{placeOf}
 use Rattle.walker.specs.Places.{firstPlace}
 use Rattle.walk.specs.Rows.{firstWalk, toRow, epochOf, satelliteOf, shown, stepAt, stepFrom, rowStep}
 use Rattle.walk.proofs.Going.{passed}
+use Rattle.stretch.proofs.Ending.{ends-or-on}
 use Rattle.record.specs.declared.types.LineKind.{LineKind}
-use Rattle.record.specs.declared.types.LineKind.the-variants as kind
 use Rattle.machine.specs.declared.types.State.{State}
 use Rattle.machine.specs.declared.types.Verdict.{Verdict}
 use Rattle.machine.specs.declared.types.Verdict.the-variants as verdict
@@ -59,21 +59,16 @@ past-test true v m c e = e
 past-test false v m c e = let z : _≡_ {A = ℕ} 0 1 = cc in absurd (omega arith)
 
 last-kind : (k : LineKind) (s : State) (line : List ℕ) → nextOf k d s line ≡ verdict.Finished → eqb (toldKind k) 10 ≡ false
-last-kind kind.Other s line e = refl
-last-kind kind.First s line e = refl
-last-kind kind.Second s line e = refl
-last-kind kind.Satellites s line e = refl
-last-kind kind.Accuracies s line e = refl
-last-kind kind.Characters s line e = refl
-last-kind kind.Floats s line e = refl
-last-kind kind.Integers s line e = refl
-last-kind kind.Comment s line e = refl
-last-kind kind.Epoch s line e = refl
-last-kind kind.Position s line e = let z : _≡_ {A = ℕ} 0 1 = cc in absurd (omega arith)
-last-kind kind.Velocity s line e = refl
-last-kind kind.PositionCorrelation s line e = refl
-last-kind kind.VelocityCorrelation s line e = refl
-last-kind kind.EndOfFile s line e = refl
+last-kind k s line e = go (ends-or-on d k s line)
+  where
+    go : ((toldKind k ≡ 14) × (nextOf k d s line ≡ verdict.Finished))
+        ⊎ ((s′ : State) × (eqb (toldKind k) 14 ≡ false) × (nextOf k d s line ≡ verdict.Next s′))
+        → eqb (toldKind k) 10 ≡ false
+    go (inl (is, ends)) = ap (λ (n : ℕ). eqb n 10) is
+    go (inr (s′, other, on)) =
+        let both : verdict.Finished ≡ verdict.Next s′ = sym e ∙ on in
+        let z : _≡_ {A = ℕ} 0 1 = cc in
+        absurd (omega arith)
 
 pub last-no-row : (s : State) (names l : List ℕ) → stepOf d s names l ≡ verdict.Finished → isKind d 10 l ≡ false
 unfolding stepOf printedLine judgedLine onKey
