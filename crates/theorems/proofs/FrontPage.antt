@@ -1,5 +1,5 @@
 -- THE FRONT PAGE: what is proved of the SP3-d reader and writer, in the order of its three demands. Each statement is one sentence above it, and each
--- proof is one citation. The definitions that it rests on are listed in docs/READING.md; an accepted file is `IsFile d bytes`, and it is exactly a file of
+-- proof is one citation; the laws that hold over every width, layout and version, and that nothing is left open, are cited by name before them. The definitions that it rests on are listed in docs/READING.md; an accepted file is `IsFile d bytes`, and it is exactly a file of
 -- the paper's records in their order (`accepted-files`).
 -- Assumes nothing.
 use mathlib.Core.Path.{_≡_}
@@ -23,6 +23,7 @@ use Rattle.canon.specs.Valid.{valid}
 use Rattle.canon.specs.Canonical.{canonical}
 use Rattle.canon.specs.Measured.{measured}
 use Rattle.writer.specs.Writing.{outAfter}
+use Rattle.written.proofs.Rewriting as rewriting
 use Rattle.written.specs.Held.{Holds, rewritten as formOf}
 use Rattle.stretch.specs.Dividing.{Divides, sum, division, divideOf, lengthsAfter}
 use Rattle.walker.specs.Places.{firstPlace, placesAfter}
@@ -215,6 +216,10 @@ module _ (bytes : List ℕ) (t : Tally) (accepted : fileOf d bytes ≡ front.Fil
 
 -- DEMAND 2, WRITING. Each valid table has one canonical form; writing makes it, reading it returns the table, writing what was read from canonical
 -- bytes returns those bytes.
+
+-- Tables that a file has have one canonical form, whatever stands past their counts.
+pub one-form : (lines : List (List ℕ)) (t u : Table) → Holds d lines t → Holds d lines u → canonical d t ≡ canonical d u
+one-form lines t u p q = rewriting.one-form d lines t u p q
 
 -- A table is valid exactly when some accepted file has it.
 pub valid-exactly : (t : Table) → (valid d t ≡ true) ↔ ((bytes : List ℕ) × IsFile d bytes × Holds d (linesOf bytes) t)
