@@ -11,6 +11,7 @@ use record::Signed;
 
 // Three coordinates in mm and the clock in ps, each exactly the whole number of the file. What is absent is marked and is no number (NaN), so
 // that whoever uses it by mistake spoils the result.
+#[repr(C)]
 pub struct FloatRow {
     pub x: f64,
     pub y: f64,
@@ -21,6 +22,7 @@ pub struct FloatRow {
 }
 
 // The answer of the row question: the refusal (0 accepted) and its line (0 for none); beside a refusal both are absent.
+#[repr(C)]
 pub struct RowAnswer {
     pub refusal: usize,
     pub line: u64,

@@ -1,4 +1,5 @@
 // The answer of a writing: the refusal (0 written, 12 too little room, 13 no valid table) and the length of the form in bytes, 0 beside a refusal.
+#[repr(C)]
 pub struct Measured {
     pub refusal: usize,
     pub length: usize,

@@ -1,4 +1,5 @@
 // A date and a time of day, the seconds in 10^-8 s.
+#[repr(C)]
 pub struct Moment {
     pub year: u64,
     pub month: u64,
@@ -9,6 +10,7 @@ pub struct Moment {
 }
 
 // The four texts of line 1, kept as they stand: columns 41 to 45, 47 to 51, 53 to 55, 57 to 60.
+#[repr(C)]
 pub struct Texts {
     pub data_used: [u8; 5],
     pub coordinates: [u8; 5],
@@ -17,12 +19,14 @@ pub struct Texts {
 }
 
 // The bases of place and clock exponents, in 10^-7 and 10^-9.
+#[repr(C)]
 pub struct Bases {
     pub place: u64,
     pub clock: u64,
 }
 
 // What the header lines of a file say: the start in 10^-8 s since MJD 0, the interval in 10^-8 s.
+#[repr(C)]
 pub struct Header {
     pub velocity: bool,
     pub start8: u64,
@@ -37,6 +41,7 @@ pub struct Header {
 }
 
 // A header, with the number of the answer beside it: 0, or 6 or 7 and a header that has nothing in it.
+#[repr(C)]
 pub struct HeaderAnswer {
     pub refusal: u64,
     pub header: Header,

@@ -1,4 +1,5 @@
 // What must stand next in a file and what its lines have said so far. Kinds of line are told by their numbers, 1 for `#d` to 14 for EOF.
+#[repr(C)]
 pub struct State {
     // The kind of line that must come, and the kind that may stand here before it (0 where none may).
     pub due: u64,

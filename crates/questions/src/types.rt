@@ -1,4 +1,5 @@
 // Where the text of a comment lies in its file: first byte and length, both 0 beside a refusal.
+#[repr(C)]
 pub struct CommentAnswer {
     pub refusal: usize,
     pub line: u64,
@@ -7,6 +8,7 @@ pub struct CommentAnswer {
 }
 
 // The number of a satellite in the header, counted from 0; 0 beside a refusal.
+#[repr(C)]
 pub struct SatelliteAnswer {
     pub refusal: usize,
     pub line: u64,
@@ -14,6 +16,7 @@ pub struct SatelliteAnswer {
 }
 
 // Where the P line of an epoch and a satellite begins in its file; 0 beside a refusal.
+#[repr(C)]
 pub struct RowPlace {
     pub refusal: usize,
     pub line: u64,

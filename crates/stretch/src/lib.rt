@@ -11,6 +11,7 @@ use scan::Front;
 
 // What a stretch divides into: the number of accepted files at its front, the byte where the rest begins, and the refusal and line there, counted
 // from that byte; both 0 where nothing is left.
+#[repr(C)]
 pub struct Division {
     pub count: u64,
     pub rest: usize,

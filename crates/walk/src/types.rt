@@ -2,6 +2,7 @@ use adjust::FloatRow;
 use walker::Place;
 
 // Between two rows of a file: the place, and how many rows were passed.
+#[repr(C)]
 pub struct RowWalk {
     pub place: Place,
     pub passed: u64,

@@ -11,6 +11,7 @@ use machine::State;
 use machine::Verdict;
 
 // Between two lines of a file: the byte at which the next line begins, and what must stand there.
+#[repr(C)]
 pub struct Place {
     pub at: usize,
     pub state: State,

@@ -1,0 +1,106 @@
+// Questions: for a comment, a satellite, a row of a file; for a date; for a header.
+use crate::types::DateAnswer;
+use crate::types::HeaderParts;
+use crate::types::MomentAnswer;
+use adjust::RowAnswer;
+use calendar::Dated;
+use calendar::Named;
+use header::Header;
+use header::HeaderAnswer;
+use header::Moment;
+use questions::CommentAnswer;
+use questions::SatelliteAnswer;
+
+// Where the text of the k-th comment of a file lies.
+#[no_mangle]
+pub extern "C" fn sp3_comment(file: &[u8], k: u64) -> CommentAnswer {
+    questions::comment_answer(file, k)
+}
+
+// The identifier that a text names, as one number: 7107 for `G07`, 0 for a text that names none.
+#[no_mangle]
+pub extern "C" fn sp3_identifier(text: &[u8]) -> u64 {
+    questions::identifier_of(text)
+}
+
+// The number in a file's header of the satellite with this identifier.
+#[no_mangle]
+pub extern "C" fn sp3_satellite_of(file: &[u8], identifier: u64) -> SatelliteAnswer {
+    questions::satellite_of(file, identifier)
+}
+
+// The row of an epoch and a satellite of a file, as floats.
+#[no_mangle]
+pub extern "C" fn sp3_row(file: &[u8], epoch: u64, satellite: u64) -> RowAnswer {
+    adjust::row(file, epoch, satellite)
+}
+
+// What a date names.
+#[no_mangle]
+pub extern "C" fn sp3_date(year: u64, month: u64, day: u64) -> DateAnswer {
+    match calendar::date(year, month, day) {
+        Dated::Day { mjd, week, seconds } => DateAnswer {
+            refusal: 0,
+            mjd,
+            week,
+            seconds,
+        },
+        Dated::OutOfBounds => DateAnswer {
+            refusal: 7,
+            mjd: 0,
+            week: 0,
+            seconds: 0,
+        },
+    }
+}
+
+// The date and time of day of an instant in 10^-8 s since MJD 0.
+#[no_mangle]
+pub extern "C" fn sp3_moment(instant8: u64) -> MomentAnswer {
+    let clock = calendar::clock_of(instant8);
+    match calendar::civil(clock.day) {
+        Named::Date(date) => MomentAnswer {
+            refusal: 0,
+            moment: Moment {
+                year: date.year,
+                month: date.month,
+                day: date.day,
+                hour: clock.hour,
+                minute: clock.minute,
+                second8: clock.second8,
+            },
+        },
+        Named::OutOfBounds => MomentAnswer {
+            refusal: 7,
+            moment: Moment {
+                year: 0,
+                month: 0,
+                day: 0,
+                hour: 0,
+                minute: 0,
+                second8: 0,
+            },
+        },
+    }
+}
+
+// A header out of its parts.
+#[no_mangle]
+pub extern "C" fn sp3_header(parts: HeaderParts) -> HeaderAnswer {
+    let start = parts.start;
+    let texts = parts.texts;
+    let time_system = parts.time_system;
+    let bases = parts.bases;
+    Header::new(
+        parts.mode,
+        start,
+        parts.epochs,
+        parts.interval8,
+        texts,
+        parts.satellites,
+        parts.comments,
+        parts.file_type,
+        time_system,
+        bases,
+    )
+}

@@ -1,0 +1,305 @@
+/* sp3.h: the SP3-d reader and writer for C.
+ *
+ * Every function here is a door to one function of the proved library (crates/abi); docs/STATEMENTS.md says what is proved of each. Link with
+ * target/staticlib/libabi.a, which `rt staticlib abi` proves and builds for x86-64.
+ *
+ * LENT MEMORY. A slice is a pointer and a number of elements (not bytes). A function looks at just so many and keeps no pointer. The pointer is never
+ * NULL, also where the number is 0, and the slices of one call that are written (no `const`) overlap no other slice of that call. No function
+ * allocates, prints, stops the program or asks anything else of its caller: bytes of every kind and length, every table, room of every size.
+ *
+ * REFUSALS. Each answer has a `refusal`, 0 for accepted, and where a file is judged its `line`, counted from 1 (0 where the refusal names no line).
+ * A refusal changes nothing that was lent, and every other part of the answer is then empty: 0, blank, or absent. After success the places past those
+ * that are filled are unchanged too. The first faulty line decides, in a line the lowest number:
+ *
+ *    0  accepted
+ *    1  no line end is left before the file's EOF line is complete
+ *    2  a byte outside 32 to 126 stands in the line
+ *    3  the line has more than 80 characters
+ *    4  the line is not of a kind that may stand here
+ *    5  an unused column is not blank, or a placeholder is not all `c` or a zero
+ *    6  a field is malformed, or a letter, file type or time system is not listed
+ *    7  a number or date is outside its bounds
+ *    8  line 2 disagrees with the start, a slot after the last satellite is not `  0`, an identifier repeats, or the file type disagrees
+ *    9  an epoch stands at the wrong instant
+ *   10  a row names another satellite than the header has here
+ *   11  bytes stand after the EOF line (whole files only; the line is the one after EOF)
+ *   12  lent room is too small (line 0; after all other checks)
+ *   13  the table to be written is not valid, or what is asked by number is not there (line 0; before 12)
+ *
+ * ABSENCE has a mark of its own (`absent`, `place_absent`, `clock_absent`). The number that stands beside a set mark is no coordinate: NaN for a
+ * double, INT64_MIN for a whole number, which no file can hold. A place of which one or two coordinates are 0 is not absent.
+ *
+ * Epochs, satellites of the header, comments and rows are counted from 0. `...8` is a time in 10^-8 s. */
+#ifndef SP3_H
+#define SP3_H
+
+#include <stdbool.h>
+#include <stddef.h>
+#include <stdint.h>
+
+#ifdef __cplusplus
+extern "C" {
+#endif
+
+/* The numbers of one stored row, and the bytes of one stored comment. */
+enum { SP3_ROW_WIDTH = 12, SP3_COMMENT_WIDTH = 77 };
+
+/* A date and a time of day, the seconds in 10^-8 s. */
+typedef struct {
+    uint64_t year, month, day, hour, minute, second8;
+} sp3_moment_t;
+
+/* The four texts of line 1, blanks too: columns 41 to 45, 47 to 51, 53 to 55, 57 to 60. No NUL ends them. */
+typedef struct {
+    uint8_t data_used[5], coordinates[5], orbit[3], agency[4];
+} sp3_texts_t;
+
+/* The bases of place and clock exponents, in 10^-7 and 10^-9: `1.2500000` is 12500000 (line `%f`, columns 4 to 13 and 15 to 26). */
+typedef struct {
+    uint64_t place, clock;
+} sp3_bases_t;
+
+/* What the header lines of a file say. `velocity` is mode V; `start8` is the start since MJD 0; `file_type` is G, M, R, L, S, I, E, C or J. */
+typedef struct {
+    bool velocity;
+    uint64_t start8, epochs, interval8;
+    sp3_texts_t texts;
+    uint64_t satellites, comments;
+    uint8_t file_type, time_system[3];
+    sp3_bases_t bases;
+} sp3_header_t;
+
+/* ---- Reading ---- */
+
+/* `length` is the length of the file in bytes, LF of its EOF line included. */
+typedef struct {
+    size_t refusal;
+    uint64_t line;
+    size_t length;
+    sp3_header_t header;
+} sp3_reading_t;
+
+/* Judges one whole file; nothing is lent but its bytes. Refused: no bytes at all are 1 at line 1; a blank after the last LF is 11. */
+sp3_reading_t sp3_judge(const uint8_t *file, size_t length);
+
+/* Judges the file at the front of a stretch of files laid end to end and tells its length. Refused: as sp3_judge, but never 11. */
+sp3_reading_t sp3_judge_front(const uint8_t *stretch, size_t length);
+
+/* Reads one whole file into the first places of four lists. Needed, with n = header.satellites: n identifiers (7107 is G07: the letter's byte times
+ * 100, and the number), n exponents of the `++` lines, 77 bytes for each comment (filled up with blanks), and SP3_ROW_WIDTH numbers for each of n
+ * times epochs rows; twice as many rows in mode V, the P row and then the V row of each satellite. sp3_judge tells all of these. A stored row is
+ * asked for by sp3_place_of and its like. Refused: 12 with line 0 where any list is short by one place; then no list has changed. */
+sp3_reading_t sp3_read(const uint8_t *file, size_t length, uint64_t *identifiers, size_t identifier_room, uint64_t *exponents,
+                       size_t exponent_room, uint8_t *comments, size_t comment_room, int64_t *rows, size_t row_room);
+
+/* The same for the file at the front of a stretch. Refused: as sp3_read, but never 11. */
+sp3_reading_t sp3_read_front(const uint8_t *stretch, size_t length, uint64_t *identifiers, size_t identifier_room, uint64_t *exponents,
+                             size_t exponent_room, uint8_t *comments, size_t comment_room, int64_t *rows, size_t row_room);
+
+/* ---- Writing ---- */
+
+/* `length` is the number of bytes written. */
+typedef struct {
+    size_t refusal, length;
+} sp3_measured_t;
+
+/* Writes the canonical form of a table into the first bytes of `out`. Places of the lists past the header's counts are not looked at.
+ * Refused: 13 where the table is not valid (an exponent of 1000, a list shorter than its count); then 12 where `out` is one byte too short. */
+sp3_measured_t sp3_write(sp3_header_t header, const uint64_t *identifiers, size_t identifier_count, const uint64_t *exponents,
+                         size_t exponent_count, const uint8_t *comments, size_t comment_bytes, const int64_t *rows, size_t row_numbers,
+                         uint8_t *out, size_t out_room);
+
+/* What a header is made of; `mode` is 'P' or 'V'. */
+typedef struct {
+    uint8_t mode;
+    sp3_moment_t start;
+    uint64_t epochs, interval8;
+    sp3_texts_t texts;
+    uint64_t satellites, comments;
+    uint8_t file_type, time_system[3];
+    sp3_bases_t bases;
+} sp3_header_parts_t;
+
+typedef struct {
+    uint64_t refusal;
+    sp3_header_t header;
+} sp3_header_answer_t;
+
+/* A header out of its parts. Refused: 6 for mode 'Q', 7 for 256 satellites, 6 for both. */
+sp3_header_answer_t sp3_header(sp3_header_parts_t parts);
+
+/* ---- Stored rows, by name ---- */
+
+/* A place in mm, or a velocity in 10^-4 mm/s. Absent exactly where all three are zero in the file, whatever the clock. */
+typedef struct {
+    size_t refusal;
+    bool absent;
+    int64_t x, y, z;
+} sp3_stored_place_t;
+
+/* A clock in ps, or a rate in 10^-16 s/s. Absent exactly at 999999.999999, whatever the place. */
+typedef struct {
+    size_t refusal;
+    bool absent;
+    int64_t clock;
+} sp3_stored_clock_t;
+
+/* The exponent of a standard deviation, whose base is in the header: a blank one is unknown, 99 (999 for the clock) is too large. The value is 0 where
+ * a mark is set. */
+typedef struct {
+    size_t refusal;
+    bool unknown, too_large;
+    uint64_t value;
+} sp3_stored_exponent_t;
+
+typedef struct {
+    size_t refusal;
+    bool set;
+} sp3_stored_flag_t;
+
+/* The k-th row of `rows`, as sp3_read leaves it: columns 5 to 46, 47 to 60, then the exponents of columns 62-63, 65-66, 68-69 and 71-73 (0 to 3), and
+ * the flags of columns 75, 76, 79 and 80 (0 to 3: clock event, clock predicted, maneuver, orbit predicted; a V row has none set).
+ * Refused: 13 where there is no k-th row (k = 1 of 23 numbers), or `which` is 4; the mark of absence is then set too. */
+sp3_stored_place_t sp3_place_of(const int64_t *rows, size_t row_numbers, size_t k);
+sp3_stored_clock_t sp3_clock_of(const int64_t *rows, size_t row_numbers, size_t k);
+sp3_stored_exponent_t sp3_exponent_of(const int64_t *rows, size_t row_numbers, size_t k, size_t which);
+sp3_stored_flag_t sp3_flag_of(const int64_t *rows, size_t row_numbers, size_t k, size_t which);
+
+/* ---- Dividing ---- */
+
+/* The number of accepted files at the front, the byte where the rest begins, and the refusal and line there, counted from that byte. */
+typedef struct {
+    uint64_t count;
+    size_t rest, refusal;
+    uint64_t line;
+} sp3_division_t;
+
+/* Divides a stretch of files laid end to end; their lengths go to the first places of `lengths`, also where the rest is refused. An empty stretch is 0
+ * files, refusal 0. Refused: 12 alone, all other parts 0, where there are more files than places. 11 never occurs. */
+sp3_division_t sp3_divide(const uint8_t *stretch, size_t length, uint64_t *lengths, size_t room);
+
+/* ---- Questions about one whole file: the file's own refusal first, then 13 with line 0 ---- */
+
+/* A stretch of the file: its first byte and its length, both 0 beside a refusal. */
+typedef struct {
+    size_t refusal;
+    uint64_t line;
+    size_t at, length;
+} sp3_comment_answer_t;
+
+/* Where the text of comment k lies: from column 4 on, trailing blanks cut. Refused: 13 for comment 4 of a file that has four. */
+sp3_comment_answer_t sp3_comment(const uint8_t *file, size_t length, uint64_t k);
+
+/* The identifier of a text of three bytes as the one number by which it is stored: 7107 for "G07"; 0, which is no satellite, for "G 7" or "g07". */
+uint64_t sp3_identifier(const uint8_t *text, size_t length);
+
+typedef struct {
+    size_t refusal;
+    uint64_t line, number;
+} sp3_satellite_answer_t;
+
+/* The number in the header of the satellite with this identifier. Refused: 13 where the header has none such. */
+sp3_satellite_answer_t sp3_satellite_of(const uint8_t *file, size_t length, uint64_t identifier);
+
+/* Coordinates in mm and the clock in ps, each exactly the whole number of the file. */
+typedef struct {
+    double x, y, z, clock;
+    bool place_absent, clock_absent;
+} sp3_row_t;
+
+typedef struct {
+    size_t refusal;
+    uint64_t line;
+    sp3_row_t row;
+} sp3_row_answer_t;
+
+/* The P row of an epoch and a satellite, in mode V too. Refused: 13 for epoch 96 of a file of 96; both marks are then set. */
+sp3_row_answer_t sp3_row(const uint8_t *file, size_t length, uint64_t epoch, uint64_t satellite);
+
+/* ---- Dates: plain calendar, days of 86,400 s, 1980-01-06 to 2099-12-31 ---- */
+
+typedef struct {
+    size_t refusal;
+    uint64_t mjd, week, seconds;
+} sp3_date_answer_t;
+
+/* MJD, GPS week and seconds of week of a date. Refused: 7 for 2001-02-29. */
+sp3_date_answer_t sp3_date(uint64_t year, uint64_t month, uint64_t day);
+
+typedef struct {
+    size_t refusal;
+    sp3_moment_t moment;
+} sp3_moment_answer_t;
+
+/* The date and time of day of an instant in 10^-8 s since MJD 0; epoch k of a file is at start8 + k * interval8. Refused: 7 for instant 0. */
+sp3_moment_answer_t sp3_moment(uint64_t instant8);
+
+/* ---- A file line by line ---- */
+
+/* What must stand next in a file. Kinds of line have the numbers 1 (`#d`) to 14 (`EOF`). Made by the functions below; to be handed on, not altered. */
+typedef struct {
+    uint64_t due, also, lines, left, comments;
+    bool velocity;
+    uint64_t satellites, epochs, at8, gap8, interval8;
+} sp3_state_t;
+
+/* Between two lines: the byte at which the next line begins, and what must stand there. */
+typedef struct {
+    size_t at;
+    sp3_state_t state;
+} sp3_place_t;
+
+/* What a line does: the refusal, its column (0 where it names none), whether the line ends the file, and the place after it. A line that is refused
+ * leaves the place as it was; the state after the EOF line is the one before it. */
+typedef struct {
+    size_t refusal, column;
+    bool finished;
+    sp3_place_t next;
+} sp3_line_answer_t;
+
+/* Before the first line. */
+sp3_place_t sp3_first_place(void);
+
+/* The plain line reader: what the line at a place does. A `+ ` line without fault leaves its identifiers in `names` (255 places suffice), after those
+ * of the lines before it; no other line changes `names`. Refused: 1 where no LF is left. */
+sp3_line_answer_t sp3_read_line(const uint8_t *file, size_t length, sp3_place_t place, uint64_t *names, size_t name_room);
+
+/* The walker's step, where all identifiers of the header are known (sp3_begin): what the line at its place does. Refused: as sp3_read_line. */
+sp3_line_answer_t sp3_next_line(const uint8_t *file, size_t length, const uint64_t *names, size_t name_count, sp3_place_t place);
+
+/* The place so many lines further; it stays at a line that is refused, and at the one that ends the file. Has no refusal. */
+sp3_place_t sp3_after_lines(const uint8_t *file, size_t length, const uint64_t *names, size_t name_count, sp3_place_t place, size_t lines);
+
+/* ---- A file row by row, for the adjustment's loop ---- */
+
+/* Between two rows. To be handed on, not altered. */
+typedef struct {
+    sp3_place_t place;
+    uint64_t passed;
+} sp3_row_walk_t;
+
+/* The next row: whether the file is at its end, else epoch, satellite and row; and the walk after it. Beside a refusal and at the end both parts of the
+ * row are absent and the walk is the one that was given. */
+typedef struct {
+    size_t refusal;
+    uint64_t line;
+    bool end;
+    uint64_t epoch, satellite;
+    sp3_row_t row;
+    sp3_row_walk_t next;
+} sp3_row_step_t;
+
+/* Judges a whole file and leaves the identifiers of its header in `identifiers`. Refused: 12 where there is less room than satellites. */
+sp3_reading_t sp3_begin(const uint8_t *file, size_t length, uint64_t *identifiers, size_t identifier_room);
+
+/* Before the first row. */
+sp3_row_walk_t sp3_first_row(void);
+
+/* The next P row in order, in mode V too; each line on the way is judged. A file that sp3_begin accepted gives all its rows, then the end.
+ * Refused: 10 at its line where `names` are another file's. */
+sp3_row_step_t sp3_next_row(const uint8_t *file, size_t length, const uint64_t *names, size_t name_count, sp3_row_walk_t from);
+
+#ifdef __cplusplus
+}
+#endif
+#endif
