@@ -5,6 +5,7 @@ use denote.Ref.{now}
 use Rattle.questions.proofs.comments.comment_answer.Reads as comment-answer
 use Rattle.questions.proofs.comments.comment.Reads as comment
 use Rattle.questions.proofs.rows.row_place.Reads as row-place
+use Rattle.questions.proofs.satellites.identifier_of.Reads as identifier-of
 use Rattle.questions.proofs.satellites.satellite_of.Reads as satellite-of
 
 pub comment-answer-determined : (κs : _) (a : _) (r r′ : _) (s s′ : _) → comment-answer.Post κs a r s → comment-answer.Post κs a r′ s′ → r ≡ r′
@@ -18,3 +19,6 @@ row-place-determined κs a r r′ s s′ p q = p ∙ sym q
 
 pub satellite-of-determined : (κs : _) (a : _) (r r′ : _) (s s′ : _) → satellite-of.Post κs a r s → satellite-of.Post κs a r′ s′ → r ≡ r′
 satellite-of-determined κs a r r′ s s′ p q = p ∙ sym q
+
+pub identifier-of-determined : (κs : _) (a : _) (r r′ : _) (s s′ : _) → identifier-of.Post κs a r s → identifier-of.Post κs a r′ s′ → r ≡ r′
+identifier-of-determined κs a r r′ s s′ p q = p ∙ sym q

@@ -7,6 +7,7 @@ use Prim.Native.Nat.{ℕ, suc, _+_, _*_, min}
 use lib.Dec.{eqb, ltb}
 use lib.ListN.{length, drop}
 use Rattle.layout.specs.Line.{trimmed}
+use Rattle.layout.specs.Kind.{named, nameCode}
 use Rattle.lines.specs.Lines.{nth, placeFrom}
 use Rattle.file.specs.Kinds.{isKind, ofKind}
 use Rattle.file.specs.Table.{firstIn, countOf}
@@ -49,6 +50,10 @@ commentAnswer rules bytes (front.Refused number line column) k = noComment numbe
 unfoldable pub commentWords : Rules → List ℕ → Front → ℕ → List ℕ
 commentWords rules bytes (front.File t) k = cond (ltb k (t .comments)) (textIn (commentLine rules (linesTo (t .end) bytes) k)) []
 commentWords rules bytes (front.Refused number line column) k = []
+
+-- the identifier that a text names: a capital letter and two digits, as one number (G07 is 7107); 0, which is no satellite, for any other text
+unfoldable pub identifierNamed : List ℕ → ℕ
+identifierNamed text = cond (eqb (length text) 3 && named text) (nameCode text) 0
 
 -- the number of the first that is this one, counted from 0; as many as there are where none is
 unfoldable pub indexOf : ℕ → List ℕ → ℕ

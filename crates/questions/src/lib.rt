@@ -7,6 +7,7 @@ mod types;
 pub use comments::comment;
 pub use comments::comment_answer;
 pub use rows::row_place;
+pub use satellites::identifier_of;
 pub use satellites::satellite_of;
 pub use types::CommentAnswer;
 pub use types::RowPlace;

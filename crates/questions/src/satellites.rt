@@ -1,12 +1,15 @@
 // Satellites of one whole file, asked for by identifier: the file's own refusal first, then 13 with line 0.
 ghost use mathlib.Core.Path.{_≡_};
-ghost use Prim.Native.Nat.{_≤_};
+ghost use mathlib.Core.Bool.{_&&_};
+ghost use Prim.Native.Nat.{_+_, _-_, _*_, _≤_};
+ghost use Rattle.laws.specs.Tests.{within};
+ghost use Rattle.field.specs.Digits.{isDigit};
 ghost use lib.ListN.{length};
 ghost use Rattle.lines.specs.Lines.{linesOf};
 ghost use Rattle.header.specs.Rules.{d};
 ghost use Rattle.file.specs.Table.{countOf};
 ghost use Rattle.reader.specs.Reading.{fileOf, identifiersOf};
-ghost use Rattle.questions.specs.Questions.{indexOf, noSatellite, satelliteIn, satelliteAnswer};
+ghost use Rattle.questions.specs.Questions.{identifierNamed, indexOf, noSatellite, satelliteIn, satelliteAnswer};
 use crate::types::SatelliteAnswer;
 use header::Rules;
 use scan::Front;
@@ -65,6 +68,42 @@ fn satellite_among(rules: Rules, bytes: &[u8], name: u64) -> SatelliteAnswer
         return satellite_in(name, &all[0..few]);
     }
     satellite_in(name, all)
+}
+
+// Whether three bytes are an identifier's letter and digits.
+fn is_named(letter: u8, tens: u8, ones: u8) -> bool
+    ensures { λ r. ⌜ r ≡ (within 65 90 letter && (isDigit tens && isDigit ones)) ⌝ }
+{
+    ((65 <= letter) & (letter <= 90))
+        & (((48 <= tens) & (tens <= 57)) & ((48 <= ones) & (ones <= 57)))
+}
+
+// A digit's number, and 0 for all that stands below the digits.
+fn figure(b: u8) -> u64
+    ensures { λ r. ⌜ r ≡ b - 48 ⌝ }
+{
+    let d = b as u64;
+    if d < 48 { 0 } else { d - 48 }
+}
+
+// The number of a letter and two digits.
+fn name_code(letter: u8, tens: u8, ones: u8) -> u64
+    ensures { λ r. ⌜ r ≡ letter * 100 + ((tens - 48) * 10 + (ones - 48)) ⌝ }
+{
+    letter as u64 * 100 + (figure(tens) * 10 + figure(ones))
+}
+
+// The identifier that a text of three bytes names, as one number: 7107 for `G07`; 0, which is no satellite, for `G 7`, `g07` and every other text.
+pub fn identifier_of(text: &[u8]) -> u64
+    ensures result { λ r. ⌜ r ≡ identifierNamed (now (text .entry)) ⌝ }
+{
+    if text.len() != 3 {
+        return 0;
+    }
+    if !is_named(text[0], text[1], text[2]) {
+        return 0;
+    }
+    name_code(text[0], text[1], text[2])
 }
 
 // The number in the header of the satellite with this identifier, held as its letter's byte times 100 and its number (7107 for G07): 13 where
