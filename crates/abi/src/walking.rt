@@ -17,6 +17,7 @@ pub extern "C" fn sp3_first_place() -> Place {
 
 // What a line was found to do at a place.
 fn line_answer(found: LineRead, place: Place) -> LineAnswer {
+    let before = place.state;
     match found {
         LineRead::NoLine => LineAnswer {
             refusal: 1,
@@ -40,10 +41,7 @@ fn line_answer(found: LineRead, place: Place) -> LineAnswer {
             refusal: 0,
             column: 0,
             finished: true,
-            next: Place {
-                at,
-                state: place.state,
-            },
+            next: Place { at, state: before },
         },
     }
 }
