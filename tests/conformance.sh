@@ -21,14 +21,6 @@ fail() {
     exit 1
 }
 
-# the compiler for x86-64 and the way to run what it made
-if [ -f "$root/tests/x86.sh" ]; then
-    . "$root/tests/x86.sh"
-else
-    x86_cc() { gcc "$@"; }
-    x86_run() { "$@"; }
-fi
-
 # the lines of a table that are cases
 lines_of() {
     sed -e '/^#/d' -e '/^$/d' "$here/$1"
@@ -60,9 +52,10 @@ base_of() {
 # makes the file of a case, $work/NAME.sp3, and the form in which it should be written, $work/NAME.form
 make_case() {
     name=$(part 1 "$1") rule=$(part 2 "$1") answer=$(part 3 "$1")
-    settings=$(settings_of "$rule")
+    settings=$(settings_of "$rule") expression=$(expression_of "$rule")
     base_of "$settings" >"$work/base"
-    sed -e "$(expression_of "$rule")" "$work/base" >"$work/$name.sp3"
+    sed -e "$expression" "$work/base" >"$work/$name.sp3"
+    [ -z "$expression" ] || ! cmp -s "$work/base" "$work/$name.sp3" || fail "the rule of $name changes nothing"
     case $settings in
     *cut=*)
         bytes=$(($(wc -c <"$work/$name.sp3") - ${settings##*cut=}))
@@ -83,6 +76,14 @@ if [ $# -gt 0 ]; then
     make_case "$line"
     cat "$work/$1.sp3"
     exit 0
+fi
+
+# the compiler for x86-64 and the way to run what it made
+if [ -f "$root/tests/x86.sh" ]; then
+    . "$root/tests/x86.sh"
+else
+    x86_cc() { gcc "$@"; }
+    x86_run() { "$@"; }
 fi
 
 # the archive is proved and built again where a source is newer
@@ -111,5 +112,12 @@ cat "$root/docs/CONFORMANCE.md" "$root/docs/NUMBERS.md" | grep -o '`[a-z0-9]*-[a
 comm -3 "$work/known" "$work/cited" >"$work/apart"
 [ ! -s "$work/apart" ] || fail "a case that no page cites, or (indented) a name that is no case: $(head -n 5 "$work/apart")"
 awk -f "$here/pages.awk" "$work/expected" "$root/docs/CONFORMANCE.md" || fail "docs/CONFORMANCE.md and the cases differ"
+
+# every line that docs/NUMBERS.md shows is that line of its case
+sed -n '/`[a-z0-9-]*`, line [0-9]*:$/ { N; N; s/.*`\([a-z0-9-]*\)`, line \([0-9]*\):\n\n      /\1 \2 /p }' "$root/docs/NUMBERS.md" >"$work/shown"
+[ -s "$work/shown" ] || fail "docs/NUMBERS.md shows no line"
+while read -r name number text; do
+    [ "$text" = "$(sed -n "${number}p" "$work/$name.sp3" | cat -vT)" ] || fail "docs/NUMBERS.md shows another line $number than $name has"
+done <"$work/shown"
 
 echo "conformance: $(($(wc -l <"$work/expected"))) cases agree"
