@@ -1,5 +1,5 @@
-# Compares the tables of a page with the answers that are expected, `NAME answer` to a line of the first file. In each row of a table that names cases,
-# the numbers in bold must be the refusals of those cases, no more and no less. Status 1 where any row differs.
+# Compares the tables of a page with the answers that are expected, `NAME answer` to a line of the first file. In each row of a table that names
+# cases, the numbers in bold must be the refusals of those cases, no more and no less. Status 1 where any row differs.
 
 # the matches of a pattern in a text, cut by so many characters at each end, as keys of a list
 function collect(text, pattern, cut, found) {
