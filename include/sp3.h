@@ -41,8 +41,13 @@
 extern "C" {
 #endif
 
-/* The numbers of one stored row, and the bytes of one stored comment. */
-enum { SP3_ROW_WIDTH = 12, SP3_COMMENT_WIDTH = 77 };
+/* The numbers of one stored row, and the bytes of one stored comment.
+ *
+ * A stored row, as sp3_read leaves it and sp3_write takes it: x, y, z, clock; their four exponents, 0 to 99 (0 to 999 for the clock) or
+ * SP3_UNKNOWN; four flags, 0 or 1. A place that is absent is stored as three zeros, an absent clock as SP3_NO_CLOCK: nobody should take these numbers
+ * for a place, so ask sp3_place_of and sp3_clock_of instead of counting. No number is above 999,999,999,999 or below minus that. */
+enum { SP3_ROW_WIDTH = 12, SP3_COMMENT_WIDTH = 77, SP3_UNKNOWN = 1000 };
+#define SP3_NO_CLOCK INT64_C(999999999999)
 
 /* A date and a time of day, the seconds in 10^-8 s. */
 typedef struct {
@@ -104,7 +109,8 @@ typedef struct {
 } sp3_measured_t;
 
 /* Writes the canonical form of a table into the first bytes of `out`. Places of the lists past the header's counts are not looked at.
- * Refused: 13 where the table is not valid (an exponent of 1000, a list shorter than its count); then 12 where `out` is one byte too short. */
+ * Refused: 13 where the table is not valid (1000 among the exponents of the header, a flag of 2, a list shorter than its count); then 12 where `out` is one
+ * byte too short. */
 sp3_measured_t sp3_write(sp3_header_t header, const uint64_t *identifiers, size_t identifier_count, const uint64_t *exponents,
                          size_t exponent_count, const uint8_t *comments, size_t comment_bytes, const int64_t *rows, size_t row_numbers,
                          uint8_t *out, size_t out_room);
