@@ -181,7 +181,7 @@ typedef struct {
 } sp3_division_t;
 
 /* Divides a stretch of files laid end to end; their lengths go to the first places of `lengths`, also where the rest is refused. An empty stretch is 0
- * files, refusal 0. Refused: 12 alone, all other parts 0, where there are more files than places. 11 never occurs. */
+ * files, refusal 0. Refused: 12 alone, all other parts 0, where there are more files than places; the rest itself is never refused with 11 or 12. */
 sp3_division_t sp3_divide(const uint8_t *stretch, size_t length, uint64_t *lengths, size_t room);
 
 /* ---- Questions about one whole file: the file's own refusal first, then 13 with line 0 ---- */
@@ -196,7 +196,8 @@ typedef struct {
 /* Where the text of comment k lies: from column 4 on, trailing blanks cut. Refused: 13 for comment 4 of a file that has four. */
 sp3_comment_answer_t sp3_comment(const uint8_t *file, size_t length, uint64_t k);
 
-/* The identifier of a text of three bytes as the one number by which it is stored: 7107 for "G07"; 0, which is no satellite, for "G 7" or "g07". */
+/* The identifier of a text of three bytes as the one number by which it is stored: 7107 for "G07"; 0, which is no satellite, for "G 7", "g07"
+ * or "G00". */
 uint64_t sp3_identifier(const uint8_t *text, size_t length);
 
 typedef struct {
@@ -267,7 +268,8 @@ typedef struct {
 sp3_place_t sp3_first_place(void);
 
 /* The plain line reader: what the line at a place does. A `+ ` line without fault leaves its identifiers in `names` (255 places suffice), after those
- * of the lines before it; no other line changes `names`. Refused: 1 where no LF is left. */
+ * of the lines before it; no other line changes `names`. With fewer places than satellites the row of one that found no place is 10. Refused: 1 where no LF
+ * is left. */
 sp3_line_answer_t sp3_read_line(const uint8_t *file, size_t length, sp3_place_t place, uint64_t *names, size_t name_room);
 
 /* The walker's step, where all identifiers of the header are known (sp3_begin): what the line at its place does. Refused: as sp3_read_line. */
