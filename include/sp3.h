@@ -103,7 +103,7 @@ sp3_reading_t sp3_read_front(const uint8_t *stretch, size_t length, uint64_t *id
 
 /* ---- Writing ---- */
 
-/* `length` is the number of bytes written. */
+/* `length` is the number of bytes of the form. */
 typedef struct {
     size_t refusal, length;
 } sp3_measured_t;
@@ -114,6 +114,10 @@ typedef struct {
 sp3_measured_t sp3_write(sp3_header_t header, const uint64_t *identifiers, size_t identifier_count, const uint64_t *exponents,
                          size_t exponent_count, const uint8_t *comments, size_t comment_bytes, const int64_t *rows, size_t row_numbers,
                          uint8_t *out, size_t out_room);
+
+/* How many bytes sp3_write would write, so that just so many can be lent. Refused: 13 where the table is not valid. */
+sp3_measured_t sp3_form_length(sp3_header_t header, const uint64_t *identifiers, size_t identifier_count, const uint64_t *exponents,
+                               size_t exponent_count, const uint8_t *comments, size_t comment_bytes, const int64_t *rows, size_t row_numbers);
 
 /* What a header is made of; `mode` is 'P' or 'V'. */
 typedef struct {

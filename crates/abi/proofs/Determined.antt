@@ -7,6 +7,7 @@ use Rattle.abi.proofs.reading.sp3_judge_front.Reads as sp3-judge-front
 use Rattle.abi.proofs.reading.sp3_read.Reads as sp3-read
 use Rattle.abi.proofs.reading.sp3_read_front.Reads as sp3-read-front
 use Rattle.abi.proofs.reading.sp3_write.Reads as sp3-write
+use Rattle.abi.proofs.reading.sp3_form_length.Reads as sp3-form-length
 use Rattle.abi.proofs.reading.sp3_divide.Reads as sp3-divide
 use Rattle.abi.proofs.asking.sp3_comment.Reads as sp3-comment
 use Rattle.abi.proofs.asking.sp3_identifier.Reads as sp3-identifier
@@ -108,3 +109,6 @@ sp3-first-row-determined κs a r r′ s s′ p q = p ∙ sym q
 
 pub sp3-next-row-determined : (κs : _) (a : _) (r r′ : _) (s s′ : _) → sp3-next-row.Post κs a r s → sp3-next-row.Post κs a r′ s′ → r ≡ r′
 sp3-next-row-determined κs a r r′ s s′ p q = p ∙ sym q
+
+pub sp3-form-length-determined : (κs : _) (a : _) (r r′ : _) (s s′ : _) → sp3-form-length.Post κs a r s → sp3-form-length.Post κs a r′ s′ → r ≡ r′
+sp3-form-length-determined κs a r r′ s s′ p q = p ∙ sym q

@@ -9,6 +9,7 @@ ghost use Rattle.writer.specs.Writing.{outAfter};
 ghost use Rattle.stretch.specs.Dividing.{divideOf, lengthsAfter};
 use canon::Measured;
 use header::Header;
+use header::Rules;
 use reader::Reading;
 use stretch::Division;
 
@@ -78,6 +79,21 @@ pub extern "C" fn sp3_write(
     ensures lent { λ _. ⌜ now (out .exit) ≡ outAfter d (tableOf header (now (identifiers .entry)) (now (exponents .entry)) (now (comments .entry)) (now (rows .entry))) (now (out .entry)) ⌝ }
 {
     writer::write(header, identifiers, exponents, comments, rows, out)
+}
+
+// How long the canonical form of a table is.
+#[no_mangle]
+pub extern "C" fn sp3_form_length(
+    header: Header,
+    identifiers: &[u64],
+    exponents: &[u64],
+    comments: &[u8],
+    rows: &[i64],
+) -> Measured
+    ensures result { λ r. ⌜ r ≡ measured d (tableOf header (now (identifiers .entry)) (now (exponents .entry)) (now (comments .entry)) (now (rows .entry))) 9_223_372_036_854_775_807 ⌝ }
+{
+    let rules = Rules::d();
+    canon::form_length(rules, header, identifiers, exponents, comments, rows)
 }
 
 // A stretch divided into the accepted files at its front.
