@@ -1,0 +1,4 @@
+pub mod Saying
+pub mod Digits
+pub mod Composed
+pub mod Answering
