@@ -1,9 +1,9 @@
 -- The decimal digits of a number as `io` says them are those without leading zeros.
 -- Assumes nothing.
-use mathlib.Core.Path.{_≡_, refl, ap, ap₂}
+use mathlib.Core.Path.{_≡_, refl, ap₂}
 use mathlib.Core.Bool.{Bool, true, false, cond}
 use mathlib.Core.List.{List, [], _∷_, _++_}
-use Prim.Native.Nat.{ℕ, zero, suc, _+_, _-_, _*_, _/_, _%_, _^_, _≤_, _<_}
+use Prim.Native.Nat.{ℕ, zero, suc, _+_, _/_, _%_, _^_, _≤_, _<_}
 use native.Mathlib.Numerals.{unary-clauses}
 use native.Mathlib.Omega.{arith}
 use borrow.Author.Tests.{ltb-true, ltb-false, lt-ltb, le-ltb}
@@ -58,6 +58,7 @@ pub digits-few : (most n : ℕ) → length (digitsIn most n) ≤ most
 digits-few zero n = omega arith
 digits-few (suc most) n = go (ltb n 10) (digits-few most (n / 10))
   where
-    go : (b : Bool) → length (digitsIn most (n / 10)) ≤ most → length (cond b (lastDigit n ∷ []) (digitsIn most (n / 10) ++ (lastDigit n ∷ []))) ≤ suc most
+    go : (b : Bool) → length (digitsIn most (n / 10)) ≤ most
+        → length (cond b (lastDigit n ∷ []) (digitsIn most (n / 10) ++ (lastDigit n ∷ []))) ≤ suc most
     go true few = omega arith
     go false few = omega (arith, length-append (digitsIn most (n / 10)) (lastDigit n ∷ []))

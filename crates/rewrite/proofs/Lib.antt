@@ -2,3 +2,4 @@ pub mod Saying
 pub mod Digits
 pub mod Composed
 pub mod Answering
+pub mod Prints

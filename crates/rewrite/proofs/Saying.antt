@@ -9,7 +9,7 @@ use lib.ListN.{length, take, drop, length-append, length-drop}
 use lib.Seq.{take-at}
 use Rattle.laws.proofs.Lists.{rest-part}
 use Rattle.io.specs.Counts.{Counts}
-use Rattle.layout.specs.Line.{laidIn, Lays}
+use Rattle.layout.specs.Line.{Lays}
 use Rattle.layout.proofs.Lines.{copied-whole, lays-after}
 use Rattle.writer.proofs.Laying.{then, lays-over}
 
@@ -42,7 +42,8 @@ next a b out {n} {mid} room s =
     }
 
 -- what a caller sees of bytes that are laid: they are the first of the output, and how many they are
-pub seen : {bytes bytes′ out now : List ℕ} {r : ℕ} → bytes ≡ bytes′ → length bytes ≤ length out → Lays bytes out r now → (take r now ≡ bytes′) × Counts r now
+pub seen : {bytes bytes′ out now : List ℕ} {r : ℕ} → bytes ≡ bytes′ → length bytes ≤ length out → Lays bytes out r now
+    → (take r now ≡ bytes′) × Counts r now
 seen {bytes} {bytes′} {out} {now} {r} same room s =
     let front : take r now ≡ bytes =
     rw (s .length-told, lays-over bytes out room s) (take-at bytes (drop (length bytes) out) (length bytes) refl) in

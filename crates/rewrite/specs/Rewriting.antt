@@ -28,8 +28,10 @@ module _ (bytes identifiers exponents comments : List ℕ) (rows : List ℤ) whe
   -- what is lent to the writing: the header that was read, and the lists as the reading left them
   abbrev pub tableRead : Table
   tableRead =
-      tableOf (reading .header) (identifiersAfter d bytes (fileOf d bytes) identifiers exponents comments rows)
-      (exponentsAfter d bytes (fileOf d bytes) identifiers exponents comments rows) (commentsAfter d bytes (fileOf d bytes) identifiers exponents comments rows)
+      tableOf (reading .header)
+      (identifiersAfter d bytes (fileOf d bytes) identifiers exponents comments rows)
+      (exponentsAfter d bytes (fileOf d bytes) identifiers exponents comments rows)
+      (commentsAfter d bytes (fileOf d bytes) identifiers exponents comments rows)
       (rowsAfter d bytes (fileOf d bytes) identifiers exponents comments rows)
 
   -- the answer where so many bytes are lent for the form, and those bytes afterwards

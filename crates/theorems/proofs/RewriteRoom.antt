@@ -67,7 +67,8 @@ module _ (bytes : List ℕ) (accepted : IsFile d bytes) where
     pub many-comments : 800 < header bytes .comments → rewriteReading bytes ≡ refusedWith 12 0
     many-comments many =
         short-refused true bytes (accepted .0) (accepted .1) 255 255 61_600 12_888
-        (subst (λ (s : List ℕ). Short (header s) 255 255 61_600 12_888) (sym (whole-taken bytes (accepted .0) (accepted .1))) (inr (inr (inl (omega arith)))))
+        (subst (λ (s : List ℕ). Short (header s) 255 255 61_600 12_888) (sym (whole-taken bytes (accepted .0) (accepted .1)))
+        (inr (inr (inl (omega arith)))))
 
     -- 12 IS FOR COMMENTS ALONE: it is answered exactly where there are more than 800.
     pub twelve-exactly : (rewriteReading bytes .refusal ≡ 12) ↔ (800 < header bytes .comments)

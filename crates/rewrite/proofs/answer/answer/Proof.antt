@@ -2,10 +2,8 @@
 -- Assumes nothing.
 use native.Mathlib.Omega.{arith}
 use borrow.Author.Needs.{needs}
-use lib.ListN.{length}
 use Rattle.header.specs.Rules.{d}
 use Rattle.reader.specs.Reading.{fileOf}
-use Rattle.rewrite.specs.Printed.{answered}
 use Rattle.rewrite.proofs.Saying.{seen}
 use Rattle.rewrite.proofs.Answering.{answer-fits, printed-long, printed-short}
 use Rattle.rewrite.proofs.answer.answer.Statement.{statement}

@@ -1,7 +1,7 @@
 -- `rewrite::answer::answer_short` meets its contract: the room that it lends is enough for all but comments, and a refusal is said in words.
 -- Assumes nothing.
-use native.Mathlib.Omega.{arith}
 use Prim.Native.Nat.{ℕ}
+use native.Mathlib.Omega.{arith}
 use borrow.Author.Needs.{needs}
 use lib.IntN.{ℤ, pos}
 use lib.ListN.{length, replicate, length-replicate}
@@ -12,13 +12,19 @@ use Rattle.rewrite.proofs.Answering.{few-words, Outcome, outcome-of, ou
 use Rattle.rewrite.proofs.answer.answer_short.Statement.{statement}
 use Rattle.rewrite.proofs.answer.answer_short.Tie as tie
 
+abbrev start : tie.After-read-and-write → tie.Start
+start c = c .before .before .before .before .before .before .before .before
+
 answered-so : (c : tie.After-read-and-write)
-    → Outcome (answered (c .before .before .before .before .before .before .before .before .args .file .now) (fileOf d (c .before .before .before .before .before .before .before .before .args .file .now)))
-    (c .before .before .before .before .before .before .before .before .args .out .now) (c .read-and-write .result) (c .read-and-write .last .1 .1 .1 .1 .1 .0)
+    → Outcome (answered (start c .args .file .now) (fileOf d (start c .args .file .now))) (start c .args .out .now)
+    (c .read-and-write .result) (c .read-and-write .last .1 .1 .1 .1 .1 .0)
 answered-so c =
-    let start = c .before .before .before .before .before .before .before .before in
-    outcome-of (start .args .file .now) (replicate 255 0) (replicate 255 0) (replicate 61_600 0) (replicate 12_888 (pos 0)) (start .args .out .now) (start .pre .0) (start .pre .1)
-    (length-replicate {0} {A = ℕ} 255 0) (length-replicate {0} {A = ℕ} 255 0) (length-replicate {0} {A = ℕ} 61_600 0) (length-replicate {0} {A = ℤ} 12_888 (pos 0))
+    outcome-of (start c .args .file .now) (replicate 255 0) (replicate 255 0) (replicate 61_600 0) (replicate 12_888 (pos 0)) (start c .args .out .now)
+    (start c .pre .0) (start c .pre .1)
+    (length-replicate {0} {A = ℕ} 255 0)
+    (length-replicate {0} {A = ℕ} 255 0)
+    (length-replicate {0} {A = ℕ} 61_600 0)
+    (length-replicate {0} {A = ℤ} 12_888 (pos 0))
     (c .read-and-write .ensures .0) (c .read-and-write .ensures .1)
 
 put-refusal-requires : tie.Need-put-refusal-requires

@@ -9,8 +9,8 @@ returns : tie.Need-returns
 returns c =
     let done = c .before .before .before .before .before .before .before .before .before in
     let a = done .before .before .before .before .before .before .before .before .before .before .args in
-    refused-read (a .file .now) (a .identifiers .now) (a .exponents .now) (a .comments .now) (a .rows .now) (done .read .result) (a .out .now) (done .read .ensures .0)
-    (c .if1 .taken)
+    refused-read (a .file .now) (a .identifiers .now) (a .exponents .now) (a .comments .now) (a .rows .now)
+    (done .read .result) (a .out .now) (done .read .ensures .0) (c .if1 .taken)
 
 returns-2 : tie.Need-returns-2
 returns-2 c =
@@ -19,8 +19,10 @@ returns-2 c =
     let done = tested .before .before .before .before .before .before .before .before .before in
     let a = done .before .before .before .before .before .before .before .before .before .before .args in
     let p = done .read .ensures in
-    then-written (a .file .now) (a .identifiers .now) (a .exponents .now) (a .comments .now) (a .rows .now) (done .read .result) _ _ _ _ (written .write .result)
-    (a .out .now) _ (p .0) (p .1 .0) (p .1 .1 .0) (p .1 .1 .1 .0) (p .1 .1 .1 .1) (tested .if1 .left) (written .write .ensures .0) (written .write .ensures .1)
+    then-written (a .file .now) (a .identifiers .now) (a .exponents .now) (a .comments .now) (a .rows .now)
+    (done .read .result) _ _ _ _ (written .write .result) (a .out .now) _
+    (p .0) (p .1 .0) (p .1 .1 .0) (p .1 .1 .1 .0) (p .1 .1 .1 .1) (tested .if1 .left)
+    (written .write .ensures .0) (written .write .ensures .1)
 
 pub read-and-write-spec : {M : Type 1} → statement M
 read-and-write-spec =

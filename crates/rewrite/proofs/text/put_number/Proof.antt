@@ -3,7 +3,7 @@
 use mathlib.Core.Path.{_≡_, _∙_}
 use native.Mathlib.Omega.{arith}
 use borrow.Author.Needs.{needs}
-use lib.ListN.{length, take}
+use lib.ListN.{take}
 use Rattle.rewrite.specs.Printed.{numberText}
 use Rattle.rewrite.proofs.Digits.{digits-shown}
 use Rattle.rewrite.proofs.text.put_number.Statement.{statement}

@@ -29,36 +29,39 @@ put-said-requires c κs =
     let start = c .before .before .before in
     omega (arith, both-room start, length-append (first start) (second start))
 
+-- after the number the line
+abbrev start : tie.After-put-said → tie.Start
+start c = c .before .before .before .before
+
 after-first : (c : tie.After-put-said)
-    → Next (first (c .before .before .before .before)) (second (c .before .before .before .before)) (c .before .before .before .before .args .out .now) (c .put-said .result) (c .put-said .last .1 .1 .0)
-after-first c =
-    let start = c .before .before .before .before in
-    next (first start) (second start) (start .args .out .now) (both-room start) (c .put-said .ensures)
+    → Next (first (start c)) (second (start c)) (start c .args .out .now) (c .put-said .result) (c .put-said .last .1 .1 .0)
+after-first c = next (first (start c)) (second (start c)) (start c .args .out .now) (both-room (start c)) (c .put-said .ensures)
+
+-- after the line LF
+abbrev earlier : tie.After-put-said2 → tie.After-put-said
+earlier c = c .before .before .before .before .before
 
 abbrev at-2 : tie.After-put-said2 → ℕ
-at-2 c = c .before .before .before .before .before .put-said .result + c .put-said2 .result
+at-2 c = earlier c .put-said .result + c .put-said2 .result
 
 abbrev out-2 : tie.After-put-said2 → List ℕ
-out-2 c = then (c .before .before .before .before .before .put-said .result) (c .before .before .before .before .before .put-said .last .1 .1 .0) (c .put-said2 .last .1 .1 .0)
+out-2 c = then (earlier c .put-said .result) (earlier c .put-said .last .1 .1 .0) (c .put-said2 .last .1 .1 .0)
 
 after-second : (c : tie.After-put-said2)
-    → Next (first (c .before .before .before .before .before .before .before .before .before) ++ second (c .before .before .before .before .before .before .before .before .before)) (10 ∷ [])
-    (c .before .before .before .before .before .before .before .before .before .args .out .now) (at-2 c) (out-2 c)
+    → Next (first (start (earlier c)) ++ second (start (earlier c))) (10 ∷ []) (start (earlier c) .args .out .now) (at-2 c) (out-2 c)
 after-second c =
-    let start = c .before .before .before .before .before .before .before .before .before in
-    next (first start ++ second start) (10 ∷ []) (start .args .out .now) (room start) (after-first (c .before .before .before .before .before) .both (c .put-said2 .ensures))
+    let begin = start (earlier c) in
+    next (first begin ++ second begin) (10 ∷ []) (begin .args .out .now) (room begin) (after-first (earlier c) .both (c .put-said2 .ensures))
 
 add-at : tie.Need-add-at
 add-at c =
-    let done = c .before .before in
-    let start = done .before .before .before .before .before .before .before .before .before in
-    omega (arith, start .good, after-first (done .before .before .before .before .before) .ends, done .put-said2 .ensures .length-told)
+    let lined = c .before .before in
+    omega (arith, start (earlier lined) .good, after-first (earlier lined) .ends, lined .put-said2 .ensures .length-told)
 
 add-result : tie.Need-add-result
 add-result c =
-    let done = c .before .before .before .before .before .before .before in
-    let start = done .before .before .before .before .before .before .before .before .before in
-    omega (arith, start .good, after-second done .ends, c .before .before .put-bytes .ensures .length-told)
+    let lined = c .before .before .before .before .before .before .before in
+    omega (arith, start (earlier lined) .good, after-second lined .ends, c .before .before .put-bytes .ensures .length-told)
 
 returns : tie.Need-returns
 unfolding refusedText

@@ -1,10 +1,8 @@
 -- `rewrite::text::put_said` meets its contract: a number directly after a word.
 -- Assumes nothing.
-use mathlib.Core.List.{List}
-use Prim.Native.Nat.{ℕ}
 use native.Mathlib.Omega.{arith}
 use borrow.Author.Needs.{needs}
-use lib.ListN.{length, length-append}
+use lib.ListN.{length-append}
 use Rattle.rewrite.specs.Printed.{numberText}
 use Rattle.rewrite.proofs.Saying.{Next, next}
 use Rattle.rewrite.proofs.text.put_said.Statement.{statement}
@@ -15,20 +13,17 @@ put-bytes-requires c κs =
     let start = c .before .before .before in
     omega (arith, start .pre, length-append (start .args .word .now) (numberText (start .args .n)))
 
-after-word : (c : tie.After-put-bytes)
-    → Next (c .before .before .before .before .args .word .now) (numberText (c .before .before .before .before .args .n)) (c .before .before .before .before .args .out .now) (c .put-bytes .result) (c .put-bytes .last .1 .0)
-after-word c =
-    let start = c .before .before .before .before in
-    next (start .args .word .now) (numberText (start .args .n)) (start .args .out .now) (start .pre) (c .put-bytes .ensures)
+abbrev start : tie.After-put-bytes → tie.Start
+start c = c .before .before .before .before
 
-put-number-requires : tie.Need-put-number-requires
-put-number-requires c κs = after-word (c .before .before .before) .room
+after-word : (c : tie.After-put-bytes)
+    → Next (start c .args .word .now) (numberText (start c .args .n)) (start c .args .out .now) (c .put-bytes .result) (c .put-bytes .last .1 .0)
+after-word c = next (start c .args .word .now) (numberText (start c .args .n)) (start c .args .out .now) (start c .pre) (c .put-bytes .ensures)
 
 add-result : tie.Need-add-result
 add-result c =
-    let start = c .before .before .before .before .before .before .before .before .before .before in
-    let s = after-word (c .before .before .before .before .before .before) in
-    omega (arith, start .good, s .ends, c .before .before .put-number .ensures .length-told)
+    let worded = c .before .before .before .before .before .before in
+    omega (arith, start worded .good, after-word worded .ends, c .before .before .put-number .ensures .length-told)
 
 returns : tie.Need-returns
 returns c = after-word (c .before .before .before .before .before .before) .both (c .before .before .put-number .ensures)
@@ -41,7 +36,7 @@ put-said-spec =
     (λ c. after-word (c .before .before) .within)
     (λ c. after-word (c .before .before) .within)
     (λ c. search needs)
-    put-number-requires
+    (λ c κs. after-word (c .before .before .before) .room)
     add-result
     (λ c. search needs)
     returns)
