@@ -271,15 +271,25 @@ fn filled_to(bytes: usize, mut draft: Draft) -> Vec<u8> {
     draft.bytes()
 }
 
-/// Mode V with 131 satellites and four epochs: 1,048 rows, with no texts. No
-/// file of at most 65,536 bytes that was found has more.
+/// The most rows that a file of at most 65,536 bytes has: line 1 has at least 40
+/// bytes, other lines before the comments 61, a comment 3, an epoch line 32, a
+/// row 61 and EOF 4.
+fn most_rows() -> Option<usize> {
+    let rows = |n: usize, modes: usize| {
+        let others = 40 + 61 * (2 * files::satellite_lines(n) + 7) + 4 * 3 + 4;
+        n * modes * ((MOST_BYTES - others) / (32 + 61 * n * modes))
+    };
+    (1..=255).flat_map(|n| [rows(n, 1), rows(n, 2)]).max()
+}
+
+/// Mode V with 75 satellites and seven epochs: 1,050 rows, the most there are.
 fn many_rows() -> Draft {
-    let mut draft = files::base_file(Many(131));
-    draft.0[0] = b"#dV2013  4  3  0  0  0.00000000       4\n".to_vec();
+    let mut draft = files::base_file(Many(75));
+    draft.0[0] = b"#dV2013  4  3  0  0  0.00000000       7\n".to_vec();
     let rows: Vec<Vec<u8>> = draft.0.iter().filter(|line| line[0] == b'P').cloned().collect();
     draft.0.truncate(first_epoch(&draft));
-    for minute in [" 0", "15", "30", "45"] {
-        draft.0.push(format!("*  2013  4  3  0 {minute}  0.00000000\n").into_bytes());
+    for time in [" 0  0", " 0 15", " 0 30", " 0 45", " 1  0", " 1 15", " 1 30"] {
+        draft.0.push(format!("*  2013  4  3 {time}  0.00000000\n").into_bytes());
         for row in &rows {
             draft.0.extend([row.clone(), [b"V", &row[1..]].concat()]);
         }
@@ -335,7 +345,7 @@ fn large() -> Vec<Case> {
         Case::new("256-satellites", files::base_file(Many(256)).bytes(), refused(7, 3)),
         same_form("65535-bytes", paper(MOST_BYTES - 1)),
         same_form("65536-bytes", paper(MOST_BYTES)),
-        same_form("65536-bytes-of-1048-rows", rows.clone()),
+        same_form("65536-bytes-of-1050-rows", rows.clone()),
         notes_case(),
         Case::new("65536-bytes-one-past-eof", after(b'x', paper(MOST_BYTES - 1)), refused(11, 821)),
         Case::new("65536-bytes-no-last-lf", cut(paper(MOST_BYTES + 1)), refused(1, 820)),
@@ -444,6 +454,8 @@ fn self_test() {
             format!("{}: {} bytes", case.name, case.input.len())
         });
     }
+    let rows = files::judge(&many_rows().bytes()).map_or(0, |(table, _)| table.rows.len());
+    tally.holds(most_rows() == Some(1050) && rows == 1050, || format!("{rows} rows"));
     for number in 0..=12 {
         let occurs = cases.iter().any(|case| number_in(&case.wanted) == Some(number));
         tally.holds(occurs, || format!("{number} does not occur"));

@@ -6,7 +6,7 @@
 #
 # A seed always makes the same files; without one, seed 1 and 300 of them. Each input is given once as a file and once through a pipe, in pieces. The
 # program is proved and compiled first, as far as that is not done. Prints how many inputs agree; at a difference it prints the input's name and
-# ends with 1.
+# the first byte that differs, and ends with 1.
 set -eu
 
 root=$(cd "$(dirname "$0")/.." && pwd -P)
@@ -29,8 +29,8 @@ mkdir "$made/inputs"
 
 # what was printed must be what the oracle says of the input
 agree() {
-    cmp -s "$made/printed" "${1%.sp3}.out" || {
-        echo "rewrite: $(basename "$1" .sp3), given $2: wanted $(head -n 1 "${1%.sp3}.out"), printed $(head -n 1 "$made/printed")" >&2
+    cmp "$made/printed" "${1%.sp3}.out" >&2 || {
+        echo "rewrite: $(basename "$1" .sp3), given $2, is not answered as it must be" >&2
         exit 1
     }
 }
