@@ -171,6 +171,7 @@ fn layout() {
     let constants = [
         format!("constant SP3_ROW_WIDTH {}", crate::ROW_WIDTH),
         format!("constant SP3_COMMENT_WIDTH {}", crate::COMMENT_WIDTH),
+        format!("constant SP3_UNKNOWN {}", crate::stored::UNKNOWN),
     ];
     let words = (0..=13).map(|number| format!("words {number} {}", crate::words(number)));
     println!();

@@ -156,7 +156,7 @@ pub fn stored_row(rows: &[i64], k: usize) -> Result<StoredRow, Refusal> {
 const ABSENT_CLOCK: i64 = 999_999_999_999;
 
 /// How an unknown exponent is held.
-const UNKNOWN: i64 = 1000;
+pub(crate) const UNKNOWN: i64 = 1000;
 
 /// How an exponent that is too large is held, for x, y, z and clock.
 const TOO_LARGE: [i64; 4] = [99, 99, 99, 999];

@@ -262,16 +262,6 @@ fn rows_of_cell(header: &Header) -> u64 {
 mod tests {
     use super::*;
 
-    /// However little output is lent at first, the same bytes are written.
-    #[test]
-    fn output_lent_again() {
-        let file = include_bytes!("../../../samples/paper.sp3");
-        let table = Table::read(file).unwrap();
-        for bytes in [0, 1, file.len() as u64 - 1, file.len() as u64] {
-            assert_eq!(table.write_from(bytes).as_deref(), Ok(&file[..]), "{bytes} bytes");
-        }
-    }
-
     /// Room that no machine has is refused.
     #[test]
     fn room_that_is_not_there() {
