@@ -58,7 +58,7 @@ impl Header {
     }
 }
 
-/// How many bytes the canonical form of a table has, so that just so many can be lent to [`write`].
+/// How many bytes the canonical form of a table has, so that just so many can be lent to [`write()`].
 ///
 /// Refused: 13 with line 0 where the table is not valid.
 ///
