@@ -26,8 +26,9 @@ archive_sum() {
 }
 
 if [ ! -f "$archive" ] || [ ! -f "$made/archive.sum" ] || [ "$(archive_sum)" != "$(cat "$made/archive.sum")" ]; then
-    echo "proving and building the library; on a machine where nothing is proved yet this takes minutes" >&2
-    rt staticlib abi >"$made/archive.log" || {
+    echo "proving and building the library; where nothing is proved yet this takes minutes:" >&2
+    { rt staticlib abi 2>&1 && echo built; } | tee "$made/archive.log" | sed -n 's/^rt: /  /p' >&2
+    [ "$(tail -n 1 "$made/archive.log")" = built ] || {
         tail -n 20 "$made/archive.log" >&2
         exit 1
     }

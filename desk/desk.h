@@ -1,4 +1,4 @@
-// The parts of the desk tool: words.c says things, lent.c lends memory, table.c shows tables, sp3.c has the commands. None holds a rule of the format.
+// The parts of the desk tool: words.c says things, lent.c lends memory, table.c shows tables, sp3.c has the commands.
 #ifndef DESK_H
 #define DESK_H
 

@@ -21,7 +21,7 @@ int out_of_memory(const input_t *file) { return unusable("there is not enough me
 // How many bytes an input seems to have, and one more, so that its end is met while there is room.
 static size_t first_room(int source) {
     struct stat about;
-    bool sized = fstat(source, &about) == 0 && S_ISREG(about.st_mode) && about.st_size > 0;
+    bool sized = fstat(source, &about) == 0 && S_ISREG(about.st_mode);
     return sized ? (size_t)about.st_size + 1 : 1 << 16;
 }
 
@@ -35,7 +35,9 @@ static int read_all(input_t *input, int source) {
         if (got == 0) return 0;
         if (got < 0 && errno != EINTR) return errno;
         if (got > 0) input->length += (size_t)got;
-        if (input->length == room) lent = realloc(lent, room = times(room, 2));
+        if (input->length < room) continue;
+        room = times(room, 2);
+        lent = realloc(lent, room);
     }
     return ENOMEM;
 }

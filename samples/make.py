@@ -26,7 +26,7 @@ EARTH = 86_164  # seconds
 
 
 class Row:
-    """A P or V row: three numbers or None, a number or None, four exponents (None for a blank one), flags as a text of `E`, `P`, `M`, `P` or blanks."""
+    """A P or V row: three numbers or None, a number or None, four exponents (None for a blank one), four flags as letters or blanks."""
 
     def __init__(self, place, clock, exponents=(None, None, None, None), flags="    "):
         self.place, self.clock, self.exponents, self.flags = place, clock, exponents, flags
@@ -87,7 +87,8 @@ def day():
     satellites = [f"G{k:02}" for k in range(1, 33)]
     rows = [[[day_row(epoch, k)] for k in range(32)] for epoch in range(96)]
     accuracies = [0 if name == "G11" else 2 + k % 4 for k, name in enumerate(satellites)]
-    comments = ["MADE UP: NO SATELLITE WAS OBSERVED FOR THIS FILE. THE ORBITS ARE CIRCLES.", "G11 IS WITHDRAWN ALL DAY, G04 AND G28 FOR A PART OF IT.",
+    comments = ["MADE UP: NO SATELLITE WAS OBSERVED FOR THIS FILE. THE ORBITS ARE CIRCLES.",
+                "G11 IS WITHDRAWN ALL DAY, G04 AND G28 FOR A PART OF IT.",
                 "G15 HAS NO CLOCK. G05 MANEUVERS. THE LAST TWO HOURS ARE PREDICTED.", ""]
     return Model("P", datetime.datetime(2024, 2, 29), 900, satellites, accuracies, comments, rows)
 

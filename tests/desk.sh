@@ -4,12 +4,15 @@
 #
 #   tests/desk.sh
 #
-# Builds the tool first, as far as that is not done; SP3_TOOL=PATH tests another build of it. Needs python3 and rustc. Prints `desk: N tests passed`, or
-# the first difference, and then ends with 1.
+# Builds the tool first, as far as that is not done; SP3_TOOL=PATH tests another build of it. Needs python3 and rustc. Prints `desk: N tests passed`;
+# at the first difference prints what was expected and what came, and ends with 1.
 set -eu
 
 root=$(cd "$(dirname "$0")/.." && pwd -P)
 cd "$root"
+for needed in python3 rustc; do
+    command -v "$needed" >/dev/null || { echo "$needed is missing" >&2; exit 2; }
+done
 desk/build.sh
 . tests/x86.sh
 export X86_EMULATOR="$x86_emulator"

@@ -4,8 +4,8 @@
 #   x86_run PROGRAM ARGS..    runs a program that x86_cc linked
 #
 # On x86-64 this is gcc and nothing else. On another processor it is Debian's cross compiler, with programs that need no shared library, and the kit's
-# emulator or else Debian's; x86_emulator is then its path, and empty otherwise. SP3_CROSS=1 takes this way on x86-64 too. What is missing is installed
-# with apt-get where the script runs as root; otherwise it is named and the script ends with 2.
+# emulator or else Debian's; x86_emulator is then its path, and empty otherwise. SP3_CROSS=1 takes this way on x86-64 too. What is missing is
+# installed with apt-get where the script runs as root; otherwise it is named and the script ends with 2.
 
 x86_cross=${SP3_CROSS:-0}
 [ "$(uname -m)" = x86_64 ] || x86_cross=1

@@ -12,7 +12,7 @@ DAY = 86400 * SECOND
 
 
 def words():
-    """The numbers of the refusals in words, out of the table in include/sp3.h; what stands there in parentheses is left out, and of 13 the first half."""
+    """The refusals in words, out of the table in include/sp3.h; what stands in parentheses is left out, and of 13 the first half."""
     header = (ROOT / "include/sp3.h").read_text()
     listed = dict(re.findall(r"^ \* +(\d+)  (.*)$", header, re.M))
     said = {int(number): re.sub(r" \(.*\)$", "", text) for number, text in listed.items()}
@@ -29,7 +29,7 @@ def refused(subject, number, line):
 
 
 class Held:
-    """What an accepted file holds. `rows` are tuples: letter, epoch, satellite, place or None, clock or None, exponents and flags as they are shown."""
+    """What an accepted file holds. A row is a tuple: letter, epoch, satellite, place or None, clock or None, exponents and flags as shown."""
 
     def __init__(self, mode, start8, epochs, interval8, texts, file_type, time, bases, satellites, comments, rows):
         self.mode, self.start8, self.epochs, self.interval8, self.texts = mode, start8, epochs, interval8, texts

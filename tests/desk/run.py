@@ -149,6 +149,11 @@ def test_dates(desk):
         desk.expect(["date", *date], 1, "", f"{' '.join(date)}: refused 7: {expected.WORDS[7]}\n")
 
 
+def about(name):
+    """Every command about one file."""
+    return [["check", name], ["rewrite", name], ["table", name], ["row", name, "0", "G07"], ["comment", name, "0"]]
+
+
 def changed(line, first, text):
     """The paper's lines with other text from a column of a line on, both counted from 1."""
     lines = list(PAPER)
@@ -162,9 +167,10 @@ def damaged():
     names = "".join(f"G{k:02}" for k in range(1, 18))
     return [(b"", 1, 1), (whole[:-1], 1, 25), (whole[:700], 1, whole[:700].count(b"\n") + 1), (changed(19, 4, "\a"), 2, 19),
             (whole.replace(b"\n", b"\r\n"), 2, 1), (changed(19, 4, "X" * 78), 3, 19), (PAPER[:21] + PAPER[22:], 4, 22), (changed(1, 46, "x"), 5, 1),
-            (changed(16, 4, "  0.0000001"), 5, 16), (changed(1, 3, "v"), 6, 1), (changed(13, 10, "gps"), 6, 13), (changed(24, 19, "       .500000"), 6, 24),
-            (changed(1, 33, "      0"), 7, 1), (changed(3, 4, "256   " + names), 7, 3), (changed(2, 40, "56386"), 8, 2),
-            (changed(23, 18, "15"), 9, 23), (changed(24, 2, "G08"), 10, 24), (whole + b" ", 11, 26), (whole + whole, 11, 26)]
+            (changed(16, 4, "  0.0000001"), 5, 16), (changed(1, 3, "v"), 6, 1), (changed(13, 10, "gps"), 6, 13),
+            (changed(24, 19, "       .500000"), 6, 24), (changed(1, 33, "      0"), 7, 1), (changed(3, 4, "256   " + names), 7, 3),
+            (changed(2, 40, "56386"), 8, 2), (changed(23, 18, "15"), 9, 23), (changed(24, 2, "G08"), 10, 24), (whole + b" ", 11, 26),
+            (whole + whole, 11, 26)]
 
 
 def test_damaged(desk):
@@ -173,7 +179,7 @@ def test_damaged(desk):
     for content, number, line in damaged():
         name = desk.file("damaged.sp3", content)
         message = refused(name, number, line)
-        for words in (["check", name], ["rewrite", name], ["table", name], ["row", name, "0", "G07"], ["row", name, "9", "0"], ["comment", name, "0"]):
+        for words in [*about(name), ["row", name, "9", "0"]]:
             desk.expect(words, 1, "", message)
         if number != 11:
             desk.expect(["divide", name], *((1, "", refused(f"{name}: from byte 0", number, line)) if content else (0, expected.divide([]))))
@@ -340,12 +346,11 @@ def test_inputs(desk):
     (desk.folder / "folder").mkdir()
     closed = desk.file("closed.sp3", whole)
     as_other = unreadable(desk, closed)
-    for name, reason, how in (("missing.sp3", errno.ENOENT, {}), ("folder", errno.EISDIR, {}), (".", errno.EISDIR, {}), (closed, errno.EACCES, as_other),
-                              (f"{paper}/x", errno.ENOTDIR, {}), ("x" * 300, errno.ENAMETOOLONG, {})):
-        message = f"sp3: {name}: {os.strerror(reason)}\n"
-        for words in (["check", name], ["rewrite", name], ["table", name], ["row", name, "0", "G07"], ["comment", name, "0"], ["divide", name]):
-            desk.expect(words, 2, "", message, **how)
-    for words in (["check", ""], ["rewrite", ""], ["table", ""], ["row", "", "0", "G07"], ["comment", "", "0"], ["divide", ""]):
+    for name, reason, how in (("missing.sp3", errno.ENOENT, {}), ("folder", errno.EISDIR, {}), (".", errno.EISDIR, {}),
+                              (closed, errno.EACCES, as_other), (f"{paper}/x", errno.ENOTDIR, {}), ("x" * 300, errno.ENAMETOOLONG, {})):
+        for words in [*about(name), ["divide", name]]:
+            desk.expect(words, 2, "", f"sp3: {name}: {os.strerror(reason)}\n", **how)
+    for words in [*about(""), ["divide", ""]]:
         desk.expect(words, 2, "", "sp3: FILE '': the name is empty\n")
     for words in (["check", "-"], ["rewrite", "-"], ["divide", "-"]):
         desk.expect(words, 2, "", f"sp3: standard input: {os.strerror(errno.EBADF)}\n", stdin=None, preexec_fn=lambda: os.close(0))
@@ -400,9 +405,7 @@ def test_many(desk):
 def test_outputs(desk):
     """Outputs that cannot be written: said, with status 2, whatever the files are."""
     day, paper, bad = str(ROOT / "samples/day.sp3"), "paper.sp3", "bad.sp3"
-    asked = [["check", paper], ["rewrite", paper], ["rewrite", day], ["table", paper], ["table", day], ["row", paper, "0", "0"], ["comment", paper, "0"],
-             ["divide", paper], ["date", "2013", "4", "3"], ["--help"], ["check", paper, paper]]
-    for words in asked:
+    for words in [*about(paper), *about(day), ["divide", paper], ["date", "2013", "4", "3"], ["--help"], ["check", paper, paper]]:
         with open("/dev/full", "wb") as full:
             desk.expect(words, 2, "", f"sp3: standard output: {os.strerror(errno.ENOSPC)}\n", stdout=full)
         desk.expect(words, 2, "", f"sp3: standard output: {os.strerror(errno.EBADF)}\n", stdout=None, preexec_fn=lambda: os.close(1))
