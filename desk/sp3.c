@@ -84,18 +84,16 @@ static int with_table(const char *argument, int (*show)(const table_t *table)) {
     return status;
 }
 
-// Writes the canonical form: lends as many bytes as the file has, and twice as many each time that they are too few.
+// Writes the canonical form into just as many bytes as it has.
 static int show_form(const table_t *table) {
     size_t satellites = table->header.satellites;
-    uint8_t *form = NULL;
-    sp3_measured_t written = {.refusal = ROOM_TOO_SMALL};
-    for (size_t room = table->file.length; written.refusal == ROOM_TOO_SMALL; room *= 2) {
-        free(form);
-        form = lend(room, 1);
-        if (form == NULL) return out_of_memory(&table->file);
+    sp3_measured_t written = sp3_form_length(table->header, table->identifiers, satellites, table->exponents, satellites, table->comments,
+                                             table->comment_bytes, table->rows, table->row_numbers);
+    uint8_t *form = lend(written.length, 1);
+    if (form == NULL) return out_of_memory(&table->file);
+    if (written.refusal == 0)
         written = sp3_write(table->header, table->identifiers, satellites, table->exponents, satellites, table->comments, table->comment_bytes,
-                            table->rows, table->row_numbers, form, room);
-    }
+                            table->rows, table->row_numbers, form, written.length);
     fwrite(form, 1, written.length, stdout);
     free(form);
     return written.refusal == 0 ? ACCEPTED : refused(written.refusal, 0, "%s: its table", table->file.name);

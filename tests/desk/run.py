@@ -262,7 +262,7 @@ def expect_answers(desk, name, held, asked, answers):
     text = chr(code // 100 % 0x110000) + f"{code % 100:02}"
     if answers["satellite"][1] == "0":
         desk.expect(["row", name, "0", text], 0, expected.row(held, 0, int(answers["satellite"][3])))
-    elif re.fullmatch("[A-Z][0-9][0-9]", text):
+    elif re.fullmatch("[A-Z](0[1-9]|[1-9][0-9])", text):
         desk.expect(["row", name, "0", text], 1, "", refused(f"{name}: satellite {text}", 13, 0))
 
 
@@ -330,7 +330,7 @@ def test_numbers(desk):
             words = ["2013", "4", "3"]
             words[k] = word
             desk.expect(["date", "--", *words], 2, "", f"sp3: {part} '{word}': {no_number}".encode())
-    for word in ("g07", "G 7", "G7", "G007", "07G", "GG7", "G0", "7G0"):
+    for word in ("g07", "G 7", "G7", "G007", "07G", "GG7", "G0", "7G0", "G00"):
         desk.expect(["row", "paper.sp3", "0", word], 2, "", f"sp3: SAT '{word}': {no_satellite}")
 
 
