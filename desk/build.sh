@@ -29,7 +29,7 @@ if [ ! -f "$archive" ] || [ ! -f "$made/archive.sum" ] || [ "$(archive_sum)" != 
     echo "proving and building the library; where nothing is proved yet this takes minutes:" >&2
     { rt staticlib abi 2>&1 && echo built; } | tee "$made/archive.log" | sed -n 's/^rt: /  /p' >&2
     [ "$(tail -n 1 "$made/archive.log")" = built ] || {
-        tail -n 20 "$made/archive.log" >&2
+        grep -v '^rt: .* proved' "$made/archive.log" | tail -n 20 >&2
         exit 1
     }
     archive_sum >"$made/archive.sum"

@@ -96,7 +96,7 @@ static int show_form(const table_t *table) {
                             table->rows, table->row_numbers, form, written.length);
     fwrite(form, 1, written.length, stdout);
     free(form);
-    return written.refusal == 0 ? ACCEPTED : refused(written.refusal, 0, "%s: its table", table->file.name);
+    return written.refusal == 0 ? ACCEPTED : unusable("the table to be written is not valid", "%s", table->file.name);
 }
 
 static int rewrite(char **arguments) { return with_table(arguments[0], show_form); }

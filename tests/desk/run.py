@@ -381,7 +381,7 @@ def test_pipes(desk):
     desk.expect(["divide", "-"], 0, expected.divide([1215] * 3), stdin=whole * 3)
     desk.expect(["check", "-", "-"], 1, accepted, refused("standard input", 1, 1), stdin=whole)
     os.mkfifo(desk.folder / "pipe")
-    writer = threading.Thread(target=lambda: (desk.folder / "pipe").write_bytes(day))
+    writer = threading.Thread(target=lambda: (desk.folder / "pipe").write_bytes(day), daemon=True)
     writer.start()
     desk.expect(["check", "pipe"], 0, expected.check("pipe", of_model(make.day())))
     writer.join()
