@@ -301,7 +301,8 @@ typedef struct {
     sp3_row_walk_t next;
 } sp3_row_step_t;
 
-/* Judges a whole file and leaves the identifiers of its header in `identifiers`. Refused: 12 where there is less room than satellites. */
+/* Judges a whole file and leaves the identifiers of its header in `identifiers` (255 places suffice). Refused: 12 where there is less room than
+ * satellites. */
 sp3_reading_t sp3_begin(const uint8_t *file, size_t length, uint64_t *identifiers, size_t identifier_room);
 
 /* Before the first row. */
