@@ -38,7 +38,8 @@ use Rattle.theorems.proofs.Reading.{header, rowAt, There, RowOf}
 use Rattle.theorems.proofs.Floats as floats
 use Rattle.theorems.proofs.Floats.{Exactly, asked, held}
 use Rattle.theorems.proofs.Room as room
-use Rattle.theorems.proofs.Room.{foundIn, Room, Short}
+use Rattle.theorems.proofs.Room.{foundIn, Room, Short, rowsNeeded}
+use Rattle.theorems.proofs.RewriteRoom as rewriteRoom
 use Rattle.theorems.proofs.Writing as writing
 use Rattle.theorems.proofs.Rewritten as rewritten
 use Rattle.theorems.proofs.Rewritten.{writtenBytes, lentTable}
@@ -255,6 +256,14 @@ module _ (bytes : List ℕ) (accepted : IsFile d bytes) (identifiers exponents c
   pub canonical-stays : (t : Table) → valid d t ≡ true → bytes ≡ canonical d t
       → canonical d (lentTable bytes accepted identifiers exponents comments rows read) ≡ bytes
   canonical-stays t ok is = rewritten.form-is-file bytes accepted identifiers exponents comments rows read t ok is
+
+-- The program `rewrite` lends room for 255 satellites, 800 comments and 1,074 rows. Rows are never short in a file of at most 65,536 bytes, and reading it
+-- answers 12 exactly where it has more than 800 comments.
+pub rewrite-rows : (bytes : List ℕ) → IsFile d bytes → length bytes ≤ 65_536 → rowsNeeded (header bytes) ≤ 12_888
+rewrite-rows bytes accepted short = rewriteRoom.rows-fit bytes accepted short
+
+pub rewrite-12 : (bytes : List ℕ) → IsFile d bytes → length bytes ≤ 65_536 → (rewriteRoom.rewriteReading bytes .refusal ≡ 12) ↔ (800 < header bytes .comments)
+rewrite-12 bytes accepted short = rewriteRoom.twelve-exactly bytes accepted short
 
 -- DEMAND 3. No accepted file is the beginning of a longer accepted file, so a stretch divides into files in at most one way; that division is given
 -- exactly when there is one, else the accepted files at the front and the refusal after them.
