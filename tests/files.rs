@@ -79,7 +79,7 @@ const OTHER_SATELLITE: u8 = 10;
 /// "whole file: bytes stand after the EOF line"
 const BYTES_AFTER: u8 = 11;
 /// "lent room is too small"
-const NO_ROOM: Refusal = Refusal { number: 12, line: 0 };
+pub(crate) const NO_ROOM: Refusal = Refusal { number: 12, line: 0 };
 /// "what is asked by number isn't there"
 const NOT_THERE: Refusal = Refusal { number: 13, line: 0 };
 
@@ -753,29 +753,46 @@ fn show_table(table: &Table, file: &[u8]) -> String {
 // Batches
 // ---------------------------------------------------------------------------
 
-/// The nine numbers of a case, and how many bytes their line has with its LF.
-fn parse_numbers(bytes: &[u8]) -> Option<([usize; 9], usize)> {
+/// The numbers of a case's line, and how many bytes it has with its LF.
+fn parse_numbers(bytes: &[u8]) -> Option<(Vec<usize>, usize)> {
     let length = bytes.iter().position(|&c| c == b'\n')?;
     let words = std::str::from_utf8(&bytes[..length]).ok()?.split(' ');
     let numbers: Option<Vec<usize>> = words.map(|word| word.parse().ok()).collect();
-    Some((numbers?.try_into().ok()?, length + 1))
+    Some((numbers?, length + 1))
 }
 
-fn parse_batch(mut bytes: &[u8]) -> Vec<Case> {
+/// Cases that are each a line of numbers and then so many bytes as `length_of`
+/// finds among the numbers; none where they are no case.
+pub(crate) fn parse_cases<C>(
+    mut bytes: &[u8],
+    length_of: fn(&[usize]) -> Option<usize>,
+    case_of: fn(&[usize], Vec<u8>) -> C,
+) -> Vec<C> {
     let mut cases = Vec::new();
     while !bytes.is_empty() {
         let place = cases.len() + 1;
-        let Some((numbers, line)) = parse_numbers(bytes) else {
-            fail(&format!("case {place} has no nine numbers"));
+        let line = parse_numbers(bytes);
+        let Some((numbers, line, length)) =
+            line.and_then(|(numbers, line)| length_of(&numbers).map(|n| (numbers, line, n)))
+        else {
+            fail(&format!("case {place} has no line of its numbers"));
         };
-        let [length, i, x, c, r, k, e, s, n] = numbers;
-        let Some(file) = bytes.get(line..line + length) else {
+        let Some(body) = bytes.get(line..).and_then(|rest| rest.get(..length)) else {
             fail(&format!("case {place} ends too early"));
         };
-        cases.push(Case { file: file.to_vec(), rooms: [i, x, c, r], asked: [k, e, s, n] });
+        cases.push(case_of(&numbers, body.to_vec()));
         bytes = &bytes[line + length..];
     }
     cases
+}
+
+fn parse_batch(bytes: &[u8]) -> Vec<Case> {
+    let nine = |numbers: &[usize]| (numbers.len() == 9).then(|| numbers[0]);
+    parse_cases(bytes, nine, |numbers, file| Case {
+        file,
+        rooms: std::array::from_fn(|place| numbers[1 + place]),
+        asked: std::array::from_fn(|place| numbers[5 + place]),
+    })
 }
 
 pub(crate) fn show_batch<C: Compared>(cases: &[C]) -> Vec<u8> {
@@ -2447,11 +2464,14 @@ fn hand_cases() -> Vec<Case> {
     cases
 }
 
-fn stored_cases() -> Vec<Case> {
-    let mut cases = hand_cases();
+/// The cases made by hand, and after them small generated ones up to a batch.
+pub(crate) fn filled_up<C: Compared>(
+    mut cases: Vec<C>,
+    generate: Generate<C>,
+    small: fn(&C) -> bool,
+) -> Vec<C> {
     let mut length = show_batch(&cases).len();
-    let small = |case: &Case| case.file.len() < 4000;
-    let made = (1..).map(|number| generated(generate_case, STORED_SEED, number));
+    let made = (1..).map(|number| generated(generate, STORED_SEED, number));
     for case in made.filter(small) {
         length += case.show().len();
         if length > MOST_BATCH {
@@ -2460,6 +2480,10 @@ fn stored_cases() -> Vec<Case> {
         cases.push(case);
     }
     cases
+}
+
+fn stored_cases() -> Vec<Case> {
+    filled_up(hand_cases(), generate_case, |case| case.file.len() < 4000)
 }
 
 // ---------------------------------------------------------------------------
@@ -3095,6 +3119,16 @@ fn test_plans(tally: &mut Tally) {
     }
 }
 
+/// A batch that is shown and read again has the same answers.
+pub(crate) fn test_batches<C: Compared>(
+    tally: &mut Tally,
+    cases: Vec<C>,
+    parse_batch: fn(&[u8]) -> Vec<C>,
+) {
+    let again = parse_batch(&show_batch(&cases));
+    tally.holds(answers(&cases) == answers(&again), || "a batch read again".to_string());
+}
+
 /// MJD of the paper's cases, of the ends of the calendar and of leap days.
 fn test_days(tally: &mut Tally) {
     for (year, month, day, wanted) in [
@@ -3123,10 +3157,8 @@ fn self_test() {
     let by_hand = tally.made;
     test_lengths(&mut tally);
     test_plans(&mut tally);
-    println!("{} comparisons, {by_hand} of them by hand, {} failed", tally.made, tally.failed);
-    if tally.failed > 0 {
-        exit(1);
-    }
+    test_batches(&mut tally, stored_cases(), parse_batch);
+    tally.tell(by_hand);
 }
 
 // ---------------------------------------------------------------------------

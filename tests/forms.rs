@@ -56,10 +56,9 @@
 mod files;
 
 use files::lines::{self, fail, Exponent, Identifier, Moment, Random, Tally};
-use files::{answers, generated, show_batch};
+use files::{answers, generated};
 use files::{Base, Compared, Edit, Lent, DAY, GPS_ZERO, SECOND, UNKNOWN};
 use std::collections::HashSet;
-use std::process::exit;
 
 // ---------------------------------------------------------------------------
 // What a table says
@@ -1791,12 +1790,6 @@ fn test_files(tally: &mut Tally) {
     }
 }
 
-fn test_batches(tally: &mut Tally) {
-    let cases = stored_cases();
-    let again = parse_batch(&show_batch(&cases));
-    tally.holds(answers(&cases) == answers(&again), || "a batch read again".to_string());
-}
-
 fn self_test() {
     let mut tally = Tally::default();
     test_forms(&mut tally);
@@ -1804,11 +1797,8 @@ fn self_test() {
     let by_hand = tally.made;
     test_validity(&mut tally);
     test_files(&mut tally);
-    test_batches(&mut tally);
-    println!("{} comparisons, {by_hand} of them by hand, {} failed", tally.made, tally.failed);
-    if tally.failed > 0 {
-        exit(1);
-    }
+    files::test_batches(&mut tally, stored_cases(), parse_batch);
+    tally.tell(by_hand);
 }
 
 // ---------------------------------------------------------------------------

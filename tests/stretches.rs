@@ -57,17 +57,14 @@
 #[path = "files.rs"]
 mod files;
 
-use files::lines::{fail, Line, Random, Tally};
-use files::{answers, generated, once_in, show_batch};
-use files::{Base, Compared, Edit, Refusal, Row, Table};
-use std::process::exit;
+use files::lines::{Line, Random, Tally, SYMBOLS};
+use files::{generated, once_in};
+use files::{Base, Compared, Edit, Refusal, Row, Table, NO_ROOM};
 
 // ---------------------------------------------------------------------------
 // Dividing
 // ---------------------------------------------------------------------------
 
-/// "lent room is too small", and "12 only, every other part .. being 0".
-const NO_ROOM: Refusal = Refusal { number: 12, line: 0 };
 /// "When nothing is left .. refusal and line are both 0."
 const NOTHING_LEFT: Refusal = Refusal { number: 0, line: 0 };
 
@@ -150,10 +147,6 @@ impl Standing {
     }
 }
 
-/// The records in the order of the paper's list; P and V by their letter.
-const RECORDS: [&str; 14] =
-    ["#d", "##", "+ ", "++", "%c", "%f", "%i", "/*", "* ", "P", "V", "EP", "EV", "EOF"];
-
 /// The number in some columns of a line without fault.
 fn number_in(line: &[u8], first: usize, last: usize) -> usize {
     files::show_text(&line[first - 1..last]).trim().parse().unwrap_or_default()
@@ -201,7 +194,7 @@ impl Passed<'_> {
         let (n, epochs, velocities) = self.said();
         let slots = files::satellite_lines(n);
         let needed = [1, 1, slots, slots, 2, 2, 2, 4];
-        let mut header = RECORDS.into_iter().zip(needed);
+        let mut header = SYMBOLS.into_iter().zip(needed);
         if let Some((record, _)) = header.find(|&(record, needed)| self.count(record) < needed) {
             return record;
         }
@@ -234,7 +227,7 @@ impl Walk<'_> {
     /// that ends the file" isn't passed.
     fn after(&self, lines: usize) -> Standing {
         let passed = Passed::of(self.bytes, lines.min(self.passed));
-        let due = RECORDS.iter().position(|&record| record == passed.due());
+        let due = SYMBOLS.iter().position(|&record| record == passed.due());
         Standing {
             at: passed.length(),
             due: due.map_or(0, |place| place + 1),
@@ -338,38 +331,20 @@ fn show_walk(walk: &Walk) -> String {
     out
 }
 
-/// The numbers of a line, and how many bytes it has with its LF.
-fn parse_line(bytes: &[u8]) -> Option<(Vec<u64>, usize)> {
-    let length = bytes.iter().position(|&c| c == b'\n')?;
-    let words = std::str::from_utf8(&bytes[..length]).ok()?.split(' ');
-    let numbers: Option<Vec<u64>> = words.map(|word| word.parse().ok()).collect();
-    Some((numbers?, length + 1))
-}
-
-fn parse_batch(mut bytes: &[u8]) -> Vec<Case> {
-    let mut cases = Vec::new();
-    while !bytes.is_empty() {
-        let place = cases.len() + 1;
-        let line = parse_line(bytes).filter(|(numbers, _)| {
-            numbers.len() >= 5 && numbers.len() as u64 == 5 + numbers[3] && numbers[1] < 2
-        });
-        let Some((numbers, line)) = line else {
-            fail(&format!("case {place} has no line of numbers"));
-        };
-        let length = numbers[4] as usize;
-        let Some(stretch) = bytes.get(line..line + length) else {
-            fail(&format!("case {place} ends too early"));
-        };
-        cases.push(Case {
-            stretch: stretch.to_vec(),
-            room: numbers[0] as usize,
-            walked: numbers[1] == 1,
-            identifiers: numbers[2] as usize,
-            names: numbers[5..].to_vec(),
-        });
-        bytes = &bytes[line + length..];
-    }
-    cases
+fn parse_batch(bytes: &[u8]) -> Vec<Case> {
+    let length_of = |numbers: &[usize]| match *numbers {
+        [_, walk, _, names, length, ref rest @ ..] if walk < 2 && rest.len() == names => {
+            Some(length)
+        }
+        _ => None,
+    };
+    files::parse_cases(bytes, length_of, |numbers, stretch| Case {
+        stretch,
+        room: numbers[0],
+        walked: numbers[1] == 1,
+        identifiers: numbers[2],
+        names: numbers[5..].iter().map(|&name| name as u64).collect(),
+    })
 }
 
 // ---------------------------------------------------------------------------
@@ -1036,8 +1011,6 @@ fn generate_case(random: &mut Random) -> Case {
 // The stored cases
 // ---------------------------------------------------------------------------
 
-const MOST_STORED: usize = 600_000;
-
 /// Those worked out by hand; every fifth of the stretches is walked too.
 fn hand_cases() -> Vec<Case> {
     let divided = DIVIDED.iter().enumerate().map(|(place, &(parts, room, ..))| Case {
@@ -1058,18 +1031,7 @@ fn hand_cases() -> Vec<Case> {
 }
 
 fn stored_cases() -> Vec<Case> {
-    let mut cases = hand_cases();
-    let mut length = show_batch(&cases).len();
-    let small = |case: &Case| case.stretch.len() < 5000;
-    let made = (1..).map(|number| generated(generate_case, files::STORED_SEED, number));
-    for case in made.filter(small) {
-        length += case.show().len();
-        if length > MOST_STORED {
-            break;
-        }
-        cases.push(case);
-    }
-    cases
+    files::filled_up(hand_cases(), generate_case, |case| case.stretch.len() < 5000)
 }
 
 // ---------------------------------------------------------------------------
@@ -1167,12 +1129,6 @@ fn test_walks(tally: &mut Tally) {
     }
 }
 
-fn test_batches(tally: &mut Tally) {
-    let cases = stored_cases();
-    let again = parse_batch(&show_batch(&cases));
-    tally.holds(answers(&cases) == answers(&again), || "a batch read again".to_string());
-}
-
 fn self_test() {
     let mut tally = Tally::default();
     test_divided(&mut tally);
@@ -1181,11 +1137,8 @@ fn self_test() {
     test_cuts(&mut tally);
     test_joined(&mut tally);
     test_walks(&mut tally);
-    test_batches(&mut tally);
-    println!("{} comparisons, {by_hand} of them by hand, {} failed", tally.made, tally.failed);
-    if tally.failed > 0 {
-        exit(1);
-    }
+    files::test_batches(&mut tally, stored_cases(), parse_batch);
+    tally.tell(by_hand);
 }
 
 // ---------------------------------------------------------------------------
