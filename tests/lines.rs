@@ -1297,13 +1297,13 @@ const SPOILED: &[(u8, usize, &str, u8, usize)] = &[
     (b'q', 80, "0", 5, 80),
 ];
 
-type Spoiler = (u8, usize, &'static str, u8, usize);
+pub(crate) type Spoiler = (u8, usize, &'static str, u8, usize);
 
-fn spoilers_of(letter: u8) -> Vec<&'static Spoiler> {
+pub(crate) fn spoilers_of(letter: u8) -> Vec<&'static Spoiler> {
     SPOILED.iter().filter(|spoiler| spoiler.0 == letter).collect()
 }
 
-fn overlap(one: &Spoiler, other: &Spoiler) -> bool {
+pub(crate) fn overlap(one: &Spoiler, other: &Spoiler) -> bool {
     one.1 < other.1 + other.2.len() && other.1 < one.1 + one.2.len()
 }
 
