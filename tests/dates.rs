@@ -157,6 +157,7 @@ fn generate_date(random: &mut Random) -> Case {
         2 | 3 => numbers[2] = 27 + random.below(6) as u64,
         4 => numbers[2] = random.below(9) as u64,
         5 => numbers[random.below(3)] = *random.pick(FAR),
+        6 => numbers[random.below(3)] += *random.pick(&[1 << 8, 1 << 16, 1 << 32, 1 << 63]),
         _ => {}
     }
     Case::Date(numbers)
@@ -170,6 +171,7 @@ fn generate_moment(random: &mut Random) -> Case {
         1 => random.pick(&bounds).wrapping_add(near),
         2 => random.next(),
         3 => *random.pick(FAR),
+        4 => files::choose_start(random) as u64 + (1 << 63),
         _ => files::choose_start(random) as u64,
     })
 }

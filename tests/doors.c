@@ -15,7 +15,7 @@
 
 typedef struct {
     const char *name;
-    void (*answer)(batch_t *batch);
+    void (*answer)(bytes_t *batch);
 } format_t;
 
 static const format_t formats[] = {
@@ -35,11 +35,11 @@ static const format_t *format_of(const char *name) {
 int main(int argc, char **argv) {
     const format_t *format = argc == 2 ? format_of(argv[1]) : NULL;
     if (format == NULL) stop("usage: doors tables|forms|stretches|dates < BATCH");
-    batch_t batch = standard_input();
+    bytes_t batch = standard_input();
     while (!is_empty(&batch)) {
         format->answer(&batch);
         take_back();
+        if (fflush(stdout) != 0) stop("standard output: a write failed");
     }
-    if (fflush(stdout) != 0 || ferror(stdout)) stop("standard output: a write failed");
     return 0;
 }

@@ -2858,7 +2858,8 @@ pub(crate) fn first_difference(wanted: &[u8], found: &[u8]) -> Option<(usize, St
     })
 }
 
-/// Which of the answers has line `line` of all of them.
+/// Which of the answers has line `line` of all of them. A line `wrong: ..`,
+/// which no answer has, belongs to the answer before it.
 fn case_of_line(answers: &[String], line: usize) -> usize {
     let mut lines = 0;
     let ends = |answer: &String| {
@@ -2897,8 +2898,9 @@ fn compare<C: Compared>(
             .unwrap_or_else(|error| fail(&format!("{program}: {error}")));
         if let Some((line, wanted, found)) = first_difference(answers.concat().as_bytes(), &output)
         {
+            let line = if found.starts_with("\"wrong: ") { line.saturating_sub(1) } else { line };
             let case = done + 1 + case_of_line(&answers, line) as u64;
-            println!("seed {seed} case {case}: wanted {wanted}, found {found}");
+            println!("seed {seed} case {case}: wanted {wanted}, found {found} ({status})");
             exit(1);
         }
         if !status.success() {

@@ -11,7 +11,7 @@ _Noreturn void stop(const char *message) {
     exit(2);
 }
 
-batch_t standard_input(void) {
+bytes_t standard_input(void) {
     static uint8_t *bytes;
     size_t room = 1 << 20, length = 0;
     do {
@@ -21,20 +21,20 @@ batch_t standard_input(void) {
         length += fread(bytes + length, 1, room - length, stdin);
     } while (length == room);
     if (ferror(stdin)) stop("standard input: a read failed");
-    return (batch_t){bytes, length, 0};
+    return (bytes_t){bytes, length, 0};
 }
 
-bool is_empty(const batch_t *batch) { return batch->at >= batch->length; }
+bool is_empty(const bytes_t *batch) { return batch->at >= batch->length; }
 
 /* The next byte. */
-static uint8_t take_byte(batch_t *batch) {
+static uint8_t take_byte(bytes_t *batch) {
     if (is_empty(batch)) stop("the batch ends too early");
     return batch->bytes[batch->at++];
 }
 
 static bool ends_word(uint8_t byte) { return byte == ' ' || byte == '\n'; }
 
-uint64_t take_number(batch_t *batch) {
+uint64_t take_number(bytes_t *batch) {
     uint64_t number = 0;
     uint8_t byte = take_byte(batch);
     do {
@@ -46,7 +46,7 @@ uint64_t take_number(batch_t *batch) {
     return number;
 }
 
-int64_t take_signed(batch_t *batch) {
+int64_t take_signed(bytes_t *batch) {
     bool minus = !is_empty(batch) && batch->bytes[batch->at] == '-';
     if (minus) batch->at++;
     uint64_t size = take_number(batch);
@@ -55,7 +55,7 @@ int64_t take_signed(batch_t *batch) {
     return size == 0 ? 0 : -(int64_t)(size - 1) - 1;
 }
 
-bool take_word(batch_t *batch, const char *word) {
+bool take_word(bytes_t *batch, const char *word) {
     size_t length = strlen(word);
     if (batch->length - batch->at <= length || memcmp(batch->bytes + batch->at, word, length) != 0) return false;
     if (!ends_word(batch->bytes[batch->at + length])) return false;
@@ -63,9 +63,9 @@ bool take_word(batch_t *batch, const char *word) {
     return true;
 }
 
-batch_t take_bytes(batch_t *batch, size_t count) {
+bytes_t take_bytes(bytes_t *batch, size_t count) {
     if (count > batch->length - batch->at) stop("the batch ends too early");
-    batch_t bytes = {batch->bytes + batch->at, count, 0};
+    bytes_t bytes = {batch->bytes + batch->at, count, 0};
     batch->at += count;
     return bytes;
 }

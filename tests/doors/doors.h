@@ -10,33 +10,34 @@
 
 /* ---- batch.c: the input, taken from its front ---- */
 
+/* Some bytes, of which the first `at` have been taken. */
 typedef struct {
     const uint8_t *bytes;
     size_t length, at;
-} batch_t;
+} bytes_t;
 
 /* The whole of standard input. */
-batch_t standard_input(void);
+bytes_t standard_input(void);
 
-bool is_empty(const batch_t *batch);
+bool is_empty(const bytes_t *batch);
 
 /* The next word and the one byte after it, a blank or LF: a number, a number with a sign, or whether it is this word. Each stops the program where
  * the batch has none such. */
-uint64_t take_number(batch_t *batch);
-int64_t take_signed(batch_t *batch);
-bool take_word(batch_t *batch, const char *word);
+uint64_t take_number(bytes_t *batch);
+int64_t take_signed(bytes_t *batch);
+bool take_word(bytes_t *batch, const char *word);
 
 /* So many bytes as they stand. */
-batch_t take_bytes(batch_t *batch, size_t count);
+bytes_t take_bytes(bytes_t *batch, size_t count);
 
 /* Stops the program with 2 and a message. */
 _Noreturn void stop(const char *message);
 
 /* ---- lent.c: memory for one case, that tells whether more of it was touched than was lent ---- */
 
-/* A copy of some bytes that can be read alone; neither the byte before the page where it begins nor the one after its last can be touched. */
+/* A copy of some bytes that can only be read; the byte after its last cannot be touched. */
 const void *shown(const void *bytes, size_t size);
-batch_t shown_bytes(batch_t bytes);
+bytes_t shown_bytes(bytes_t bytes);
 
 /* So many elements, each holding the mark; they are followed by guards, and the byte before the first cannot be touched. */
 uint64_t *lent_numbers(size_t count, uint64_t mark);
@@ -64,7 +65,7 @@ typedef struct {
 lists_t lent_lists(size_t identifiers, size_t exponents, size_t comments, size_t rows);
 
 /* A file read into the lists: whole, or at the front of the bytes. */
-sp3_reading_t read_into(batch_t file, bool front, lists_t lists);
+sp3_reading_t read_into(bytes_t file, bool front, lists_t lists);
 
 /* ---- print.c: answers as text ---- */
 
@@ -103,20 +104,20 @@ bool same_row(sp3_row_t one, sp3_row_t other);
 /* Whether both parts of a row are absent. */
 bool is_no_row(sp3_row_t row);
 
-/* Tells where an answer about a file says more than it may: a line or a header beside no reason for it. */
+/* Tells a line beside no refusal, and a length or header beside one. */
 void check_reading(sp3_reading_t reading);
 
 /* ---- the formats: one case each, and its answer ---- */
 
-void tables_case(batch_t *batch);
-void forms_case(batch_t *batch);
-void stretches_case(batch_t *batch);
-void dates_case(batch_t *batch);
+void tables_case(bytes_t *batch);
+void forms_case(bytes_t *batch);
+void stretches_case(bytes_t *batch);
+void dates_case(bytes_t *batch);
 
 /* ---- lines.c ---- */
 
 /* A file read line by line by the plain line reader, with room for so many names. */
-void lines_shown(batch_t file, size_t room);
+void lines_shown(bytes_t file, size_t room);
 
 /* Where a walk by lines with these names ends: the refusal (0 at the EOF line) and the number of that line. */
 typedef struct {
@@ -124,7 +125,7 @@ typedef struct {
     uint64_t line;
 } line_end_t;
 
-line_end_t walked_lines(batch_t file, const uint64_t *names, size_t count);
+line_end_t walked_lines(bytes_t file, const uint64_t *names, size_t count);
 
 /* A place after k lines: its byte, the kind of line due there, and the satellites and epochs still to come. */
 void place_out(const char *word, uint64_t k, sp3_place_t place);

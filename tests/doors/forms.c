@@ -80,7 +80,7 @@ static void write_out(sp3_header_t header, lists_t lists, size_t room) {
 }
 
 /* A file read into these lists and written again. */
-static void file_out(batch_t file, lists_t lists, size_t room) {
+static void file_out(bytes_t file, lists_t lists, size_t room) {
     sp3_reading_t reading = read_into(file, false, lists);
     printf("read %zu %" PRIu64 "\n", reading.refusal, reading.line);
     check_reading(reading);
@@ -88,25 +88,25 @@ static void file_out(batch_t file, lists_t lists, size_t room) {
 }
 
 /* Lists with just the room that a file needs. */
-static lists_t needed_lists(batch_t file) {
+static lists_t needed_lists(bytes_t file) {
     sp3_header_t header = sp3_judge(file.bytes, file.length).header;
     size_t rows = header.satellites * header.epochs * (header.velocity ? 2 : 1);
     return lent_lists(header.satellites, header.satellites, header.comments * SP3_COMMENT_WIDTH, rows * SP3_ROW_WIDTH);
 }
 
 /* The lists of a table, in the order of the batch. */
-static lists_t lists_of(batch_t *text, const uint64_t lengths[4]) {
+static lists_t lists_of(bytes_t *text, const uint64_t lengths[4]) {
     lists_t lists = lent_lists(lengths[0], lengths[1], lengths[2], lengths[3]);
     for (size_t i = 0; i < lists.identifier_room; i++) lists.identifiers[i] = take_number(text);
     for (size_t i = 0; i < lists.exponent_room; i++) lists.exponents[i] = take_number(text);
     for (size_t i = 0; i < lists.row_room; i++) lists.rows[i] = take_signed(text);
-    batch_t comments = take_bytes(text, lists.comment_room);
+    bytes_t comments = take_bytes(text, lists.comment_room);
     if (comments.length > 0) memcpy(lists.comments, comments.bytes, comments.length);
     return lists;
 }
 
 /* A table made by numbers: its header, then the table written. */
-static void table_out(batch_t text, size_t room) {
+static void table_out(bytes_t text, size_t room) {
     uint64_t n[ARGUMENTS], rest[6];
     for (size_t k = 0; k < ARGUMENTS; k++) n[k] = take_number(&text);
     for (size_t k = 0; k < 6; k++) rest[k] = take_number(&text);
@@ -120,14 +120,15 @@ static void table_out(batch_t text, size_t room) {
     write_out(changed(answer.header, n, rest[0], rest[1]), lists_of(&text, rest + 2), room);
 }
 
-void forms_case(batch_t *batch) {
+void forms_case(bytes_t *batch) {
     uint64_t kind = take_number(batch), room = take_number(batch), length = take_number(batch);
-    batch_t bytes = take_bytes(batch, length);
+    if (kind > 2) stop("a case is a file (0, 2) or a table (1)");
+    bytes_t bytes = take_bytes(batch, length);
     printf("%s %" PRIu64 " %" PRIu64 "\n", kind == 1 ? "table" : "file", room, length);
     if (kind == 1) {
         table_out(bytes, room);
         return;
     }
-    batch_t file = shown_bytes(bytes);
+    bytes_t file = shown_bytes(bytes);
     file_out(file, kind == 0 ? lent_lists(300, 300, 8000, 8000) : needed_lists(file), room);
 }

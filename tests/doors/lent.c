@@ -50,7 +50,7 @@ const void *shown(const void *bytes, size_t size) {
     return copy;
 }
 
-batch_t shown_bytes(batch_t bytes) { return (batch_t){shown(bytes.bytes, bytes.length), bytes.length, 0}; }
+bytes_t shown_bytes(bytes_t bytes) { return (bytes_t){shown(bytes.bytes, bytes.length), bytes.length, 0}; }
 
 /* What the guard at this place holds. */
 static uint8_t guard_at(size_t place) { return (uint8_t)(0xa5 ^ place * 37); }
@@ -118,7 +118,7 @@ lists_t lent_lists(size_t identifiers, size_t exponents, size_t comments, size_t
     };
 }
 
-sp3_reading_t read_into(batch_t file, bool front, lists_t lists) {
+sp3_reading_t read_into(bytes_t file, bool front, lists_t lists) {
     return (front ? sp3_read_front : sp3_read)(file.bytes, file.length, lists.identifiers, lists.identifier_room, lists.exponents,
                                                lists.exponent_room, lists.comments, lists.comment_room, lists.rows, lists.row_room);
 }

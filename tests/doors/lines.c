@@ -28,7 +28,7 @@ static bool line_out(uint64_t k, sp3_line_answer_t line, sp3_place_t at) {
 }
 
 /* Where the byte of a place is past the last, no line is left. */
-static void check_no_line(batch_t file, size_t at, uint64_t *names, size_t room) {
+static void check_no_line(bytes_t file, size_t at, uint64_t *names, size_t room) {
     sp3_place_t place = sp3_first_place();
     place.at = at;
     sp3_line_answer_t none = {1, 0, false, place};
@@ -37,7 +37,7 @@ static void check_no_line(batch_t file, size_t at, uint64_t *names, size_t room)
 }
 
 /* With all names known the walker's step finds at each line what the line reader found. */
-static void check_known(batch_t file, const uint64_t *names, size_t count) {
+static void check_known(bytes_t file, const uint64_t *names, size_t count) {
     const uint64_t *known = shown(names, count * sizeof *known);
     uint64_t *again = lent_numbers(count, NUMBER_MARK);
     sp3_place_t at = sp3_first_place();
@@ -52,33 +52,35 @@ static void check_known(batch_t file, const uint64_t *names, size_t count) {
 }
 
 /* With room for all names the reader ends where the file at the front is judged to. */
-static void check_judged(batch_t file, uint64_t k, sp3_line_answer_t last) {
+static void check_judged(bytes_t file, uint64_t k, sp3_line_answer_t last) {
     sp3_reading_t front = sp3_judge_front(file.bytes, file.length);
     bool same = last.finished ? front.refusal == 0 && front.length == last.next.at : front.refusal == last.refusal && front.line == k;
     check(same, "a file read by lines and judged");
 }
 
-void lines_shown(batch_t file, size_t room) {
-    uint64_t *names = lent_numbers(room, NUMBER_MARK), k = 0;
+static void names_out(const uint64_t *names, size_t count) {
+    fputs("names", stdout);
+    for (size_t i = 0; i < count; i++) value(names[i]);
+    putchar('\n');
+}
+
+void lines_shown(bytes_t file, size_t room) {
+    uint64_t *names = lent_numbers(room, NUMBER_MARK), k = 1;
     sp3_place_t at = sp3_first_place();
-    sp3_line_answer_t line;
-    do {
+    sp3_line_answer_t line = sp3_read_line(file.bytes, file.length, at, names, room);
+    while (!line_out(k, line, at)) {
+        at = line.next;
         line = sp3_read_line(file.bytes, file.length, at, names, room);
         k++;
-        bool last = line_out(k, line, at);
-        if (last) break;
-        at = line.next;
-    } while (true);
-    fputs("names", stdout);
-    for (size_t i = 0; i < room; i++) value(names[i]);
-    putchar('\n');
+    }
+    names_out(names, room);
     check_known(file, names, room);
     if (room >= 255) check_judged(file, k, line);
     check_no_line(file, file.length, names, room);
     check_no_line(file, SIZE_MAX, names, room);
 }
 
-line_end_t walked_lines(batch_t file, const uint64_t *names, size_t count) {
+line_end_t walked_lines(bytes_t file, const uint64_t *names, size_t count) {
     sp3_place_t at = sp3_first_place();
     for (uint64_t k = 1;; k++) {
         sp3_line_answer_t line = sp3_next_line(file.bytes, file.length, names, count, at);

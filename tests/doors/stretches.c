@@ -12,7 +12,7 @@ typedef struct {
 
 static void kept_out(const uint64_t *list, size_t from, size_t count) { puts(numbers_kept(list, from, count) ? "kept" : "changed"); }
 
-static void divide_out(batch_t bytes, size_t room) {
+static void divide_out(bytes_t bytes, size_t room) {
     uint64_t *lengths = lent_numbers(room, NUMBER_MARK);
     sp3_division_t division = sp3_divide(bytes.bytes, bytes.length, lengths, room);
     printf("divide %zu %" PRIu64 " %" PRIu64 " %zu\n", division.refusal, division.line, division.count, division.rest);
@@ -39,7 +39,7 @@ static void row_out(sp3_row_step_t step) {
 }
 
 /* How a walk over rows ends: the place stays, there is no row, and lines walked one by one end the same way. */
-static void walk_end_out(batch_t file, names_t names, sp3_row_step_t step, sp3_row_walk_t from) {
+static void walk_end_out(bytes_t file, names_t names, sp3_row_step_t step, sp3_row_walk_t from) {
     if (step.end) {
         puts("end");
     } else {
@@ -53,7 +53,7 @@ static void walk_end_out(batch_t file, names_t names, sp3_row_step_t step, sp3_r
 }
 
 /* Each row of a file that was accepted is the one that the row question gives; of many rows some twenty are asked for. */
-static void check_row(batch_t file, sp3_header_t header, sp3_row_step_t step) {
+static void check_row(bytes_t file, sp3_header_t header, sp3_row_step_t step) {
     uint64_t count = header.satellites * header.epochs, k = step.epoch * header.satellites + step.satellite;
     if (header.epochs == 0 || k % (1 + count / 20) != 0) return;
     sp3_row_answer_t answer = sp3_row(file.bytes, file.length, step.epoch, step.satellite);
@@ -61,7 +61,7 @@ static void check_row(batch_t file, sp3_header_t header, sp3_row_step_t step) {
 }
 
 /* The rows of a file in order; a file has no more rows than bytes. */
-static void rows_out(batch_t file, names_t names, sp3_header_t header) {
+static void rows_out(bytes_t file, names_t names, sp3_header_t header) {
     sp3_row_walk_t from = sp3_first_row();
     for (size_t left = file.length + 1; left > 0; left--) {
         sp3_row_step_t step = sp3_next_row(file.bytes, file.length, names.list, names.count, from);
@@ -76,18 +76,18 @@ static void rows_out(batch_t file, names_t names, sp3_header_t header) {
     puts("more rows than bytes");
 }
 
-static size_t line_count(batch_t bytes) {
+static size_t line_count(bytes_t bytes) {
     size_t count = 0;
     for (size_t i = 0; i < bytes.length; i++) count += bytes.bytes[i] == '\n';
     return count;
 }
 
-static sp3_place_t after(batch_t file, names_t names, sp3_place_t place, size_t lines) {
+static sp3_place_t after(bytes_t file, names_t names, sp3_place_t place, size_t lines) {
     return sp3_after_lines(file.bytes, file.length, names.list, names.count, place, lines);
 }
 
 /* The places after no line, one, three, half of them, all of them in two steps and in one, and five more. */
-static void places_out(batch_t file, names_t names) {
+static void places_out(bytes_t file, names_t names) {
     size_t all = line_count(file);
     sp3_place_t first = sp3_first_place(), half = after(file, names, first, all / 2);
     place_out("place", 0, after(file, names, first, 0));
@@ -100,7 +100,7 @@ static void places_out(batch_t file, names_t names) {
 }
 
 /* A file walked with the identifiers that sp3_begin leaves; with the given names where it is refused. */
-static void walk_out(batch_t file, size_t room, names_t given) {
+static void walk_out(bytes_t file, size_t room, names_t given) {
     uint64_t *identifiers = lent_numbers(room, NUMBER_MARK);
     sp3_reading_t reading = sp3_begin(file.bytes, file.length, identifiers, room);
     sp3_header_t header = reading.header;
@@ -120,14 +120,14 @@ static void walk_out(batch_t file, size_t room, names_t given) {
     places_out(file, names);
 }
 
-void stretches_case(batch_t *batch) {
+void stretches_case(bytes_t *batch) {
     uint64_t room = take_number(batch), way = take_number(batch), identifiers = take_number(batch), count = take_number(batch);
     uint64_t length = take_number(batch);
-    if (count > length && count > 1 << 20) stop("too many names");
+    if (way > 2) stop("a stretch is divided (0), walked (1) or read by lines (2)");
     uint64_t *names = lent_numbers(count, 0);
     for (size_t i = 0; i < count; i++) names[i] = take_number(batch);
     names_t given = {shown(names, count * sizeof *names), count};
-    batch_t bytes = shown_bytes(take_bytes(batch, length));
+    bytes_t bytes = shown_bytes(take_bytes(batch, length));
     printf("case %zu\n", bytes.length);
     divide_out(bytes, room);
     if (way == 1) walk_out(bytes, identifiers, given);

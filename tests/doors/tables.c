@@ -189,7 +189,7 @@ static void sums_out(lists_t lists) {
 
 /* ---- questions ---- */
 
-static void ask_comment(batch_t file, uint64_t k) {
+static void ask_comment(bytes_t file, uint64_t k) {
     sp3_comment_answer_t answer = sp3_comment(file.bytes, file.length, k);
     bool within = answer.at <= file.length && answer.length <= file.length - answer.at;
     fputs("comment", stdout);
@@ -211,7 +211,7 @@ static void check_identifier(uint64_t identifier) {
     if (is_one) check(sp3_identifier(shown(text, 3), 3) == identifier, "an identifier by its text");
 }
 
-static void ask_satellite(batch_t file, uint64_t identifier) {
+static void ask_satellite(bytes_t file, uint64_t identifier) {
     sp3_satellite_answer_t answer = sp3_satellite_of(file.bytes, file.length, identifier);
     fputs("satellite", stdout);
     value(answer.refusal);
@@ -221,7 +221,7 @@ static void ask_satellite(batch_t file, uint64_t identifier) {
     check_identifier(identifier);
 }
 
-static void ask_row(batch_t file, uint64_t epoch, uint64_t satellite) {
+static void ask_row(bytes_t file, uint64_t epoch, uint64_t satellite) {
     sp3_row_answer_t answer = sp3_row(file.bytes, file.length, epoch, satellite);
     sp3_row_t row = answer.row;
     fputs("row", stdout);
@@ -242,7 +242,7 @@ static void ask_row(batch_t file, uint64_t epoch, uint64_t satellite) {
 /* ---- one case ---- */
 
 /* Reads into lists of the lengths that the case says; the header must be that of the judgement, where the file is read. */
-static void read_out(const char *word, batch_t file, bool front, const size_t rooms[4], sp3_reading_t judged) {
+static void read_out(const char *word, bytes_t file, bool front, const size_t rooms[4], sp3_reading_t judged) {
     lists_t lists = lent_lists(rooms[0], rooms[1], rooms[2], rooms[3]);
     sp3_reading_t reading = read_into(file, front, lists);
     told(word, reading);
@@ -252,10 +252,10 @@ static void read_out(const char *word, batch_t file, bool front, const size_t ro
     if (!front) table_out(reading.header, lists);
 }
 
-void tables_case(batch_t *batch) {
+void tables_case(bytes_t *batch) {
     uint64_t numbers[9];
     for (size_t k = 0; k < 9; k++) numbers[k] = take_number(batch);
-    batch_t file = shown_bytes(take_bytes(batch, numbers[0]));
+    bytes_t file = shown_bytes(take_bytes(batch, numbers[0]));
     size_t rooms[4] = {numbers[1], numbers[2], numbers[3], numbers[4]};
     sp3_reading_t front = sp3_judge_front(file.bytes, file.length);
     sp3_reading_t whole = sp3_judge(file.bytes, file.length);
