@@ -27,10 +27,7 @@
 //!
 //! An instant and the seconds of a time of day are in 10^-8 s, an instant since
 //! MJD 0; seconds of week are whole. Directly after the LF of `identifier` stand
-//! so many bytes; the answer is 7107 for `G07`, 0 for a text that names none. The
-//! paper is silent on this question; it follows the definition, by which a
-//! capital letter and any two digits are a name (`G00` is 7100, which no header
-//! has).
+//! so many bytes; the answer is 7107 for `G07`, 0 for a text that names none.
 //!
 //! "The paper" is 01-scope.md.
 
@@ -78,9 +75,10 @@ fn moment_answer(instant: u64) -> String {
     format!("moment 0 {year} {month} {day} {hour} {minute} {seconds}\n")
 }
 
-/// A capital letter and two digits.
+/// "Identifiers are a capital letter and 01 to 99."
 fn identifier_answer(text: &[u8]) -> String {
     let number = match *text {
+        [_, b'0', b'0'] => 0,
         [letter @ b'A'..=b'Z', tens @ b'0'..=b'9', ones @ b'0'..=b'9'] => {
             100 * u64::from(letter) + 10 * u64::from(tens - b'0') + u64::from(ones - b'0')
         }
@@ -241,7 +239,7 @@ const IDENTIFIERS: &[(&[u8], &str)] = &[
     (b"G07", "identifier 7107\n"),
     (b"A01", "identifier 6501\n"),
     (b"Z99", "identifier 9099\n"),
-    (b"G00", "identifier 7100\n"),
+    (b"G00", "identifier 0\n"),
     (b"G 7", "identifier 0\n"),
     (b"g07", "identifier 0\n"),
     (b"@07", "identifier 0\n"),

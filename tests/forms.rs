@@ -56,7 +56,7 @@
 
 #[allow(dead_code)]
 #[path = "files.rs"]
-mod files;
+pub(crate) mod files;
 
 use files::lines::{self, fail, Exponent, Identifier, Moment, Random, Tally};
 use files::{answers, generated};
@@ -444,7 +444,7 @@ fn make_head(numbers: &Arguments) -> Result<Head, u8> {
 
 /// A table as a case gives it.
 #[derive(Clone)]
-struct Given {
+pub(crate) struct Given {
     numbers: Arguments,
     field: u64,
     value: u64,
@@ -464,13 +464,13 @@ impl Given {
         Ok(head_with(&numbers, if field == START { self.value } else { head.start }))
     }
 
-    fn write(&self, room: usize) -> Result<Vec<u8>, u8> {
+    pub(crate) fn write(&self, room: usize) -> Result<Vec<u8>, u8> {
         self.head().and_then(|head| write(&head, &self.lists, room))
     }
 }
 
 /// The table of an accepted file.
-fn given_of(file: &[u8]) -> Option<Given> {
+pub(crate) fn given_of(file: &[u8]) -> Option<Given> {
     let (table, _) = files::judge(file).ok()?;
     let start = moment_of(table.start as u64);
     let mut numbers = [0; ARGUMENTS];
