@@ -23,12 +23,12 @@ root=$(cd "$(dirname "$0")/.." && pwd -P)
 archive=$root/target/staticlib/libabi.a
 made=$root/target/compare
 
-# the compiler for x86-64, and how its programs are run
+# the compiler for x86-64, and the emulator for its programs where one is needed
+x86_emulator=
 if [ -f "$root/tests/x86.sh" ]; then
     . "$root/tests/x86.sh"
 else
     x86_cc() { gcc "$@"; }
-    x86_run() { "$@"; }
 fi
 
 # whether a file is missing or older than one of the others
@@ -65,10 +65,11 @@ build_driver() {
     fi
 }
 
-# an oracle stands on others by their paths
+# an oracle stands on others by their paths; it is first compared with what was worked out by hand
 build_oracle() {
-    if stale "$made/$1" "$root"/tests/lines.rs "$root"/tests/files.rs "$root/tests/$1.rs"; then
+    if stale "$made/$1" "$root/tests/lines.rs" "$root/tests/files.rs" "$root/tests/$1.rs"; then
         rustc -O --edition 2021 -o "$made/$1.new" "$root/tests/$1.rs"
+        "$made/$1.new" self-test >/dev/null
         mv "$made/$1.new" "$made/$1"
     fi
 }
@@ -80,10 +81,14 @@ build() {
     for oracle in files forms stretches dates; do build_oracle "$oracle"; done
 }
 
+run() {
+    ${x86_emulator:+"$x86_emulator"} "$made/doors" "$1"
+}
+
 # one format of the doors, so many inputs; what is printed is kept for the sum
 compare_format() {
     echo "$1"
-    if ! "$made/$(oracle_of "$1")" any compare "$seed" "$2" "$0" run "$1" >"$work/said"; then
+    if ! "$made/$(oracle_of "$1")" any compare "$seed" "$2" ${x86_emulator:+"$x86_emulator"} "$made/doors" "$1" >"$work/said"; then
         cat "$work/said"
         sed -n "s/^seed \([0-9]*\) case \([0-9]*\):.*/tests\/compare.sh case $1 \1 \2 shows it/p" "$work/said"
         exit 1
@@ -136,7 +141,7 @@ show_case() {
     oracle=$made/$(oracle_of "$1")
     "$oracle" any case "$2" "$3" | tee "$work/case"
     "$oracle" answer <"$work/case" >"$work/wanted"
-    x86_run "$made/doors" "$1" <"$work/case" >"$work/found" || echo "doors ended with $?"
+    run "$1" <"$work/case" >"$work/found" || echo "doors ended with $?"
     echo
     if cmp -s "$work/wanted" "$work/found"; then
         echo "both answer:"
@@ -148,7 +153,7 @@ show_case() {
 }
 
 case "$# ${1:-} ${2:-}" in
-"2 run "*) x86_run "$made/doors" "$2" ;;
+"2 run "*) run "$2" ;;
 "1 build ") build ;;
 "4 case tables" | "4 case forms" | "4 case stretches" | "4 case dates") show_case "$2" "$3" "$4" ;;
 [1-3]" tables "* | [1-3]" forms "* | [1-3]" stretches "*) compare_program "$@" ;;
