@@ -1746,7 +1746,7 @@ const LARGE_ROWS: usize = 3000;
 /// More satellites, epochs or comments than the programs have room for: any
 /// number of satellites, and as many epochs as give so many rows at most.
 fn choose_large_plan(random: &mut Random) -> Plan {
-    let number = match random.below(3) {
+    let number = match random.below(5) {
         0 => *random.pick(&[85, 86, 254, 255, 255, 255]),
         1 => 1 + random.below(9),
         _ => 1 + random.below(255),
@@ -2501,7 +2501,7 @@ pub(crate) fn generate_file(random: &mut Random) -> (Plan, Vec<u8>) {
 /// Files of any size, with damages of every kind; where there are two of them
 /// both stay.
 pub(crate) fn generate_any_file(random: &mut Random) -> (Plan, Vec<u8>) {
-    let mut plan = match random.below(12) {
+    let mut plan = match random.below(10) {
         0 => choose_large_plan(random),
         1..=2 => choose_night_plan(random),
         _ => choose_plan(random),
@@ -2696,8 +2696,7 @@ fn stored_cases() -> Vec<Case> {
 // Counting and comparing
 // ---------------------------------------------------------------------------
 
-/// How many of the things counted lie in each of these spans, told by their
-/// least numbers.
+/// A name and the span in which a number lies, of those with these least numbers.
 fn span_of(name: &str, least: &[usize], number: usize) -> String {
     let place = least.iter().rposition(|&least| least <= number).unwrap_or_default();
     match least.get(place + 1) {
@@ -2707,39 +2706,45 @@ fn span_of(name: &str, least: &[usize], number: usize) -> String {
     }
 }
 
+/// What the epochs of a file lie over.
+fn kinds_of_days(table: &Table) -> Vec<(&'static str, bool)> {
+    let days = (0..table.epochs).map(|k| (table.start + k as i64 * table.interval) / DAY);
+    let dates: Vec<(i64, i64, i64)> = days.map(date_of).collect();
+    let some_step = |turns: fn(&[(i64, i64, i64)]) -> bool| dates.windows(2).any(turns);
+    vec![
+        ("epochs over a midnight", some_step(|pair| pair[0] != pair[1])),
+        ("epochs over the end of a month", some_step(|pair| pair[0].1 != pair[1].1)),
+        ("epochs over the end of a year", some_step(|pair| pair[0].0 != pair[1].0)),
+        ("epochs on a leap day", dates.iter().any(|date| (date.1, date.2) == (2, 29))),
+    ]
+}
+
+/// What is in some row of a file.
+fn kinds_of_rows(rows: &[Row]) -> Vec<(&'static str, bool)> {
+    let some = |holds: fn(&Row) -> bool| rows.iter().any(holds);
+    let blank = |row: &Row| row.exponents.contains(&UNKNOWN) && row.exponents != [UNKNOWN; 4];
+    vec![
+        ("a place absent", some(Row::place_is_absent)),
+        ("a clock absent", some(Row::clock_is_absent)),
+        ("both absent", some(|row| row.place_is_absent() && row.clock_is_absent())),
+        ("one or two coordinates zero", some(|r| !r.place_is_absent() && r.place.contains(&0))),
+        ("an exponent unknown beside one that is not", some(blank)),
+    ]
+}
+
 /// What an accepted file has of what the format allows.
 fn kinds_of_table(table: &Table, file: &[u8]) -> Vec<String> {
-    let days: Vec<i64> =
-        (0..table.epochs).map(|k| (table.start + k as i64 * table.interval) / DAY).collect();
-    let is_leap_day = |&day: &i64| matches!(date_of(day), (_, 2, 29));
-    let some_row = |holds: fn(&Row) -> bool| table.rows.iter().any(holds);
-    let named = [
+    let mut lines = file.split(|&c| c == b'\n');
+    let correlation = lines.any(|line| line.starts_with(b"EP") || line.starts_with(b"EV"));
+    let mut named = vec![
         ("accepted", true),
         ("mode P", !table.velocities),
         ("mode V", table.velocities),
-        ("epochs over a midnight", days.first() != days.last()),
-        (
-            "epochs over the end of a month",
-            days.windows(2).any(|pair| date_of(pair[0]).1 != date_of(pair[1]).1),
-        ),
-        ("epochs on a leap day", days.iter().any(is_leap_day)),
-        ("a place absent", some_row(Row::place_is_absent)),
-        ("a clock absent", some_row(Row::clock_is_absent)),
-        ("both absent", some_row(|row| row.place_is_absent() && row.clock_is_absent())),
-        (
-            "one or two coordinates zero",
-            some_row(|row| !row.place_is_absent() && row.place.contains(&0)),
-        ),
-        (
-            "an exponent unknown beside one that is not",
-            some_row(|row| row.exponents.contains(&UNKNOWN) && row.exponents != [UNKNOWN; 4]),
-        ),
-        (
-            "EP or EV",
-            file.split(|&c| c == b'\n').any(|line| line.starts_with(b"E") && line != b"EOF"),
-        ),
+        ("EP or EV", correlation),
         ("comments, more than four", table.comments.len() > 4),
     ];
+    named.extend(kinds_of_days(table));
+    named.extend(kinds_of_rows(&table.rows));
     let mut kinds: Vec<String> =
         named.iter().filter(|(_, holds)| *holds).map(|(name, _)| name.to_string()).collect();
     kinds.push(span_of("satellites", &[1, 2, 6, 17, 18, 86, 200, 255, 256], table.satellites()));
