@@ -120,7 +120,7 @@ static void rows_out(sp3_header_t header, lists_t lists) {
 static void check_not_there(lists_t lists, size_t k, size_t which) {
     sp3_stored_exponent_t exponent = sp3_exponent_of(lists.rows, lists.row_room, k, which);
     sp3_stored_flag_t flag = sp3_flag_of(lists.rows, lists.row_room, k, which);
-    check(exponent.refusal == 13 && !exponent.unknown && !exponent.too_large && exponent.value == 0, "an exponent that is not there");
+    check(exponent.refusal == 13 && exponent.unknown && !exponent.too_large && exponent.value == 0, "an exponent that is not there");
     check(flag.refusal == 13 && !flag.set, "a flag that is not there");
 }
 
