@@ -41,8 +41,13 @@
 extern "C" {
 #endif
 
-/* The numbers of one stored row, and the bytes of one stored comment. */
-enum { SP3_ROW_WIDTH = 12, SP3_COMMENT_WIDTH = 77 };
+/* The numbers of one stored row, and the bytes of one stored comment.
+ *
+ * A stored row, as sp3_read leaves it and sp3_write takes it: x, y, z, clock; their four exponents, 0 to 99 (0 to 999 for the clock) or
+ * SP3_UNKNOWN; four flags, 0 or 1. A place that is absent is stored as three zeros, an absent clock as SP3_NO_CLOCK: nobody should take these numbers
+ * for a place, so ask sp3_place_of and sp3_clock_of instead of counting. No number is above 999,999,999,999 or below minus that. */
+enum { SP3_ROW_WIDTH = 12, SP3_COMMENT_WIDTH = 77, SP3_UNKNOWN = 1000 };
+#define SP3_NO_CLOCK INT64_C(999999999999)
 
 /* A date and a time of day, the seconds in 10^-8 s. */
 typedef struct {
@@ -98,16 +103,21 @@ sp3_reading_t sp3_read_front(const uint8_t *stretch, size_t length, uint64_t *id
 
 /* ---- Writing ---- */
 
-/* `length` is the number of bytes written. */
+/* `length` is the number of bytes of the form. */
 typedef struct {
     size_t refusal, length;
 } sp3_measured_t;
 
 /* Writes the canonical form of a table into the first bytes of `out`. Places of the lists past the header's counts are not looked at.
- * Refused: 13 where the table is not valid (an exponent of 1000, a list shorter than its count); then 12 where `out` is one byte too short. */
+ * Refused: 13 where the table is not valid (1000 among the exponents of the header, a flag of 2, a list shorter than its count); then 12 where `out` is one
+ * byte too short. */
 sp3_measured_t sp3_write(sp3_header_t header, const uint64_t *identifiers, size_t identifier_count, const uint64_t *exponents,
                          size_t exponent_count, const uint8_t *comments, size_t comment_bytes, const int64_t *rows, size_t row_numbers,
                          uint8_t *out, size_t out_room);
+
+/* How many bytes sp3_write would write, so that just so many can be lent. Refused: 13 where the table is not valid. */
+sp3_measured_t sp3_form_length(sp3_header_t header, const uint64_t *identifiers, size_t identifier_count, const uint64_t *exponents,
+                               size_t exponent_count, const uint8_t *comments, size_t comment_bytes, const int64_t *rows, size_t row_numbers);
 
 /* What a header is made of; `mode` is 'P' or 'V'. */
 typedef struct {
@@ -175,7 +185,7 @@ typedef struct {
 } sp3_division_t;
 
 /* Divides a stretch of files laid end to end; their lengths go to the first places of `lengths`, also where the rest is refused. An empty stretch is 0
- * files, refusal 0. Refused: 12 alone, all other parts 0, where there are more files than places. 11 never occurs. */
+ * files, refusal 0. Refused: 12 alone, all other parts 0, where there are more files than places; the rest itself is never refused with 11 or 12. */
 sp3_division_t sp3_divide(const uint8_t *stretch, size_t length, uint64_t *lengths, size_t room);
 
 /* ---- Questions about one whole file: the file's own refusal first, then 13 with line 0 ---- */
@@ -190,7 +200,8 @@ typedef struct {
 /* Where the text of comment k lies: from column 4 on, trailing blanks cut. Refused: 13 for comment 4 of a file that has four. */
 sp3_comment_answer_t sp3_comment(const uint8_t *file, size_t length, uint64_t k);
 
-/* The identifier of a text of three bytes as the one number by which it is stored: 7107 for "G07"; 0, which is no satellite, for "G 7" or "g07". */
+/* The identifier of a text of three bytes as the one number by which it is stored: 7107 for "G07"; 0, which is no satellite, for "G 7", "g07"
+ * or "G00". */
 uint64_t sp3_identifier(const uint8_t *text, size_t length);
 
 typedef struct {
@@ -261,7 +272,8 @@ typedef struct {
 sp3_place_t sp3_first_place(void);
 
 /* The plain line reader: what the line at a place does. A `+ ` line without fault leaves its identifiers in `names` (255 places suffice), after those
- * of the lines before it; no other line changes `names`. Refused: 1 where no LF is left. */
+ * of the lines before it; no other line changes `names`. With fewer places than satellites the row of one that found no place is 10. Refused: 1 where no LF
+ * is left. */
 sp3_line_answer_t sp3_read_line(const uint8_t *file, size_t length, sp3_place_t place, uint64_t *names, size_t name_room);
 
 /* The walker's step, where all identifiers of the header are known (sp3_begin): what the line at its place does. Refused: as sp3_read_line. */

@@ -1,4 +1,8 @@
 // Rows in lent memory, asked for by name.
+ghost use mathlib.Core.Path.{_≡_};
+ghost use mathlib.Core.Bool.{Bool};
+ghost use Rattle.stored.specs.Stored.{placeIn, clockIn, deviationIn, flagIn};
+ghost use Rattle.abi.specs.Doors.{noPlace, noClock, exponentParts, flagParts, placeDoor, clockDoor, exponentDoor, flagDoor};
 use crate::types::StoredClock;
 use crate::types::StoredExponent;
 use crate::types::StoredFlag;
@@ -12,7 +16,9 @@ use stored::Place;
 const NO_NUMBER: i64 = -9_223_372_036_854_775_808;
 
 // No place, absent or not there.
-fn no_place(refusal: usize) -> StoredPlace {
+fn no_place(refusal: usize) -> StoredPlace
+    ensures { λ r. ⌜ r ≡ noPlace refusal ⌝ }
+{
     StoredPlace {
         refusal,
         absent: true,
@@ -22,10 +28,11 @@ fn no_place(refusal: usize) -> StoredPlace {
     }
 }
 
-// The place or velocity of the k-th stored row.
-#[no_mangle]
-pub extern "C" fn sp3_place_of(rows: &[i64], k: usize) -> StoredPlace {
-    match stored::place_of(rows, k) {
+// A place, for C.
+fn place_answer(found: Place) -> StoredPlace
+    ensures { λ r. ⌜ r ≡ placeDoor found ⌝ }
+{
+    match found {
         Place::At { x, y, z } => StoredPlace {
             refusal: 0,
             absent: false,
@@ -38,8 +45,18 @@ pub extern "C" fn sp3_place_of(rows: &[i64], k: usize) -> StoredPlace {
     }
 }
 
+// The place or velocity of the k-th stored row.
+#[no_mangle]
+pub extern "C" fn sp3_place_of(rows: &[i64], k: usize) -> StoredPlace
+    ensures result { λ r. ⌜ r ≡ placeDoor (placeIn (now (rows .entry)) k) ⌝ }
+{
+    place_answer(stored::place_of(rows, k))
+}
+
 // No clock, absent or not there.
-fn no_clock(refusal: usize) -> StoredClock {
+fn no_clock(refusal: usize) -> StoredClock
+    ensures { λ r. ⌜ r ≡ noClock refusal ⌝ }
+{
     StoredClock {
         refusal,
         absent: true,
@@ -47,10 +64,11 @@ fn no_clock(refusal: usize) -> StoredClock {
     }
 }
 
-// The clock or rate of the k-th stored row.
-#[no_mangle]
-pub extern "C" fn sp3_clock_of(rows: &[i64], k: usize) -> StoredClock {
-    match stored::clock_of(rows, k) {
+// A clock, for C.
+fn clock_answer(found: ClockRead) -> StoredClock
+    ensures { λ r. ⌜ r ≡ clockDoor found ⌝ }
+{
+    match found {
         ClockRead::At(clock) => StoredClock {
             refusal: 0,
             absent: false,
@@ -61,8 +79,18 @@ pub extern "C" fn sp3_clock_of(rows: &[i64], k: usize) -> StoredClock {
     }
 }
 
+// The clock or rate of the k-th stored row.
+#[no_mangle]
+pub extern "C" fn sp3_clock_of(rows: &[i64], k: usize) -> StoredClock
+    ensures result { λ r. ⌜ r ≡ clockDoor (clockIn (now (rows .entry)) k) ⌝ }
+{
+    clock_answer(stored::clock_of(rows, k))
+}
+
 // The parts of an exponent.
-fn exponent(refusal: usize, unknown: bool, too_large: bool, value: u64) -> StoredExponent {
+fn exponent(refusal: usize, unknown: bool, too_large: bool, value: u64) -> StoredExponent
+    ensures { λ r. ⌜ r ≡ exponentParts refusal unknown «too_large» value ⌝ }
+{
     StoredExponent {
         refusal,
         unknown,
@@ -71,32 +99,48 @@ fn exponent(refusal: usize, unknown: bool, too_large: bool, value: u64) -> Store
     }
 }
 
-// The exponent of x, y, z or clock (0 to 3) of the k-th stored row.
-#[no_mangle]
-pub extern "C" fn sp3_exponent_of(rows: &[i64], k: usize, which: usize) -> StoredExponent {
-    match stored::exponent_of(rows, k, which) {
+// An exponent, for C.
+fn exponent_answer(found: Deviation) -> StoredExponent
+    ensures { λ r. ⌜ r ≡ exponentDoor found ⌝ }
+{
+    match found {
         Deviation::Value(value) => exponent(0, false, false, value),
         Deviation::Unknown => exponent(0, true, false, 0),
         Deviation::TooLarge => exponent(0, false, true, 0),
-        Deviation::NotThere => exponent(13, false, false, 0),
+        Deviation::NotThere => exponent(13, true, false, 0),
+    }
+}
+
+// The exponent of x, y, z or clock (0 to 3) of the k-th stored row.
+#[no_mangle]
+pub extern "C" fn sp3_exponent_of(rows: &[i64], k: usize, which: usize) -> StoredExponent
+    ensures result { λ r. ⌜ r ≡ exponentDoor (deviationIn (now (rows .entry)) k which) ⌝ }
+{
+    exponent_answer(stored::exponent_of(rows, k, which))
+}
+
+// The parts of a flag.
+fn flag(refusal: usize, set: bool) -> StoredFlag
+    ensures { λ r. ⌜ r ≡ flagParts refusal set ⌝ }
+{
+    StoredFlag { refusal, set }
+}
+
+// A flag, for C.
+fn flag_answer(found: Flag) -> StoredFlag
+    ensures { λ r. ⌜ r ≡ flagDoor found ⌝ }
+{
+    match found {
+        Flag::Set => flag(0, true),
+        Flag::NotSet => flag(0, false),
+        Flag::NotThere => flag(13, false),
     }
 }
 
 // The flag of column 75, 76, 79 or 80 (0 to 3) of the k-th stored row.
 #[no_mangle]
-pub extern "C" fn sp3_flag_of(rows: &[i64], k: usize, which: usize) -> StoredFlag {
-    match stored::flag_of(rows, k, which) {
-        Flag::Set => StoredFlag {
-            refusal: 0,
-            set: true,
-        },
-        Flag::NotSet => StoredFlag {
-            refusal: 0,
-            set: false,
-        },
-        Flag::NotThere => StoredFlag {
-            refusal: 13,
-            set: false,
-        },
-    }
+pub extern "C" fn sp3_flag_of(rows: &[i64], k: usize, which: usize) -> StoredFlag
+    ensures result { λ r. ⌜ r ≡ flagDoor (flagIn (now (rows .entry)) k which) ⌝ }
+{
+    flag_answer(stored::flag_of(rows, k, which))
 }

@@ -56,7 +56,8 @@ pub struct StoredClock {
     pub clock: i64,
 }
 
-// A stored exponent: the refusal (0 or 13), unknown and too large each a mark of its own; the value is 0 beside any of them.
+// A stored exponent: the refusal (0 or 13), unknown and too large each a mark of its own; the value is 0 beside any of them, and what is not there
+// is marked unknown.
 #[repr(C)]
 pub struct StoredExponent {
     pub refusal: usize,

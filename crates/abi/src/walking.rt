@@ -1,4 +1,13 @@
 // A file line by line, and row by row.
+ghost use mathlib.Core.Path.{_≡_};
+ghost use lib.ListN.{length};
+ghost use Rattle.header.specs.Rules.{d};
+ghost use Rattle.machine.specs.Step.{lineRead, lineNames};
+ghost use Rattle.reader.specs.Reading.{fileOf, judged};
+ghost use Rattle.walker.specs.Places.{firstPlace, placesAfter};
+ghost use Rattle.walk.specs.Begin.{begunAs, namesBegun};
+ghost use Rattle.walk.specs.Rows.{firstWalk, rowStep};
+ghost use Rattle.abi.specs.Doors.{lineParts, lineDoor, noRow, rowFound, rowDoor};
 use crate::types::LineAnswer;
 use crate::types::RowStepAnswer;
 use adjust::FloatRow;
@@ -11,44 +20,43 @@ use walker::Place;
 
 // Before the first line of a file.
 #[no_mangle]
-pub extern "C" fn sp3_first_place() -> Place {
+pub extern "C" fn sp3_first_place() -> Place
+    ensures result { λ r. ⌜ r ≡ firstPlace ⌝ }
+{
     walker::first_place()
 }
 
-// What a line was found to do at a place.
-fn line_answer(found: LineRead, place: Place) -> LineAnswer {
+// The parts of what a line does.
+fn line_parts(refusal: usize, column: usize, finished: bool, next: Place) -> LineAnswer
+    ensures { λ r. ⌜ r ≡ lineParts refusal column finished next ⌝ }
+{
+    LineAnswer {
+        refusal,
+        column,
+        finished,
+        next,
+    }
+}
+
+// What a line was found to do at a place, for C.
+fn line_answer(found: LineRead, place: Place) -> LineAnswer
+    ensures { λ r. ⌜ r ≡ lineDoor place found ⌝ }
+{
     let before = place.state;
     match found {
-        LineRead::NoLine => LineAnswer {
-            refusal: 1,
-            column: 0,
-            finished: false,
-            next: place,
-        },
-        LineRead::Fault { number, column } => LineAnswer {
-            refusal: number,
-            column,
-            finished: false,
-            next: place,
-        },
-        LineRead::Next { at, state } => LineAnswer {
-            refusal: 0,
-            column: 0,
-            finished: false,
-            next: Place { at, state },
-        },
-        LineRead::Finished { at } => LineAnswer {
-            refusal: 0,
-            column: 0,
-            finished: true,
-            next: Place { at, state: before },
-        },
+        LineRead::NoLine => line_parts(1, 0, false, place),
+        LineRead::Fault { number, column } => line_parts(number, column, false, place),
+        LineRead::Next { at, state } => line_parts(0, 0, false, Place { at, state }),
+        LineRead::Finished { at } => line_parts(0, 0, true, Place { at, state: before }),
     }
 }
 
 // The plain line reader: what the line at a place does. A `+ ` line leaves its identifiers in `names`.
 #[no_mangle]
-pub extern "C" fn sp3_read_line(bytes: &[u8], place: Place, names: &mut [u64]) -> LineAnswer {
+pub extern "C" fn sp3_read_line(bytes: &[u8], place: Place, names: &mut [u64]) -> LineAnswer
+    ensures result { λ r. ⌜ r ≡ lineDoor place (lineRead d (now (bytes .entry)) (place .at) (place .state) (now (names .entry))) ⌝ }
+    ensures lent { λ _. ⌜ now (names .exit) ≡ lineNames d (now (bytes .entry)) (place .at) (place .state) (now (names .entry)) ⌝ }
+{
     let at = place.at;
     let state = place.state;
     let found = machine::read_line(Rules::d(), bytes, at, state, names);
@@ -57,7 +65,9 @@ pub extern "C" fn sp3_read_line(bytes: &[u8], place: Place, names: &mut [u64]) -
 
 // The same where the identifiers of the header are known: what a walker's next line does.
 #[no_mangle]
-pub extern "C" fn sp3_next_line<'a>(file: &'a [u8], names: &'a [u64], place: Place) -> LineAnswer {
+pub extern "C" fn sp3_next_line<'a>(file: &'a [u8], names: &'a [u64], place: Place) -> LineAnswer
+    ensures result { λ r. ⌜ r ≡ lineDoor place (lineRead d (now (file .entry)) (place .at) (place .state) (now (names .entry))) ⌝ }
+{
     let found = walker::read_known(file, names, place);
     line_answer(found, place)
 }
@@ -69,24 +79,33 @@ pub extern "C" fn sp3_after_lines<'a>(
     names: &'a [u64],
     place: Place,
     lines: usize,
-) -> Place {
+) -> Place
+    ensures result { λ r. ⌜ r ≡ placesAfter d (now (file .entry)) (now (names .entry)) place lines ⌝ }
+{
     walker::after_lines(file, names, place, lines)
 }
 
 // Before a walk over rows: the file judged, the identifiers of its header left in `identifiers`.
 #[no_mangle]
-pub extern "C" fn sp3_begin(file: &[u8], identifiers: &mut [u64]) -> Reading {
+pub extern "C" fn sp3_begin(file: &[u8], identifiers: &mut [u64]) -> Reading
+    ensures result { λ r. ⌜ r ≡ begunAs (judged d (now (file .entry)) (fileOf d (now (file .entry)))) (length (now (identifiers .entry))) ⌝ }
+    ensures lent { λ _. ⌜ now (identifiers .exit) ≡ namesBegun (judged d (now (file .entry)) (fileOf d (now (file .entry)))) (now (file .entry)) (now (identifiers .entry)) ⌝ }
+{
     walk::begin(file, identifiers)
 }
 
 // Before the first row.
 #[no_mangle]
-pub extern "C" fn sp3_first_row() -> RowWalk {
+pub extern "C" fn sp3_first_row() -> RowWalk
+    ensures result { λ r. ⌜ r ≡ firstWalk ⌝ }
+{
     walk::first()
 }
 
 // No row: both parts absent.
-fn no_row(refusal: usize, line: u64, end: bool, from: RowWalk) -> RowStepAnswer {
+fn no_row(refusal: usize, line: u64, end: bool, from: RowWalk) -> RowStepAnswer
+    ensures { λ r. ⌜ r ≡ noRow refusal line end from ⌝ }
+{
     let none = 0.0 / 0.0;
     RowStepAnswer {
         refusal,
@@ -107,7 +126,9 @@ fn no_row(refusal: usize, line: u64, end: bool, from: RowWalk) -> RowStepAnswer 
 }
 
 // A row.
-fn row_found(epoch: u64, satellite: u64, row: FloatRow, next: RowWalk) -> RowStepAnswer {
+fn row_found(epoch: u64, satellite: u64, row: FloatRow, next: RowWalk) -> RowStepAnswer
+    ensures { λ r. ⌜ r ≡ rowFound epoch satellite row next ⌝ }
+{
     RowStepAnswer {
         refusal: 0,
         line: 0,
@@ -119,14 +140,11 @@ fn row_found(epoch: u64, satellite: u64, row: FloatRow, next: RowWalk) -> RowSte
     }
 }
 
-// The next row of a file in order.
-#[no_mangle]
-pub extern "C" fn sp3_next_row<'a>(
-    file: &'a [u8],
-    names: &'a [u64],
-    from: RowWalk,
-) -> RowStepAnswer {
-    match walk::next_row(file, names, from) {
+// The step of a walk, for C.
+fn row_answer(found: RowStep, from: RowWalk) -> RowStepAnswer
+    ensures { λ r. ⌜ r ≡ rowDoor from found ⌝ }
+{
+    match found {
         RowStep::At {
             epoch,
             satellite,
@@ -142,4 +160,12 @@ pub extern "C" fn sp3_next_row<'a>(
         RowStep::End => no_row(0, 0, true, from),
         RowStep::Refused { number, line } => no_row(number, line, false, from),
     }
+}
+
+// The next row of a file in order.
+#[no_mangle]
+pub extern "C" fn sp3_next_row<'a>(file: &'a [u8], names: &'a [u64], from: RowWalk) -> RowStepAnswer
+    ensures result { λ r. ⌜ r ≡ rowDoor from (rowStep d (now (file .entry)) (now (names .entry)) from) ⌝ }
+{
+    row_answer(walk::next_row(file, names, from), from)
 }

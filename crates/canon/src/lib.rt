@@ -6,5 +6,6 @@ mod numbers;
 mod types;
 
 pub use bounds::cell_width;
+pub use measuring::form_length;
 pub use measuring::measure;
 pub use types::Measured;

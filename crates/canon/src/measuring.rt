@@ -89,18 +89,19 @@ fn table_spent(rules: Rules, h: Header, comments: &[u8], rows: &[i64], room: usi
     }
 }
 
-// What writing this table into `out` answers, which stays as it is: 13 where the table is not valid, then 12 where its form is longer than `out`,
-// else 0 and the length of the form. A table with an exponent of 1000 in its header is 13.
-pub fn measure(
+// What writing this table into so many bytes answers: 13 where the table is not valid, then 12 where its form is longer, else 0 and the length of
+// the form. A table with an exponent of 1000 in its header is 13.
+fn measure_within(
     rules: Rules,
     h: Header,
     identifiers: &[u64],
     exponents: &[u64],
     comments: &[u8],
     rows: &[i64],
-    out: &[u8],
+    most: usize,
 ) -> Measured
-    ensures result { λ r. ⌜ r ≡ measured rules (tableOf h (now (identifiers .entry)) (now (exponents .entry)) (now (comments .entry)) (now (rows .entry))) (length (now (out .entry))) ⌝ }
+    requires { ⌜ most ≤ 9_223_372_036_854_775_807 ⌝ }
+    ensures { λ r. ⌜ r ≡ measured rules (tableOf h (now (identifiers .entry)) (now (exponents .entry)) (now (comments .entry)) (now (rows .entry))) most ⌝ }
 {
     let hold = counts_hold(
         rules,
@@ -115,7 +116,7 @@ pub fn measure(
     }
     let n = h.satellites as usize;
     let named = lists::names_valid(h.file_type, &identifiers[0..n]);
-    let room = out.len() + 1;
+    let room = most + 1;
     let spent = table_spent(rules, h, comments, rows, room);
     if !(named & (lists::exponents_valid(&exponents[0..n]) & spent.valid)) {
         return refuse(13);
@@ -127,4 +128,41 @@ pub fn measure(
         refusal: 0,
         length: room - spent.left,
     }
+}
+
+// What writing this table into `out` answers, which stays as it is.
+pub fn measure(
+    rules: Rules,
+    h: Header,
+    identifiers: &[u64],
+    exponents: &[u64],
+    comments: &[u8],
+    rows: &[i64],
+    out: &[u8],
+) -> Measured
+    ensures result { λ r. ⌜ r ≡ measured rules (tableOf h (now (identifiers .entry)) (now (exponents .entry)) (now (comments .entry)) (now (rows .entry))) (length (now (out .entry))) ⌝ }
+{
+    measure_within(rules, h, identifiers, exponents, comments, rows, out.len())
+}
+
+// How long the form of a table is, so that just so much can be lent: what writing it into the longest slice that there can be answers.
+pub fn form_length(
+    rules: Rules,
+    h: Header,
+    identifiers: &[u64],
+    exponents: &[u64],
+    comments: &[u8],
+    rows: &[i64],
+) -> Measured
+    ensures result { λ r. ⌜ r ≡ measured rules (tableOf h (now (identifiers .entry)) (now (exponents .entry)) (now (comments .entry)) (now (rows .entry))) 9_223_372_036_854_775_807 ⌝ }
+{
+    measure_within(
+        rules,
+        h,
+        identifiers,
+        exponents,
+        comments,
+        rows,
+        9_223_372_036_854_775_807,
+    )
 }

@@ -1,13 +1,13 @@
 -- Questions about one file, which is read whole: its own refusal comes first, then 13 with line 0. 01: "Epochs, satellites of the header and
 -- comments are asked for by number from 0"; "When a comment is asked for by its number, a comment's text is handed back as that stretch of the
 -- file, without its trailing blanks, empty on a refusal"; 13 "what is asked by number isn't there".
-use mathlib.Core.Bool.{Bool, cond, _&&_}
+use mathlib.Core.Bool.{Bool, cond, not, _&&_}
 use mathlib.Core.List.{List, [], _∷_}
 use Prim.Native.Nat.{ℕ, suc, _+_, _*_, min}
 use lib.Dec.{eqb, ltb}
 use lib.ListN.{length, drop}
 use Rattle.layout.specs.Line.{trimmed}
-use Rattle.layout.specs.Kind.{named, nameCode}
+use Rattle.layout.specs.Kind.{named, nameNumber, nameCode}
 use Rattle.lines.specs.Lines.{nth, placeFrom}
 use Rattle.file.specs.Kinds.{isKind, ofKind}
 use Rattle.file.specs.Table.{firstIn, countOf}
@@ -51,9 +51,9 @@ unfoldable pub commentWords : Rules → List ℕ → Front → ℕ → List ℕ
 commentWords rules bytes (front.File t) k = cond (ltb k (t .comments)) (textIn (commentLine rules (linesTo (t .end) bytes) k)) []
 commentWords rules bytes (front.Refused number line column) k = []
 
--- the identifier that a text names: a capital letter and two digits, as one number (G07 is 7107); 0, which is no satellite, for any other text
+-- the identifier that a text names: a capital letter and 01 to 99, as one number (G07 is 7107); 0, which is no satellite, for any other text
 unfoldable pub identifierNamed : List ℕ → ℕ
-identifierNamed text = cond (eqb (length text) 3 && named text) (nameCode text) 0
+identifierNamed text = cond (eqb (length text) 3 && (named text && not (eqb (nameNumber text) 0))) (nameCode text) 0
 
 -- the number of the first that is this one, counted from 0; as many as there are where none is
 unfoldable pub indexOf : ℕ → List ℕ → ℕ

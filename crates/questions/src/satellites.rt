@@ -86,24 +86,35 @@ fn figure(b: u8) -> u64
     if d < 48 { 0 } else { d - 48 }
 }
 
-// The number of a letter and two digits.
-fn name_code(letter: u8, tens: u8, ones: u8) -> u64
-    ensures { λ r. ⌜ r ≡ letter * 100 + ((tens - 48) * 10 + (ones - 48)) ⌝ }
+// The number of two digits.
+fn two_digits(tens: u8, ones: u8) -> u64
+    ensures value { λ r. ⌜ r ≡ (tens - 48) * 10 + (ones - 48) ⌝ }
+    ensures bound { λ r. ⌜ r ≤ 2277 ⌝ }
 {
-    letter as u64 * 100 + (figure(tens) * 10 + figure(ones))
+    figure(tens) * 10 + figure(ones)
 }
 
-// The identifier that a text of three bytes names, as one number: 7107 for `G07`; 0, which is no satellite, for `G 7`, `g07` and every other text.
+// A letter's byte times 100, and a number.
+fn name_code(letter: u8, number: u64) -> u64
+    requires { ⌜ number ≤ 2277 ⌝ }
+    ensures { λ r. ⌜ r ≡ letter * 100 + number ⌝ }
+{
+    letter as u64 * 100 + number
+}
+
+// The identifier that a text of three bytes names, as one number: 7107 for `G07`; 0, which is no satellite, for `G 7`, `g07`, `G00` and every other
+// text.
 pub fn identifier_of(text: &[u8]) -> u64
     ensures result { λ r. ⌜ r ≡ identifierNamed (now (text .entry)) ⌝ }
 {
     if text.len() != 3 {
         return 0;
     }
-    if !is_named(text[0], text[1], text[2]) {
+    let number = two_digits(text[1], text[2]);
+    if !(is_named(text[0], text[1], text[2]) & (number != 0)) {
         return 0;
     }
-    name_code(text[0], text[1], text[2])
+    name_code(text[0], number)
 }
 
 // The number in the header of the satellite with this identifier, held as its letter's byte times 100 and its number (7107 for G07): 13 where

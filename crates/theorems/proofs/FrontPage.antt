@@ -80,6 +80,10 @@ pub use Rattle.stored.proofs.Determined.{place-of-determined, clock-of-determin
 pub use Rattle.machine.proofs.Determined.{read-line-determined}
 pub use Rattle.walker.proofs.Determined.{new-determined, next-determined, moved-determined, after-lines-determined}
 pub use Rattle.walk.proofs.Determined.{begin-determined, next-row-determined}
+-- The doors for C promise the same definitions under their own names, and leave nothing open either. A place or clock that a door does not mark absent is
+-- there; beside the mark stands a number that no field of a file can hold.
+pub use Rattle.abi.proofs.Determined.{sp3-judge-determined, sp3-judge-front-determined, sp3-read-determined, sp3-read-front-determined, sp3-write-determined, sp3-form-length-determined, sp3-divide-determined, sp3-comment-determined, sp3-identifier-determined, sp3-satellite-of-determined, sp3-row-determined, sp3-date-determined, sp3-moment-determined, sp3-header-determined, sp3-place-of-determined, sp3-clock-of-determined, sp3-exponent-of-determined, sp3-flag-of-determined, sp3-first-place-determined, sp3-read-line-determined, sp3-next-line-determined, sp3-after-lines-determined, sp3-begin-determined, sp3-first-row-determined, sp3-next-row-determined}
+pub use Rattle.abi.proofs.Marks.{place-unmarked, place-marked, clock-unmarked, clock-marked, no-field, no-row}
 
 -- DEMAND 1. Bytes of every kind and length, every table, room of every size are answered, since no public function asks anything of its caller. A
 -- refusal has a number, a refused reading its line too, and changes nothing that was lent.

@@ -4,6 +4,7 @@ pub mod Reading
 pub mod Judging
 pub mod Correlations
 pub mod Room
+pub mod RewriteRoom
 pub mod Filled
 pub mod Floats
 pub mod Lent

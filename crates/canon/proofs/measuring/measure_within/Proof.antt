@@ -1,4 +1,4 @@
--- `canon::measuring::measure` meets its contract: each way out by the tests before it.
+-- `canon::measuring::measure_within` meets its contract: each way out by the tests before it.
 -- Assumes nothing.
 use mathlib.Core.Bool.{true, _&&_}
 use mathlib.Core.Path.{_≡_, sym, ap, _∙_}
@@ -14,11 +14,11 @@ use Rattle.canon.specs.Measured.{formLength}
 use Rattle.canon.proofs.Tests.{both}
 use Rattle.canon.proofs.Counting.{Long, long}
 use Rattle.canon.proofs.Answers.{no-counts, no-lists, too-long, written}
-use Rattle.canon.proofs.measuring.measure.Statement.{statement}
-use Rattle.canon.proofs.measuring.measure.Tie as tie
+use Rattle.canon.proofs.measuring.measure_within.Statement.{statement}
+use Rattle.canon.proofs.measuring.measure_within.Tie as tie
 
 abbrev start : tie.After-counts-hold → tie.Start
-start c = c .before .before .before .before .before
+start c = c .before .before .before .before
 
 abbrev table : tie.After-counts-hold → Table
 table c =
@@ -42,7 +42,7 @@ returns : tie.Need-returns
 returns c =
     let asked = c .before .before in
     let a = start asked .args in
-    c .refuse .ensures ∙ no-counts (a .rules) (table asked) (length (a .out .now)) (sym (answer asked) ∙ not-true _ (c .before .if1 .taken))
+    c .refuse .ensures ∙ no-counts (a .rules) (table asked) (a .most) (sym (answer asked) ∙ not-true _ (c .before .if1 .taken))
 
 table-spent-requires : tie.Need-table-spent-requires
 table-spent-requires c κs = let l = lists (c .before .before) in (l .said, l .placed, omega (arith, l .named), l .few)
@@ -64,7 +64,7 @@ judged c =
     (both (c .exponents-valid .ensures ∙ ap (λ (n : ℕ). exponentsValid (take n (t .exponents))) whole) (c .before .before .table-spent .ensures .0))
 
 -- what is left of the room
-left : (c : tie.After-exponents-valid) → c .before .before .table-spent .result .left ≡ length (start (known c .before) .args .out .now) + 1 - formLength (table (known c .before))
+left : (c : tie.After-exponents-valid) → c .before .before .table-spent .result .left ≡ start (known c .before) .args .most + 1 - formLength (table (known c .before))
 unfolding formLength
 left c = c .before .before .table-spent .ensures .1
 
@@ -74,7 +74,7 @@ returns-2 c =
     let asked = known read .before in
     let a = start asked .args in
     c .refuse2 .ensures
-    ∙ no-lists (a .rules) (table asked) (length (a .out .now)) (hold (known read)) _ (judged read) (not-true _ (c .before .if2 .taken))
+    ∙ no-lists (a .rules) (table asked) (a .most) (hold (known read)) _ (judged read) (not-true _ (c .before .if2 .taken))
 
 returns-3 : tie.Need-returns-3
 returns-3 c =
@@ -83,7 +83,7 @@ returns-3 c =
     let asked = known read .before in
     let a = start asked .args in
     c .refuse3 .ensures
-    ∙ too-long (a .rules) (table asked) (length (a .out .now)) (hold (known read)) _ (judged read) (not-false _ (other .if2 .left))
+    ∙ too-long (a .rules) (table asked) (a .most) (hold (known read)) _ (judged read) (not-false _ (other .if2 .left))
     (read .before .before .table-spent .result .left) (left read) (c .before .if3 .taken)
 
 returns-4 : tie.Need-returns-4
@@ -92,8 +92,8 @@ returns-4 c =
     let read = other .before .before in
     let asked = known read .before in
     let a = start asked .args in
-    written (a .rules) (table asked) (length (a .out .now)) (hold (known read)) _ (judged read) (not-false _ (other .if2 .left))
+    written (a .rules) (table asked) (a .most) (hold (known read)) _ (judged read) (not-false _ (other .if2 .left))
     (read .before .before .table-spent .result .left) (left read) (c .before .if3 .left)
 
-pub measure-spec : {M : Type 1} → statement M
-measure-spec = tie.close (tie.spec (λ c κs. search needs) (λ c κs. search needs) returns (λ c. search needs) (λ c. search needs) (λ c. let l = lists c in search needs) (λ c κs. search needs) (λ c. search needs) table-spent-requires (λ c. search needs) (λ c. search needs) (λ c. let l = lists (c .before .before .before) in search needs) (λ c κs. search needs) (λ c κs. search needs) returns-2 (λ c κs. search needs) returns-3 (λ c. search needs) returns-4)
+pub measure-within-spec : {M : Type 1} → statement M
+measure-within-spec = tie.close (tie.spec (λ c κs. search needs) (λ c κs. search needs) returns (λ c. search needs) (λ c. search needs) (λ c. let l = lists c in search needs) (λ c κs. search needs) (λ c. search needs) table-spent-requires (λ c. search needs) (λ c. search needs) (λ c. let l = lists (c .before .before .before) in search needs) (λ c κs. search needs) (λ c κs. search needs) returns-2 (λ c κs. search needs) returns-3 (λ c. search needs) returns-4)

@@ -1,0 +1,175 @@
+-- What the program lays into its output: the answer of reading and writing with its room, in the paper's words. With that room a reading is short of
+-- comments alone (`RewriteRoom`), and what was read is a valid table, so 13 is no answer of it.
+-- Assumes nothing.
+use mathlib.Core.Path.{_≡_, refl, ap, _∙_}
+use mathlib.Core.Bool.{Bool, true, false, cond, _&&_}
+use mathlib.Core.List.{List, [], _∷_, _++_}
+use mathlib.Core.Logic.{_⊎_, inl, inr}
+use Prim.Native.Nat.{ℕ, _≤_, _<_}
+use native.Mathlib.Omega.{arith}
+use borrow.Author.Tests.{leb-true, leb-false, le-leb, lt-leb, eq-eqb, ne-eqb}
+use lib.Dec.{eqb, leb}
+use lib.IntN.{ℤ}
+use lib.ListN.{length, length-append}
+use Rattle.header.specs.Rules.{d}
+use Rattle.layout.specs.Line.{Lays}
+use Rattle.reader.specs.Reading.{refusedWith, fileOf, delivered}
+use Rattle.canon.specs.Table.{Table}
+use Rattle.canon.specs.Canonical.{canonical}
+use Rattle.canon.specs.Measured.{measured, refusedAs}
+use Rattle.writer.specs.Writing.{outAfter}
+use Rattle.written.specs.Held.{rewritten}
+use Rattle.theorems.proofs.Reading.{header}
+use Rattle.theorems.proofs.Room.{found-numbered}
+use Rattle.theorems.proofs.RewriteRoom.{rewriteReading, few-comments, many-comments}
+use Rattle.theorems.proofs.Rewritten.{lent-valid, lent-form, lent-answer, lent-written}
+use Rattle.theorems.proofs.Writing.{too-small-12, refusal-keeps-out}
+use Rattle.reader.specs.declared.types.Reading.{Reading}
+use Rattle.canon.specs.declared.types.Measured.{Measured}
+use Rattle.scan.specs.declared.Tally.{Tally}
+use Rattle.scan.specs.declared.Front.{Front}
+use Rattle.scan.specs.declared.Front.the-variants as front
+use Rattle.rewrite.specs.Printed.{longest, mostComments, tooLong, refusedWord, lineWord, numberText, said, refusedText, answered, printed}
+use Rattle.rewrite.specs.Rewriting.{asWritten, reading, tableRead, rewriteAnswer, outRewritten}
+use Rattle.rewrite.specs.declared.types.Rewritten.{Rewritten}
+use Rattle.rewrite.proofs.Digits.{digits-few}
+
+-- a refusal in words has 55 bytes at most
+pub few-words : (number line : ℕ) → length (refusedText number line) ≤ 55
+unfolding refusedText
+few-words number line =
+    omega (
+      arith,
+      length-append (said refusedWord number ++ said lineWord line) (10 ∷ []),
+      length-append (said refusedWord number) (said lineWord line),
+      length-append refusedWord (numberText number),
+      length-append lineWord (numberText line),
+      digits-few 20 number,
+      digits-few 20 line,
+    )
+
+-- a text that is laid, or a refusal whose text is still to be laid
+abbrev pub Outcome : List ℕ → List ℕ → Rewritten → List ℕ → Type 0
+Outcome text out done now =
+    ((done .refusal ≡ 0) × Lays text out (done .length) now)
+    ⊎ ((done .refusal ≡ 0 → ⊥) × (text ≡ refusedText (done .refusal) (done .line)) × (now ≡ out))
+
+-- Of a file of at most 65,536 bytes, with the lists and the output of the program.
+module _ (bytes identifiers exponents comments : List ℕ) (rows : List ℤ) (out : List ℕ) (short : length bytes ≤ longest) (room : length out ≡ longest)
+    (named : length identifiers ≡ 255) (weighed : length exponents ≡ 255) (noted : length comments ≡ 61_600) (placed : length rows ≡ 12_888) where
+  abbrev read : Reading
+  read = reading bytes identifiers exponents comments rows
+
+  abbrev table : Table
+  table = tableRead bytes identifiers exponents comments rows
+
+  abbrev answer : Rewritten
+  answer = rewriteAnswer bytes identifiers exponents comments rows (length out)
+
+  abbrev left : List ℕ
+  left = outRewritten bytes identifiers exponents comments rows out
+
+  abbrev form : List ℕ
+  form = rewritten d bytes
+
+  -- the lists are the program's room
+  read-is : read ≡ rewriteReading bytes
+  read-is = rw (named, weighed, noted, placed)
+
+  -- a reading that is refused
+  refused : (number line : ℕ) → 1 ≤ number → read ≡ refusedWith number line → Outcome (refusedText number line) out answer left
+  unfolding rewriteAnswer outRewritten
+  refused number line some e =
+      let apart : eqb number 0 ≡ false = ne-eqb number 0 (omega arith) in
+      rw (e, apart) (inr (λ zero. omega arith, refl, refl))
+
+  -- a reading that is accepted leaves the answer to the writing
+  accepted : (m : Measured) → read .refusal ≡ 0 → measured d table (length out) ≡ m → (answer ≡ asWritten m) × (left ≡ outAfter d table out)
+  unfolding rewriteAnswer outRewritten
+  accepted m zero is = let test = eq-eqb (read .refusal) 0 zero in (rw test (ap asWritten is), rw test)
+
+  -- a form that fits is laid; for one that does not the output stays as it was
+  module _ (t : Tally) (file : fileOf d bytes ≡ front.File t) (zero : read .refusal ≡ 0) where
+    fitting : length form ≤ longest → Outcome form out answer left
+    fitting fits =
+        let enough : length form ≤ length out = omega arith in
+        let told = lent-answer bytes (t, file) identifiers exponents comments rows zero out enough in
+        let laid = lent-written bytes (t, file) identifiers exponents comments rows zero out enough in
+        let done = accepted (record { refusal = 0; length = length form }) zero told in
+        inl (
+          ap (λ (r : Rewritten). r .refusal) (done .0),
+          record {
+            length-told = ap (λ (r : Rewritten). r .length) (done .0);
+            laid = done .1 ∙ laid ∙ rw (le-leb (length form) (length out) enough);
+          },
+        )
+
+    too-large : longest < length form → Outcome (refusedText 12 0) out answer left
+    too-large over =
+        let less : length out < length (canonical d table) = rw (lent-form bytes (t, file) identifiers exponents comments rows zero) (omega arith) in
+        let twelve = too-small-12 table out (lent-valid bytes (t, file) identifiers exponents comments rows zero) less in
+        let kept = refusal-keeps-out table out (λ none. omega (arith, ap (λ (m : Measured). m .refusal) twelve)) in
+        let done = accepted (refusedAs 12) zero twelve in
+        rw (done .0) (inr (λ none. omega arith, refl, done .1 ∙ kept))
+
+  -- a file that is accepted
+  filed : (t : Tally) → fileOf d bytes ≡ front.File t → Outcome (answered bytes (front.File t)) out answer left
+  unfolding answered
+  filed t file = by (leb (header bytes .comments) mostComments) (leb (length form) longest) refl refl
+    where
+      some-0 : leb (header bytes .comments) mostComments ≡ true → read .refusal ≡ 0
+      some-0 few =
+          let answers = few-comments bytes (t, file) short (leb-true (header bytes .comments) mostComments few) in
+          ap (λ (r : Reading). r .refusal) (read-is ∙ answers)
+
+      by : (few fits : Bool) → leb (header bytes .comments) mostComments ≡ few → leb (length form) longest ≡ fits
+          → Outcome (cond (few && fits) form (refusedText 12 0)) out answer left
+      by true true p q = fitting t file (some-0 p) (leb-true (length form) longest q)
+      by true false p q = too-large t file (some-0 p) (leb-false (length form) longest q)
+      by false fits p q =
+          let answers = many-comments bytes (t, file) short (leb-false (header bytes .comments) mostComments p) in
+          refused 12 0 (omega arith) (read-is ∙ answers)
+
+  -- THE OUTCOME: what the paper says is laid, or is a refusal that is still to be said.
+  outcome : Outcome (answered bytes (fileOf d bytes)) out answer left
+  unfolding answered delivered
+  outcome = go (fileOf d bytes) refl
+    where
+      go : (f : Front) → fileOf d bytes ≡ f → Outcome (answered bytes f) out answer left
+      go (front.File t) e = filed t e
+      go (front.Refused number line column) e = refused number line (found-numbered true bytes number line column e) (rw e)
+
+  -- so it is of what the function answers and leaves
+  pub outcome-of : {done : Rewritten} {now : List ℕ} → done ≡ answer → now ≡ left → Outcome (answered bytes (fileOf d bytes)) out done now
+  outcome-of e f = rw (e, f) outcome
+
+-- a refusal that is said is laid
+pub outcome-said : (done : Rewritten) {text out now after : List ℕ} {r : ℕ} → Outcome text out done now → (done .refusal ≡ 0 → ⊥)
+    → Lays (refusedText (done .refusal) (done .line)) now r after → Lays text out r after
+outcome-said done (inl (zero, laid)) some s = absurd (some zero)
+outcome-said done (inr (apart, words, same)) some s = rw (words, ← same) s
+
+pub outcome-laid : (done : Rewritten) {text out now : List ℕ} → Outcome text out done now → done .refusal ≡ 0 → Lays text out (done .length) now
+outcome-laid done (inl (zero, laid)) none = laid
+outcome-laid done (inr (apart, words, same)) none = absurd (apart none)
+
+-- the answer has room
+pub answer-fits : (bytes : List ℕ) (f : Front) → length (answered bytes f) ≤ longest
+unfolding answered
+answer-fits bytes (front.Refused number line column) = omega (arith, few-words number line)
+answer-fits bytes (front.File t) = go (leb (header bytes .comments) mostComments) (leb (length (rewritten d bytes)) longest) refl
+  where
+    go : (few fits : Bool) → leb (length (rewritten d bytes)) longest ≡ fits
+        → length (cond (few && fits) (rewritten d bytes) (refusedText 12 0)) ≤ longest
+    go true true q = leb-true (length (rewritten d bytes)) longest q
+    go true false q = omega (arith, few-words 12 0)
+    go false fits q = omega (arith, few-words 12 0)
+
+-- PRINTED: what is laid is what the paper says, too long or not
+pub printed-long : (bytes : List ℕ) → longest < length bytes → tooLong ≡ printed bytes
+unfolding printed
+printed-long bytes long = rw (lt-leb (length bytes) longest long)
+
+pub printed-short : (bytes : List ℕ) → length bytes ≤ longest → answered bytes (fileOf d bytes) ≡ printed bytes
+unfolding printed
+printed-short bytes short = rw (le-leb (length bytes) longest short)

@@ -1,0 +1,5 @@
+pub mod Saying
+pub mod Digits
+pub mod Composed
+pub mod Answering
+pub mod Prints

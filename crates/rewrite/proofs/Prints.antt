@@ -1,0 +1,58 @@
+-- What is printed, case by case, and that what was printed is printed again as it is.
+-- Assumes nothing.
+use mathlib.Core.Path.{_≡_, sym, ap, _∙_}
+use mathlib.Core.Bool.{_&&_}
+use mathlib.Core.List.{List}
+use Prim.Native.Nat.{ℕ, _≤_, _<_}
+use native.Mathlib.Omega.{arith}
+use borrow.Author.Tests.{le-leb, lt-leb}
+use lib.ListN.{length}
+use Rattle.header.specs.Rules.{d}
+use Rattle.scan.specs.Run.{IsFile}
+use Rattle.reader.specs.Reading.{fileOf}
+use Rattle.accepted.proofs.Files.{d-exactly}
+use Rattle.written.specs.Held.{rewritten}
+use Rattle.written.proofs.Versions.{d-proper}
+use Rattle.written.proofs.Rewriting as rewriting
+use Rattle.theorems.proofs.Reading.{header}
+use Rattle.header.specs.declared.types.Header.{Header}
+use Rattle.scan.specs.declared.Front.the-variants as front
+use Rattle.rewrite.specs.Printed.{longest, mostComments, tooLong, refusedText, answered, printed}
+use Rattle.rewrite.proofs.Answering.{printed-long, printed-short}
+
+-- More than 65,536 bytes are too long, whatever they are;
+pub prints-too-long : (bytes : List ℕ) → longest < length bytes → printed bytes ≡ tooLong
+prints-too-long bytes long = sym (printed-long bytes long)
+
+module _ (bytes : List ℕ) (short : length bytes ≤ longest) where
+  -- else a file that is refused is answered by its number and line,
+  pub prints-refusal : (number line column : ℕ) → fileOf d bytes ≡ front.Refused number line column → printed bytes ≡ refusedText number line
+  unfolding answered
+  prints-refusal number line column e = sym (printed-short bytes short) ∙ ap (answered bytes) e
+
+  module _ (accepted : IsFile d bytes) where
+    -- one that is accepted and has more than 800 comments by 12,
+    pub prints-12 : mostComments < header bytes .comments → printed bytes ≡ refusedText 12 0
+    unfolding answered
+    prints-12 many =
+        sym (printed-short bytes short) ∙ ap (answered bytes) (accepted .1) ∙ rw (lt-leb (header bytes .comments) mostComments many)
+
+    -- and any other, whose form has at most 65,536 bytes, by that form.
+    pub prints-form : header bytes .comments ≤ mostComments → length (rewritten d bytes) ≤ longest → printed bytes ≡ rewritten d bytes
+    unfolding answered
+    prints-form few fits =
+        sym (printed-short bytes short)
+        ∙ ap (answered bytes) (accepted .1)
+        ∙ rw (le-leb (header bytes .comments) mostComments few, le-leb (length (rewritten d bytes)) longest fits)
+
+-- REWRITTEN TWICE: a form that was printed is an accepted file, and taken in again it is printed as it is.
+pub prints-again : (bytes : List ℕ) → IsFile d bytes → header bytes .comments ≤ mostComments → length (rewritten d bytes) ≤ longest
+    → printed (rewritten d bytes) ≡ rewritten d bytes
+prints-again bytes accepted few fits =
+    let form = rewritten d bytes in
+    let file = d-exactly bytes .0 accepted in
+    let again : IsFile d form = d-exactly form .1 (rewriting.rewritten-accepted d d-proper bytes file) in
+    let same : header form ≡ header bytes = rewriting.rewritten-holds d d-proper bytes file .header-is in
+    let twice : rewritten d form ≡ form = rewriting.rewritten-twice d d-proper bytes file in
+    let said = ap (λ (h : Header). h .comments) same in
+    prints-form form fits again (omega arith) (omega (arith, ap length twice)) ∙ twice

@@ -1,0 +1,42 @@
+-- A file read into lent lists and its table written from them: first the answer of the reading, then that of the writing.
+use mathlib.Core.Bool.{cond}
+use mathlib.Core.List.{List}
+use Prim.Native.Nat.{ℕ}
+use lib.Dec.{eqb}
+use lib.IntN.{ℤ}
+use Rattle.header.specs.Rules.{d}
+use Rattle.reader.specs.Reading.{fileOf, readAnswer, identifiersAfter, exponentsAfter, commentsAfter, rowsAfter}
+use Rattle.canon.specs.Table.{Table, tableOf}
+use Rattle.canon.specs.Measured.{measured}
+use Rattle.writer.specs.Writing.{outAfter}
+use Rattle.reader.specs.declared.types.Reading.{Reading}
+use Rattle.canon.specs.declared.types.Measured.{Measured}
+use Rattle.rewrite.specs.declared.types.Rewritten.{Rewritten}
+
+-- the refusal of a reading with its line; what a writing answers, with line 0
+abbrev pub asRead : Reading → Rewritten
+asRead r = record { refusal = r .refusal; line = r .line; length = 0 }
+
+abbrev pub asWritten : Measured → Rewritten
+asWritten m = record { refusal = m .refusal; line = 0; length = m .length }
+
+-- Of these bytes, with these lists lent.
+module _ (bytes identifiers exponents comments : List ℕ) (rows : List ℤ) where
+  abbrev pub reading : Reading
+  reading = readAnswer d bytes (fileOf d bytes) identifiers exponents comments rows
+
+  -- what is lent to the writing: the header that was read, and the lists as the reading left them
+  abbrev pub tableRead : Table
+  tableRead =
+      tableOf (reading .header)
+      (identifiersAfter d bytes (fileOf d bytes) identifiers exponents comments rows)
+      (exponentsAfter d bytes (fileOf d bytes) identifiers exponents comments rows)
+      (commentsAfter d bytes (fileOf d bytes) identifiers exponents comments rows)
+      (rowsAfter d bytes (fileOf d bytes) identifiers exponents comments rows)
+
+  -- the answer where so many bytes are lent for the form, and those bytes afterwards
+  unfoldable pub rewriteAnswer : ℕ → Rewritten
+  rewriteAnswer room = cond (eqb (reading .refusal) 0) (asWritten (measured d tableRead room)) (asRead reading)
+
+  unfoldable pub outRewritten : List ℕ → List ℕ
+  outRewritten out = cond (eqb (reading .refusal) 0) (outAfter d tableRead out) out

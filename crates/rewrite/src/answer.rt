@@ -1,0 +1,51 @@
+// The whole answer, laid into the lent output.
+ghost use mathlib.Core.Path.{_≡_};
+ghost use lib.ListN.{length, take};
+ghost use Rattle.header.specs.Rules.{d};
+ghost use Rattle.reader.specs.Reading.{fileOf};
+ghost use Rattle.layout.specs.Line.{Lays};
+ghost use Rattle.rewrite.specs.Printed.{answered, printed, longest};
+ghost use Prim.Native.Nat.{_≤_};
+ghost use Rattle.io.specs.Counts.{Counts};
+use crate::rewriting;
+use crate::text;
+
+// The most bytes of input, and of output.
+const LONGEST: usize = 65_536;
+
+// The canonical form of a file of at most 65,536 bytes, or its refusal as a line. Room is lent for 255 satellites, 800 comments of 77 bytes and 1,074
+// rows of 12 numbers: a row has at least 61 bytes, so there are no more.
+fn answer_short(file: &[u8], out: &mut [u8]) -> usize
+    requires { ⌜ length (now file) ≤ longest ⌝ }
+    requires { ⌜ length (now out) ≡ longest ⌝ }
+    ensures { λ r. ⌜ Lays (answered (now (file .entry)) (fileOf d (now (file .entry)))) (now (out .entry)) r (now (out .exit)) ⌝ }
+{
+    let mut identifiers = [0u64; 255];
+    let mut exponents = [0u64; 255];
+    let mut comments = [0u8; 61_600];
+    let mut rows = [0i64; 12_888];
+    let done = rewriting::read_and_write(
+        file,
+        &mut identifiers,
+        &mut exponents,
+        &mut comments,
+        &mut rows,
+        out,
+    );
+    if done.refusal != 0 {
+        return text::put_refusal(done.refusal, done.line, out);
+    }
+    done.length
+}
+
+// What is printed for the bytes of standard input, of which the first 65,537 are enough, and how many bytes it has.
+pub(crate) fn answer(file: &[u8], out: &mut [u8]) -> usize
+    requires { ⌜ length (now out) ≡ longest ⌝ }
+    ensures result { λ r. ⌜ take r (now (out .exit)) ≡ printed (now (file .entry)) ⌝ }
+    ensures within { λ r. ⌜ Counts r (now (out .exit)) ⌝ }
+{
+    if file.len() > LONGEST {
+        return text::put_bytes(b"too long\n", out);
+    }
+    answer_short(file, out)
+}

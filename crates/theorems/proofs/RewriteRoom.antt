@@ -1,0 +1,85 @@
+-- The room of the program `rewrite`, which takes files of at most 65,536 bytes. 01, "One file whole": "It has room for 800 comments .., and for all
+-- rows". A row has at least 61 bytes, so such a file has at most 1,074 of them: 12,888 numbers are room for all rows, and with 255 identifiers
+-- and exponents, and 61,600 bytes for comments, a reading answers 12 exactly where there are more than 800 comments.
+-- Assumes nothing.
+use mathlib.Core.Path.{_≡_, refl, sym, ap, subst}
+use mathlib.Core.Bool.{Bool, true, false}
+use mathlib.Core.List.{List}
+use mathlib.Core.Logic.{inl, inr, _↔_}
+use Prim.Native.Nat.{ℕ, _≤_, _<_}
+use native.Mathlib.Omega.{arith}
+use borrow.Author.Tests.{leb-true, leb-false}
+use lib.Dec.{leb}
+use lib.ListN.{length}
+use Rattle.header.specs.Rules.{d}
+use Rattle.lines.specs.Lines.{linesOf}
+use Rattle.file.specs.Table.{rowLines}
+use Rattle.scan.specs.Run.{IsFile}
+use Rattle.reader.specs.Reading.{refusedWith, acceptedAs}
+use Rattle.accepted.proofs.Files.{file-plain, whole-taken}
+use Rattle.plain.proofs.Counts.{satellites-bounds}
+use Rattle.theorems.proofs.Accepting.{says-satellites}
+use Rattle.theorems.proofs.Reading.{header, file-bytes, table-rows, table-rows-both}
+use Rattle.theorems.proofs.Room.{Room, Short, rowsNeeded, answer, room-accepted, short-refused}
+use Rattle.header.specs.declared.types.Header.{Header}
+use Rattle.reader.specs.declared.types.Reading.{Reading}
+
+-- the room that the program lends: 255 identifiers and exponents, 800 comments of 77 bytes, 1,074 rows of 12 numbers
+abbrev pub RewriteRoom : Header → Type 0
+RewriteRoom h = Room h 255 255 61_600 12_888
+
+-- the answer of a reading into it
+abbrev pub rewriteReading : List ℕ → Reading
+rewriteReading bytes = answer true bytes 255 255 61_600 12_888
+
+module _ (bytes : List ℕ) (accepted : IsFile d bytes) where
+  -- An accepted file names at most 255 satellites.
+  pub few-satellites : header bytes .satellites ≤ 255
+  few-satellites = let p = file-plain bytes accepted in omega (arith, says-satellites p, satellites-bounds p .1)
+
+  module _ (short : length bytes ≤ 65_536) where
+    -- One of at most 65,536 bytes has at most 1,074 rows,
+    pub few-rows : length (rowLines d (linesOf bytes)) ≤ 1_074
+    few-rows = omega (arith, file-bytes bytes accepted)
+
+    -- so ROWS ARE NEVER SHORT: it needs at most 12,888 numbers for them.
+    pub rows-fit : rowsNeeded (header bytes) ≤ 12_888
+    rows-fit = go (header bytes .velocity) refl
+      where
+        go : (v : Bool) → header bytes .velocity ≡ v → rowsNeeded (header bytes) ≤ 12_888
+        go true e = rw e (omega (arith, few-rows, table-rows-both bytes accepted e))
+        go false e = rw e (omega (arith, few-rows, table-rows bytes accepted e))
+
+    -- There is room exactly where it has at most 800 comments:
+    pub room-exactly : RewriteRoom (header bytes) ↔ (header bytes .comments ≤ 800)
+    room-exactly = (
+      λ room. omega (arith, room .comments),
+      λ few. record { identifiers = few-satellites; exponents = few-satellites; comments = omega arith; rows = rows-fit },
+    )
+
+    -- then the reading answers 0, with its length and header,
+    pub few-comments : header bytes .comments ≤ 800 → rewriteReading bytes ≡ acceptedAs d bytes (accepted .0)
+    few-comments few =
+        room-accepted true bytes (accepted .0) (accepted .1) 255 255 61_600 12_888
+        (subst (λ (s : List ℕ). RewriteRoom (header s)) (sym (whole-taken bytes (accepted .0) (accepted .1))) (room-exactly .1 few))
+
+    -- and with more comments it answers 12, line 0.
+    pub many-comments : 800 < header bytes .comments → rewriteReading bytes ≡ refusedWith 12 0
+    many-comments many =
+        short-refused true bytes (accepted .0) (accepted .1) 255 255 61_600 12_888
+        (subst (λ (s : List ℕ). Short (header s) 255 255 61_600 12_888) (sym (whole-taken bytes (accepted .0) (accepted .1)))
+        (inr (inr (inl (omega arith)))))
+
+    -- 12 IS FOR COMMENTS ALONE: it is answered exactly where there are more than 800.
+    pub twelve-exactly : (rewriteReading bytes .refusal ≡ 12) ↔ (800 < header bytes .comments)
+    twelve-exactly = (
+      λ twelve. go (leb (header bytes .comments) 800) refl twelve,
+      λ many. ap (λ (r : Reading). r .refusal) (many-comments many),
+    )
+      where
+        go : (b : Bool) → leb (header bytes .comments) 800 ≡ b → rewriteReading bytes .refusal ≡ 12 → 800 < header bytes .comments
+        go true e twelve =
+            let few = leb-true (header bytes .comments) 800 e in
+            let zero = ap (λ (r : Reading). r .refusal) (few-comments few) in
+            absurd (omega arith)
+        go false e twelve = leb-false (header bytes .comments) 800 e

@@ -1,0 +1,83 @@
+// The parts of the desk tool: words.c says things, lent.c lends memory, table.c shows tables, sp3.c has the commands. None holds a rule of the format.
+#ifndef DESK_H
+#define DESK_H
+
+#include "../include/sp3.h"
+
+// ---- What is said: results on standard output, messages on standard error ----
+
+// The statuses that the tool ends with, each graver than the one before.
+enum { ACCEPTED = 0, REFUSED = 1, UNUSABLE = 2 };
+
+// A refusal in words.
+const char *words_of(uint64_t number);
+
+// Says which refusal the subject, a format with its values, was given. Gives REFUSED.
+int refused(uint64_t number, uint64_t line, const char *subject, ...);
+
+// Says why the subject, a format with its values, is of no use. Gives UNUSABLE.
+int unusable(const char *why, const char *subject, ...);
+
+// Hands on all results and gives the status to end with: where a writing failed, UNUSABLE, and the reason is said.
+int last_status(int status);
+
+// Room for a text of these three; each gives where in it the text begins.
+enum { TEXT_ROOM = 80 };
+
+// A whole number of 10^-places as text, digit for digit.
+const char *decimal(char room[TEXT_ROOM], int64_t value, int places);
+
+// An instant in 10^-8 s since MJD 0 as date and time.
+const char *moment(char room[TEXT_ROOM], uint64_t instant8);
+
+// The text of an identifier, G07 for 7107.
+const char *identifier(char room[TEXT_ROOM], uint64_t number);
+
+// ---- What is lent. Where a status is not ACCEPTED its reason has been said; what was taken is dropped in every case ----
+
+// A whole input in memory.
+typedef struct {
+    const char *name;
+    uint8_t *bytes;
+    size_t length;
+} input_t;
+
+// An accepted file with its header and identifiers; read_table fills the other lists.
+typedef struct {
+    input_t file;
+    sp3_header_t header;
+    uint64_t *identifiers, *exponents;
+    uint8_t *comments;
+    int64_t *rows;
+    size_t comment_bytes, row_count, row_numbers;
+} table_t;
+
+// Room for so many elements, also for none; NULL where there is not so much memory.
+void *lend(size_t count, size_t size);
+
+// The status of a file for which there is not enough memory.
+int out_of_memory(const input_t *file);
+
+// All bytes of a file, or of standard input where the argument is `-`.
+int take_input(input_t *input, const char *argument);
+void drop_input(input_t *input);
+
+// A file judged; its header and identifiers. Then the rest of its table.
+int begin_table(table_t *table, const char *argument);
+int read_table(table_t *table);
+void drop_table(table_t *table);
+
+// ---- What is shown of a table ----
+
+// How many places and clocks of P rows are known (0) and absent (1).
+typedef struct {
+    uint64_t places[2], clocks[2];
+} tally_t;
+
+void count_row(tally_t *tally, bool place_absent, bool clock_absent);
+void show_tally(const tally_t *tally);
+
+// The header, a line for each row, the count.
+int show_table(const table_t *table);
+
+#endif

@@ -1,0 +1,293 @@
+// sp3: SP3-d files at the desk. It lends memory to the functions of include/sp3.h and prints what they answer; every rule of the format is theirs.
+#define _POSIX_C_SOURCE 200809L
+#include <inttypes.h>
+#include <signal.h>
+#include <stdio.h>
+#include <stdlib.h>
+#include <string.h>
+
+#include "desk.h"
+
+// The refusal after which more is lent.
+enum { ROOM_TOO_SMALL = 12 };
+
+// Whether a word is digits alone and its number fits.
+static bool is_number(uint64_t *number, const char *word) {
+    *number = 0;
+    for (const char *at = word; *at != '\0'; at++) {
+        if (*at < '0' || *at > '9') return false;
+        uint64_t digit = (uint64_t)(*at - '0');
+        if (*number > (UINT64_MAX - digit) / 10) return false;
+        *number = *number * 10 + digit;
+    }
+    return *word != '\0';
+}
+
+// The number that an argument must be.
+static int take_number(uint64_t *number, const char *name, const char *word) {
+    return is_number(number, word) ? ACCEPTED : unusable("not a number from 0 to 18446744073709551615", "%s '%s'", name, word);
+}
+
+// ---- check ----
+
+// Counts the rows of a file that was begun.
+static int count_rows(tally_t *tally, const table_t *table) {
+    const input_t *file = &table->file;
+    sp3_row_step_t step = {.next = sp3_first_row()};
+    for (;;) {
+        step = sp3_next_row(file->bytes, file->length, table->identifiers, table->header.satellites, step.next);
+        if (step.refusal != 0) return refused(step.refusal, step.line, "%s", file->name);
+        if (step.end) return ACCEPTED;
+        count_row(tally, step.row.place_absent, step.row.clock_absent);
+    }
+}
+
+// The line of an accepted file.
+static void show_checked(const table_t *table, const tally_t *tally) {
+    const sp3_header_t *header = &table->header;
+    char start[TEXT_ROOM], interval[TEXT_ROOM];
+    printf("%s: accepted, mode %c, start %s, epochs %" PRIu64 ", interval %s s, satellites %" PRIu64 ", time system %.3s, ", table->file.name,
+           header->velocity ? 'V' : 'P', moment(start, header->start8), header->epochs, decimal(interval, (int64_t)header->interval8, 8),
+           header->satellites, (const char *)header->time_system);
+    show_tally(tally);
+}
+
+static int check_one(const char *argument) {
+    table_t table;
+    tally_t tally = {0};
+    int status = begin_table(&table, argument);
+    if (status == ACCEPTED) status = count_rows(&tally, &table);
+    if (status == ACCEPTED) show_checked(&table, &tally);
+    drop_table(&table);
+    return status;
+}
+
+// Each file is judged, also after a refused one; the gravest status is given.
+static int check(char **arguments) {
+    int gravest = ACCEPTED;
+    for (; *arguments != NULL; arguments++) {
+        int status = check_one(*arguments);
+        if (status > gravest) gravest = status;
+    }
+    return gravest;
+}
+
+// ---- rewrite and table ----
+
+// Reads a whole table and has it shown.
+static int with_table(const char *argument, int (*show)(const table_t *table)) {
+    table_t table;
+    int status = begin_table(&table, argument);
+    if (status == ACCEPTED) status = read_table(&table);
+    if (status == ACCEPTED) status = show(&table);
+    drop_table(&table);
+    return status;
+}
+
+// Writes the canonical form: lends as many bytes as the file has, and twice as many each time that they are too few.
+static int show_form(const table_t *table) {
+    size_t satellites = table->header.satellites;
+    uint8_t *form = NULL;
+    sp3_measured_t written = {.refusal = ROOM_TOO_SMALL};
+    for (size_t room = table->file.length; written.refusal == ROOM_TOO_SMALL; room *= 2) {
+        free(form);
+        form = lend(room, 1);
+        if (form == NULL) return out_of_memory(&table->file);
+        written = sp3_write(table->header, table->identifiers, satellites, table->exponents, satellites, table->comments, table->comment_bytes,
+                            table->rows, table->row_numbers, form, room);
+    }
+    fwrite(form, 1, written.length, stdout);
+    free(form);
+    return written.refusal == 0 ? ACCEPTED : refused(written.refusal, 0, "%s: its table", table->file.name);
+}
+
+static int rewrite(char **arguments) { return with_table(arguments[0], show_form); }
+
+static int table(char **arguments) { return with_table(arguments[0], show_table); }
+
+// ---- row and comment ----
+
+// The identifier that a word names, 0 for none.
+static uint64_t named(const char *word) { return sp3_identifier((const uint8_t *)word, strlen(word)); }
+
+// The number in the header of a satellite that is given by its number or its identifier.
+static int find_satellite(uint64_t *number, const input_t *file, const char *word) {
+    if (is_number(number, word)) return ACCEPTED;
+    sp3_satellite_answer_t found = sp3_satellite_of(file->bytes, file->length, named(word));
+    *number = found.number;
+    return found.refusal == 0 ? ACCEPTED : refused(found.refusal, found.line, "%s: satellite %s", file->name, word);
+}
+
+// Which row it is, its place and its clock.
+static void show_row(const table_t *table, uint64_t epoch, uint64_t satellite, const sp3_row_t *row) {
+    char instant[TEXT_ROOM], name[TEXT_ROOM];
+    printf("epoch %" PRIu64 " %s\n", epoch, moment(instant, table->header.start8 + epoch * table->header.interval8));
+    printf("satellite %" PRIu64 " %s\n", satellite, identifier(name, table->identifiers[satellite]));
+    if (row->place_absent) puts("place absent");
+    else printf("place %.0f %.0f %.0f mm\n", row->x, row->y, row->z);
+    if (row->clock_absent) puts("clock absent");
+    else printf("clock %.0f ps\n", row->clock);
+}
+
+static int ask_row(const table_t *table, uint64_t epoch, const char *word) {
+    const input_t *file = &table->file;
+    uint64_t satellite;
+    int status = find_satellite(&satellite, file, word);
+    if (status != ACCEPTED) return status;
+    sp3_row_answer_t answer = sp3_row(file->bytes, file->length, epoch, satellite);
+    if (answer.refusal != 0) return refused(answer.refusal, answer.line, "%s: epoch %" PRIu64 ", satellite %s", file->name, epoch, word);
+    show_row(table, epoch, satellite, &answer.row);
+    return ACCEPTED;
+}
+
+static int row(char **arguments) {
+    uint64_t epoch, number;
+    const char *word = arguments[2];
+    if (take_number(&epoch, "EPOCH", arguments[1]) != ACCEPTED) return UNUSABLE;
+    if (!is_number(&number, word) && named(word) == 0)
+        return unusable("neither an identifier such as G07 nor a number from 0 to 18446744073709551615", "SAT '%s'", word);
+    table_t table;
+    int status = begin_table(&table, arguments[0]);
+    if (status == ACCEPTED) status = ask_row(&table, epoch, word);
+    drop_table(&table);
+    return status;
+}
+
+static int ask_comment(const input_t *file, uint64_t k) {
+    sp3_comment_answer_t answer = sp3_comment(file->bytes, file->length, k);
+    if (answer.refusal != 0) return refused(answer.refusal, answer.line, "%s: comment %" PRIu64, file->name, k);
+    fwrite(file->bytes + answer.at, 1, answer.length, stdout);
+    putchar('\n');
+    return ACCEPTED;
+}
+
+static int comment(char **arguments) {
+    uint64_t k;
+    if (take_number(&k, "K", arguments[1]) != ACCEPTED) return UNUSABLE;
+    table_t table;
+    int status = begin_table(&table, arguments[0]);
+    if (status == ACCEPTED) status = ask_comment(&table.file, k);
+    drop_table(&table);
+    return status;
+}
+
+// ---- divide ----
+
+// Divides a stretch; lends room for some lengths, and for eight times as many each time that they are too few.
+static int divide_input(sp3_division_t *division, uint64_t **lengths, const input_t *stretch) {
+    division->refusal = ROOM_TOO_SMALL;
+    for (size_t room = 64; division->refusal == ROOM_TOO_SMALL; room *= 8) {
+        free(*lengths);
+        *lengths = lend(room, sizeof **lengths);
+        if (*lengths == NULL) return out_of_memory(stretch);
+        *division = sp3_divide(stretch->bytes, stretch->length, *lengths, room);
+    }
+    return ACCEPTED;
+}
+
+// A line for each file, then what is left.
+static int show_division(const sp3_division_t *division, const uint64_t *lengths, const input_t *stretch) {
+    uint64_t first = 0;
+    for (uint64_t k = 0; k < division->count; first += lengths[k++])
+        printf("file %" PRIu64 " first byte %" PRIu64 " length %" PRIu64 "\n", k, first, lengths[k]);
+    if (division->refusal != 0) return refused(division->refusal, division->line, "%s: from byte %zu", stretch->name, division->rest);
+    printf("nothing is left: files %" PRIu64 ", bytes %zu\n", division->count, stretch->length);
+    return ACCEPTED;
+}
+
+static int divide(char **arguments) {
+    input_t stretch;
+    sp3_division_t division = {0};
+    uint64_t *lengths = NULL;
+    int status = take_input(&stretch, arguments[0]);
+    if (status == ACCEPTED) status = divide_input(&division, &lengths, &stretch);
+    if (status == ACCEPTED) status = show_division(&division, lengths, &stretch);
+    free(lengths);
+    drop_input(&stretch);
+    return status;
+}
+
+// ---- date ----
+
+static int date(char **arguments) {
+    static const char *const names[] = {"Y", "M", "D"};
+    uint64_t parts[3];
+    for (int k = 0; k < 3; k++)
+        if (take_number(&parts[k], names[k], arguments[k]) != ACCEPTED) return UNUSABLE;
+    sp3_date_answer_t answer = sp3_date(parts[0], parts[1], parts[2]);
+    if (answer.refusal == 0) {
+        printf("MJD %" PRIu64 ", GPS week %" PRIu64 ", seconds of week %" PRIu64 "\n", answer.mjd, answer.week, answer.seconds);
+        return ACCEPTED;
+    }
+    fprintf(stderr, "%s %s %s: refused %zu: %s\n", arguments[0], arguments[1], arguments[2], answer.refusal, words_of(answer.refusal));
+    return REFUSED;
+}
+
+// ---- Words of the command line ----
+
+typedef struct {
+    const char *name, *arguments, *meaning;
+    int fewest;
+    bool more;
+    int (*run)(char **arguments);
+} command_t;
+
+static const command_t commands[] = {
+    {"check", "FILE..", "judge each file: what an accepted one holds, or why it is refused", 1, true, check},
+    {"rewrite", "FILE", "write a file's canonical form", 1, false, rewrite},
+    {"table", "FILE", "show the header and every row, absent as a word", 1, false, table},
+    {"row", "FILE EPOCH SAT", "show a satellite's place and clock at an epoch; SAT is G07 or a number", 3, false, row},
+    {"comment", "FILE K", "write the text of a comment", 2, false, comment},
+    {"divide", "FILE", "tell where each file begins in a stretch of files laid end to end", 1, false, divide},
+    {"date", "Y M D", "tell MJD, GPS week and seconds of week of a date", 3, false, date},
+};
+enum { COMMANDS = sizeof commands / sizeof *commands };
+
+static int usage(FILE *to, int status) {
+    fputs("usage: sp3 COMMAND ARGUMENTS\n\n", to);
+    for (size_t k = 0; k < COMMANDS; k++) fprintf(to, "  sp3 %-7s %-15s %s\n", commands[k].name, commands[k].arguments, commands[k].meaning);
+    fputs("\nFILE may be - for standard input; a name that begins with - comes after --. Epochs, satellites\n"
+          "and comments are counted from 0. Results go to standard output, messages to standard error.\n"
+          "Status: 0 accepted, 1 refused, 2 wrong arguments or an input or output that fails.\n",
+          to);
+    return status;
+}
+
+// Takes the options, and `--` that ends them, out of the words.
+static int take_options(bool *help, char **words) {
+    char **kept = words;
+    bool ended = false;
+    for (; *words != NULL; words++) {
+        bool option = !ended && (*words)[0] == '-' && (*words)[1] != '\0';
+        if (!option) *kept++ = *words;
+        else if (strcmp(*words, "--") == 0) ended = true;
+        else if (strcmp(*words, "-h") == 0 || strcmp(*words, "--help") == 0) *help = true;
+        else return unusable("no such option; a name that begins with - comes after --", "%s", *words);
+    }
+    *kept = NULL;
+    return ACCEPTED;
+}
+
+// Runs the command that the words name.
+static int run(char **words) {
+    int count = 0;
+    while (words[count] != NULL) count++;
+    if (count == 0) return usage(stderr, UNUSABLE);
+    for (const command_t *command = commands; command < commands + COMMANDS; command++) {
+        if (strcmp(words[0], command->name) != 0) continue;
+        if (count - 1 == command->fewest || (command->more && count - 1 > command->fewest)) return command->run(words + 1);
+        return unusable(command->arguments, "the arguments of %s are", command->name);
+    }
+    unusable("no such command", "%s", words[0]);
+    return usage(stderr, UNUSABLE);
+}
+
+int main(int count, char **words) {
+    bool help = false;
+    signal(SIGPIPE, SIG_IGN);
+    if (count == 0) return usage(stderr, UNUSABLE);
+    int status = take_options(&help, ++words);
+    if (status == ACCEPTED && *words != NULL && strcmp(*words, "help") == 0) help = true;
+    if (status == ACCEPTED) status = help ? usage(stdout, ACCEPTED) : run(words);
+    return last_status(status);
+}

@@ -1,0 +1,61 @@
+//! The proved SP3-d reader and writer for Rust: the functions of include/sp3.h under their names, with absence as an `Option` and refusals as a
+//! `Result`. The crate holds no rule of the format: it lends memory and hands answers on.
+//!
+//! ```
+//! let file = include_bytes!("../../../samples/paper.sp3");
+//! let table = sp3::Table::read(file)?;
+//! for row in table.rows() {
+//!     match row.position.place {
+//!         Some([x, y, z]) => println!("{x} {y} {z} mm"),
+//!         None => println!("absent"),
+//!     }
+//! }
+//! # Ok::<(), sp3::Refusal>(())
+//! ```
+//!
+//! There are two levels:
+//!
+//! - Functions over lent slices, just as in C: [`read`], [`write()`], [`divide`], [`begin`]. They allocate nothing. A refusal changes nothing that
+//!   was lent; after success the places past those that are filled are unchanged too.
+//! - Conveniences that lend the room themselves: [`Table`], [`divide_all`], [`rows`].
+//!
+//! **Absence.** A satellite that was withdrawn is written as a place of three zeros. Here that is `None`, never a coordinate; a place of which
+//! one or two coordinates are 0 is not absent. Place and clock are absent apart from each other. Every satellite of the header stays in every
+//! epoch.
+//!
+//! **Refusals.** [`Refusal`] has the number in the paper's table, 1 to 13, and the line; [`words`] says what each number means.
+//!
+//! **Units.** Places in mm, clocks in ps; in V rows 10^-4 mm/s and 10^-16 s/s. A name that ends in `8` is a time in 10^-8 s. Epochs, satellites of
+//! the header, comments and rows are counted from 0, lines and columns from 1.
+#![deny(missing_docs)]
+#![deny(unsafe_op_in_unsafe_fn)]
+
+mod ffi;
+#[cfg(test)]
+mod layout;
+mod lines;
+mod questions;
+mod reading;
+mod refusal;
+mod stored;
+mod stretch;
+mod table;
+mod walk;
+mod writing;
+
+pub use ffi::{Bases, Header, HeaderParts, Moment, Place, RowWalk, Texts};
+pub use lines::{after_lines, first_place, next_line, read_line, Line};
+pub use questions::{
+    comment, comment_answer, date, identifier, identifier_text, moment, row, satellite_of, Date,
+    Row,
+};
+pub use reading::{judge, judge_front, read, read_front, Reading};
+pub use refusal::{words, LineRefusal, Refusal};
+pub use stored::{
+    clock_of, exponent_of, flag_of, place_of, stored_comment, stored_row, Exponent, Flags,
+    StoredRow, COMMENT_WIDTH, ROW_WIDTH,
+};
+pub use stretch::{divide, divide_all, Divided, Division};
+pub use table::{Table, TableRow};
+pub use walk::{begin, first_row, next_row, rows, RowAt, Rows};
+pub use writing::write;

@@ -1,0 +1,101 @@
+//! A file line by line.
+
+use crate::ffi;
+use crate::refusal::refused;
+use crate::{LineRefusal, Place};
+
+impl Place {
+    /// The byte at which the next line begins.
+    pub fn at(&self) -> usize {
+        self.at
+    }
+}
+
+/// What a line without fault does.
+#[derive(Clone, Copy, Debug, PartialEq, Eq, Hash)]
+pub struct Line {
+    /// Whether the line is the file's EOF line.
+    pub finished: bool,
+    /// The place after the line. After the EOF line only its byte counts: there the file ends.
+    pub next: Place,
+}
+
+impl ffi::LineAnswer {
+    /// The answer as a result.
+    fn told(self) -> Result<Line, LineRefusal> {
+        match refused(self.refusal) {
+            None => Ok(Line { finished: self.finished, next: self.next }),
+            Some(number) => Err(LineRefusal { number, column: self.column }),
+        }
+    }
+}
+
+/// The place before the first line of a file.
+///
+/// ```
+/// assert_eq!(sp3::first_place().at(), 0);
+/// ```
+pub fn first_place() -> Place {
+    ffi::sp3_first_place()
+}
+
+/// What the line at a place does. A `+ ` line without fault leaves its identifiers in `names` (255 places suffice), after those of the lines
+/// before it; no other line changes `names`.
+///
+/// Refused: 1 where no LF is left, 10 for a row of a satellite for which `names` had no place; `names` is then as it was.
+///
+/// ```
+/// let file = include_bytes!("../../../samples/paper.sp3");
+/// let mut names = [0; 255];
+/// let mut line = sp3::read_line(file, sp3::first_place(), &mut names)?;
+/// assert_eq!(line.next.at(), 61);
+/// while !line.finished {
+///     line = sp3::read_line(file, line.next, &mut names)?;
+/// }
+/// assert_eq!(line.next.at(), file.len());
+/// assert_eq!(names[0], 7107);
+///
+/// let refusal = sp3::read_line(b"#dP2013", sp3::first_place(), &mut names).unwrap_err();
+/// assert_eq!(refusal.number, 1);
+/// # Ok::<(), sp3::LineRefusal>(())
+/// ```
+pub fn read_line(file: &[u8], place: Place, names: &mut [u64]) -> Result<Line, LineRefusal> {
+    // SAFETY: each pointer and its number are of one slice; the names are borrowed for this call alone.
+    let answer = unsafe {
+        ffi::sp3_read_line(file.as_ptr(), file.len(), place, names.as_mut_ptr(), names.len())
+    };
+    answer.told()
+}
+
+/// What the line at a place does, where all identifiers of the header are known (as [`begin`](crate::begin) leaves them).
+///
+/// Refused: as [`read_line`]; 10 for a row of a satellite that `names` does not have here.
+///
+/// ```
+/// let file = include_bytes!("../../../samples/paper.sp3");
+/// let row = sp3::after_lines(file, &[7107], sp3::first_place(), 23);
+/// assert!(file[row.at()..].starts_with(b"PG07"));
+/// assert!(sp3::next_line(file, &[7107], row).is_ok());
+/// assert_eq!(sp3::next_line(file, &[7108], row).unwrap_err().number, 10);
+/// ```
+pub fn next_line(file: &[u8], names: &[u64], place: Place) -> Result<Line, LineRefusal> {
+    // SAFETY: each pointer and its number are of one slice.
+    let answer = unsafe {
+        ffi::sp3_next_line(file.as_ptr(), file.len(), names.as_ptr(), names.len(), place)
+    };
+    answer.told()
+}
+
+/// The place so many lines further, where all identifiers of the header are known. It stays at a line that is refused, and at the EOF line.
+///
+/// ```
+/// let file = include_bytes!("../../../samples/paper.sp3");
+/// let end = sp3::after_lines(file, &[7107], sp3::first_place(), 1000);
+/// assert_eq!(&file[end.at()..], b"EOF\n");
+/// ```
+pub fn after_lines(file: &[u8], names: &[u64], place: Place, lines: usize) -> Place {
+    // SAFETY: each pointer and its number are of one slice.
+    unsafe {
+        ffi::sp3_after_lines(file.as_ptr(), file.len(), names.as_ptr(), names.len(), place, lines)
+    }
+}

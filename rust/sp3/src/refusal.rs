@@ -1,0 +1,117 @@
+//! Refusals: the number in the paper's table, and where.
+
+use std::error::Error;
+use std::fmt;
+
+/// The numbers in words, 0 first.
+const WORDS: [&str; 14] = [
+    "accepted",
+    "no line end is left before the file's EOF line is complete",
+    "a byte outside 32 to 126 stands in the line",
+    "the line has more than 80 characters",
+    "the line is not of a kind that may stand here",
+    "an unused column is not blank, or a placeholder is not all `c` or a zero",
+    "a field is malformed, or a letter, file type or time system is not listed",
+    "a number or date is outside its bounds",
+    "line 2 disagrees with the start, a slot after the last satellite is not `  0`, an identifier repeats, or the file type disagrees",
+    "an epoch stands at the wrong instant",
+    "a row names another satellite than the header has here",
+    "bytes stand after the EOF line",
+    "lent room is too small",
+    "the table to be written is not valid, or what is asked by number is not there",
+];
+
+/// A refusal's number in words. A number above 13, which the library never gives, has the words `an unknown number`.
+///
+/// ```
+/// assert_eq!(sp3::words(9), "an epoch stands at the wrong instant");
+/// ```
+pub fn words(number: u8) -> &'static str {
+    WORDS.get(usize::from(number)).unwrap_or(&"an unknown number")
+}
+
+/// Why something was refused. Whatever was lent is then as it was before.
+///
+/// The first faulty line of a file decides, in a line the lowest number. 13 and then 12 come after all other numbers.
+///
+/// ```
+/// let refusal = sp3::judge(b"").unwrap_err();
+/// assert_eq!(refusal, sp3::Refusal { number: 1, line: 1 });
+/// assert_eq!(
+///     refusal.to_string(),
+///     "refused 1 line 1: no line end is left before the file's EOF line is complete"
+/// );
+/// ```
+#[derive(Clone, Copy, Debug, PartialEq, Eq, Hash)]
+pub struct Refusal {
+    /// 1 to 13; [`words`] says what each means.
+    pub number: u8,
+    /// The line, counted from 1; 0 where the refusal names none.
+    pub line: u64,
+}
+
+impl fmt::Display for Refusal {
+    fn fmt(&self, out: &mut fmt::Formatter<'_>) -> fmt::Result {
+        write!(out, "refused {} line {}: {}", self.number, self.line, words(self.number))
+    }
+}
+
+impl Error for Refusal {}
+
+/// Why one line was refused by the line readers: its number, and where in the line.
+///
+/// ```
+/// let refusal = sp3::read_line(b"#dQ\n", sp3::first_place(), &mut []).unwrap_err();
+/// assert_eq!(refusal.number, 6);
+/// assert_eq!(refusal.column, 3);
+/// ```
+#[derive(Clone, Copy, Debug, PartialEq, Eq, Hash)]
+pub struct LineRefusal {
+    /// 1 to 10; [`words`] says what each means.
+    pub number: u8,
+    /// The column, counted from 1; 0 where the refusal names none.
+    pub column: usize,
+}
+
+impl fmt::Display for LineRefusal {
+    fn fmt(&self, out: &mut fmt::Formatter<'_>) -> fmt::Result {
+        write!(out, "refused {} column {}: {}", self.number, self.column, words(self.number))
+    }
+}
+
+impl Error for LineRefusal {}
+
+/// What is asked for by number is not there.
+pub(crate) const NOT_THERE: Refusal = Refusal { number: 13, line: 0 };
+
+/// Memory cannot be lent.
+pub(crate) const NO_ROOM: Refusal = Refusal { number: 12, line: 0 };
+
+/// The number of an answer, if it is a refusal.
+pub(crate) fn refused(number: impl TryInto<u8>) -> Option<u8> {
+    match number.try_into() {
+        Ok(0) => None,
+        Ok(number) => Some(number),
+        Err(_) => Some(u8::MAX),
+    }
+}
+
+/// Goes on after an answer without refusal.
+pub(crate) fn accepted(number: impl TryInto<u8>, line: u64) -> Result<(), Refusal> {
+    match refused(number) {
+        None => Ok(()),
+        Some(number) => Err(Refusal { number, line }),
+    }
+}
+
+#[cfg(test)]
+mod tests {
+    use super::*;
+
+    /// A number too large for a refusal's is none the less a refusal.
+    #[test]
+    fn numbers_that_the_library_never_gives() {
+        assert_eq!((refused(0_u64), refused(13_u64)), (None, Some(13)));
+        assert_eq!((refused(256_u64), refused(usize::MAX)), (Some(255), Some(255)));
+    }
+}

@@ -1,0 +1,108 @@
+//! Headers made and tables written.
+
+use crate::ffi;
+use crate::refusal::{accepted, NOT_THERE};
+use crate::{moment, Header, HeaderParts, Moment, Refusal};
+
+impl Header {
+    /// A header out of its parts.
+    ///
+    /// Refused: 6 for mode `Q`, 7 for 256 satellites, 6 for both; line 0.
+    ///
+    /// ```
+    /// let parts = sp3::HeaderParts {
+    ///     mode: b'P',
+    ///     start: sp3::Moment { year: 2013, month: 4, day: 3, ..Default::default() },
+    ///     epochs: 96,
+    ///     interval8: 90_000_000_000,
+    ///     texts: sp3::Texts {
+    ///         data_used: *b"ORBIT",
+    ///         coordinates: *b"WGS84",
+    ///         orbit: *b"BCT",
+    ///         agency: *b"PORT",
+    ///     },
+    ///     satellites: 32,
+    ///     comments: 4,
+    ///     file_type: b'G',
+    ///     time_system: *b"GPS",
+    ///     bases: sp3::Bases { place: 12_500_000, clock: 1_025_000_000 },
+    /// };
+    /// assert_eq!(sp3::Header::new(parts)?.epochs, 96);
+    ///
+    /// let refused = sp3::Header::new(sp3::HeaderParts { satellites: 256, ..parts });
+    /// assert_eq!(refused, Err(sp3::Refusal { number: 7, line: 0 }));
+    /// # Ok::<(), sp3::Refusal>(())
+    /// ```
+    pub fn new(parts: HeaderParts) -> Result<Header, Refusal> {
+        let answer = ffi::sp3_header(parts);
+        accepted(answer.refusal, 0)?;
+        Ok(answer.header)
+    }
+
+    /// The date and time of day of an epoch, counted from 0: the start and so many intervals.
+    ///
+    /// Refused: 13 for epoch 96 of 96; 7 where the instant lies past 2099.
+    ///
+    /// ```
+    /// let header = sp3::judge(include_bytes!("../../../samples/paper.sp3"))?.header;
+    /// let start = header.epoch(0)?;
+    /// assert_eq!((start.year, start.month, start.day), (2013, 4, 3));
+    /// assert_eq!(header.epoch(1), Err(sp3::Refusal { number: 13, line: 0 }));
+    /// # Ok::<(), sp3::Refusal>(())
+    /// ```
+    pub fn epoch(&self, k: u64) -> Result<Moment, Refusal> {
+        if k >= self.epochs {
+            return Err(NOT_THERE);
+        }
+        moment(self.start8.saturating_add(k.saturating_mul(self.interval8)))
+    }
+}
+
+/// Writes the canonical form of a table into the first bytes of `out` and gives their number. [`Table::write`](crate::Table::write) lends the
+/// output itself.
+///
+/// The lists are as [`read`](crate::read) leaves them; places past the header's counts are not looked at, bytes of `out` past those written
+/// stay as they were.
+///
+/// Refused, with line 0: 13 where the table is not valid (an exponent of 1000, a list shorter than its count), then 12 where `out` is one byte
+/// too short; `out` is then as it was.
+///
+/// ```
+/// let file = include_bytes!("../../../samples/paper.sp3");
+/// let table = sp3::Table::read(file)?;
+/// let (identifiers, comments) = (&table.identifiers, &table.comments);
+/// let mut out = [0; 2000];
+/// let length = sp3::write(&table.header, identifiers, &table.exponents, comments, &table.rows, &mut out)?;
+/// assert_eq!(&out[..length], file);
+///
+/// let refused = sp3::write(&table.header, identifiers, &[1000], comments, &table.rows, &mut out);
+/// assert_eq!(refused, Err(sp3::Refusal { number: 13, line: 0 }));
+/// # Ok::<(), sp3::Refusal>(())
+/// ```
+pub fn write(
+    header: &Header,
+    identifiers: &[u64],
+    exponents: &[u64],
+    comments: &[u8],
+    rows: &[i64],
+    out: &mut [u8],
+) -> Result<usize, Refusal> {
+    // SAFETY: each pointer and its number are of one slice; the output is borrowed for this call alone.
+    let answer = unsafe {
+        ffi::sp3_write(
+            *header,
+            identifiers.as_ptr(),
+            identifiers.len(),
+            exponents.as_ptr(),
+            exponents.len(),
+            comments.as_ptr(),
+            comments.len(),
+            rows.as_ptr(),
+            rows.len(),
+            out.as_mut_ptr(),
+            out.len(),
+        )
+    };
+    accepted(answer.refusal, 0)?;
+    Ok(answer.length)
+}

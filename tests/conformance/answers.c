@@ -1,0 +1,148 @@
+/* What the library answers, a line to each case, for tests/conformance.sh:
+ *
+ *   answers files LIST     LIST names two files to a line, with a TAB between them: a case, and the form in which it should be written
+ *   answers calls PAPER    calls on the paper's file (calls.c)
+ *
+ * A file is `refused N line L`, with ` column C` where the line reader names one, or `accepted written|other X Y Z CLOCK`: whether its canonical
+ * form is the second file, and the row of epoch 0 and satellite 0. */
+#include "sp3.h"
+#include "stretch.h"
+
+#include <stdio.h>
+#include <stdlib.h>
+#include <string.h>
+
+enum { MOST_SATELLITES = 255, LONGEST_PATH = 4096 };
+
+static void stop(const char *what, const char *which)
+{
+    fprintf(stderr, "answers: %s: %s\n", which, what);
+    exit(2);
+}
+
+void *room(size_t count, size_t size)
+{
+    void *lent = calloc(count > 0 ? count : 1, size);
+    if (lent == NULL)
+        stop("no memory", "room");
+    return lent;
+}
+
+/* The number of bytes of an open file, whose place is then its first byte. */
+static size_t length_of(FILE *file, const char *path)
+{
+    if (fseek(file, 0, SEEK_END) != 0)
+        stop("cannot be read", path);
+    long length = ftell(file);
+    if (length < 0)
+        stop("cannot be read", path);
+    rewind(file);
+    return (size_t)length;
+}
+
+stretch_t load(const char *path)
+{
+    FILE *file = fopen(path, "rb");
+    if (file == NULL)
+        stop("cannot be read", path);
+    size_t length = length_of(file, path);
+    stretch_t all = {room(length, 1), length};
+    if (fread(all.bytes, 1, length, file) != length)
+        stop("cannot be read", path);
+    fclose(file);
+    return all;
+}
+
+/* The column of the first faulty line by the line reader, which must find the same refusal at the same line; 0 where it names none. */
+static size_t column_of(stretch_t file, sp3_reading_t judged, const char *path)
+{
+    uint64_t names[MOST_SATELLITES] = {0};
+    sp3_place_t place = sp3_first_place();
+    for (uint64_t line = 1;; line++) {
+        sp3_line_answer_t answer = sp3_read_line(file.bytes, file.length, place, names, MOST_SATELLITES);
+        if (answer.finished && judged.refusal == 11 && judged.line == line + 1)
+            return 0;
+        if (answer.refusal == judged.refusal && judged.line == line)
+            return answer.column;
+        if (answer.finished || answer.refusal != 0)
+            stop("the line reader finds another refusal", path);
+        place = answer.next;
+    }
+}
+
+static void print_refusal(stretch_t file, sp3_reading_t judged, const char *path)
+{
+    size_t column = column_of(file, judged, path);
+    printf("refused %zu line %llu", judged.refusal, (unsigned long long)judged.line);
+    if (column != 0)
+        printf(" column %zu", column);
+    printf("\n");
+}
+
+/* Whether an accepted file, read and written again, is this form. */
+static bool is_written_as(stretch_t file, sp3_header_t h, stretch_t form, const char *path)
+{
+    size_t n = h.satellites, numbers = n * h.epochs * (h.velocity ? 2 : 1) * SP3_ROW_WIDTH, text = h.comments * SP3_COMMENT_WIDTH;
+    uint64_t *identifiers = room(n, sizeof *identifiers), *exponents = room(n, sizeof *exponents);
+    uint8_t *comments = room(text, 1), *out = room(form.length, 1);
+    int64_t *rows = room(numbers, sizeof *rows);
+    sp3_reading_t read = sp3_read(file.bytes, file.length, identifiers, n, exponents, n, comments, text, rows, numbers);
+    if (read.refusal != 0)
+        stop("accepted, and not read", path);
+    sp3_measured_t written = sp3_write(read.header, identifiers, n, exponents, n, comments, text, rows, numbers, out, form.length);
+    bool same = written.refusal == 0 && written.length == form.length && memcmp(out, form.bytes, form.length) == 0;
+    free(identifiers), free(exponents), free(comments), free(out), free(rows);
+    return same;
+}
+
+static void print_row(stretch_t file)
+{
+    sp3_row_t row = sp3_row(file.bytes, file.length, 0, 0).row;
+    if (row.place_absent)
+        printf(" absent");
+    else
+        printf(" %.0f %.0f %.0f", row.x, row.y, row.z);
+    if (row.clock_absent)
+        printf(" absent\n");
+    else
+        printf(" %.0f\n", row.clock);
+}
+
+static void print_file(const char *path, const char *form_path)
+{
+    stretch_t file = load(path), form = load(form_path);
+    sp3_reading_t judged = sp3_judge(file.bytes, file.length);
+    if (judged.refusal != 0) {
+        print_refusal(file, judged, path);
+    } else {
+        printf("accepted %s", is_written_as(file, judged.header, form, path) ? "written" : "other");
+        print_row(file);
+    }
+    free(file.bytes), free(form.bytes);
+}
+
+static void print_files(const char *list_path)
+{
+    char line[2 * LONGEST_PATH];
+    FILE *list = fopen(list_path, "r");
+    if (list == NULL)
+        stop("cannot be read", list_path);
+    while (fgets(line, sizeof line, list) != NULL) {
+        char *path = strtok(line, "\t\n"), *form_path = strtok(NULL, "\t\n");
+        if (form_path == NULL)
+            stop("two files to a line are needed", list_path);
+        print_file(path, form_path);
+    }
+    fclose(list);
+}
+
+int main(int count, char **words)
+{
+    if (count == 3 && strcmp(words[1], "files") == 0)
+        print_files(words[2]);
+    else if (count == 3 && strcmp(words[1], "calls") == 0)
+        print_calls(load(words[2]));
+    else
+        stop("files LIST, or calls PAPER", "usage");
+    return 0;
+}

@@ -1,0 +1,291 @@
+/* Calls on the paper's file and on bytes made from it, for tests/conformance.sh: a line `NAME accepted`, `NAME refused N` or `NAME refused N line L`
+ * to each. The answers that must come are in calls.txt. */
+#include "sp3.h"
+#include "stretch.h"
+
+#include <stdio.h>
+#include <stdlib.h>
+#include <string.h>
+
+/* What the paper's file needs; room for more than its bytes; how far its row stands before its end (61 bytes with its LF, `EOF` 4). */
+enum { NAMES = 1, COMMENTS = 4, TEXT = COMMENTS * SP3_COMMENT_WIDTH, NUMBERS = SP3_ROW_WIDTH, LENGTH = 1215, ROOM = 2 * LENGTH, ROW_FROM_END = 65 };
+
+/* What is changed in the paper's table before it is written. */
+enum { AS_READ, EXPONENT_1000, NAME_00, THREE_COMMENTS, CLOCK_LARGE, FLAG_2, PAST_2099 };
+
+/* An answer; `line` is -1 where the function tells none. */
+typedef struct {
+    size_t refusal;
+    long line;
+} answer_t;
+
+static answer_t at_line(size_t refusal, uint64_t line)
+{
+    return (answer_t){refusal, (long)line};
+}
+
+static answer_t alone(size_t refusal)
+{
+    return (answer_t){refusal, -1};
+}
+
+/* The paper's table, with room for one epoch more. */
+typedef struct {
+    sp3_header_t header;
+    uint64_t identifiers[NAMES], exponents[NAMES];
+    uint8_t comments[TEXT];
+    int64_t rows[2 * NUMBERS];
+} table_t;
+
+static table_t table_of(stretch_t file)
+{
+    table_t t = {0};
+    t.header = sp3_read(file.bytes, file.length, t.identifiers, NAMES, t.exponents, NAMES, t.comments, TEXT, t.rows, NUMBERS).header;
+    memcpy(t.rows + NUMBERS, t.rows, NUMBERS * sizeof t.rows[0]);
+    return t;
+}
+
+/* ---- Bytes made from the paper's ---- */
+
+static stretch_t followed_by(stretch_t paper, const void *more, size_t length)
+{
+    static uint8_t made[2 * LENGTH];
+    memcpy(made, paper.bytes, paper.length);
+    memcpy(made + paper.length, more, length);
+    return (stretch_t){made, paper.length + length};
+}
+
+static stretch_t itself(stretch_t paper)
+{
+    return paper;
+}
+
+static stretch_t with_more(stretch_t paper)
+{
+    return followed_by(paper, "x", 1);
+}
+
+static stretch_t twice(stretch_t paper)
+{
+    return followed_by(paper, paper.bytes, paper.length);
+}
+
+/* The row names G08. */
+static stretch_t damaged(stretch_t paper)
+{
+    stretch_t file = followed_by(paper, "", 0);
+    file.bytes[file.length - ROW_FROM_END + 3] = '8';
+    return file;
+}
+
+/* ---- The calls: `with` are their numbers ---- */
+
+/* with: identifiers and exponents, bytes of comments, numbers of rows, 1 for the file at the front */
+static answer_t read_into(stretch_t file, const size_t *with)
+{
+    table_t t;
+    sp3_reading_t r = (with[3] == 1 ? sp3_read_front : sp3_read)(file.bytes, file.length, t.identifiers, with[0], t.exponents, with[0],
+                                                                 t.comments, with[1], t.rows, with[2]);
+    return at_line(r.refusal, r.line);
+}
+
+static answer_t judge_front(stretch_t file, const size_t *with)
+{
+    (void)with;
+    sp3_reading_t r = sp3_judge_front(file.bytes, file.length);
+    return at_line(r.refusal, r.line);
+}
+
+/* with: identifiers */
+static answer_t begin_into(stretch_t file, const size_t *with)
+{
+    uint64_t identifiers[NAMES];
+    sp3_reading_t r = sp3_begin(file.bytes, file.length, identifiers, with[0]);
+    return at_line(r.refusal, r.line);
+}
+
+static void change(table_t *t, size_t which)
+{
+    const uint64_t day8 = 86400ull * 100000000ull;
+    switch (which) {
+    case EXPONENT_1000: t->exponents[0] = 1000; break;
+    case NAME_00: t->identifiers[0] = 'G' * 100; break;
+    case THREE_COMMENTS: t->header.comments = COMMENTS - 1; break;
+    case CLOCK_LARGE: t->rows[3] = 1000000000000; break;
+    case FLAG_2: t->rows[8] = 2; break;
+    case PAST_2099:
+        /* 2099-12-31 is MJD 88068 */
+        t->header.start8 = 88068 * day8;
+        t->header.interval8 = day8;
+        t->header.epochs = 2;
+        break;
+    }
+}
+
+/* with: what is changed, identifiers, bytes of output */
+static answer_t write_into(stretch_t file, const size_t *with)
+{
+    static uint8_t out[ROOM];
+    table_t t = table_of(file);
+    change(&t, with[0]);
+    return alone(sp3_write(t.header, t.identifiers, with[1], t.exponents, NAMES, t.comments, TEXT, t.rows, t.header.epochs * NUMBERS, out, with[2])
+                     .refusal);
+}
+
+/* with: mode, satellites, month and day in 2001 */
+static answer_t make_header(stretch_t file, const size_t *with)
+{
+    (void)file;
+    sp3_header_parts_t parts = {.mode = (uint8_t)with[0], .start = {.year = 2001, .month = with[2], .day = with[3]}, .epochs = 1, .interval8 = 1,
+                                .satellites = with[1], .comments = COMMENTS, .file_type = 'G', .time_system = {'G', 'P', 'S'}};
+    memset(&parts.texts, ' ', sizeof parts.texts);
+    return alone(sp3_header(parts).refusal);
+}
+
+/* with: the comment */
+static answer_t ask_comment(stretch_t file, const size_t *with)
+{
+    sp3_comment_answer_t c = sp3_comment(file.bytes, file.length, with[0]);
+    return at_line(c.refusal, c.line);
+}
+
+/* with: the identifier */
+static answer_t ask_satellite(stretch_t file, const size_t *with)
+{
+    sp3_satellite_answer_t s = sp3_satellite_of(file.bytes, file.length, with[0]);
+    return at_line(s.refusal, s.line);
+}
+
+/* with: epoch, satellite */
+static answer_t ask_row(stretch_t file, const size_t *with)
+{
+    sp3_row_answer_t r = sp3_row(file.bytes, file.length, with[0], with[1]);
+    return at_line(r.refusal, r.line);
+}
+
+/* with: numbers, the row */
+static answer_t ask_stored_place(stretch_t file, const size_t *with)
+{
+    table_t t = table_of(file);
+    return alone(sp3_place_of(t.rows, with[0], with[1]).refusal);
+}
+
+/* with: which exponent of row 0 */
+static answer_t ask_stored_exponent(stretch_t file, const size_t *with)
+{
+    table_t t = table_of(file);
+    return alone(sp3_exponent_of(t.rows, NUMBERS, 0, with[0]).refusal);
+}
+
+/* with: which flag of row 0 */
+static answer_t ask_stored_flag(stretch_t file, const size_t *with)
+{
+    table_t t = table_of(file);
+    return alone(sp3_flag_of(t.rows, NUMBERS, 0, with[0]).refusal);
+}
+
+/* with: year, month, day */
+static answer_t ask_date(stretch_t file, const size_t *with)
+{
+    (void)file;
+    return alone(sp3_date(with[0], with[1], with[2]).refusal);
+}
+
+/* with: the instant */
+static answer_t ask_moment(stretch_t file, const size_t *with)
+{
+    (void)file;
+    return alone(sp3_moment(with[0]).refusal);
+}
+
+/* with: places for lengths */
+static answer_t divide_into(stretch_t stretch, const size_t *with)
+{
+    uint64_t lengths[2];
+    sp3_division_t d = sp3_divide(stretch.bytes, stretch.length, lengths, with[0]);
+    return at_line(d.refusal, d.line);
+}
+
+/* with: the byte at which the line begins */
+static answer_t line_at(stretch_t file, const size_t *with)
+{
+    uint64_t identifiers[NAMES] = {0};
+    sp3_place_t place = sp3_first_place();
+    place.at = with[0];
+    return alone(sp3_read_line(file.bytes, file.length, place, identifiers, NAMES).refusal);
+}
+
+/* with: the identifier that the walk takes for the file's */
+static answer_t walk_with(stretch_t file, const size_t *with)
+{
+    uint64_t identifiers[NAMES] = {with[0]};
+    sp3_row_step_t s = sp3_next_row(file.bytes, file.length, identifiers, NAMES, sp3_first_row());
+    return at_line(s.refusal, s.line);
+}
+
+static const struct {
+    const char *name;
+    stretch_t (*made)(stretch_t paper);
+    answer_t (*call)(stretch_t file, const size_t *with);
+    size_t with[4];
+} calls[] = {
+    {"read-exact", itself, read_into, {NAMES, TEXT, NUMBERS}},
+    {"read-short-names", itself, read_into, {NAMES - 1, TEXT, NUMBERS}},
+    {"read-short-comments", itself, read_into, {NAMES, TEXT - 1, NUMBERS}},
+    {"read-short-rows", itself, read_into, {NAMES, TEXT, NUMBERS - 1}},
+    {"read-refused-short", damaged, read_into, {0}},
+    {"read-after-end-short", with_more, read_into, {0}},
+    {"front-after-end", with_more, judge_front, {0}},
+    {"front-short", with_more, read_into, {NAMES, TEXT, NUMBERS - 1, 1}},
+    {"begin-exact", itself, begin_into, {NAMES}},
+    {"begin-short", itself, begin_into, {NAMES - 1}},
+    {"write-exact", itself, write_into, {AS_READ, NAMES, LENGTH}},
+    {"write-short", itself, write_into, {AS_READ, NAMES, LENGTH - 1}},
+    {"write-exponent-1000", itself, write_into, {EXPONENT_1000, NAMES, ROOM}},
+    {"write-name-00", itself, write_into, {NAME_00, NAMES, ROOM}},
+    {"write-three-comments", itself, write_into, {THREE_COMMENTS, NAMES, ROOM}},
+    {"write-list-short", itself, write_into, {AS_READ, NAMES - 1, ROOM}},
+    {"write-clock-large", itself, write_into, {CLOCK_LARGE, NAMES, ROOM}},
+    {"write-flag-2", itself, write_into, {FLAG_2, NAMES, ROOM}},
+    {"write-past-2099", itself, write_into, {PAST_2099, NAMES, ROOM}},
+    {"write-invalid-short", itself, write_into, {EXPONENT_1000, NAMES, 0}},
+    {"header-mode-q", itself, make_header, {'Q', 1, 8, 8}},
+    {"header-256", itself, make_header, {'P', 256, 8, 8}},
+    {"header-both", itself, make_header, {'Q', 256, 8, 8}},
+    {"header-2001-02-29", itself, make_header, {'P', 1, 2, 29}},
+    {"ask-comment-3", itself, ask_comment, {3}},
+    {"ask-comment-4", itself, ask_comment, {4}},
+    {"ask-refused-file", damaged, ask_comment, {4}},
+    {"ask-after-end", with_more, ask_comment, {4}},
+    {"ask-satellite-g08", itself, ask_satellite, {'G' * 100 + 8}},
+    {"ask-row-epoch-1", itself, ask_row, {1, 0}},
+    {"ask-row-satellite-1", itself, ask_row, {0, 1}},
+    {"ask-stored-row-1", itself, ask_stored_place, {2 * NUMBERS - 1, 1}},
+    {"ask-stored-exponent-4", itself, ask_stored_exponent, {4}},
+    {"ask-stored-flag-4", itself, ask_stored_flag, {4}},
+    {"ask-date-2001-02-29", itself, ask_date, {2001, 2, 29}},
+    {"ask-moment-0", itself, ask_moment, {0}},
+    {"divide-two", twice, divide_into, {2}},
+    {"divide-short", twice, divide_into, {1}},
+    {"divide-rest", with_more, divide_into, {1}},
+    {"divide-refused-first", damaged, divide_into, {0}},
+    {"walk-line-at-end", itself, line_at, {LENGTH}},
+    {"walk-other-names", itself, walk_with, {'G' * 100 + 8}},
+};
+
+void print_calls(stretch_t paper)
+{
+    if (paper.length != LENGTH) {
+        fprintf(stderr, "answers: calls are made on the paper's file, which has %d bytes\n", LENGTH);
+        exit(2);
+    }
+    for (size_t k = 0; k < sizeof calls / sizeof calls[0]; k++) {
+        answer_t a = calls[k].call(calls[k].made(paper), calls[k].with);
+        if (a.refusal == 0)
+            printf("%s accepted\n", calls[k].name);
+        else if (a.line < 0)
+            printf("%s refused %zu\n", calls[k].name, a.refusal);
+        else
+            printf("%s refused %zu line %ld\n", calls[k].name, a.refusal, a.line);
+    }
+}

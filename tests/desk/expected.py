@@ -1,0 +1,202 @@
+"""What the desk tool must print, from what a file holds. What a file holds is known from samples/make.py, from a rule, or from the independent Rust
+implementation (`Oracles`); never from the tool or the library."""
+import datetime
+import pathlib
+import re
+import subprocess
+
+ROOT = pathlib.Path(__file__).resolve().parents[2]
+MJD_ZERO = datetime.date(1858, 11, 17).toordinal()
+SECOND = 10**8
+DAY = 86400 * SECOND
+
+
+def words():
+    """The numbers of the refusals in words, out of the table in include/sp3.h; what stands there in parentheses is left out, and of 13 the first half."""
+    header = (ROOT / "include/sp3.h").read_text()
+    listed = dict(re.findall(r"^ \* +(\d+)  (.*)$", header, re.M))
+    said = {int(number): re.sub(r" \(.*\)$", "", text) for number, text in listed.items()}
+    said[13] = said[13].split(", or ")[1]
+    assert sorted(said) == list(range(14))
+    return said
+
+
+WORDS = words()
+
+
+def refused(subject, number, line):
+    return f"{subject}: refused {number} line {line}: {WORDS[number]}\n"
+
+
+class Held:
+    """What an accepted file holds. `rows` are tuples: letter, epoch, satellite, place or None, clock or None, exponents and flags as they are shown."""
+
+    def __init__(self, mode, start8, epochs, interval8, texts, file_type, time, bases, satellites, comments, rows):
+        self.mode, self.start8, self.epochs, self.interval8, self.texts = mode, start8, epochs, interval8, texts
+        self.file_type, self.time, self.bases = file_type, time, bases
+        self.satellites, self.comments, self.rows = satellites, comments, rows
+
+
+def shown_exponent(exponent, large):
+    return "-" if exponent is None else ">" if exponent == large else str(exponent)
+
+
+def of_model(model):
+    """What a file of samples/make.py holds."""
+    start8 = (model.start.toordinal() - MJD_ZERO) * DAY + (model.start.hour * 3600 + model.start.minute * 60 + model.start.second) * SECOND
+    letters = {name[0] for name in model.satellites}
+    rows = []
+    for epoch, satellites in enumerate(model.rows):
+        for k, parts in enumerate(satellites):
+            for letter, row in zip("PV", parts):
+                exponents = [shown_exponent(e, large) for e, large in zip(row.exponents, (99, 99, 99, 999))]
+                rows.append((letter, epoch, k, row.place, row.clock, exponents, row.flags.replace(" ", ".")))
+    return Held(model.mode, start8, len(model.rows), model.interval * SECOND, model.texts, letters.pop() if len(letters) == 1 else "M", "GPS",
+                (12_500_000, 1_025_000_000), list(zip(model.satellites, model.accuracies)), model.comments, rows)
+
+
+# ---- The texts ----
+
+
+def fixed(number, places):
+    sign = "-" if number < 0 else ""
+    units, rest = divmod(abs(number), 10**places)
+    return f"{sign}{units}.{rest:0{places}}" if places else f"{sign}{units}"
+
+
+def moment(instant8):
+    days, rest = divmod(instant8, DAY)
+    minutes, seconds8 = divmod(rest, 60 * SECOND)
+    return f"{datetime.date.fromordinal(days + MJD_ZERO)} {minutes // 60:02}:{minutes % 60:02}:{fixed(seconds8, 8):0>11}"
+
+
+def tally(held):
+    rows = [row for row in held.rows if row[0] == "P"]
+    absent = [sum(row[part] is None for row in rows) for part in (3, 4)]
+    return f"rows known {len(rows) - absent[0]} absent {absent[0]}, clocks known {len(rows) - absent[1]} absent {absent[1]}\n"
+
+
+def check(name, held):
+    return (f"{name}: accepted, mode {held.mode}, start {moment(held.start8)}, epochs {held.epochs}, interval {fixed(held.interval8, 8)} s, "
+            f"satellites {len(held.satellites)}, time system {held.time}, {tally(held)}")
+
+
+def labelled(label, text):
+    return f"{label:13} {text}".rstrip() + "\n"
+
+
+def heading(held):
+    lines = [labelled("mode", held.mode), labelled("start", moment(held.start8)), labelled("epochs", held.epochs)]
+    lines.append(labelled("interval", fixed(held.interval8, 8) + " s"))
+    lines += [labelled(*pair) for pair in zip(("data used", "coordinates", "orbit type", "agency"), held.texts)]
+    lines += [labelled("file type", held.file_type), labelled("time system", held.time)]
+    lines += [labelled("place base", fixed(held.bases[0], 7)), labelled("clock base", fixed(held.bases[1], 9))]
+    lines.append(labelled("satellites", len(held.satellites)))
+    lines += [labelled(f"satellite {k}", f"{name} accuracy exponent {a}") for k, (name, a) in enumerate(held.satellites)]
+    lines.append(labelled("comments", len(held.comments)))
+    lines += [labelled(f"comment {k}", text) for k, text in enumerate(held.comments)]
+    lines.append(labelled("P rows", "x y z in mm, clock in ps"))
+    if held.mode == "V":
+        lines.append(labelled("V rows", "x y z in mm/s, clock in ps/s"))
+    lines.append(labelled("sx sy sz sc", "exponents of the standard deviations of x y z clock; - is unknown, > is too large"))
+    lines.append(labelled("flags", "E clock event, P clock predicted, M maneuver, P orbit predicted; . is not set"))
+    return "".join(lines) + f"row  epoch date       time              sat{'x':>15}{'y':>15}{'z':>15}{'clock':>15} sx sy sz  sc flags\n"
+
+
+def row_line(held, row):
+    letter, epoch, k, place, clock, exponents, flags = row
+    places = 4 if letter == "V" else 0
+    numbers = ["absent"] * 3 if place is None else [fixed(number, places) for number in place]
+    numbers.append("absent" if clock is None else fixed(clock, places))
+    columns = "".join(f"{number:>15}" for number in numbers) + "".join(f"{e:>3}" for e in exponents[:3]) + f"{exponents[3]:>4}"
+    return f"{letter}   {epoch:6} {moment(held.start8 + epoch * held.interval8)} {held.satellites[k][0]}{columns} {flags}\n"
+
+
+def table(held):
+    return heading(held) + "".join(row_line(held, row) for row in held.rows) + tally(held)
+
+
+def row(held, epoch, k):
+    place, clock = next(r[3:5] for r in held.rows if r[:3] == ("P", epoch, k))
+    shown = "absent" if place is None else "{} {} {} mm".format(*place)
+    return (f"epoch {epoch} {moment(held.start8 + epoch * held.interval8)}\nsatellite {k} {held.satellites[k][0]}\n"
+            f"place {shown}\nclock {'absent' if clock is None else f'{clock} ps'}\n")
+
+
+def divide(lengths, rest=None):
+    """The lines for these files, and the last one where nothing is left."""
+    lines = [f"file {k} first byte {sum(lengths[:k])} length {length}\n" for k, length in enumerate(lengths)]
+    return "".join(lines) + (f"nothing is left: files {len(lengths)}, bytes {sum(lengths)}\n" if rest is None else "")
+
+
+# ---- The independent implementation ----
+
+
+class Oracles:
+    """The programs of tests/files.rs, tests/forms.rs and tests/stretches.rs, compiled into a folder."""
+
+    def __init__(self, folder):
+        self.folder = folder
+
+    def ask(self, name, *words, batch=b""):
+        return subprocess.run([self.folder / name, *words], input=batch, stdout=subprocess.PIPE, check=True).stdout
+
+    def cases(self, seed, count):
+        """Generated files, right and damaged, each with a comment, an epoch, a satellite and an identifier that are asked for."""
+        batch, cases = self.ask("files", "generate", str(seed), str(count)), []
+        while batch:
+            line, batch = batch.split(b"\n", 1)
+            numbers = [int(word) for word in line.split()]
+            cases.append((batch[: numbers[0]], numbers[5:]))
+            batch = batch[numbers[0] :]
+        return cases
+
+    def judged(self, file, asked=(0, 0, 0, 0)):
+        """The refusal and its line, what the file holds where there is none, and the answers by their first word."""
+        rooms = [300, 300, 100_000, 2_000_000]
+        batch = " ".join(str(n) for n in [len(file), *rooms, *asked]).encode() + b"\n" + file
+        lines = self.ask("files", "answer", batch=batch).decode("latin-1").split("\n")
+        answers = {line.split(" ", 1)[0]: line.split(" ") for line in lines[:3] + lines[-8:] if line}
+        number, line = int(answers["whole"][1]), int(answers["whole"][2])
+        return number, line, None if number else of_answer(lines), answers
+
+    def form(self, file):
+        """The canonical form of an accepted file."""
+        answer = self.ask("forms", "answer", batch=b"0 60000 %d\n" % len(file) + file)
+        _, read, write, rest = answer.split(b"\n", 3)
+        assert read == b"read 0 0" and write.startswith(b"write 0 "), (read, write)
+        return rest[: int(write.split()[2])]
+
+    def division(self, stretch):
+        """Refusal, line, the byte where the rest begins, and the lengths."""
+        lines = self.ask("stretches", "answer", batch=b"1000 0 0 0 %d\n" % len(stretch) + stretch).decode().split("\n")
+        number, line, count, rest = (int(word) for word in lines[1].split()[1:])
+        lengths = [int(text.split()[1]) for text in lines[2 : 2 + count]]
+        return number, line, rest, lengths
+
+
+def of_answer(lines):
+    """What a file holds, out of an answer of tests/files.rs to a reading that was accepted."""
+    at = next(k for k, line in enumerate(lines) if line.startswith("mode "))
+    head = dict(line.split(" ", 1) for line in lines[at : at + 9])
+    count = int(head["satellites"])
+    satellites = [tuple(line.split(" ")) for line in lines[at + 9 : at + 9 + count]]
+    at += 9 + count
+    comments = [line[1:-1] for line in lines[at + 1 : at + 1 + int(lines[at].split()[1])]]
+    at += 1 + len(comments)
+    names = {name: k for k, (name, _) in enumerate(satellites)}
+    rows = []
+    while not lines[at].startswith("rows "):
+        rows.append(of_row(lines[at].split(" "), names))
+        at += 1
+    texts = [head["texts"][first:last] for first, last in ((1, 6), (7, 12), (13, 16), (17, 21))]
+    return Held(head["mode"], int(head["start8"]), int(head["epochs"]), int(head["interval8"]), texts, head["type"], head["time"],
+                [int(word) for word in head["bases"].split()], satellites, comments, rows)
+
+
+def of_row(parts, names):
+    letter, epoch, name, rest = parts[0], int(parts[1]), parts[2], parts[3:]
+    place = None if rest[0] == "absent" else tuple(int(word) for word in rest[:3])
+    clock, *others = rest[1:] if place is None else rest[3:]
+    exponents = [{"unknown": "-", "large": ">"}.get(word, word) for word in others[:4]]
+    return letter, epoch, names[name], place, None if clock == "absent" else int(clock), exponents, others[4]

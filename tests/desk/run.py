@@ -1,0 +1,461 @@
+#!/usr/bin/env python3
+"""Tests of the desk tool; tests/desk.sh builds what is needed and calls this:
+
+    run.py FOLDER
+
+FOLDER has `tool/sp3`, the tool; `failing`, the tool with tests/desk/failing.c in it; and the oracles `files`, `forms` and `stretches`. Files are made
+in FOLDER. Prints how many tests passed; at the first difference prints what was expected and what came, and ends with 1.
+"""
+import errno
+import importlib.util
+import os
+import pathlib
+import re
+import subprocess
+import sys
+import threading
+
+import expected
+from expected import ROOT, of_model, refused
+
+SEED = 20130403
+GENERATED = 80
+PAPER_TABLE = """\
+mode          P
+start         2013-04-03 00:00:00.00000000
+epochs        1
+interval      900.00000000 s
+data used     ORBIT
+coordinates   WGS84
+orbit type    BCT
+agency        PORT
+file type     G
+time system   GPS
+place base    1.2500000
+clock base    1.025000000
+satellites    1
+satellite 0   G07 accuracy exponent 0
+comments      4
+comment 0     ONE ROW
+comment 1
+comment 2
+comment 3
+P rows        x y z in mm, clock in ps
+sx sy sz sc   exponents of the standard deviations of x y z clock; - is unknown, > is too large
+flags         E clock event, P clock predicted, M maneuver, P orbit predicted; . is not set
+row  epoch date       time              sat              x              y              z          clock sx sy sz  sc flags
+P        0 2013-04-03 00:00:00.00000000 G07     5000000001        -500000              0         absent  -  -  -   - ....
+rows known 1 absent 0, clocks known 0 absent 1
+"""
+USAGE = """\
+usage: sp3 COMMAND ARGUMENTS
+
+  sp3 check   FILE..          judge each file: what an accepted one holds, or why it is refused
+  sp3 rewrite FILE            write a file's canonical form
+  sp3 table   FILE            show the header and every row, absent as a word
+  sp3 row     FILE EPOCH SAT  show a satellite's place and clock at an epoch; SAT is G07 or a number
+  sp3 comment FILE K          write the text of a comment
+  sp3 divide  FILE            tell where each file begins in a stretch of files laid end to end
+  sp3 date    Y M D           tell MJD, GPS week and seconds of week of a date
+
+FILE may be - for standard input; a name that begins with - comes after --. Epochs, satellites
+and comments are counted from 0. Results go to standard output, messages to standard error.
+Status: 0 accepted, 1 refused, 2 wrong arguments or an input or output that fails.
+"""
+COMMANDS = ("check", "rewrite", "table", "row", "comment", "divide", "date")
+
+
+def load_make():
+    spec = importlib.util.spec_from_file_location("make", ROOT / "samples/make.py")
+    module = importlib.util.module_from_spec(spec)
+    spec.loader.exec_module(module)
+    return module
+
+
+make = load_make()
+PAPER = make.paper_lines()
+
+
+def as_bytes(text):
+    return text.encode("latin-1") if isinstance(text, str) else text
+
+
+class Desk:
+    """The tool under test, and how many tests it has passed."""
+
+    def __init__(self, folder):
+        self.folder, self.passed = folder, 0
+        self.tool = [str(folder / "tool/sp3")]
+        self.oracles = expected.Oracles(folder)
+
+    def file(self, name, content):
+        """A file of this content in the folder that the tool is run in; its name."""
+        (self.folder / name).write_bytes(content if isinstance(content, bytes) else make.joined(content))
+        return name
+
+    def run(self, words, stdin=b"", tool=None, **how):
+        given = {"input": stdin} if isinstance(stdin, bytes) else {"stdin": stdin}
+        options = {"stdout": subprocess.PIPE, "stderr": subprocess.PIPE, "cwd": self.folder, **given, **how}
+        done = subprocess.run([*(tool or self.tool), *words], **options)
+        return done.returncode, done.stdout or b"", done.stderr or b""
+
+    def expect(self, words, status, out="", err="", **how):
+        """The tool ends with this status and prints exactly this."""
+        came = self.run(words, **how)
+        wanted = (status, as_bytes(out), as_bytes(err))
+        if came != wanted:
+            self.differ(words, wanted, came)
+        self.passed += 1
+
+    def differ(self, words, wanted, came):
+        print(f"desk: a difference at test {self.passed + 1}: sp3 {' '.join(repr(word) for word in words)}")
+        for part, want, come in zip(("status", "standard output", "standard error"), wanted, came):
+            if want != come:
+                shown = [text if isinstance(text, int) else text[:3000].decode("latin-1") for text in (want, come)]
+                print(f"---- expected {part}:\n{shown[0]}\n---- came:\n{shown[1]}")
+        print(f"the files are those of {self.folder}")
+        sys.exit(1)
+
+
+# ---- What 01 says ----
+
+
+def test_paper(desk):
+    """The paper's own file: its answers are written here as 01 has them."""
+    name = desk.file("paper.sp3", make.joined(PAPER))
+    told = ": accepted, mode P, start 2013-04-03 00:00:00.00000000, epochs 1, interval 900.00000000 s, satellites 1, time system GPS, "
+    desk.expect(["check", name], 0, name + told + "rows known 1 absent 0, clocks known 0 absent 1\n")
+    odd = desk.file("odd.sp3", [line.replace("     -0.500000", "    -00.500000") for line in PAPER])
+    desk.expect(["rewrite", odd], 0, make.joined(PAPER))
+    desk.expect(["table", odd], 0, PAPER_TABLE)
+    row = "epoch 0 2013-04-03 00:00:00.00000000\nsatellite 0 G07\nplace 5000000001 -500000 0 mm\nclock absent\n"
+    desk.expect(["row", name, "0", "G07"], 0, row)
+    desk.expect(["row", name, "0", "0"], 0, row)
+    desk.expect(["row", name, "000", "00"], 0, row)
+    for k, text in enumerate(["ONE ROW", "", "", ""]):
+        desk.expect(["comment", name, str(k)], 0, text + "\n")
+    desk.expect(["divide", name], 0, "file 0 first byte 0 length 1215\nnothing is left: files 1, bytes 1215\n")
+    desk.expect(["divide", desk.file("empty.sp3", b"")], 0, "nothing is left: files 0, bytes 0\n")
+
+
+def test_dates(desk):
+    """Cases 1 to 5 of 01, both bounds, and the days beside them."""
+    for date, mjd, week, seconds in ((("2013", "4", "3"), 56385, 1734, 259200), (("2012", "10", "01"), 56201, 1708, 86400),
+                                     (("1980", "1", "6"), 44244, 0, 0), (("2000", "2", "29"), 51603, 1051, 172800),
+                                     (("2099", "12", "31"), 88068, 6260, 345600)):
+        desk.expect(["date", *date], 0, f"MJD {mjd}, GPS week {week}, seconds of week {seconds}\n")
+    for date in (("2001", "2", "29"), ("1980", "1", "5"), ("2100", "1", "1"), ("2013", "0", "1"), ("2013", "13", "1"), ("2013", "4", "31"),
+                 ("2013", "4", "0"), ("18446744073709551615", "18446744073709551615", "18446744073709551615")):
+        desk.expect(["date", *date], 1, "", f"{' '.join(date)}: refused 7: {expected.WORDS[7]}\n")
+
+
+def changed(line, first, text):
+    """The paper's lines with other text from a column of a line on, both counted from 1."""
+    lines = list(PAPER)
+    lines[line - 1] = lines[line - 1][: first - 1] + text + lines[line - 1][first - 1 + len(text) :]
+    return lines
+
+
+def damaged():
+    """Files that 01 refuses, each with the number and the line."""
+    whole = make.joined(PAPER)
+    names = "".join(f"G{k:02}" for k in range(1, 18))
+    return [(b"", 1, 1), (whole[:-1], 1, 25), (whole[:700], 1, whole[:700].count(b"\n") + 1), (changed(19, 4, "\a"), 2, 19),
+            (whole.replace(b"\n", b"\r\n"), 2, 1), (changed(19, 4, "X" * 78), 3, 19), (PAPER[:21] + PAPER[22:], 4, 22), (changed(1, 46, "x"), 5, 1),
+            (changed(16, 4, "  0.0000001"), 5, 16), (changed(1, 3, "v"), 6, 1), (changed(13, 10, "gps"), 6, 13), (changed(24, 19, "       .500000"), 6, 24),
+            (changed(1, 33, "      0"), 7, 1), (changed(3, 4, "256   " + names), 7, 3), (changed(2, 40, "56386"), 8, 2),
+            (changed(23, 18, "15"), 9, 23), (changed(24, 2, "G08"), 10, 24), (whole + b" ", 11, 26), (whole + whole, 11, 26)]
+
+
+def test_damaged(desk):
+    """Each of the refusals 1 to 11, by each command."""
+    assert {number for _, number, _ in damaged()} == set(range(1, 12))
+    for content, number, line in damaged():
+        name = desk.file("damaged.sp3", content)
+        message = refused(name, number, line)
+        for words in (["check", name], ["rewrite", name], ["table", name], ["row", name, "0", "G07"], ["row", name, "9", "0"], ["comment", name, "0"]):
+            desk.expect(words, 1, "", message)
+        if number != 11:
+            desk.expect(["divide", name], *((1, "", refused(f"{name}: from byte 0", number, line)) if content else (0, expected.divide([]))))
+    whole = make.joined(PAPER)
+    name = desk.file("rest.sp3", whole + whole[:-1])
+    desk.expect(["divide", name], 1, expected.divide([len(whole)], 1), refused(f"{name}: from byte {len(whole)}", 1, 25))
+
+
+def test_edges(desk):
+    """Files on the accepted side of a bound: 80 characters, a coordinate of zero beside others, both parts absent."""
+    desk.expect(["comment", desk.file("long.sp3", changed(19, 4, "X" * 77)), "0"], 0, "X" * 77 + "\n")
+    zero = desk.file("zero.sp3", changed(24, 5, "      0.000000      0.000000     -0.000001      0.000000"))
+    desk.expect(["row", zero, "0", "G07"], 0, "epoch 0 2013-04-03 00:00:00.00000000\nsatellite 0 G07\nplace 0 0 -1 mm\nclock 0 ps\n")
+    none = desk.file("none.sp3", changed(24, 5, "     -0.000000      0.000000      0.000000-999999.999999"))
+    desk.expect(["row", none, "0", "0"], 0, "epoch 0 2013-04-03 00:00:00.00000000\nsatellite 0 G07\nplace absent\nclock -999999999999 ps\n")
+    name = desk.file("paper.sp3", make.joined(PAPER))
+    for epoch, satellite in (("1", "0"), ("0", "1"), ("1", "G07"), ("18446744073709551615", "0"), ("0", "18446744073709551615")):
+        desk.expect(["row", name, epoch, satellite], 1, "", refused(f"{name}: epoch {epoch}, satellite {satellite}", 13, 0))
+    for satellite in ("G08", "Z99"):
+        desk.expect(["row", name, "0", satellite], 1, "", refused(f"{name}: satellite {satellite}", 13, 0))
+    for k in ("4", "18446744073709551615"):
+        desk.expect(["comment", name, k], 1, "", refused(f"{name}: comment {k}", 13, 0))
+
+
+# ---- What samples/make.py and the oracles know ----
+
+
+def test_samples(desk):
+    """The stored samples, by the numbers that they were made from."""
+    day, velocity, files = of_model(make.day()), of_model(make.velocity()), make.season_files()
+    names = [str(ROOT / "samples" / name) for name in ("day.sp3", "velocity.sp3", "season.sp3")]
+    for name, held, form in ((names[0], day, make.samples()["day.sp3"]), (names[1], velocity, make.joined(make.file_lines(make.velocity())))):
+        desk.expect(["check", name], 0, expected.check(name, held))
+        desk.expect(["table", name], 0, expected.table(held))
+        desk.expect(["rewrite", name], 0, form)
+        for k, text in enumerate(held.comments):
+            desk.expect(["comment", name, str(k)], 0, text + "\n")
+        for epoch, k in ((0, 0), (1, 1), (held.epochs - 1, len(held.satellites) - 1)):
+            for satellite in (str(k), held.satellites[k][0]):
+                desk.expect(["row", name, str(epoch), satellite], 0, expected.row(held, epoch, k))
+    for epoch in (12, 29, 30, 47, 48, 95):
+        for k in (3, 10, 14, 18):
+            desk.expect(["row", names[0], str(epoch), f"G{k + 1:02}"], 0, expected.row(day, epoch, k))
+    desk.expect(["divide", names[2]], 0, expected.divide([len(file) for file in files]))
+    desk.expect(["check", names[2]], 1, "", refused(names[2], 11, files[0].count(b"\n") + 1))
+    for k, (file, model) in enumerate(zip(files, make.season())):
+        desk.expect(["check", desk.file("part.sp3", file)], 0, expected.check("part.sp3", of_model(model)))
+        desk.expect(["rewrite", "part.sp3"], 0, make.joined(make.file_lines(model)))
+
+
+def test_generated(desk):
+    """Generated files, right and damaged, as the independent implementation answers for them."""
+    for file, asked in desk.oracles.cases(SEED, GENERATED):
+        name = desk.file("made.sp3", file)
+        number, line, held, answers = desk.oracles.judged(file, asked)
+        if number:
+            for words in (["check", name], ["table", name], ["rewrite", name], ["comment", name, str(asked[0])]):
+                desk.expect(words, 1, "", refused(name, number, line))
+        else:
+            desk.expect(["check", name], 0, expected.check(name, held))
+            desk.expect(["table", name], 0, expected.table(held))
+            desk.expect(["rewrite", name], 0, desk.oracles.form(file))
+            expect_answers(desk, name, held, asked, answers)
+        number, line, rest, lengths = desk.oracles.division(file)
+        err = refused(f"{name}: from byte {rest}", number, line) if number else ""
+        desk.expect(["divide", name], 1 if number else 0, expected.divide(lengths, rest if number else None), err)
+
+
+def expect_answers(desk, name, held, asked, answers):
+    """The questions about an accepted file."""
+    k, epoch, satellite, code = asked
+    if answers["comment"][1] == "0":
+        desk.expect(["comment", name, str(k)], 0, held.comments[k] + "\n")
+    else:
+        desk.expect(["comment", name, str(k)], 1, "", refused(f"{name}: comment {k}", 13, 0))
+    if answers["row"][1] == "0":
+        desk.expect(["row", name, str(epoch), str(satellite)], 0, expected.row(held, epoch, satellite))
+    else:
+        desk.expect(["row", name, str(epoch), str(satellite)], 1, "", refused(f"{name}: epoch {epoch}, satellite {satellite}", 13, 0))
+    text = chr(code // 100 % 0x110000) + f"{code % 100:02}"
+    if answers["satellite"][1] == "0":
+        desk.expect(["row", name, "0", text], 0, expected.row(held, 0, int(answers["satellite"][3])))
+    elif re.fullmatch("[A-Z][0-9][0-9]", text):
+        desk.expect(["row", name, "0", text], 1, "", refused(f"{name}: satellite {text}", 13, 0))
+
+
+def large_model():
+    """By a rule: 1,042 epochs of 120 satellites, ten megabytes, every seventh place and every eleventh clock absent."""
+    names = [f"{letter}{k:02}" for letter in "GR" for k in range(1, 61)]
+    rows = []
+    for epoch in range(1042):
+        numbers = [epoch * 120 + k for k in range(120)]
+        rows.append([[make.Row(None if n % 7 == 0 else (n * 7_919 - 10**9, n - 50_000, -n * 104_729), None if n % 11 == 0 else 5 * n - 300_000,
+                               (n % 98, None if n % 5 == 0 else 99, n % 13, n % 1000), "EPMP" if n % 3 else "  M ")] for n in numbers])
+    return make.Model("P", make.datetime.datetime(2000, 2, 28, 20, 0, 30), 30, names, [k % 100 for k in range(120)], ["BY RULE"] * 5, rows)
+
+
+def test_large(desk):
+    """Ten megabytes, from a file and from a pipe."""
+    model = large_model()
+    held, content = of_model(model), make.joined(make.file_lines(model))
+    assert len(content) > 10_000_000
+    name = desk.file("large.sp3", content)
+    desk.expect(["check", name], 0, expected.check(name, held))
+    desk.expect(["check", "-"], 0, expected.check("standard input", held), stdin=content)
+    desk.expect(["table", name], 0, expected.table(held))
+    desk.expect(["rewrite", "-"], 0, content, stdin=content)
+    desk.expect(["row", name, "1041", "R60"], 0, expected.row(held, 1041, 119))
+    desk.expect(["divide", "-"], 1, expected.divide([len(content)] * 2, 1), refused(f"standard input: from byte {2 * len(content)}", 1, 1),
+                stdin=content + content + b"#")
+    many = make.joined(PAPER) * 5000
+    desk.expect(["divide", "-"], 0, expected.divide([1215] * 5000), stdin=many)
+    (desk.folder / name).unlink()
+
+
+# ---- Arguments, inputs, outputs ----
+
+
+def test_usage(desk):
+    """Help, and arguments that are of no use."""
+    for words in (["--help"], ["-h"], ["help"], ["help", "row"], *([command, "--help"] for command in COMMANDS), ["row", "x", "-h"], ["help", "--"]):
+        desk.expect(words, 0, USAGE)
+    for words in ([], ["--"]):
+        desk.expect(words, 2, "", USAGE)
+    for word in ("chek", "", "-", "Check", "check "):
+        desk.expect([word, "paper.sp3"], 2, "", f"sp3: {word}: no such command\n" + USAGE)
+    for words in (["--", "--help"], ["--", "-h", "x"]):
+        desk.expect(words, 2, "", f"sp3: {words[1]}: no such command\n" + USAGE)
+    for words in (["-x"], ["check", "--all", "paper.sp3"], ["row", "paper.sp3", "-1", "G07"], ["date", "2013", "4", "-3"], ["check", "-9", "--help"]):
+        option = next(word for word in words if word[0] == "-")
+        desk.expect(words, 2, "", f"sp3: {option}: no such option; a name that begins with - comes after --\n")
+    for command, arguments, counts in (("check", "FILE..", (0,)), ("rewrite", "FILE", (0, 2)), ("table", "FILE", (0, 2)),
+                                       ("row", "FILE EPOCH SAT", (0, 1, 2, 4)), ("comment", "FILE K", (0, 1, 3)), ("divide", "FILE", (0, 2)),
+                                       ("date", "Y M D", (0, 1, 2, 4))):
+        for count in counts:
+            desk.expect([command, *["1"] * count], 2, "", f"sp3: the arguments of {command} are: {arguments}\n")
+
+
+def test_numbers(desk):
+    """Arguments that are no numbers, and satellites that are none."""
+    no_number = "not a number from 0 to 18446744073709551615\n"
+    no_satellite = "neither an identifier such as G07 nor a number from 0 to 18446744073709551615\n"
+    for word in ("x", "-1", "+1", "1x", "", " 1", "1 ", "0x1", "1.0", "1e3", "99999999999999999999", "18446744073709551616", "\xb2"):
+        desk.expect(["row", "--", "paper.sp3", word, "G07"], 2, "", f"sp3: EPOCH '{word}': {no_number}".encode())
+        desk.expect(["comment", "--", "paper.sp3", word], 2, "", f"sp3: K '{word}': {no_number}".encode())
+        desk.expect(["row", "--", "paper.sp3", "0", word], 2, "", f"sp3: SAT '{word}': {no_satellite}".encode())
+        for k, part in enumerate("YMD"):
+            words = ["2013", "4", "3"]
+            words[k] = word
+            desk.expect(["date", "--", *words], 2, "", f"sp3: {part} '{word}': {no_number}".encode())
+    for word in ("g07", "G 7", "G7", "G007", "07G", "GG7", "G0", "7G0"):
+        desk.expect(["row", "paper.sp3", "0", word], 2, "", f"sp3: SAT '{word}': {no_satellite}")
+
+
+def unreadable(desk, name):
+    """What to run the tool with so that nobody may read a file: as root another user."""
+    os.chmod(desk.folder / name, 0)
+    return {"user": 65534} if os.getuid() == 0 else {}
+
+
+def test_inputs(desk):
+    """Files that cannot be read, and names that are unusual."""
+    paper, whole = desk.file("paper.sp3", make.joined(PAPER)), make.joined(PAPER)
+    (desk.folder / "folder").mkdir()
+    closed = desk.file("closed.sp3", whole)
+    as_other = unreadable(desk, closed)
+    for name, reason, how in (("missing.sp3", errno.ENOENT, {}), ("folder", errno.EISDIR, {}), (".", errno.EISDIR, {}), (closed, errno.EACCES, as_other),
+                              (f"{paper}/x", errno.ENOTDIR, {}), ("x" * 300, errno.ENAMETOOLONG, {})):
+        message = f"sp3: {name}: {os.strerror(reason)}\n"
+        for words in (["check", name], ["rewrite", name], ["table", name], ["row", name, "0", "G07"], ["comment", name, "0"], ["divide", name]):
+            desk.expect(words, 2, "", message, **how)
+    for words in (["check", ""], ["rewrite", ""], ["table", ""], ["row", "", "0", "G07"], ["comment", "", "0"], ["divide", ""]):
+        desk.expect(words, 2, "", "sp3: FILE '': the name is empty\n")
+    for words in (["check", "-"], ["rewrite", "-"], ["divide", "-"]):
+        desk.expect(words, 2, "", f"sp3: standard input: {os.strerror(errno.EBADF)}\n", stdin=None, preexec_fn=lambda: os.close(0))
+    for words in (["check", "/dev/null"], ["table", "/dev/null"]):
+        desk.expect(words, 1, "", refused("/dev/null", 1, 1))
+    # a file that says it has no bytes and has some, with a tab in its first line
+    desk.expect(["check", "/proc/self/status"], 1, "", refused("/proc/self/status", 2, 1))
+    for name in ("-odd", "a b.sp3", "100%s%n.sp3", "\u00fc.sp3"):
+        (desk.folder / name).write_bytes(whole)
+        desk.expect(["check", "--", name], 0, expected.check(name, paper_held(desk)).encode())
+        desk.expect(["comment", "--", name, "9"], 1, "", refused(f"{name}: comment 9", 13, 0).encode())
+
+
+def paper_held(desk):
+    return desk.oracles.judged(make.joined(PAPER))[2]
+
+
+def test_pipes(desk):
+    """Standard input, named pipes, many files."""
+    whole, held = make.joined(PAPER), paper_held(desk)
+    day = (ROOT / "samples/day.sp3").read_bytes()
+    accepted = expected.check("standard input", held)
+    desk.expect(["check", "-"], 0, accepted, stdin=whole)
+    desk.expect(["rewrite", "-"], 0, day, stdin=day)
+    desk.expect(["table", "-"], 0, PAPER_TABLE, stdin=whole)
+    desk.expect(["row", "-", "0", "G07"], 0, expected.row(held, 0, 0), stdin=whole)
+    desk.expect(["comment", "-", "0"], 0, "ONE ROW\n", stdin=whole)
+    desk.expect(["divide", "-"], 0, expected.divide([1215] * 3), stdin=whole * 3)
+    desk.expect(["check", "-", "-"], 1, accepted, refused("standard input", 1, 1), stdin=whole)
+    os.mkfifo(desk.folder / "pipe")
+    writer = threading.Thread(target=lambda: (desk.folder / "pipe").write_bytes(day))
+    writer.start()
+    desk.expect(["check", "pipe"], 0, expected.check("pipe", of_model(make.day())))
+    writer.join()
+
+
+def test_many(desk):
+    """All files are judged; the gravest status is given; results and messages come in order."""
+    paper, bad, held = desk.file("paper.sp3", make.joined(PAPER)), desk.file("bad.sp3", changed(23, 18, "15")), paper_held(desk)
+    good, wrong = expected.check(paper, held), refused(bad, 9, 23)
+    missing = f"sp3: missing: {os.strerror(errno.ENOENT)}\n"
+    desk.expect(["check", *[paper] * 300], 0, good * 300)
+    desk.expect(["check", bad, paper, bad, paper], 1, good * 2, wrong * 2)
+    desk.expect(["check", paper, "missing", bad, paper], 2, good * 2, missing + wrong)
+    desk.expect(["check", bad, "missing"], 2, "", wrong + missing)
+    desk.expect(["check", "missing", bad], 2, "", missing + wrong)
+    desk.expect(["check", paper, "--", bad, paper, "missing", paper], 2, good + wrong + good + missing + good, stderr=subprocess.STDOUT)
+    desk.expect(["divide", "-"], 1, expected.divide([1215], 1) + refused("standard input: from byte 1215", 9, 23),
+                stdin=make.joined(PAPER) + make.joined(changed(23, 18, "15")), stderr=subprocess.STDOUT)
+
+
+def test_outputs(desk):
+    """Outputs that cannot be written: said, with status 2, whatever the files are."""
+    day, paper, bad = str(ROOT / "samples/day.sp3"), "paper.sp3", "bad.sp3"
+    asked = [["check", paper], ["rewrite", paper], ["rewrite", day], ["table", paper], ["table", day], ["row", paper, "0", "0"], ["comment", paper, "0"],
+             ["divide", paper], ["date", "2013", "4", "3"], ["--help"], ["check", paper, paper]]
+    for words in asked:
+        with open("/dev/full", "wb") as full:
+            desk.expect(words, 2, "", f"sp3: standard output: {os.strerror(errno.ENOSPC)}\n", stdout=full)
+        desk.expect(words, 2, "", f"sp3: standard output: {os.strerror(errno.EBADF)}\n", stdout=None, preexec_fn=lambda: os.close(1))
+        source, sink = os.pipe()
+        os.close(source)
+        desk.expect(words, 2, "", f"sp3: standard output: {os.strerror(errno.EPIPE)}\n", stdout=sink)
+        os.close(sink)
+    with open("/dev/full", "wb") as full:
+        missing = f"sp3: missing: {os.strerror(errno.ENOENT)}\n"
+        desk.expect(["check", paper, bad, "missing"], 2, "",
+                    refused(bad, 9, 23) + missing + f"sp3: standard output: {os.strerror(errno.ENOSPC)}\n", stdout=full)
+        desk.expect(["check", bad], 1, "", refused(bad, 9, 23), stdout=full)
+    desk.expect(["check", bad], 1, "", refused(bad, 9, 23), stdout=None, preexec_fn=lambda: os.close(1))
+    for words, status in ((["check", paper], 0), (["check", bad], 1), (["check", "missing"], 2)):
+        out = expected.check(paper, paper_held(desk)) if status == 0 else ""
+        desk.expect(words, status, out, stderr=None, preexec_fn=lambda: os.close(2))
+
+
+def test_failing(desk):
+    """Reads that are interrupted or short go on; memory that is not there is said, and nothing is printed."""
+    emulator = os.environ.get("X86_EMULATOR")
+    tool = ([emulator] if emulator else []) + [str(desk.folder / "failing")]
+    day = str(ROOT / "samples/day.sp3")
+    content = pathlib.Path(day).read_bytes()
+    slow = {"tool": tool, "env": {**os.environ, "SP3_SHORT": "1"}}
+    desk.expect(["check", day], 0, expected.check(day, of_model(make.day())), **slow)
+    desk.expect(["rewrite", "-"], 0, content, stdin=content, **slow)
+    for words, out in ((["check", "-"], expected.check("standard input", of_model(make.day()))), (["rewrite", "-"], content),
+                       (["table", "-"], expected.table(of_model(make.day()))), (["row", "-", "0", "0"], expected.row(of_model(make.day()), 0, 0)),
+                       (["comment", "-", "3"], "\n"), (["divide", "-"], expected.divide([len(content)]))):
+        expect_without_memory(desk, words, out, content, tool)
+
+
+def expect_without_memory(desk, words, out, content, tool):
+    """The first, the second and each later call for memory fails, until there is none that fails and the results are right."""
+    for number in range(1, 40):
+        how = {"stdin": content, "tool": tool, "env": {**os.environ, "SP3_NO_MEMORY": str(number)}}
+        if desk.run(words, **how)[0] == 0:
+            break
+        desk.expect(words, 2, "", "sp3: standard input: there is not enough memory for it\n", **how)
+    desk.expect(words, 0, out, **how)
+    # the input takes memory three times, as it is longer than a pipe seems to be
+    if number <= 3:
+        desk.differ(words, (4, b"or more calls for memory", b""), (number, b"", b""))
+
+
+def main():
+    desk = Desk(pathlib.Path(sys.argv[1]).resolve())
+    for test in (test_paper, test_dates, test_damaged, test_edges, test_samples, test_generated, test_usage, test_numbers, test_inputs, test_pipes,
+                 test_many, test_outputs, test_failing, test_large):
+        test(desk)
+    print(f"desk: {desk.passed} tests passed")
+
+
+if __name__ == "__main__":
+    main()

@@ -1,0 +1,237 @@
+#!/bin/sh
+# Tests the Rust wrapper (rust/sp3) and the C example (examples/c) over the archive of the proved library:
+#
+#   tests/wrapper.sh
+#
+# The archive is built first where it is missing or older than a source; SP3_LIB_DIR names the folder of another one. What the wrapper takes
+# include/sp3.h to be (structs, fields, constants, functions, the numbers in words) is held to what the header says. The archive is for x86-64: on
+# another processor Rust's target x86_64-unknown-linux-gnu is needed; without it the wrapper is only checked. Prints `wrapper: passed`, or what
+# failed, and then ends with 1.
+set -eu
+
+root=$(cd "$(dirname "$0")/.." && pwd -P)
+crate=$root/rust/sp3
+made=$(mktemp -d)
+trap 'rm -rf "$made"' EXIT
+target=x86_64-unknown-linux-gnu
+words='-std=c11 -Wall -Wextra -Werror -O2'
+
+fail() {
+    printf 'wrapper: %s\n' "$1" >&2
+    exit 1
+}
+
+# Compilers and runners for x86-64: those of tests/x86.sh, else this machine's own.
+x86_cc() { gcc "$@"; }
+x86_run() { "$@"; }
+[ ! -f "$root/tests/x86.sh" ] || . "$root/tests/x86.sh"
+
+# same NAME EXPECTED FOUND: two files are the same
+same() {
+    diff "$2" "$3" >&2 || fail "$1"
+}
+
+# answers NAME STATUS EXPECTED COMMAND..: the command ends with this status and prints this file
+answers() {
+    name=$1 status=$2 expected=$3
+    shift 3
+    ended=0
+    "$@" >"$made/printed" 2>"$made/said" || ended=$?
+    [ "$ended" = "$status" ] || {
+        cat "$made/said" >&2
+        fail "$name: ended with $ended, not $status"
+    }
+    same "$name" "$expected" "$made/printed"
+}
+
+# says NAME STATUS LINE COMMAND..: the command ends with this status, prints nothing and says this line
+says() {
+    name=$1 status=$2 line=$3
+    shift 3
+    answers "$name" "$status" /dev/null "$@"
+    printf '%s\n' "$line" >"$made/expected"
+    same "$name" "$made/expected" "$made/said"
+}
+
+# The archive, not older than what it is made from.
+find_archive() {
+    library=${SP3_LIB_DIR:-$root/target/staticlib}
+    if [ -n "${SP3_LIB_DIR:-}" ]; then
+        [ -f "$library/libabi.a" ] || fail "no file $library/libabi.a"
+        return 0
+    fi
+    if [ -f "$library/libabi.a" ] && [ -z "$(find "$root/crates" -name '*.rt' -newer "$library/libabi.a")" ]; then
+        return 0
+    fi
+    (cd "$root" && rt staticlib abi) >"$made/log" 2>&1 || {
+        tail -n 5 "$made/log" >&2
+        fail "target/staticlib/libabi.a cannot be built"
+    }
+}
+
+# script NAME FUNCTION: a program that calls a function of tests/x86.sh
+script() {
+    printf '#!/bin/sh\nroot="%s"\n. "$root/tests/x86.sh"\n%s "$@"\n' "$root" "$2" >"$made/$1"
+    chmod +x "$made/$1"
+}
+
+# Has cargo link and run by tests/x86.sh: programs that need no shared library, as an emulator runs them.
+link_for_x86() {
+    script x86-gcc x86_cc
+    script x86-run x86_run
+    export CARGO_TARGET_X86_64_UNKNOWN_LINUX_GNU_LINKER="$made/x86-gcc"
+    export CARGO_TARGET_X86_64_UNKNOWN_LINUX_GNU_RUNNER="$made/x86-run"
+    RUSTFLAGS="$RUSTFLAGS -Ctarget-feature=+crt-static -Crelocation-model=static"
+    RUSTDOCFLAGS="$RUSTDOCFLAGS -Ctarget-feature=+crt-static -Crelocation-model=static"
+}
+
+# cargo_in WORDS..: cargo on the wrapper, quiet where all is well
+cargo_in() {
+    (cd "$crate" && cargo "$@") >"$made/log" 2>&1 || {
+        cat "$made/log" >&2
+        fail "cargo $1"
+    }
+}
+
+# The header without its comments.
+bare_header() {
+    x86_cc -fpreprocessed -E -P -x c "$root/include/sp3.h"
+}
+
+# How a C program prints a struct, a field and a constant.
+layout_macros() {
+    cat <<'END'
+#include "sp3.h"
+#include <stdio.h>
+#define KIND(x) _Generic(x, bool: "truth", uint8_t: "byte", uint64_t: "unsigned", int64_t: "signed", double: "float", \
+                         uint8_t *: "bytes", default: "struct")
+#define STRUCT(s) printf("struct %s %zu\n", #s, sizeof(s));
+#define FIELD(s, f) printf("field %s.%s %zu %zu %s\n", #s, #f, offsetof(s, f), sizeof(((s *)0)->f), KIND(((s *)0)->f));
+#define CONSTANT(c) printf("constant %s %d\n", #c, c);
+END
+}
+
+# A line for each struct, field and constant of the header: NAME, NAME and FIELD, NAME, as calls of those macros.
+layout_calls() {
+    bare_header | tr '\n' ' ' | awk '
+        function taken(pattern,    text) {
+            if (!match(rest, pattern)) return ""
+            text = substr(rest, RSTART, RLENGTH)
+            rest = substr(rest, RSTART + RLENGTH)
+            return text
+        }
+        function fields(name, body,    parts, names, i, k, n, m) {
+            n = split(body, parts, ";")
+            for (i = 1; i < n; i++) {
+                sub(/^ *[a-z0-9_]+ /, "", parts[i])
+                m = split(parts[i], names, ",")
+                for (k = 1; k <= m; k++) {
+                    gsub(/ |\[[0-9]*\]/, "", names[k])
+                    print "FIELD(" name ", " names[k] ")"
+                }
+            }
+        }
+        {
+            rest = $0
+            while ((text = taken("typedef struct *[{][^}]*[}] *[a-z0-9_]+;")) != "") {
+                split(text, halves, /[{}]/)
+                gsub(/[ ;]/, "", halves[3])
+                print "STRUCT(" halves[3] ")"
+                fields(halves[3], halves[2])
+            }
+            rest = $0
+            while ((text = taken("SP3_[A-Z_]+ *=")) != "") {
+                gsub(/[ =]/, "", text)
+                print "CONSTANT(" text ")"
+            }
+        }'
+}
+
+# Structs, fields and constants are those that C has.
+compare_layout() {
+    { layout_macros && echo 'int main(void) {' && layout_calls && echo 'return 0; }'; } >"$made/layout.c"
+    x86_cc $words -I "$root/include" -o "$made/layout" "$made/layout.c" || fail 'a C program that prints the layout does not compile'
+    x86_run "$made/layout" | sort >"$made/by_c"
+    grep -E '^(struct|field|constant) ' "$made/by_rust" | sort >"$made/found" || :
+    [ "$(grep -c '^struct ' "$made/by_c")" -ge 20 ] || fail 'structs of include/sp3.h were not found'
+    same 'structs, fields and constants of include/sp3.h (<) and rust/sp3/src/ffi.rs (>) differ' "$made/by_c" "$made/found"
+}
+
+# Functions are those that the header declares: each declared again as the wrapper has it, which C refuses where a type differs.
+compare_functions() {
+    { echo '#include "sp3.h"' && sed -n 's/^declared //p' "$made/by_rust"; } >"$made/declared.c"
+    x86_cc $words -I "$root/include" -fsyntax-only "$made/declared.c" || fail 'functions of include/sp3.h and rust/sp3/src/ffi.rs differ'
+    bare_header | grep -o 'sp3_[a-z_]*(' | sort >"$made/by_c"
+    sed -n 's/^declared //p' "$made/by_rust" | grep -o 'sp3_[a-z_]*(' | sort >"$made/found"
+    same 'functions of include/sp3.h (<) and rust/sp3/src/ffi.rs (>) differ' "$made/by_c" "$made/found"
+}
+
+# The numbers in words are those of the table in the header, without what stands in brackets.
+compare_words() {
+    sed -n 's/^ \*  *\([0-9][0-9]*\)  \(.*\)$/words \1 \2/p' "$root/include/sp3.h" | sed 's/ (.*)$//' >"$made/by_c"
+    grep '^words ' "$made/by_rust" >"$made/found" || :
+    same 'the numbers in words of include/sp3.h (<) and rust/sp3/src/refusal.rs (>) differ' "$made/by_c" "$made/found"
+}
+
+# Files beside the sample: one that ends too early, one of no bytes, one whose place is absent and whose clock is 0.
+make_files() {
+    sample=$root/samples/paper.sp3
+    head -n 21 "$sample" >"$made/short.sp3"
+    : >"$made/empty.sp3"
+    zero='      0.000000'
+    sed "s/^PG07.*/PG07$zero$zero$zero$zero/" "$sample" >"$made/withdrawn.sp3"
+}
+
+# An example program on the sample, on files that are refused, and where there is no file.
+run_example() {
+    name=$1 expected=$2 usage=$3
+    shift 3
+    answers "$name" 0 "$expected" "$@" "$sample"
+    answers "$name, refused" 1 /dev/null "$@" "$made/short.sp3"
+    grep -q "^$made/short.sp3: refused 1 line 22" "$made/said" || fail "$name: no refusal in words"
+    answers "$name, no bytes" 1 /dev/null "$@" "$made/empty.sp3"
+    answers "$name, no file" 2 /dev/null "$@" "$made/nothing.sp3"
+    answers "$name, a folder" 2 /dev/null "$@" "$made"
+    says "$name, no word" 2 "$usage" "$@"
+}
+
+wrapper_tests() {
+    export RUSTFLAGS=-Dwarnings RUSTDOCFLAGS=-Dwarnings CARGO_TARGET_DIR="$root/target/cargo"
+    if [ "$(uname -m)" = x86_64 ]; then
+        set --
+    elif [ -d "$(rustc --print sysroot)/lib/rustlib/$target" ]; then
+        set -- --target "$target"
+        [ ! -f "$root/tests/x86.sh" ] || link_for_x86
+    else
+        cargo_in check --offline --locked --all-targets
+        echo "wrapper: checked only: the tests of the wrapper need Rust's target $target"
+        return 0
+    fi
+    cargo_in test --offline --locked "$@"
+    cargo_in test --offline --locked --lib "$@" -- --ignored --nocapture layout
+    cp "$made/log" "$made/by_rust"
+    compare_layout
+    compare_functions
+    compare_words
+    cargo_in doc --offline --locked --no-deps "$@"
+    cargo_in build --offline --locked --example known "$@"
+    known=$CARGO_TARGET_DIR${2:+/$2}/debug/examples/known
+    run_example known "$crate/examples/known.out" 'known FILE' x86_run "$known"
+    printf 'G07 known 0 absent 1\nall known 0 absent 1\n' >"$made/withdrawn.out"
+    answers 'known, a place that is absent' 0 "$made/withdrawn.out" x86_run "$known" "$made/withdrawn.sp3"
+}
+
+c_example() {
+    x86_cc $words "$@" -I "$root/include" -o "$made/rows" "$root/examples/c/rows.c" "$library/libabi.a" || fail 'examples/c/rows.c'
+    run_example rows "$root/examples/c/rows.out" 'rows FILE' x86_run "$made/rows"
+    printf 'epoch 0 G07 place absent clock 0\nrows 1 known 0 absent 1\n' >"$made/withdrawn.out"
+    answers 'rows, a place that is absent' 0 "$made/withdrawn.out" x86_run "$made/rows" "$made/withdrawn.sp3"
+}
+
+command -v cargo >/dev/null || fail 'cargo is needed for the tests of rust/sp3'
+find_archive
+make_files
+c_example
+[ "$(uname -m)${x86_emulator:-}" != x86_64 ] || c_example -fsanitize=address,undefined -fno-sanitize-recover=all
+wrapper_tests
+echo 'wrapper: passed'
