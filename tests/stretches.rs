@@ -1123,7 +1123,12 @@ fn generate_case(random: &mut Random) -> Case {
 /// by line.
 fn generate_any_case(random: &mut Random) -> Case {
     let (single, names, stretch) = generate_stretch(random, generate_any_part);
-    let case = lend(random, single, names, stretch);
+    let mut case = lend(random, single, names, stretch);
+    if once_in(random, 12) && !case.names.is_empty() {
+        let far = *random.pick(&[1 << 8, 1 << 16, 1 << 32, u64::MAX]);
+        let place = random.below(case.names.len());
+        case.names[place] = case.names[place].wrapping_add(far);
+    }
     let read = case.stretch.len() <= 20_000 && once_in(random, 3);
     Case { way: if read { Way::Read } else { case.way }, ..case }
 }
