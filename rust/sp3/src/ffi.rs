@@ -312,6 +312,17 @@ unsafe extern "C" {
         out: *mut u8,
         out_room: usize,
     ) -> Measured;
+    pub fn sp3_form_length(
+        header: Header,
+        identifiers: *const u64,
+        identifier_count: usize,
+        exponents: *const u64,
+        exponent_count: usize,
+        comments: *const u8,
+        comment_bytes: usize,
+        rows: *const i64,
+        row_numbers: usize,
+    ) -> Measured;
     pub safe fn sp3_header(parts: HeaderParts) -> HeaderAnswer;
     pub fn sp3_place_of(rows: *const i64, row_numbers: usize, k: usize) -> StoredPlace;
     pub fn sp3_clock_of(rows: *const i64, row_numbers: usize, k: usize) -> StoredClock;

@@ -121,7 +121,7 @@ macro_rules! functions_of {
 
 functions_of! {
     () (A) (A B) (A B C) (A B C D) (A B C D E) (A B C D E F)
-    (A B C D E F G H I J) (A B C D E F G H I J K)
+    (A B C D E F G H I) (A B C D E F G H I J) (A B C D E F G H I J K)
 }
 
 /// The declaration of each function; a `_` stands for each argument.
@@ -142,6 +142,7 @@ functions! {
     sp3_read(_ _ _ _ _ _ _ _ _ _)
     sp3_read_front(_ _ _ _ _ _ _ _ _ _)
     sp3_write(_ _ _ _ _ _ _ _ _ _ _)
+    sp3_form_length(_ _ _ _ _ _ _ _ _)
     sp3_header(_)
     sp3_place_of(_ _ _)
     sp3_clock_of(_ _ _)

@@ -58,4 +58,4 @@ pub use stored::{
 pub use stretch::{divide, divide_all, Divided, Division};
 pub use table::{Table, TableRow};
 pub use walk::{begin, first_row, next_row, rows, RowAt, Rows};
-pub use writing::write;
+pub use writing::{form_length, write};

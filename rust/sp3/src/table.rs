@@ -3,7 +3,7 @@
 use crate::refusal::{NOT_THERE, NO_ROOM};
 use crate::stored::{COMMENT_WIDTH, ROW_WIDTH};
 use crate::{
-    clock_of, exponent_of, flag_of, judge, judge_front, place_of, read, read_front, stored_row,
+    clock_of, exponent_of, flag_of, form_length, judge, judge_front, place_of, read, read_front, stored_row,
     write, Exponent, Header, Refusal, StoredRow,
 };
 
@@ -148,32 +148,11 @@ impl Table {
     /// # Ok::<(), sp3::Refusal>(())
     /// ```
     pub fn write(&self) -> Result<Vec<u8>, Refusal> {
-        self.write_from(self.likely_length())
-    }
-
-    /// A guess at the bytes of the canonical form, from the lists alone: 81 for each line.
-    fn likely_length(&self) -> u64 {
-        let rows = (self.rows.len() / ROW_WIDTH) as u64;
-        let comments = (self.comments.len() / COMMENT_WIDTH) as u64;
-        let others = self.header.epochs.min(rows) + self.identifiers.len() as u64 + 64;
-        81_u64.saturating_mul(rows + comments + others)
-    }
-
-    /// Writes into so many bytes, or twice as many until they suffice.
-    fn write_from(&self, mut bytes: u64) -> Result<Vec<u8>, Refusal> {
         let Table { header, identifiers, exponents, comments, rows } = self;
-        loop {
-            let mut out = room(&[bytes])?;
-            match write(header, identifiers, exponents, comments, rows, &mut out) {
-                Ok(length) => {
-                    out.truncate(length);
-                    out.shrink_to_fit();
-                    return Ok(out);
-                }
-                Err(NO_ROOM) => bytes = bytes.saturating_mul(2).max(1),
-                Err(refusal) => return Err(refusal),
-            }
-        }
+        let length = form_length(header, identifiers, exponents, comments, rows)?;
+        let mut out = room(&[length as u64])?;
+        write(header, identifiers, exponents, comments, rows, &mut out)?;
+        Ok(out)
     }
 
     /// The place or velocity of the k-th stored row; see [`place_of`].

@@ -58,13 +58,52 @@ impl Header {
     }
 }
 
+/// How many bytes the canonical form of a table has, so that just so many can be lent to [`write`].
+///
+/// Refused: 13 with line 0 where the table is not valid.
+///
+/// ```
+/// let table = sp3::Table::read(include_bytes!("../../../samples/paper.sp3"))?;
+/// let (identifiers, comments) = (&table.identifiers, &table.comments);
+/// let length = sp3::form_length(&table.header, identifiers, &table.exponents, comments, &table.rows);
+/// assert_eq!(length, Ok(1215));
+///
+/// let refused = sp3::form_length(&table.header, &[], &table.exponents, comments, &table.rows);
+/// assert_eq!(refused, Err(sp3::Refusal { number: 13, line: 0 }));
+/// # Ok::<(), sp3::Refusal>(())
+/// ```
+pub fn form_length(
+    header: &Header,
+    identifiers: &[u64],
+    exponents: &[u64],
+    comments: &[u8],
+    rows: &[i64],
+) -> Result<usize, Refusal> {
+    // SAFETY: each pointer and its number are of one slice.
+    let answer = unsafe {
+        ffi::sp3_form_length(
+            *header,
+            identifiers.as_ptr(),
+            identifiers.len(),
+            exponents.as_ptr(),
+            exponents.len(),
+            comments.as_ptr(),
+            comments.len(),
+            rows.as_ptr(),
+            rows.len(),
+        )
+    };
+    accepted(answer.refusal, 0)?;
+    Ok(answer.length)
+}
+
 /// Writes the canonical form of a table into the first bytes of `out` and gives their number. [`Table::write`](crate::Table::write) lends the
 /// output itself.
 ///
 /// The lists are as [`read`](crate::read) leaves them; places past the header's counts are not looked at, bytes of `out` past those written
 /// stay as they were.
 ///
-/// Refused, with line 0: 13 where the table is not valid (an exponent of 1000, a list shorter than its count), then 12 where `out` is one byte
+/// Refused, with line 0: 13 where the table is not valid (1000 among the header's exponents, a list shorter than its count), then 12 where `out` is one byte
 /// too short; `out` is then as it was.
 ///
 /// ```
