@@ -180,11 +180,13 @@ fn generate_identifier(random: &mut Random) -> Case {
     let mut text = format!("{}{:02}", letter as char, random.below(100)).into_bytes();
     let place = random.below(3);
     let byte = *random.pick(b"0129 :/@[aGz-+\x00\xb7\xff");
-    match random.below(6) {
+    match random.below(9) {
         0 => text[place] = byte,
         1 => text[place] = random.next() as u8,
         2 => text.insert(place, byte),
         3 => text.truncate(place),
+        4 => text.make_ascii_lowercase(),
+        5 => text[1..].copy_from_slice(*random.pick(&[b"00", b" 7", b"7 ", b"0x"])),
         _ => {}
     }
     Case::Identifier(text)

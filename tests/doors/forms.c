@@ -62,21 +62,61 @@ static sp3_header_t changed(sp3_header_t header, uint64_t n[ARGUMENTS], uint64_t
     return header_with(n, field == START ? to : header.start8);
 }
 
-/* Writes a table into a room of marks; the lists are shown to the library, not lent. */
+/* A table whose lists are shown to the library, not lent. */
+typedef struct {
+    sp3_header_t header;
+    const uint64_t *identifiers, *exponents;
+    const uint8_t *comments;
+    const int64_t *rows;
+    lists_t lists;
+} table_t;
+
+static table_t table_of(sp3_header_t header, lists_t lists) {
+    return (table_t){
+        .header = header,
+        .identifiers = shown(lists.identifiers, lists.identifier_room * sizeof *lists.identifiers),
+        .exponents = shown(lists.exponents, lists.exponent_room * sizeof *lists.exponents),
+        .comments = shown(lists.comments, lists.comment_room),
+        .rows = shown(lists.rows, lists.row_room * sizeof *lists.rows),
+        .lists = lists,
+    };
+}
+
+static sp3_measured_t write_into(table_t t, uint8_t *out, size_t room) {
+    return sp3_write(t.header, t.identifiers, t.lists.identifier_room, t.exponents, t.lists.exponent_room, t.comments, t.lists.comment_room,
+                     t.rows, t.lists.row_room, out, room);
+}
+
+/* Whether writing into so much room answers this. */
+static bool writes(table_t table, size_t room, size_t refusal, size_t length) {
+    sp3_measured_t answer = write_into(table, lent_bytes(room, OUTPUT_MARK), room);
+    return answer.refusal == refusal && answer.length == length;
+}
+
+/* The length that is told before: just so much room suffices, and not one byte less; 13 is told alike. */
+static void check_length(table_t t, sp3_measured_t written) {
+    sp3_measured_t told = sp3_form_length(t.header, t.identifiers, t.lists.identifier_room, t.exponents, t.lists.exponent_room, t.comments,
+                                          t.lists.comment_room, t.rows, t.lists.row_room);
+    bool form = told.refusal == 0 && told.length > 0;
+    if (written.refusal == 13) {
+        check(told.refusal == 13 && told.length == 0, "the length of what is no table");
+    } else {
+        check(form && writes(t, told.length, 0, told.length) && writes(t, told.length - 1, 12, 0), "the length of a form");
+    }
+}
+
+/* Writes a table into a room of marks. */
 static void write_out(sp3_header_t header, lists_t lists, size_t room) {
-    const uint64_t *identifiers = shown(lists.identifiers, lists.identifier_room * sizeof *identifiers);
-    const uint64_t *exponents = shown(lists.exponents, lists.exponent_room * sizeof *exponents);
-    const uint8_t *comments = shown(lists.comments, lists.comment_room);
-    const int64_t *rows = shown(lists.rows, lists.row_room * sizeof *rows);
+    table_t table = table_of(header, lists);
     uint8_t *out = lent_bytes(room, OUTPUT_MARK);
-    sp3_measured_t answer = sp3_write(header, identifiers, lists.identifier_room, exponents, lists.exponent_room, comments,
-                                      lists.comment_room, rows, lists.row_room, out, room);
+    sp3_measured_t answer = write_into(table, out, room);
     size_t written = answer.length <= room ? answer.length : 0;
     bool kept = answer.length == written;
     for (size_t i = written; i < room; i++) kept = kept && out[i] == OUTPUT_MARK;
     printf("write %zu %zu\n", answer.refusal, answer.length);
     bytes_out(out, written);
     puts(kept ? "kept" : "changed");
+    check_length(table, answer);
 }
 
 /* A file read into these lists and written again. */
