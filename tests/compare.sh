@@ -1,30 +1,162 @@
 #!/bin/sh
-# Compares a program of crates/ with its oracle on generated cases, batch by batch and byte for byte: `tables` with tests/files.rs (reading),
-# `forms` with tests/forms.rs (writing), `stretches` with tests/stretches.rs (dividing and walking).
+# Compares the library with an implementation that shares no code with it (tests/files.rs, forms.rs, stretches.rs and dates.rs, written from the
+# documents) on generated inputs, valid and damaged, batch by batch and byte for byte.
 #
-#   tests/compare.sh [tables|forms|stretches] [SEED [COUNT]]
+#   tests/compare.sh [SEED [COUNT]]
 #
-# A seed always makes the same cases; without one, seed 1 and 2,000 of them. The program is proved and compiled first, as far as that is not
-# done. Prints the seed, how many cases agreed, and of each question how often each number of the paper's table was the answer. At a
-# difference it prints the case (`ORACLE case SEED NUMBER` shows it) and ends with 1.
+# compares the doors for C (tests/doors.c over target/staticlib/libabi.a) in all four formats; without arguments seed 1 and 20,000 inputs, of which
+# 8,000 are files (`tables`), 5,000 files and tables to be written (`forms`), 6,000 stretches to be divided, walked and read by lines (`stretches`)
+# and 1,000 dates, instants and identifiers (`dates`). A seed always makes the same inputs. Prints the seed, how often each number of the paper's
+# table was the answer to each question, and in all. Ends with 1 at a difference, and, for 20,000 inputs or more, where one of the numbers 1 to 13
+# was the answer fewer than 50 times.
+#
+#   tests/compare.sh case FORMAT SEED NUMBER       shows one of these inputs and what both sides answer
+#   tests/compare.sh tables|forms|stretches [SEED [COUNT]]
+#
+# The last compares the proved program of crates/ with that name in the same way, on inputs that it has room for: 2,000 of them, or COUNT.
+#
+# What is missing is built first, in target/: the archive (`rt staticlib abi` proves it), the driver, the oracles. `tests/compare.sh build` does that
+# alone; `tests/compare.sh run FORMAT < BATCH` runs the driver.
 set -eu
 
 root=$(cd "$(dirname "$0")/.." && pwd -P)
-name=tables
-case ${1:-} in tables | forms | stretches)
-    name=$1
-    shift
-    ;;
+archive=$root/target/staticlib/libabi.a
+made=$root/target/compare
+
+# the compiler for x86-64, and the emulator for its programs where one is needed
+x86_emulator=
+if [ -f "$root/tests/x86.sh" ]; then
+    . "$root/tests/x86.sh"
+else
+    x86_cc() { gcc "$@"; }
+fi
+
+# whether a file is missing or older than one of the others
+stale() {
+    [ ! -e "$1" ] || [ -n "$(find "$@" -newer "$1" -print | head -n 1)" ]
+}
+
+# stops with the way it is called where a word is no number
+numbers() {
+    for word in "$@"; do
+        case $word in '' | *[!0-9]*) usage ;; esac
+    done
+}
+
+usage() {
+    sed -n 's/^#   //p' "$0" >&2
+    exit 2
+}
+
+oracle_of() {
+    if [ "$1" = tables ]; then echo files; else echo "$1"; fi
+}
+
+build_archive() {
+    if stale "$archive" "$root/crates" "$root/crates.txt"; then
+        said=$(cd "$root" && rt staticlib abi </dev/null 2>&1) || { printf '%s\n' "$said" | tail -n 5 >&2; exit 2; }
+    fi
+}
+
+build_driver() {
+    if stale "$made/doors" "$archive" "$root/include/sp3.h" "$root/tests/doors.c" "$root/tests/doors"; then
+        x86_cc -std=c11 -Wall -Wextra -Werror -O2 -I "$root/include" -o "$made/doors.new" "$root/tests/doors.c" "$root"/tests/doors/*.c "$archive"
+        mv "$made/doors.new" "$made/doors"
+    fi
+}
+
+# an oracle stands on others by their paths; it is first compared with what was worked out by hand
+build_oracle() {
+    if stale "$made/$1" "$root/tests/lines.rs" "$root/tests/files.rs" "$root/tests/$1.rs"; then
+        rustc -O --edition 2021 -o "$made/$1.new" "$root/tests/$1.rs"
+        "$made/$1.new" self-test >/dev/null
+        mv "$made/$1.new" "$made/$1"
+    fi
+}
+
+build() {
+    mkdir -p "$made"
+    build_archive
+    build_driver
+    for oracle in files forms stretches dates; do build_oracle "$oracle"; done
+}
+
+run() {
+    ${x86_emulator:+"$x86_emulator"} "$made/doors" "$1"
+}
+
+# one format of the doors, so many inputs; what is printed is kept for the sum
+compare_format() {
+    echo "$1"
+    if ! "$made/$(oracle_of "$1")" any compare "$seed" "$2" ${x86_emulator:+"$x86_emulator"} "$made/doors" "$1" >"$work/said"; then
+        cat "$work/said"
+        sed -n "s/^seed \([0-9]*\) case \([0-9]*\):.*/tests\/compare.sh case $1 \1 \2 shows it/p" "$work/said"
+        exit 1
+    fi
+    tee -a "$work/all" <"$work/said"
+}
+
+# the sum over all formats and questions, and whether each refusal occurred often enough
+sum_up() {
+    awk -v count="$1" '
+        NF == 15 && $1 != "number" { for (n = 0; n <= 13; n++) sum[n] += $(n + 2) }
+        END {
+            printf "number    "; for (n = 0; n <= 13; n++) printf "%7d", n; print ""
+            printf "in all    "; for (n = 0; n <= 13; n++) printf "%7d", sum[n]; print ""
+            for (n = 1; n <= 13; n++) if (count >= 20000 && sum[n] < 50) { print n " was the answer fewer than 50 times"; few = 1 }
+            exit few
+        }' "$work/all"
+}
+
+compare_doors() {
+    numbers "$@"
+    seed=${1:-1}
+    count=${2:-20000}
+    build
+    work=$(mktemp -d)
+    trap 'rm -rf "$work"' EXIT
+    echo "doors, seed $seed, $count inputs"
+    compare_format tables $((count * 8 / 20))
+    compare_format forms $((count * 5 / 20))
+    compare_format dates $((count / 20))
+    compare_format stretches $((count - count * 8 / 20 - count * 5 / 20 - count / 20))
+    sum_up "$count"
+    echo "doors, seed $seed: $count inputs agree"
+}
+
+compare_program() {
+    numbers "${2:-1}" "${3:-1}"
+    mkdir -p "$made"
+    build_oracle "$(oracle_of "$1")"
+    "$root/tests/program.sh" "$1" </dev/null
+    echo "$1, seed ${2:-1}"
+    exec "$made/$(oracle_of "$1")" compare "${2:-1}" "${3:-2000}" "$root/tests/program.sh" built "$1"
+}
+
+show_case() {
+    numbers "$2" "$3"
+    build
+    work=$(mktemp -d)
+    trap 'rm -rf "$work"' EXIT
+    oracle=$made/$(oracle_of "$1")
+    "$oracle" any case "$2" "$3" | tee "$work/case"
+    "$oracle" answer <"$work/case" >"$work/wanted"
+    run "$1" <"$work/case" >"$work/found" || echo "doors ended with $?"
+    echo
+    if cmp -s "$work/wanted" "$work/found"; then
+        echo "both answer:"
+        cat "$work/wanted"
+    else
+        echo "the oracle (-) and the doors (+) answer:"
+        diff -u "$work/wanted" "$work/found" || exit 1
+    fi
+}
+
+case "$# ${1:-} ${2:-}" in
+"2 run "*) run "$2" ;;
+"1 build ") build ;;
+"4 case tables" | "4 case forms" | "4 case stretches" | "4 case dates") show_case "$2" "$3" "$4" ;;
+[1-3]" tables "* | [1-3]" forms "* | [1-3]" stretches "*) compare_program "$@" ;;
+[0-2]" "*) compare_doors "$@" ;;
+*) usage ;;
 esac
-oracle=files
-[ "$name" = tables ] || oracle=$name
-seed=${1:-1}
-count=${2:-2000}
-
-made=$(mktemp -d)
-trap 'rm -rf "$made"' EXIT
-rustc -O --edition 2021 -o "$made/$oracle" "$root/tests/$oracle.rs"
-"$root/tests/program.sh" "$name" </dev/null
-
-echo "$name, seed $seed"
-"$made/$oracle" compare "$seed" "$count" "$root/tests/program.sh" built "$name"

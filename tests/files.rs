@@ -12,6 +12,10 @@
 //! * `BIN answer < batch`      prints the answers to a batch of cases;
 //! * `BIN generate SEED COUNT` prints a batch of that many generated cases;
 //! * `BIN case SEED NUMBER`    prints one of them, counted from 1;
+//! * `BIN any ..`              the same with cases of any size (`any compare 1 9 ..`);
+//! * `BIN kinds SEED COUNT`    counts of what kinds the files of such cases are;
+//! * `BIN file MODE SATELLITES EPOCHS` prints a plain file, mode P or V;
+//! * `BIN bytes SEED COUNT`    prints so many bytes of any kind;
 //! * `BIN cases`               prints the stored batch;
 //! * `BIN check CRATE_DIR`     compares `CRATE_DIR/stdin` with the stored batch
 //!   and `CRATE_DIR/stdout` with the answers to it;
@@ -48,7 +52,7 @@ pub(crate) mod lines;
 
 use lines::{fail, without_trailing_blanks};
 use lines::{Exponent, Identifier, Line, Moment, Random, Reader, Tally};
-use std::collections::HashSet;
+use std::collections::{BTreeMap, HashSet};
 use std::io::{Read, Write};
 use std::ops::Range;
 use std::process::{exit, Command, ExitStatus, Stdio};
@@ -79,20 +83,22 @@ const OTHER_SATELLITE: u8 = 10;
 /// "whole file: bytes stand after the EOF line"
 const BYTES_AFTER: u8 = 11;
 /// "lent room is too small"
-const NO_ROOM: Refusal = Refusal { number: 12, line: 0 };
+pub(crate) const NO_ROOM: Refusal = Refusal { number: 12, line: 0 };
 /// "what is asked by number isn't there"
 const NOT_THERE: Refusal = Refusal { number: 13, line: 0 };
 
-/// The bytes, where the next line begins, and how many lines lie before it.
+/// The bytes, where the next line begins, how many lines lie before it, and
+/// the column of a refusal, 0 where it has none.
 struct Lines<'a> {
     bytes: &'a [u8],
     place: usize,
     taken: usize,
+    column: usize,
 }
 
 impl<'a> Lines<'a> {
     fn new(bytes: &'a [u8]) -> Lines<'a> {
-        Lines { bytes, place: 0, taken: 0 }
+        Lines { bytes, place: 0, taken: 0, column: 0 }
     }
 
     /// "A line is the bytes up to the next LF." None where no LF is left.
@@ -112,17 +118,22 @@ impl<'a> Lines<'a> {
         Err(Refusal { number, line: self.taken })
     }
 
+    fn refuse_at<T>(&mut self, number: u8, column: usize) -> Result<T, Refusal> {
+        self.column = column;
+        self.refuse(number)
+    }
+
     /// The line that follows, if it may be a line at all (1, 2, 3).
     fn take(&mut self) -> Result<&'a [u8], Refusal> {
         self.taken += 1;
         let Some(text) = self.following() else {
             return self.refuse(NO_LF);
         };
-        if !text.iter().all(|c| (32..=126).contains(c)) {
-            return self.refuse(WRONG_BYTE);
+        if let Some(place) = text.iter().position(|c| !(32..=126).contains(c)) {
+            return self.refuse_at(WRONG_BYTE, place + 1);
         }
         if text.len() > lines::WIDTH {
-            return self.refuse(TOO_LONG);
+            return self.refuse_at(TOO_LONG, lines::WIDTH + 1);
         }
         self.place += text.len() + 1;
         Ok(text)
@@ -139,7 +150,7 @@ impl<'a> Lines<'a> {
         let mut reader = Reader::new(self.take()?);
         let record = read(&mut reader);
         match reader.deciding {
-            Some(fault) => self.refuse(fault.number),
+            Some(fault) => self.refuse_at(fault.number, fault.column),
             None if !right(&record) => self.refuse(number),
             None => Ok(record),
         }
@@ -242,6 +253,8 @@ pub(crate) struct Table {
     pub(crate) rows: Vec<Row>,
     /// Taken for the identifiers of the header, where others are lent.
     lent: Option<Vec<u64>>,
+    /// How many identifiers are kept, where there is not room for all.
+    room: Option<usize>,
 }
 
 impl Table {
@@ -249,10 +262,12 @@ impl Table {
         self.identifiers.len()
     }
 
-    /// The identifiers so far, or as many of those lent for them.
+    /// The identifiers so far, as far as they are kept, or as many of those
+    /// lent for them.
     fn known(&self) -> &[u64] {
         let names = self.lent.as_ref().unwrap_or(&self.identifiers);
-        &names[..names.len().min(self.satellites())]
+        let kept = self.room.unwrap_or(usize::MAX);
+        &names[..names.len().min(self.satellites()).min(kept)]
     }
 
     /// Identifiers, exponents, bytes of comments, numbers of rows.
@@ -434,17 +449,28 @@ pub(crate) struct Followed {
     /// How many lines were read, the last of them too.
     pub(crate) taken: usize,
     pub(crate) refusal: Option<Refusal>,
+    /// The column of the refusal, 0 where it has none.
+    pub(crate) column: usize,
     /// Where the line after them begins.
-    place: usize,
+    pub(crate) place: usize,
 }
 
 /// The records 1 to 10 in order, with these names for the identifiers of the
 /// header where they are given.
 pub(crate) fn follow(bytes: &[u8], names: Option<&[u64]>) -> Followed {
+    let lent = names.map(<[u64]>::to_vec);
+    follow_with(bytes, Table { lent, ..Table::default() })
+}
+
+/// The records in order, of whose identifiers only so many are kept.
+pub(crate) fn follow_keeping(bytes: &[u8], room: usize) -> Followed {
+    follow_with(bytes, Table { room: Some(room), ..Table::default() })
+}
+
+fn follow_with(bytes: &[u8], mut table: Table) -> Followed {
     let mut lines = Lines::new(bytes);
-    let mut table = Table { lent: names.map(<[u64]>::to_vec), ..Table::default() };
     let refusal = take_records(&mut lines, &mut table).err();
-    Followed { table, taken: lines.taken, refusal, place: lines.place }
+    Followed { table, taken: lines.taken, refusal, column: lines.column, place: lines.place }
 }
 
 fn take_records(lines: &mut Lines, table: &mut Table) -> Result<(), Refusal> {
@@ -600,10 +626,6 @@ impl Compared for Case {
 
     fn show(&self) -> Vec<u8> {
         let numbers = [&[self.file.len()], &self.rooms[..], &self.asked[..]].concat();
-        let within = self.file.len() <= MOST_BYTES
-            && self.rooms.iter().zip(MOST_ROOMS).all(|(&room, most)| room <= most)
-            && self.asked.iter().all(|&number| number <= MOST_NUMBER);
-        assert!(within, "a case is too large: {numbers:?}");
         let words: Vec<String> = numbers.iter().map(usize::to_string).collect();
         let mut shown = words.join(" ").into_bytes();
         shown.push(b'\n');
@@ -753,29 +775,46 @@ fn show_table(table: &Table, file: &[u8]) -> String {
 // Batches
 // ---------------------------------------------------------------------------
 
-/// The nine numbers of a case, and how many bytes their line has with its LF.
-fn parse_numbers(bytes: &[u8]) -> Option<([usize; 9], usize)> {
+/// The numbers of a case's line, and how many bytes it has with its LF.
+fn parse_numbers(bytes: &[u8]) -> Option<(Vec<usize>, usize)> {
     let length = bytes.iter().position(|&c| c == b'\n')?;
     let words = std::str::from_utf8(&bytes[..length]).ok()?.split(' ');
     let numbers: Option<Vec<usize>> = words.map(|word| word.parse().ok()).collect();
-    Some((numbers?.try_into().ok()?, length + 1))
+    Some((numbers?, length + 1))
 }
 
-fn parse_batch(mut bytes: &[u8]) -> Vec<Case> {
+/// Cases that are each a line of numbers and then so many bytes as `length_of`
+/// finds among the numbers; none where they are no case.
+pub(crate) fn parse_cases<C>(
+    mut bytes: &[u8],
+    length_of: fn(&[usize]) -> Option<usize>,
+    case_of: fn(&[usize], Vec<u8>) -> C,
+) -> Vec<C> {
     let mut cases = Vec::new();
     while !bytes.is_empty() {
         let place = cases.len() + 1;
-        let Some((numbers, line)) = parse_numbers(bytes) else {
-            fail(&format!("case {place} has no nine numbers"));
+        let line = parse_numbers(bytes);
+        let Some((numbers, line, length)) =
+            line.and_then(|(numbers, line)| length_of(&numbers).map(|n| (numbers, line, n)))
+        else {
+            fail(&format!("case {place} has no line of its numbers"));
         };
-        let [length, i, x, c, r, k, e, s, n] = numbers;
-        let Some(file) = bytes.get(line..line + length) else {
+        let Some(body) = bytes.get(line..).and_then(|rest| rest.get(..length)) else {
             fail(&format!("case {place} ends too early"));
         };
-        cases.push(Case { file: file.to_vec(), rooms: [i, x, c, r], asked: [k, e, s, n] });
+        cases.push(case_of(&numbers, body.to_vec()));
         bytes = &bytes[line + length..];
     }
     cases
+}
+
+fn parse_batch(bytes: &[u8]) -> Vec<Case> {
+    let nine = |numbers: &[usize]| (numbers.len() == 9).then(|| numbers[0]);
+    parse_cases(bytes, nine, |numbers, file| Case {
+        file,
+        rooms: std::array::from_fn(|place| numbers[1 + place]),
+        asked: std::array::from_fn(|place| numbers[5 + place]),
+    })
 }
 
 pub(crate) fn show_batch<C: Compared>(cases: &[C]) -> Vec<u8> {
@@ -1567,6 +1606,17 @@ pub(crate) struct Plan {
     file_type: u8,
     time_system: &'static str,
     comments: usize,
+    /// Whether fields are spelt in any way that is right.
+    odd: bool,
+    done: Vec<Done>,
+}
+
+/// A damage: its name, and the record (its letter in `lines.rs`) and column of
+/// the first byte that it changed.
+struct Done {
+    name: &'static str,
+    letter: u8,
+    column: usize,
 }
 
 /// Days around which something turns: the ends of months, leap days, the
@@ -1685,7 +1735,39 @@ fn choose_plan(random: &mut Random) -> Plan {
         file_type,
         time_system: *random.pick(&lines::TIME_SYSTEMS),
         comments,
+        odd: false,
+        done: Vec::new(),
     }
+}
+
+/// The most rows of a large file, those of V too.
+const LARGE_ROWS: usize = 3000;
+
+/// More satellites, epochs or comments than the programs have room for: any
+/// number of satellites, and as many epochs as give so many rows at most.
+fn choose_large_plan(random: &mut Random) -> Plan {
+    let number = match random.below(5) {
+        0 => *random.pick(&[85, 86, 254, 255, 255, 255]),
+        1 => 1 + random.below(9),
+        _ => 1 + random.below(255),
+    };
+    let (identifiers, file_type) = choose_identifiers(random, number);
+    let velocities = once_in(random, 2);
+    let epochs = 1 + random.below(LARGE_ROWS / number / if velocities { 2 } else { 1 });
+    let comments = if once_in(random, 4) { 4 + random.below(400) } else { 4 + random.below(3) };
+    Plan { velocities, epochs, identifiers, file_type, comments, ..choose_plan(random) }
+}
+
+/// Some epochs around the midnight before or after a day on which something
+/// turns.
+fn choose_night_plan(random: &mut Random) -> Plan {
+    let &(year, month, day) = random.pick(DAYS);
+    let midnight = (modified_julian_day(lines::Date { year, month, day }) + 1) * DAY;
+    let interval =
+        *random.pick(&[SECOND, 30 * SECOND, 300 * SECOND, 900 * SECOND, 43_200 * SECOND]);
+    let before = 1 + random.below(3) as i64;
+    let start = (midnight - before * interval).max(GPS_ZERO * DAY);
+    Plan { start, interval, epochs: 4 + random.below(3), ..choose_plan(random) }
 }
 
 // ---------------------------------------------------------------------------
@@ -2282,36 +2364,114 @@ fn bytes_after(draft: &mut Draft, _: &Plan, random: &mut Random) {
     draft.0.push(after);
 }
 
+/// One or two fields of a line spoilt, each in a way that `lines.rs` has for it.
+fn spoil_fields(draft: &mut Draft, random: &mut Random, count: usize) {
+    let line = choose_line(draft, random);
+    if draft.0.is_empty() {
+        return;
+    }
+    let spoilers = lines::spoilers_of(kind_letter(draft, line));
+    let mut put: Vec<&lines::Spoiler> = Vec::new();
+    while put.len() < count && spoilers.len() >= count {
+        let spoiler = *random.pick(&spoilers);
+        if put.iter().any(|other| lines::overlap(other, spoiler)) {
+            return;
+        }
+        draft.put(line, spoiler.1, spoiler.2.as_bytes());
+        put.push(spoiler);
+    }
+}
+
+fn field_spoilt(draft: &mut Draft, _: &Plan, random: &mut Random) {
+    spoil_fields(draft, random, 1);
+}
+
+fn two_fields_spoilt(draft: &mut Draft, _: &Plan, random: &mut Random) {
+    spoil_fields(draft, random, 2);
+}
+
+/// Any byte in any column in place of the one there, before it, or one gone.
+fn any_byte(draft: &mut Draft, _: &Plan, random: &mut Random) {
+    let line = choose_line(draft, random);
+    let byte = if once_in(random, 2) { 32 + random.below(95) as u8 } else { random.next() as u8 };
+    let column = 1 + random.below(82);
+    match (random.below(4), draft.0.get_mut(line - 1)) {
+        (0, Some(text)) => text.insert((column - 1).min(text.len()), byte),
+        (1, Some(text)) if column <= text.len() => drop(text.remove(column - 1)),
+        _ => draft.put(line, column, &[byte]),
+    }
+}
+
+/// A line without its last columns.
+fn line_cut(draft: &mut Draft, _: &Plan, random: &mut Random) {
+    let line = choose_line(draft, random);
+    if let Some(text) = draft.0.get_mut(line - 1) {
+        text.truncate(random.below(text.len().max(1)));
+        text.push(b'\n');
+    }
+}
+
 /// Each damage as often as its weight.
-const DAMAGES: &[(usize, Damage)] = &[
-    (10, another_spelling),
-    (6, another_character),
-    (3, wrong_byte),
-    (6, lines_moved),
-    (3, line_inserted),
-    (2, correlation_inserted),
-    (2, line_end_spoiled),
-    (5, wrong_instant),
-    (2, identifier_repeats),
-    (3, slot_spoiled),
-    (2, type_disagrees),
-    (4, another_satellite),
-    (3, line_two_disagrees),
-    (3, counts_disagree),
-    (1, comments_dropped),
-    (2, truncated),
-    (4, bytes_after),
+type Damages = &'static [(usize, &'static str, Damage)];
+
+const DAMAGES: Damages = &[
+    (10, "field: another spelling", another_spelling),
+    (6, "byte: another character", another_character),
+    (3, "byte: wrong", wrong_byte),
+    (6, "line: gone, twice or exchanged", lines_moved),
+    (3, "line: inserted", line_inserted),
+    (2, "line: EP or EV inserted", correlation_inserted),
+    (2, "line: its end spoilt", line_end_spoiled),
+    (5, "field: another instant", wrong_instant),
+    (2, "field: an identifier twice", identifier_repeats),
+    (3, "field: a slot", slot_spoiled),
+    (2, "field: the file type", type_disagrees),
+    (4, "field: another satellite", another_satellite),
+    (3, "field: line two", line_two_disagrees),
+    (3, "field: a count or the mode", counts_disagree),
+    (1, "line: comments gone", comments_dropped),
+    (2, "line: the end of the file gone", truncated),
+    (4, "line: bytes after EOF", bytes_after),
 ];
 
-fn damage(draft: &mut Draft, plan: &Plan, random: &mut Random) {
-    let all: usize = DAMAGES.iter().map(|(weight, _)| weight).sum();
+/// Those that the stored batches do without.
+const FURTHER_DAMAGES: Damages = &[
+    (3, "field: spoilt", field_spoilt),
+    (3, "field: two of a line spoilt", two_fields_spoilt),
+    (6, "byte: any", any_byte),
+    (1, "line: cut", line_cut),
+];
+
+fn damage(draft: &mut Draft, plan: &Plan, random: &mut Random, damages: Damages) -> Done {
+    let all: usize = damages.iter().map(|(weight, ..)| weight).sum();
     let mut number = random.below(all);
-    for &(weight, damage) in DAMAGES {
-        if number < weight {
-            return damage(draft, plan, random);
-        }
-        number -= weight;
-    }
+    let chosen = damages.iter().find(|(weight, ..)| {
+        let found = number < *weight;
+        number = number.saturating_sub(*weight);
+        found
+    });
+    let &(_, name, damage) = chosen.unwrap_or(&damages[0]);
+    let before = draft.clone();
+    damage(draft, plan, random);
+    let (letter, column) = first_change(&before, draft);
+    Done { name, letter, column }
+}
+
+/// The record and the column of the first byte that another draft has not;
+/// a line that became shorter or longer counts as padded with blanks.
+fn first_change(before: &Draft, after: &Draft) -> (u8, usize) {
+    let same = before.0.iter().zip(&after.0).take_while(|(one, other)| one == other).count();
+    let Some(line) = before.0.get(same) else {
+        return (b'z', 0);
+    };
+    let byte = |text: &[u8], place: usize| match text.get(place) {
+        None | Some(b'\n') => b' ',
+        Some(&byte) => byte,
+    };
+    let other = after.0.get(same).map_or(&[][..], Vec::as_slice);
+    let length = line.len().max(other.len());
+    let column = (0..length).find(|&place| byte(line, place) != byte(other, place));
+    (kind_letter(before, same + 1), column.unwrap_or(length) + 1)
 }
 
 // ---------------------------------------------------------------------------
@@ -2321,12 +2481,12 @@ fn damage(draft: &mut Draft, plan: &Plan, random: &mut Random) {
 /// Half of the files are damaged, some of them twice.
 pub(crate) fn generate_file(random: &mut Random) -> (Plan, Vec<u8>) {
     loop {
-        let plan = choose_plan(random);
-        let odd = !once_in(random, 4);
-        let mut draft = write_plan(&mut Pen { random, odd }, &plan);
+        let mut plan = choose_plan(random);
+        plan.odd = !once_in(random, 4);
+        let mut draft = write_plan(&mut Pen { random, odd: plan.odd }, &plan);
         let damages = *random.pick(&[0, 0, 0, 0, 1, 1, 1, 1, 1, 2]);
         for _ in 0..damages {
-            damage(&mut draft, &plan, random);
+            damage(&mut draft, &plan, random, DAMAGES);
         }
         let mut file = draft.bytes();
         if !once_in(random, 3) {
@@ -2336,6 +2496,39 @@ pub(crate) fn generate_file(random: &mut Random) -> (Plan, Vec<u8>) {
             return (plan, file);
         }
     }
+}
+
+/// Files of any size, with damages of every kind; where there are two of them
+/// both stay.
+pub(crate) fn generate_any_file(random: &mut Random) -> (Plan, Vec<u8>) {
+    let mut plan = match random.below(10) {
+        0 => choose_large_plan(random),
+        1..=2 => choose_night_plan(random),
+        _ => choose_plan(random),
+    };
+    plan.odd = !once_in(random, 4);
+    let mut draft = write_plan(&mut Pen { random, odd: plan.odd }, &plan);
+    let damages = *random.pick(&[0, 0, 0, 0, 1, 1, 1, 1, 2, 2]);
+    for _ in 0..damages {
+        let list = if once_in(random, 2) { FURTHER_DAMAGES } else { DAMAGES };
+        let done = damage(&mut draft, &plan, random, list);
+        plan.done.push(done);
+    }
+    let mut file = draft.bytes();
+    if damages < 2 && !once_in(random, 3) {
+        cut_after_fault(&mut file);
+    }
+    (plan, file)
+}
+
+/// A file of 2013 on, plainly spelt, with any numbers in its rows.
+fn plain_file(velocities: bool, satellites: usize, epochs: usize) -> Draft {
+    let random = &mut Random(STORED_SEED);
+    let (identifiers, file_type) = choose_identifiers(random, satellites);
+    let (start, interval) = (56_385 * DAY, 900 * SECOND);
+    let plan =
+        Plan { velocities, start, interval, epochs, identifiers, file_type, ..choose_plan(random) };
+    write_plan(&mut Pen { random, odd: false }, &plan)
 }
 
 /// What stands after the first faulty line changes nothing; most files do
@@ -2350,7 +2543,7 @@ pub(crate) fn cut_after_fault(file: &mut Vec<u8>) {
 }
 
 /// Rooms as they are needed, or with more or fewer places in some list.
-fn choose_rooms(random: &mut Random, needed: [usize; 4]) -> [usize; 4] {
+fn choose_rooms(random: &mut Random, needed: [usize; 4], most: [usize; 4]) -> [usize; 4] {
     let mut rooms = needed;
     let list = random.below(4);
     match random.below(12) {
@@ -2362,7 +2555,7 @@ fn choose_rooms(random: &mut Random, needed: [usize; 4]) -> [usize; 4] {
         8 if once_in(random, 4) => rooms = [0; 4],
         _ => {}
     }
-    [0, 1, 2, 3].map(|list| rooms[list].min(MOST_ROOMS[list]))
+    [0, 1, 2, 3].map(|list| rooms[list].min(most[list]))
 }
 
 /// A number below the bound, the bound itself, or one far past it.
@@ -2386,13 +2579,13 @@ fn choose_code(random: &mut Random, identifiers: &[u64]) -> usize {
     }
 }
 
-fn generate_case(random: &mut Random) -> Case {
-    let (plan, file) = generate_file(random);
+/// A file with rooms, of so many places at most, and questions.
+fn ask(random: &mut Random, plan: &Plan, file: Vec<u8>, most: [usize; 4]) -> Case {
     let n = plan.identifiers.len();
     let rows = n * plan.epochs * if plan.velocities { 2 } else { 1 };
     let planned = [n, n, 77 * plan.comments, 12 * rows];
     let needed = judge_front(&file).map_or(planned, |(table, _)| table.room_needed());
-    let rooms = choose_rooms(random, needed);
+    let rooms = choose_rooms(random, needed, most);
     let asked = [
         choose_asked(random, plan.comments),
         choose_asked(random, plan.epochs),
@@ -2400,6 +2593,36 @@ fn generate_case(random: &mut Random) -> Case {
         choose_code(random, &plan.identifiers),
     ];
     Case { file, rooms, asked }
+}
+
+fn generate_case(random: &mut Random) -> Case {
+    let (plan, file) = generate_file(random);
+    let case = ask(random, &plan, file, MOST_ROOMS);
+    let within =
+        case.file.len() <= MOST_BYTES && case.asked.iter().all(|&number| number <= MOST_NUMBER);
+    assert!(within, "a case is too large for the programs");
+    case
+}
+
+/// Numbers far past every bound, that the programs have no digits for.
+const FAR: &[usize] = &[
+    1 << 32,
+    (1 << 32) - 1,
+    1 << 63,
+    usize::MAX,
+    usize::MAX - 1,
+    usize::MAX / 77 + 1,
+    usize::MAX / 12 + 1,
+    usize::MAX / 255 + 1,
+];
+
+fn generate_any_case(random: &mut Random) -> Case {
+    let (plan, file) = generate_any_file(random);
+    let mut case = ask(random, &plan, file, [usize::MAX; 4]);
+    if once_in(random, 8) {
+        case.asked[random.below(4)] = *random.pick(FAR);
+    }
+    case
 }
 
 pub(crate) type Generate<C> = fn(&mut Random) -> C;
@@ -2447,11 +2670,14 @@ fn hand_cases() -> Vec<Case> {
     cases
 }
 
-fn stored_cases() -> Vec<Case> {
-    let mut cases = hand_cases();
+/// The cases made by hand, and after them small generated ones up to a batch.
+pub(crate) fn filled_up<C: Compared>(
+    mut cases: Vec<C>,
+    generate: Generate<C>,
+    small: fn(&C) -> bool,
+) -> Vec<C> {
     let mut length = show_batch(&cases).len();
-    let small = |case: &Case| case.file.len() < 4000;
-    let made = (1..).map(|number| generated(generate_case, STORED_SEED, number));
+    let made = (1..).map(|number| generated(generate, STORED_SEED, number));
     for case in made.filter(small) {
         length += case.show().len();
         if length > MOST_BATCH {
@@ -2462,9 +2688,109 @@ fn stored_cases() -> Vec<Case> {
     cases
 }
 
+fn stored_cases() -> Vec<Case> {
+    filled_up(hand_cases(), generate_case, |case| case.file.len() < 4000)
+}
+
 // ---------------------------------------------------------------------------
 // Counting and comparing
 // ---------------------------------------------------------------------------
+
+/// A name and the span in which a number lies, of those with these least numbers.
+fn span_of(name: &str, least: &[usize], number: usize) -> String {
+    let place = least.iter().rposition(|&least| least <= number).unwrap_or_default();
+    match least.get(place + 1) {
+        Some(&next) if next == least[place] + 1 => format!("{name} {}", least[place]),
+        Some(next) => format!("{name} {} to {}", least[place], next - 1),
+        None => format!("{name} {} and more", least[place]),
+    }
+}
+
+/// What the epochs of a file lie over.
+fn kinds_of_days(table: &Table) -> Vec<(&'static str, bool)> {
+    let days = (0..table.epochs).map(|k| (table.start + k as i64 * table.interval) / DAY);
+    let dates: Vec<(i64, i64, i64)> = days.map(date_of).collect();
+    let some_step = |turns: fn(&[(i64, i64, i64)]) -> bool| dates.windows(2).any(turns);
+    vec![
+        ("epochs over a midnight", some_step(|pair| pair[0] != pair[1])),
+        ("epochs over the end of a month", some_step(|pair| pair[0].1 != pair[1].1)),
+        ("epochs over the end of a year", some_step(|pair| pair[0].0 != pair[1].0)),
+        ("epochs on a leap day", dates.iter().any(|date| (date.1, date.2) == (2, 29))),
+    ]
+}
+
+/// What is in some row of a file.
+fn kinds_of_rows(rows: &[Row]) -> Vec<(&'static str, bool)> {
+    let some = |holds: fn(&Row) -> bool| rows.iter().any(holds);
+    let blank = |row: &Row| row.exponents.contains(&UNKNOWN) && row.exponents != [UNKNOWN; 4];
+    vec![
+        ("a place absent", some(Row::place_is_absent)),
+        ("a clock absent", some(Row::clock_is_absent)),
+        ("both absent", some(|row| row.place_is_absent() && row.clock_is_absent())),
+        ("one or two coordinates zero", some(|r| !r.place_is_absent() && r.place.contains(&0))),
+        ("an exponent unknown beside one that is not", some(blank)),
+    ]
+}
+
+/// What an accepted file has of what the format allows.
+fn kinds_of_table(table: &Table, file: &[u8]) -> Vec<String> {
+    let mut lines = file.split(|&c| c == b'\n');
+    let correlation = lines.any(|line| line.starts_with(b"EP") || line.starts_with(b"EV"));
+    let mut named = vec![
+        ("accepted", true),
+        ("mode P", !table.velocities),
+        ("mode V", table.velocities),
+        ("EP or EV", correlation),
+        ("comments, more than four", table.comments.len() > 4),
+    ];
+    named.extend(kinds_of_days(table));
+    named.extend(kinds_of_rows(&table.rows));
+    let mut kinds: Vec<String> =
+        named.iter().filter(|(_, holds)| *holds).map(|(name, _)| name.to_string()).collect();
+    kinds.push(span_of("satellites", &[1, 2, 6, 17, 18, 86, 200, 255, 256], table.satellites()));
+    kinds.push(span_of("epochs", &[1, 2, 4, 7, 100, 1000], table.epochs));
+    kinds
+}
+
+/// What a generated file is: accepted and of which kinds, or damaged how.
+fn kinds_of(plan: &Plan, file: &[u8]) -> Vec<String> {
+    let mut kinds = match judge(file) {
+        Ok((table, _)) => kinds_of_table(&table, file),
+        Err(refusal) => vec!["refused".to_string(), format!("refused {:2}", refusal.number)],
+    };
+    if plan.odd && plan.done.is_empty() {
+        kinds.push("undamaged, odd spellings".to_string());
+    }
+    kinds.push(format!("damages {}", plan.done.len()));
+    kinds.extend(plan.done.iter().map(|done| format!("damage of a {}", done.name)));
+    kinds
+}
+
+/// Counts the kinds of the files that are generated, and how often a damage
+/// began in each column of each record.
+fn tell_kinds(seed: u64, count: u64) {
+    let mut kinds: BTreeMap<String, usize> = BTreeMap::new();
+    let mut columns: BTreeMap<u8, [usize; lines::WIDTH + 1]> = BTreeMap::new();
+    let mut numbers: HashSet<usize> = HashSet::new();
+    for place in 1..=count {
+        let (plan, file) = generated(generate_any_file, seed, place);
+        kinds_of(&plan, &file).into_iter().for_each(|kind| *kinds.entry(kind).or_default() += 1);
+        numbers.extend(judge(&file).map(|(table, _)| table.satellites()));
+        for done in plan.done.iter().filter(|done| done.column <= lines::WIDTH) {
+            columns.entry(done.letter).or_insert([0; lines::WIDTH + 1])[done.column] += 1;
+        }
+    }
+    kinds.iter().for_each(|(kind, count)| println!("{count:7} {kind}"));
+    println!("{:7} different numbers of satellites", numbers.len());
+    for (letter, counts) in columns {
+        let all: usize = counts.iter().sum();
+        let touched = counts[1..].iter().filter(|&&count| count > 0).count();
+        println!(
+            "{all:7} damages begin in a record {}, in {touched} columns of it",
+            letter as char
+        );
+    }
+}
 
 /// How often each number 0 to 13 stands after a word of the answers.
 struct Counts(Vec<(&'static str, [usize; 14])>);
@@ -2537,7 +2863,8 @@ pub(crate) fn first_difference(wanted: &[u8], found: &[u8]) -> Option<(usize, St
     })
 }
 
-/// Which of the answers has line `line` of all of them.
+/// Which of the answers has line `line` of all of them. A line `wrong: ..`,
+/// which no answer has, belongs to the answer before it.
 fn case_of_line(answers: &[String], line: usize) -> usize {
     let mut lines = 0;
     let ends = |answer: &String| {
@@ -2547,13 +2874,15 @@ fn case_of_line(answers: &[String], line: usize) -> usize {
     answers.iter().position(ends).unwrap_or(answers.len().saturating_sub(1))
 }
 
-/// Cases from `first` on, as many as a batch may hold and `last` allows.
+/// Cases from `first` on, one at least and as many as a batch may hold and
+/// `last` allows.
 fn next_batch<C: Compared>(generate: Generate<C>, seed: u64, first: u64, last: u64) -> Vec<C> {
     let mut length = 0;
     let cases = (first..=last).map(|number| generated(generate, seed, number));
     let fits = |case: &C| {
+        let alone = length == 0;
         length += case.show().len();
-        length <= MOST_BATCH
+        alone || length <= MOST_BATCH
     };
     cases.take_while(fits).collect()
 }
@@ -2574,8 +2903,9 @@ fn compare<C: Compared>(
             .unwrap_or_else(|error| fail(&format!("{program}: {error}")));
         if let Some((line, wanted, found)) = first_difference(answers.concat().as_bytes(), &output)
         {
+            let line = if found.starts_with("\"wrong: ") { line.saturating_sub(1) } else { line };
             let case = done + 1 + case_of_line(&answers, line) as u64;
-            println!("seed {seed} case {case}: wanted {wanted}, found {found}");
+            println!("seed {seed} case {case}: wanted {wanted}, found {found} ({status})");
             exit(1);
         }
         if !status.success() {
@@ -3076,8 +3406,12 @@ fn test_lengths(tally: &mut Tally) {
 /// the paper refuses them.
 fn test_plans(tally: &mut Tally) {
     let mut random = Random(STORED_SEED);
-    for place in 0..600 {
-        let plan = choose_plan(&mut random);
+    for place in 0..700 {
+        let plan = match place {
+            0..=599 => choose_plan(&mut random),
+            600..=659 => choose_night_plan(&mut random),
+            _ => choose_large_plan(&mut random),
+        };
         let draft = write_plan(&mut Pen { random: &mut random, odd: place % 2 == 0 }, &plan);
         let last = plan.start + (plan.epochs as i64 - 1) * plan.interval;
         let held = match judge(&draft.bytes()) {
@@ -3093,6 +3427,58 @@ fn test_plans(tally: &mut Tally) {
         };
         tally.holds(held, || format!("{}", show_text(&draft.bytes())));
     }
+}
+
+/// Files, and the column of the refusal; room for identifiers, and the refusal
+/// and line where no more of them are kept.
+const COLUMNS: &[(Base, &[Edit], usize)] = &[
+    (Paper, &[], 0),
+    (Paper, &[Keep(24)], 0),
+    (Paper, &[Byte(24, 40, 0x80), Byte(24, 60, 0)], 40),
+    (Paper, &[Byte(24, 90, 200)], 90),
+    (Paper, &[Put(24, 85, "x")], 81),
+    (Paper, &[Drop(22)], 0),
+    (Paper, &[Put(24, 61, "x"), Put(24, 74, "x")], 61),
+    (Paper, &[Put(14, 5, "C")], 4),
+    (Paper, &[Put(3, 10, "G 7")], 10),
+    (Paper, &[Put(23, 12, " x")], 4),
+    (Paper, &[Put(24, 19, "1000000.000000")], 19),
+    (Paper, &[Put(2, 4, "1735")], 0),
+    (Paper, &[Put(3, 13, "000")], 0),
+    (Paper, &[Put(23, 18, "15")], 0),
+    (Paper, &[Put(24, 2, "G08")], 0),
+];
+const KEPT: &[(Base, &[Edit], usize, u8, usize)] = &[
+    (Paper, &[], 1, 0, 0),
+    (Paper, &[], 0, 10, 24),
+    (Night, &[], 300, 0, 0),
+    (Night, &[], 1, 10, 25),
+    (Many(20), &[Put(4, 10, "G17")], 17, 8, 4),
+    (Many(20), &[Put(4, 10, "G17")], 16, 10, 40),
+    (Many(20), &[Put(4, 13, "E19"), Put(13, 4, "G ")], 20, 8, 13),
+    (Many(20), &[Put(4, 13, "E19"), Put(13, 4, "G ")], 18, 10, 42),
+];
+
+fn test_columns(tally: &mut Tally) {
+    for &(base, edits, wanted) in COLUMNS {
+        let found = follow(&hand_made(base, edits), None).column;
+        tally.holds(found == wanted, || format!("{base:?} {edits:?}: column {found}"));
+    }
+    for &(base, edits, room, number, line) in KEPT {
+        let refusal = follow_keeping(&hand_made(base, edits), room).refusal;
+        let found = refusal.map_or((0, 0), |refusal| (refusal.number, refusal.line));
+        tally.holds(found == (number, line), || format!("{base:?} {edits:?} {room}: {found:?}"));
+    }
+}
+
+/// A batch that is shown and read again has the same answers.
+pub(crate) fn test_batches<C: Compared>(
+    tally: &mut Tally,
+    cases: Vec<C>,
+    parse_batch: fn(&[u8]) -> Vec<C>,
+) {
+    let again = parse_batch(&show_batch(&cases));
+    tally.holds(answers(&cases) == answers(&again), || "a batch read again".to_string());
 }
 
 /// MJD of the paper's cases, of the ends of the calendar and of leap days.
@@ -3120,13 +3506,12 @@ fn self_test() {
     test_asked(&mut tally);
     test_types(&mut tally);
     test_days(&mut tally);
+    test_columns(&mut tally);
     let by_hand = tally.made;
     test_lengths(&mut tally);
     test_plans(&mut tally);
-    println!("{} comparisons, {by_hand} of them by hand, {} failed", tally.made, tally.failed);
-    if tally.failed > 0 {
-        exit(1);
-    }
+    test_batches(&mut tally, stored_cases(), parse_batch);
+    tally.tell(by_hand);
 }
 
 // ---------------------------------------------------------------------------
@@ -3181,9 +3566,22 @@ fn main() {
     let words: Vec<&str> = arguments.iter().map(String::as_str).collect();
     let usage =
         "usage: answer | generate SEED COUNT | case SEED NUMBER | cases | check CRATE_DIR\n\
-         | self-test | count | compare SEED COUNT PROGRAM [ARGS..]";
+         | self-test | count | compare SEED COUNT PROGRAM [ARGS..] | any .. | kinds SEED COUNT\n\
+         | file MODE SATELLITES EPOCHS | bytes SEED COUNT";
     match words[..] {
         ["self-test"] => self_test(),
+        ["kinds", seed, count] => tell_kinds(number(seed), number(count)),
+        ["file", mode @ ("P" | "V"), satellites, epochs] => {
+            let (satellites, epochs) = (number(satellites) as usize, number(epochs) as usize);
+            print(&plain_file(mode == "V", satellites, epochs).bytes());
+        }
+        ["bytes", seed, count] => {
+            let mut random = Random(number(seed));
+            print(&(0..number(count)).map(|_| random.next() as u8).collect::<Vec<u8>>());
+        }
+        ["any", ref rest @ ..] => {
+            obey(rest, parse_batch, generate_any_case, stored_cases, usage);
+        }
         _ => obey(&words, parse_batch, generate_case, stored_cases, usage),
     }
 }

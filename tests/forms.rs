@@ -12,6 +12,7 @@
 //! * `BIN answer-tables < batch` prints those to its tables alone;
 //! * `BIN generate SEED COUNT` prints a batch of that many generated cases;
 //! * `BIN case SEED NUMBER`    prints a generated case, counted from 1;
+//! * `BIN any ..`              the same with cases of any size (`any compare 1 9 ..`);
 //! * `BIN cases`               prints the stored batch;
 //! * `BIN check CRATE_DIR`     compares `CRATE_DIR/stdin` with the stored batch
 //!   and `CRATE_DIR/stdout` with the answers to it;
@@ -24,8 +25,10 @@
 //! and directly after its LF so many bytes. ROOM is the output lent, of which
 //! every byte holds a mark before. Of kind 0 the bytes are a file, which is
 //! read into lists with room for 300 identifiers, 300 exponents, 8,000 bytes of
-//! comments and 8,000 numbers of rows, and written again. Of kind 1 they are a
-//! table. Its numbers each have one blank or LF after them:
+//! comments and 8,000 numbers of rows, and written again. Of kind 2 they are a
+//! file that is read into lists with just the room that it needs (the program of
+//! crates/ has no such cases). Of kind 1 they are a table. Its numbers each have
+//! one blank or LF after them:
 //!
 //! ```text
 //! 34 numbers   the arguments of a header: mode, year, month, day, hour,
@@ -56,10 +59,9 @@
 pub(crate) mod files;
 
 use files::lines::{self, fail, Exponent, Identifier, Moment, Random, Tally};
-use files::{answers, generated, show_batch};
+use files::{answers, generated};
 use files::{Base, Compared, Edit, Lent, DAY, GPS_ZERO, SECOND, UNKNOWN};
 use std::collections::HashSet;
-use std::process::exit;
 
 // ---------------------------------------------------------------------------
 // What a table says
@@ -516,6 +518,8 @@ pub(crate) fn given_of(file: &[u8]) -> Option<Given> {
 enum Body {
     File(Vec<u8>),
     Table(Given),
+    /// A file that is read into lists with all the room that it needs.
+    Roomy(Vec<u8>),
 }
 
 #[derive(Clone)]
@@ -538,21 +542,17 @@ fn show_numbers<T: ToString>(numbers: &[T]) -> String {
 }
 
 impl Given {
+    /// How many identifiers, exponents, bytes of comments and numbers of rows.
+    fn lengths(&self) -> [usize; 4] {
+        let lists = &self.lists;
+        [lists.identifiers.len(), lists.exponents.len(), lists.comments.len(), lists.rows.len()]
+    }
+
     fn show(&self) -> Vec<u8> {
         let lists = &self.lists;
-        let lengths = [
-            lists.identifiers.len(),
-            lists.exponents.len(),
-            lists.comments.len(),
-            lists.rows.len(),
-        ];
-        assert!(
-            lengths.iter().zip(files::MOST_ROOMS).all(|(&length, most)| length <= most),
-            "{lengths:?}"
-        );
         let mut text = show_numbers(&self.numbers);
         text += &show_numbers(&[self.field, self.value]);
-        text += &show_numbers(&lengths);
+        text += &show_numbers(&self.lengths());
         text += &show_numbers(&lists.identifiers);
         text += &show_numbers(&lists.exponents);
         text += &lists.rows.chunks(ROW).map(show_numbers).collect::<String>();
@@ -563,13 +563,14 @@ impl Given {
 impl Case {
     fn bytes(&self) -> Vec<u8> {
         match &self.body {
-            Body::File(file) => file.clone(),
+            Body::File(file) | Body::Roomy(file) => file.clone(),
             Body::Table(given) => given.show(),
         }
     }
 
-    fn answer_file(&self, file: &[u8]) -> String {
-        let mut lists = Lent::marked(files::MOST_ROOMS);
+    /// A file read into lists with these rooms, and written again.
+    fn answer_file(&self, file: &[u8], rooms: [usize; 4]) -> String {
+        let mut lists = Lent::marked(rooms);
         match files::read(file, &mut lists) {
             Err(refusal) => format!("read {} {}\n", refusal.number, refusal.line),
             Ok(_) => {
@@ -594,20 +595,26 @@ impl Compared for Case {
     const COUNTED: &'static [&'static str] = &["read", "new", "write"];
 
     fn show(&self) -> Vec<u8> {
-        let kind = usize::from(matches!(self.body, Body::Table(_)));
+        let kind = match self.body {
+            Body::File(_) => 0,
+            Body::Table(_) => 1,
+            Body::Roomy(_) => 2,
+        };
         let bytes = self.bytes();
-        assert!(self.room <= MOST_ROOM, "a room of {} is too large", self.room);
         [show_numbers(&[kind, self.room, bytes.len()]).into_bytes(), bytes].concat()
     }
 
     fn answer(&self) -> String {
         let length = self.bytes().len();
-        match &self.body {
-            Body::File(file) => format!("file {} {length}\n{}", self.room, self.answer_file(file)),
-            Body::Table(given) => {
-                format!("table {} {length}\n{}", self.room, self.answer_table(given))
+        let (word, answer) = match &self.body {
+            Body::File(file) => ("file", self.answer_file(file, files::MOST_ROOMS)),
+            Body::Table(given) => ("table", self.answer_table(given)),
+            Body::Roomy(file) => {
+                let rooms = given_of(file).map_or([0; 4], |given| given.lengths());
+                ("file", self.answer_file(file, rooms))
             }
-        }
+        };
+        format!("{word} {} {length}\n{answer}", self.room)
     }
 }
 
@@ -668,7 +675,12 @@ fn parse_batch(bytes: &[u8]) -> Vec<Case> {
         let (kind, room, length): (usize, usize, usize) =
             (words.take(), words.take(), words.take());
         let bytes = words.bytes(length);
-        let body = if kind == 0 { Body::File(bytes) } else { Body::Table(parse_given(&bytes)) };
+        let body = match kind {
+            0 => Body::File(bytes),
+            1 => Body::Table(parse_given(&bytes)),
+            2 => Body::Roomy(bytes),
+            _ => fail(&format!("{kind} is no kind of case")),
+        };
         cases.push(Case { room, body });
     }
     cases
@@ -1523,16 +1535,14 @@ fn spoil_row(given: &mut Given, random: &mut Random) {
 }
 
 fn spoil_length(given: &mut Given, random: &mut Random) {
-    let lists = &given.lists;
-    let lengths =
-        [lists.identifiers.len(), lists.exponents.len(), lists.comments.len(), lists.rows.len()];
+    let lengths = given.lengths();
     let list = random.below(4);
     let length = match random.below(6) {
         0 | 1 => lengths[list].saturating_sub(1),
         2 => random.below(lengths[list] + 1),
         _ => lengths[list] + 1 + random.below(30),
     };
-    set_length(&mut given.lists, list, length.min(files::MOST_ROOMS[list]));
+    set_length(&mut given.lists, list, length.min(files::MOST_ROOMS[list].max(lengths[list])));
 }
 
 type Spoil = fn(&mut Given, &mut Random);
@@ -1587,15 +1597,13 @@ fn vary_row(row: &mut [i64], flags: bool, random: &mut Random) {
     }
 }
 
-fn generate_table(random: &mut Random) -> Given {
+/// A table with lists of so many places at most.
+fn generate_table(random: &mut Random, file: MakeFile, most: [usize; 4]) -> Given {
     loop {
-        let (_, file) = files::generate_file(random);
-        let rooms = files::MOST_ROOMS;
-        let Some(mut given) = given_of(&file) else {
+        let Some(mut given) = given_of(&file(random)) else {
             continue;
         };
-        let lists = &given.lists;
-        if lists.comments.len() > rooms[2] || lists.rows.len() > rooms[3] {
+        if given.lengths().iter().zip(most).any(|(&length, most)| length > most) {
             continue;
         }
         vary(&mut given, random);
@@ -1609,32 +1617,56 @@ fn generate_table(random: &mut Random) -> Given {
 /// The length of what is written, where the room suffices.
 fn length_of(body: &Body) -> Option<usize> {
     let given = match body {
-        Body::File(file) => given_of(file)?,
+        Body::File(file) | Body::Roomy(file) => given_of(file)?,
         Body::Table(given) => given.clone(),
     };
     given.write(usize::MAX).ok().map(|bytes| bytes.len())
 }
 
 fn choose_room(random: &mut Random, needed: usize) -> usize {
-    let room = match random.below(12) {
+    match random.below(12) {
         0 | 1 => needed.saturating_sub(1),
         2 => random.below(needed + 1),
         3 => needed + 1,
         4 | 5 => needed + random.below(300),
         6 if files::once_in(random, 3) => 0,
         _ => needed,
-    };
-    room.min(MOST_ROOM)
+    }
 }
 
-fn generate_case(random: &mut Random) -> Case {
-    let body = if files::once_in(random, 3) {
-        Body::File(files::generate_file(random).1)
-    } else {
-        Body::Table(generate_table(random))
-    };
+fn with_some_room(random: &mut Random, body: Body) -> Case {
     let needed = length_of(&body).unwrap_or(random.below(3000));
     Case { room: choose_room(random, needed), body }
+}
+
+type MakeFile = fn(&mut Random) -> Vec<u8>;
+
+fn generate_case(random: &mut Random) -> Case {
+    let file: MakeFile = |random| files::generate_file(random).1;
+    let body = if files::once_in(random, 3) {
+        Body::File(file(random))
+    } else {
+        Body::Table(generate_table(random, file, files::MOST_ROOMS))
+    };
+    let case = with_some_room(random, body);
+    Case { room: case.room.min(MOST_ROOM), ..case }
+}
+
+/// Files and tables of any size.
+fn generate_any_case(random: &mut Random) -> Case {
+    let file: MakeFile = |random| files::generate_any_file(random).1;
+    let body = match random.below(6) {
+        0 => Body::File(file(random)),
+        1 | 2 => Body::Roomy(file(random)),
+        kind => {
+            let mut given = generate_table(random, file, [usize::MAX; 4]);
+            if kind == 3 {
+                spoil_argument(&mut given, random);
+            }
+            Body::Table(given)
+        }
+    };
+    with_some_room(random, body)
 }
 
 // ---------------------------------------------------------------------------
@@ -1791,12 +1823,6 @@ fn test_files(tally: &mut Tally) {
     }
 }
 
-fn test_batches(tally: &mut Tally) {
-    let cases = stored_cases();
-    let again = parse_batch(&show_batch(&cases));
-    tally.holds(answers(&cases) == answers(&again), || "a batch read again".to_string());
-}
-
 fn self_test() {
     let mut tally = Tally::default();
     test_forms(&mut tally);
@@ -1804,11 +1830,8 @@ fn self_test() {
     let by_hand = tally.made;
     test_validity(&mut tally);
     test_files(&mut tally);
-    test_batches(&mut tally);
-    println!("{} comparisons, {by_hand} of them by hand, {} failed", tally.made, tally.failed);
-    if tally.failed > 0 {
-        exit(1);
-    }
+    files::test_batches(&mut tally, stored_cases(), parse_batch);
+    tally.tell(by_hand);
 }
 
 // ---------------------------------------------------------------------------
@@ -1819,7 +1842,7 @@ fn main() {
     let arguments: Vec<String> = std::env::args().skip(1).collect();
     let words: Vec<&str> = arguments.iter().map(String::as_str).collect();
     let usage = "usage: answer | answer-tables | generate SEED COUNT | case SEED NUMBER | cases\n\
-         | check CRATE_DIR | self-test | count | compare SEED COUNT PROGRAM [ARGS..]";
+         | check CRATE_DIR | self-test | count | compare SEED COUNT PROGRAM [ARGS..] | any ..";
     match words[..] {
         ["answer-tables"] => {
             let mut cases = parse_batch(&files::standard_input());
@@ -1827,6 +1850,9 @@ fn main() {
             files::print(answers(&cases).as_bytes());
         }
         ["self-test"] => self_test(),
+        ["any", ref rest @ ..] => {
+            files::obey(rest, parse_batch, generate_any_case, stored_cases, usage);
+        }
         _ => files::obey(&words, parse_batch, generate_case, stored_cases, usage),
     }
 }

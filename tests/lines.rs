@@ -80,7 +80,7 @@ const NO_COLUMN: usize = 0;
 
 /// "The kind of a line is told by columns 1 and 2; for P and V by column 1,
 /// for EOF by columns 1 to 3."
-const SYMBOLS: [&str; 14] = [
+pub(crate) const SYMBOLS: [&str; 14] = [
     "#d", "##", "+ ", "++", "%c", "%f", "%i", "/*", "* ", "P", "V", "EP", "EV", "EOF",
 ];
 
@@ -1297,13 +1297,13 @@ const SPOILED: &[(u8, usize, &str, u8, usize)] = &[
     (b'q', 80, "0", 5, 80),
 ];
 
-type Spoiler = (u8, usize, &'static str, u8, usize);
+pub(crate) type Spoiler = (u8, usize, &'static str, u8, usize);
 
-fn spoilers_of(letter: u8) -> Vec<&'static Spoiler> {
+pub(crate) fn spoilers_of(letter: u8) -> Vec<&'static Spoiler> {
     SPOILED.iter().filter(|spoiler| spoiler.0 == letter).collect()
 }
 
-fn overlap(one: &Spoiler, other: &Spoiler) -> bool {
+pub(crate) fn overlap(one: &Spoiler, other: &Spoiler) -> bool {
     one.1 < other.1 + other.2.len() && other.1 < one.1 + one.2.len()
 }
 
@@ -2106,6 +2106,14 @@ impl Tally {
             eprintln!("{}", message());
         }
     }
+
+    /// Prints how many comparisons there were, and ends with 1 if one failed.
+    pub(crate) fn tell(&self, by_hand: usize) {
+        println!("{} comparisons, {by_hand} of them by hand, {} failed", self.made, self.failed);
+        if self.failed > 0 {
+            exit(1);
+        }
+    }
 }
 
 fn test_by_hand(tally: &mut Tally) {
@@ -2170,10 +2178,7 @@ fn self_test() {
     test_good_lines(&mut tally);
     test_pairs(&mut tally);
     test_canonical_again(&mut tally);
-    println!("{} comparisons, {by_hand} of them by hand, {} failed", tally.made, tally.failed);
-    if tally.failed > 0 {
-        exit(1);
-    }
+    tally.tell(by_hand);
 }
 
 // ---------------------------------------------------------------------------

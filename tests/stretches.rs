@@ -14,6 +14,7 @@
 //! * `BIN answer < batch`      prints the answers to a batch of cases;
 //! * `BIN generate SEED COUNT` prints a batch of that many generated cases;
 //! * `BIN case SEED NUMBER`    prints a generated case, counted from 1;
+//! * `BIN any ..`              the same with cases of any size (`any compare 1 9 ..`);
 //! * `BIN cases`               prints the stored batch;
 //! * `BIN check CRATE_DIR`     compares `CRATE_DIR/stdin` with the stored batch
 //!   and `CRATE_DIR/stdout` with the answers to it;
@@ -27,8 +28,10 @@
 //! `ROOM WALK I N LENGTH` and N names, and directly after its LF the LENGTH
 //! bytes of a stretch. ROOM is the room lent for lengths; WALK is 1 where the
 //! bytes are walked as one file, with room for I identifiers; the names (G07 is
-//! 7107) stand for the identifiers of its header where it is refused. Lent
-//! places hold a mark before. The answer to a case:
+//! 7107) stand for the identifiers of its header where it is refused. WALK is 2
+//! where they are read line by line, with room for I identifiers (the program of
+//! crates/ has no such cases). Lent places hold a mark before. The answer to a
+//! case:
 //!
 //! ```text
 //! case LENGTH
@@ -44,9 +47,14 @@
 //! end                           or  refused R line LINE
 //! place K AT DUE LEFT EPOCHS    after K lines, or as many as may be passed
 //! then K AT DUE LEFT EPOCHS     the same after half of the lines and the others
+//! (and this only where WALK is 2)
+//! line K AT DUE LEFT EPOCHS     after line K, each that is without fault
+//! finished K AT                 line K ends the file; AT is the byte after it
+//! stopped R line K column C     or line K is refused
+//! names NAME ..                 all places of the room, filled or not
 //! ```
 //!
-//! K is 0, 1, 3, half of the lines, all (`then` before `place`), five more. AT
+//! At `place` and `then` K is 0, 1, 3, half of the lines, all (`then` before `place`), five more. AT
 //! is the byte, DUE the record that must stand there (1 `#d` to 14 `EOF` in
 //! their order), LEFT how many satellites have their slot, or their rows of
 //! this epoch, still to come, EPOCHS how many epochs are still to come.
@@ -57,17 +65,14 @@
 #[path = "files.rs"]
 mod files;
 
-use files::lines::{fail, Line, Random, Tally};
-use files::{answers, generated, once_in, show_batch};
-use files::{Base, Compared, Edit, Refusal, Row, Table};
-use std::process::exit;
+use files::lines::{Line, Random, Tally, SYMBOLS};
+use files::{generated, once_in};
+use files::{Base, Compared, Edit, Refusal, Row, Table, NO_ROOM};
 
 // ---------------------------------------------------------------------------
 // Dividing
 // ---------------------------------------------------------------------------
 
-/// "lent room is too small", and "12 only, every other part .. being 0".
-const NO_ROOM: Refusal = Refusal { number: 12, line: 0 };
 /// "When nothing is left .. refusal and line are both 0."
 const NOTHING_LEFT: Refusal = Refusal { number: 0, line: 0 };
 
@@ -150,10 +155,6 @@ impl Standing {
     }
 }
 
-/// The records in the order of the paper's list; P and V by their letter.
-const RECORDS: [&str; 14] =
-    ["#d", "##", "+ ", "++", "%c", "%f", "%i", "/*", "* ", "P", "V", "EP", "EV", "EOF"];
-
 /// The number in some columns of a line without fault.
 fn number_in(line: &[u8], first: usize, last: usize) -> usize {
     files::show_text(&line[first - 1..last]).trim().parse().unwrap_or_default()
@@ -201,7 +202,7 @@ impl Passed<'_> {
         let (n, epochs, velocities) = self.said();
         let slots = files::satellite_lines(n);
         let needed = [1, 1, slots, slots, 2, 2, 2, 4];
-        let mut header = RECORDS.into_iter().zip(needed);
+        let mut header = SYMBOLS.into_iter().zip(needed);
         if let Some((record, _)) = header.find(|&(record, needed)| self.count(record) < needed) {
             return record;
         }
@@ -234,7 +235,7 @@ impl Walk<'_> {
     /// that ends the file" isn't passed.
     fn after(&self, lines: usize) -> Standing {
         let passed = Passed::of(self.bytes, lines.min(self.passed));
-        let due = RECORDS.iter().position(|&record| record == passed.due());
+        let due = SYMBOLS.iter().position(|&record| record == passed.due());
         Standing {
             at: passed.length(),
             due: due.map_or(0, |place| place + 1),
@@ -248,11 +249,31 @@ impl Walk<'_> {
 // Cases and their answers
 // ---------------------------------------------------------------------------
 
+/// What is done with the bytes beside dividing them.
+#[derive(Clone, Copy, PartialEq)]
+enum Way {
+    Divided,
+    Walked,
+    Read,
+}
+
+const WAYS: [Way; 3] = [Way::Divided, Way::Walked, Way::Read];
+
+impl Way {
+    fn walked(walked: bool) -> Way {
+        if walked {
+            Way::Walked
+        } else {
+            Way::Divided
+        }
+    }
+}
+
 #[derive(Clone)]
 struct Case {
     stretch: Vec<u8>,
     room: usize,
-    walked: bool,
+    way: Way,
     identifiers: usize,
     names: Vec<u64>,
 }
@@ -262,16 +283,11 @@ const MOST_LENGTHS: usize = 1000;
 const MOST_NAMES: usize = 300;
 
 impl Compared for Case {
-    const COUNTED: &'static [&'static str] = &["divide", "begin", "refused"];
+    const COUNTED: &'static [&'static str] = &["divide", "begin", "refused", "stopped"];
 
     fn show(&self) -> Vec<u8> {
-        let within = self.stretch.len() <= files::MOST_BYTES
-            && self.room <= MOST_LENGTHS
-            && self.identifiers <= MOST_NAMES
-            && self.names.len() <= MOST_NAMES;
-        assert!(within, "a case is too large: {} bytes", self.stretch.len());
-        let walked = usize::from(self.walked);
-        let front = [self.room, walked, self.identifiers, self.names.len(), self.stretch.len()];
+        let way = WAYS.iter().position(|&way| way == self.way).unwrap_or_default();
+        let front = [self.room, way, self.identifiers, self.names.len(), self.stretch.len()];
         let words: Vec<String> = front.iter().map(usize::to_string).collect();
         let names: Vec<String> = self.names.iter().map(u64::to_string).collect();
         let line = [words, names].concat().join(" ") + "\n";
@@ -281,10 +297,11 @@ impl Compared for Case {
     fn answer(&self) -> String {
         let mut out = format!("case {}\n", self.stretch.len());
         out += &show_division(&divide_into(&self.stretch, self.room));
-        if self.walked {
-            out += &self.show_walked();
+        match self.way {
+            Way::Divided => out,
+            Way::Walked => out + &self.show_walked(),
+            Way::Read => out + &show_read(&self.stretch, self.identifiers),
         }
-        out
     }
 }
 
@@ -301,6 +318,22 @@ impl Case {
         let names = begun.as_ref().map_or(&self.names, |(table, _)| &table.identifiers);
         show_begun(&begun) + &show_walk(&walk(&self.stretch, names))
     }
+}
+
+/// The lines of a file one by one, of whose identifiers so many are kept.
+fn show_read(bytes: &[u8], room: usize) -> String {
+    let read = files::follow_keeping(bytes, room);
+    let (taken, column) = (read.taken, read.column);
+    let walk = Walk { bytes, rows: Vec::new(), refusal: read.refusal, passed: taken - 1 };
+    let mut out: String = (1..taken).map(|k| walk.after(k).show("line", k)).collect();
+    out += &match read.refusal {
+        None => format!("finished {taken} {}\n", read.place),
+        Some(Refusal { number, line }) => format!("stopped {number} line {line} column {column}\n"),
+    };
+    let mut names = vec![7777; room];
+    names.iter_mut().zip(&read.table.identifiers).for_each(|(place, &name)| *place = name);
+    let shown: String = names.iter().map(|name| format!(" {name}")).collect();
+    out + &format!("names{shown}\n")
 }
 
 fn show_begun(begun: &Result<(Table, usize), Refusal>) -> String {
@@ -338,38 +371,18 @@ fn show_walk(walk: &Walk) -> String {
     out
 }
 
-/// The numbers of a line, and how many bytes it has with its LF.
-fn parse_line(bytes: &[u8]) -> Option<(Vec<u64>, usize)> {
-    let length = bytes.iter().position(|&c| c == b'\n')?;
-    let words = std::str::from_utf8(&bytes[..length]).ok()?.split(' ');
-    let numbers: Option<Vec<u64>> = words.map(|word| word.parse().ok()).collect();
-    Some((numbers?, length + 1))
-}
-
-fn parse_batch(mut bytes: &[u8]) -> Vec<Case> {
-    let mut cases = Vec::new();
-    while !bytes.is_empty() {
-        let place = cases.len() + 1;
-        let line = parse_line(bytes).filter(|(numbers, _)| {
-            numbers.len() >= 5 && numbers.len() as u64 == 5 + numbers[3] && numbers[1] < 2
-        });
-        let Some((numbers, line)) = line else {
-            fail(&format!("case {place} has no line of numbers"));
-        };
-        let length = numbers[4] as usize;
-        let Some(stretch) = bytes.get(line..line + length) else {
-            fail(&format!("case {place} ends too early"));
-        };
-        cases.push(Case {
-            stretch: stretch.to_vec(),
-            room: numbers[0] as usize,
-            walked: numbers[1] == 1,
-            identifiers: numbers[2] as usize,
-            names: numbers[5..].to_vec(),
-        });
-        bytes = &bytes[line + length..];
-    }
-    cases
+fn parse_batch(bytes: &[u8]) -> Vec<Case> {
+    let length_of = |numbers: &[usize]| match *numbers {
+        [_, way, _, names, length, ref rest @ ..] if way < 3 && rest.len() == names => Some(length),
+        _ => None,
+    };
+    files::parse_cases(bytes, length_of, |numbers, stretch| Case {
+        stretch,
+        room: numbers[0],
+        way: WAYS[numbers[1]],
+        identifiers: numbers[2],
+        names: numbers[5..].iter().map(|&name| name as u64).collect(),
+    })
 }
 
 // ---------------------------------------------------------------------------
@@ -909,11 +922,69 @@ const WALKED: &[Walked] = &[
     ),
 ];
 
+/// A file read line by line, room for identifiers; lines of the answer in their
+/// order.
+type ReadFile = (Base, &'static [Edit], usize, &'static [&'static str]);
+
+const READ: &[ReadFile] = &[
+    (
+        Paper,
+        &[],
+        1,
+        &[
+            "line 1 61 2 0 1",
+            "line 2 122 3 0 1",
+            "line 3 183 3 0 1",
+            "line 7 427 4 1 1",
+            "line 8 488 4 0 1",
+            "line 22 1118 9 0 1",
+            "line 23 1150 10 1 0",
+            "line 24 1211 14 0 0",
+            "finished 25 1215",
+            "names 7107",
+        ],
+    ),
+    // Bytes after EOF are not read; places past the names are kept.
+    (Paper, &[After(b"x")], 3, &["finished 25 1215", "names 7107 7777 7777"]),
+    (
+        Motion,
+        &[],
+        2,
+        &["line 24 1224 11 2 0", "line 25 1305 11 2 0", "finished 30 1605", "names 7101 7102"],
+    ),
+    (
+        ManyFile(20),
+        &[],
+        20,
+        &["line 3 183 3 3 1", "line 4 244 3 0 1", "line 7 427 4 20 1", "line 8 488 4 3 1"],
+    ),
+    // Too little room: the rows past it have no name.
+    (Night, &[], 1, &["line 24 1211 10 1 2", "stopped 10 line 25 column 0", "names 7107"]),
+    (Paper, &[], 0, &["line 23 1150 10 1 0", "stopped 10 line 24 column 0", "names"]),
+    // Refused lines; a `+ ` line that is refused leaves no name.
+    (Nothing, &[], 2, &["stopped 1 line 1 column 0", "names 7777 7777"]),
+    (Paper, &[Keep(24)], 1, &["line 24 1211 14 0 0", "stopped 1 line 25 column 0", "names 7107"]),
+    (Paper, &[Byte(24, 40, 0x80)], 1, &["stopped 2 line 24 column 40", "names 7107"]),
+    (Paper, &[Put(24, 90, "x")], 1, &["stopped 3 line 24 column 81", "names 7107"]),
+    (
+        Paper,
+        &[Put(3, 13, "G08")],
+        1,
+        &["line 2 122 3 0 1", "stopped 8 line 3 column 0", "names 7777"],
+    ),
+    (ManyFile(20), &[Put(4, 13, "G 9")], 20, &["line 3 183 3 3 1", "stopped 6 line 4 column 13"]),
+    (Night, &[Put(29, 18, "30")], 2, &["stopped 9 line 29 column 0", "names 7107 8224"]),
+    (Night, &[Put(3, 14, "00")], 2, &["stopped 7 line 3 column 13", "names 7777 7777"]),
+];
+
 // ---------------------------------------------------------------------------
 // Generated cases
 // ---------------------------------------------------------------------------
 
-/// A generated file of moderate length with the names that it was planned with.
+/// Makes a file with the names that it was planned with.
+type MakePart = fn(&mut Random) -> (Vec<u64>, Vec<u8>);
+
+/// A generated file of moderate length.
 fn generate_part(random: &mut Random) -> (Vec<u64>, Vec<u8>) {
     loop {
         let (plan, file) = files::generate_file(random);
@@ -923,9 +994,15 @@ fn generate_part(random: &mut Random) -> (Vec<u64>, Vec<u8>) {
     }
 }
 
-fn generate_accepted(random: &mut Random) -> (Vec<u64>, Vec<u8>) {
+/// A generated file of any length.
+fn generate_any_part(random: &mut Random) -> (Vec<u64>, Vec<u8>) {
+    let (plan, file) = files::generate_any_file(random);
+    (plan.identifiers, file)
+}
+
+fn generate_accepted(random: &mut Random, part: MakePart) -> (Vec<u64>, Vec<u8>) {
     loop {
-        let (names, file) = generate_part(random);
+        let (names, file) = part(random);
         if files::judge(&file).is_ok() {
             return (names, file);
         }
@@ -939,18 +1016,18 @@ const SHORT_RESTS: &[&[u8]] = &[
 
 /// What may stand after accepted files: nothing, a beginning of one, garbage,
 /// a damaged one.
-fn generate_rest(random: &mut Random) -> Vec<u8> {
+fn generate_rest(random: &mut Random, part: MakePart) -> Vec<u8> {
     match random.below(10) {
         0..=2 => Vec::new(),
         3 => random.pick(SHORT_RESTS).to_vec(),
         4 => (0..random.below(100)).map(|_| random.next() as u8).collect(),
         5 => {
-            let (_, mut file) = generate_accepted(random);
+            let (_, mut file) = generate_accepted(random, part);
             let kept = file.len() - 1 - random.below(file.len().min(80));
             file.truncate(if once_in(random, 2) { kept } else { random.below(file.len()) });
             file
         }
-        _ => generate_part(random).1,
+        _ => part(random).1,
     }
 }
 
@@ -993,10 +1070,10 @@ fn spoil_names(names: &mut Vec<u64>, random: &mut Random) {
     names.truncate(MOST_NAMES);
 }
 
-fn generate_files(random: &mut Random) -> (Vec<u64>, Vec<u8>) {
+fn generate_files(random: &mut Random, part: MakePart) -> (Vec<u64>, Vec<u8>) {
     let count = *random.pick(&[1, 1, 1, 2, 2, 3, 4, 5]);
-    let parts: Vec<_> = (0..count).map(|_| generate_accepted(random)).collect();
-    let rest = generate_rest(random);
+    let parts: Vec<_> = (0..count).map(|_| generate_accepted(random, part)).collect();
+    let rest = generate_rest(random, part);
     let bytes = parts.iter().flat_map(|(_, file)| file.clone()).chain(rest).collect();
     (parts[0].0.clone(), bytes)
 }
@@ -1013,44 +1090,66 @@ fn choose_room(random: &mut Random, needed: usize, most: usize) -> usize {
     room.min(most)
 }
 
+/// A file alone, or files laid end to end: whether it is one, the names of the
+/// first, and the bytes.
+fn generate_stretch(random: &mut Random, part: MakePart) -> (bool, Vec<u64>, Vec<u8>) {
+    let single = once_in(random, 2);
+    let (names, mut stretch) = if single { part(random) } else { generate_files(random, part) };
+    if once_in(random, if single { 6 } else { 3 }) {
+        spoil(&mut stretch, random);
+    }
+    (single, names, stretch)
+}
+
+/// The stretch with rooms, and names that are the header's or not.
+fn lend(random: &mut Random, single: bool, mut names: Vec<u64>, stretch: Vec<u8>) -> Case {
+    let room = choose_room(random, divide(&stretch).lengths.len(), MOST_LENGTHS);
+    let identifiers = choose_room(random, names.len(), MOST_NAMES);
+    spoil_names(&mut names, random);
+    let way = Way::walked(single || once_in(random, 3));
+    Case { stretch, room, way, identifiers, names }
+}
+
 fn generate_case(random: &mut Random) -> Case {
     loop {
-        let single = once_in(random, 2);
-        let made = if single { generate_part(random) } else { generate_files(random) };
-        let (mut names, mut stretch) = made;
-        if once_in(random, if single { 6 } else { 3 }) {
-            spoil(&mut stretch, random);
+        let (single, names, stretch) = generate_stretch(random, generate_part);
+        if stretch.len() <= files::MOST_BYTES {
+            return lend(random, single, names, stretch);
         }
-        if stretch.len() > files::MOST_BYTES {
-            continue;
-        }
-        let room = choose_room(random, divide(&stretch).lengths.len(), MOST_LENGTHS);
-        let identifiers = choose_room(random, names.len(), MOST_NAMES);
-        spoil_names(&mut names, random);
-        let walked = single || once_in(random, 3);
-        return Case { stretch, room, walked, identifiers, names };
     }
+}
+
+/// Stretches of any length; some of those that are not too long are read line
+/// by line.
+fn generate_any_case(random: &mut Random) -> Case {
+    let (single, names, stretch) = generate_stretch(random, generate_any_part);
+    let mut case = lend(random, single, names, stretch);
+    if once_in(random, 12) && !case.names.is_empty() {
+        let far = *random.pick(&[1 << 8, 1 << 16, 1 << 32, u64::MAX]);
+        let place = random.below(case.names.len());
+        case.names[place] = case.names[place].wrapping_add(far);
+    }
+    let read = case.stretch.len() <= 20_000 && once_in(random, 3);
+    Case { way: if read { Way::Read } else { case.way }, ..case }
 }
 
 // ---------------------------------------------------------------------------
 // The stored cases
 // ---------------------------------------------------------------------------
 
-const MOST_STORED: usize = 600_000;
-
 /// Those worked out by hand; every fifth of the stretches is walked too.
 fn hand_cases() -> Vec<Case> {
     let divided = DIVIDED.iter().enumerate().map(|(place, &(parts, room, ..))| Case {
         stretch: joined(parts),
         room,
-        walked: place % 5 == 0,
+        way: Way::walked(place % 5 == 0),
         identifiers: 2,
         names: vec![7107, 8224],
     });
     let walked = WALKED.iter().map(|&(base, edits, identifiers, names, _)| Case {
         stretch: files::hand_made(base, edits),
         room: 1,
-        walked: true,
+        way: Way::Walked,
         identifiers,
         names: names.to_vec(),
     });
@@ -1058,18 +1157,7 @@ fn hand_cases() -> Vec<Case> {
 }
 
 fn stored_cases() -> Vec<Case> {
-    let mut cases = hand_cases();
-    let mut length = show_batch(&cases).len();
-    let small = |case: &Case| case.stretch.len() < 5000;
-    let made = (1..).map(|number| generated(generate_case, files::STORED_SEED, number));
-    for case in made.filter(small) {
-        length += case.show().len();
-        if length > MOST_STORED {
-            break;
-        }
-        cases.push(case);
-    }
-    cases
+    files::filled_up(hand_cases(), generate_case, |case| case.stretch.len() < 5000)
 }
 
 // ---------------------------------------------------------------------------
@@ -1093,11 +1181,22 @@ fn test_divided(tally: &mut Tally) {
 fn test_walked(tally: &mut Tally) {
     for &(base, edits, identifiers, names, wanted) in WALKED {
         let stretch = files::hand_made(base, edits);
-        let case = Case { stretch, room: 1, walked: true, identifiers, names: names.to_vec() };
+        let case = Case { stretch, room: 1, way: Way::Walked, identifiers, names: names.to_vec() };
         let answer = case.show_walked();
         let missing = files::missing_line(&answer, wanted);
         tally.holds(missing.is_none(), || {
             format!("{base:?} {edits:?}\n  wanted {missing:?}\n  given {answer}")
+        });
+        tally.made += wanted.len() - 1;
+    }
+}
+
+fn test_read(tally: &mut Tally) {
+    for &(base, edits, room, wanted) in READ {
+        let answer = show_read(&files::hand_made(base, edits), room);
+        let missing = files::missing_line(&answer, wanted);
+        tally.holds(missing.is_none(), || {
+            format!("{base:?} {edits:?} {room}\n  wanted {missing:?}\n  given {answer}")
         });
         tally.made += wanted.len() - 1;
     }
@@ -1125,7 +1224,7 @@ fn test_cuts(tally: &mut Tally) {
 fn test_joined(tally: &mut Tally) {
     for number in 1..=300 {
         let make = |random: &mut Random| -> Vec<Vec<u8>> {
-            (0..1 + random.below(5)).map(|_| generate_accepted(random).1).collect()
+            (0..1 + random.below(5)).map(|_| generate_accepted(random, generate_part).1).collect()
         };
         let parts = generated(make, files::STORED_SEED + 2, number);
         let found = divide(&parts.concat());
@@ -1167,25 +1266,17 @@ fn test_walks(tally: &mut Tally) {
     }
 }
 
-fn test_batches(tally: &mut Tally) {
-    let cases = stored_cases();
-    let again = parse_batch(&show_batch(&cases));
-    tally.holds(answers(&cases) == answers(&again), || "a batch read again".to_string());
-}
-
 fn self_test() {
     let mut tally = Tally::default();
     test_divided(&mut tally);
     test_walked(&mut tally);
+    test_read(&mut tally);
     let by_hand = tally.made;
     test_cuts(&mut tally);
     test_joined(&mut tally);
     test_walks(&mut tally);
-    test_batches(&mut tally);
-    println!("{} comparisons, {by_hand} of them by hand, {} failed", tally.made, tally.failed);
-    if tally.failed > 0 {
-        exit(1);
-    }
+    files::test_batches(&mut tally, stored_cases(), parse_batch);
+    tally.tell(by_hand);
 }
 
 // ---------------------------------------------------------------------------
@@ -1197,9 +1288,12 @@ fn main() {
     let words: Vec<&str> = arguments.iter().map(String::as_str).collect();
     let usage =
         "usage: answer | generate SEED COUNT | case SEED NUMBER | cases | check CRATE_DIR\n\
-         | self-test | count | compare SEED COUNT PROGRAM [ARGS..]";
+         | self-test | count | compare SEED COUNT PROGRAM [ARGS..] | any ..";
     match words[..] {
         ["self-test"] => self_test(),
+        ["any", ref rest @ ..] => {
+            files::obey(rest, parse_batch, generate_any_case, stored_cases, usage);
+        }
         _ => files::obey(&words, parse_batch, generate_case, stored_cases, usage),
     }
 }

@@ -1,0 +1,106 @@
+#!/bin/sh
+# Compares the doors for C with the independent implementation on large inputs, byte for byte: judged, read with its whole table, written again,
+# divided, walked:
+#
+#   tests/large.sh [SEED]
+#
+# The inputs: a file of 100,000 epochs (accepted), the same with its last epoch a second late (9), a file of 100,001 epochs (7 at line 1), one of 255
+# satellites with velocities, 8,000 files laid end to end, one line of 50 MB with and without its LF and with a wrong byte (3, 1, 2 at line 1), a
+# comment of 50 MB (3 at line 20), 10 MB of random bytes made by the seed (1 where none is given). Ends with 1 at a difference, and where a file is
+# not judged as said here.
+set -eu
+
+root=$(cd "$(dirname "$0")/.." && pwd -P)
+seed=${1:-1}
+"$root/tests/compare.sh" build
+made=$root/target/compare
+work=$(mktemp -d)
+trap 'rm -rf "$work"' EXIT
+cd "$work"
+
+# both sides answer the batch in a format, by the oracle of this name
+both() {
+    "$made/$2" answer <batch >wanted
+    "$root/tests/compare.sh" run "$1" <batch >found || echo "doors ended with $?" >>found
+    cmp -s wanted found && return
+    echo "$1: the oracle (-) and the doors (+) differ:"
+    diff wanted found | head -n 10
+    exit 1
+}
+
+# the lines of the answers that begin with one of these words, each once
+answered() {
+    grep -aE "^($1) " wanted | awk '!said[$0]++ { print "    " $0 }'
+}
+
+# so many bytes of one kind
+repeated() {
+    head -c "$2" /dev/zero | tr '\0' "$1"
+}
+
+# NAME, how the file `input` is judged as a whole, and its satellites; it is read with the room that it needs, then with one number of rows less
+compare_input() {
+    bytes=$(($(wc -c <input)))
+    comments=$(grep -ac '^/\*' input || :)
+    numbers=$((12 * $(grep -ac '^[PV]' input || :)))
+    asked="3 99999 0 $name"
+    echo "$1, $bytes bytes"
+    {
+        echo "$bytes $3 $3 $((77 * comments)) $numbers $asked"
+        cat input
+        echo "$bytes $3 $3 $((77 * comments)) $((numbers > 0 ? numbers - 1 : 0)) $asked"
+        cat input
+    } >batch
+    both tables files
+    answered 'whole|read'
+    grep -aq "^whole $2 " wanted || { echo "$1: not judged as $2"; exit 1; }
+    { echo "2 $bytes $bytes"; cat input; } >batch
+    both forms forms
+    answered write
+    { echo "8000 1 255 1 $bytes $name"; cat input; } >batch
+    both stretches stretches
+    answered 'divide|begin|refused'
+}
+
+# the satellite of a file that has one, as a number: 7107 for G07
+name_of() {
+    satellite=$(sed -n '3{s/^.........\(...\).*/\1/p;q;}' "$1")
+    number=${satellite#?}
+    echo $(($(printf %d "'$satellite") * 100 + ${number#0}))
+}
+
+"$made/files" file P 1 1 >one
+name=$(name_of one)
+
+"$made/files" file P 1 100000 >input
+compare_input "100,000 epochs" "0 0" 1
+
+last=$(grep -an '^\*' input | tail -n 1 | cut -d : -f 1)
+sed "${last}s/ 0.00000000\$/ 1.00000000/" input >late && mv late input
+compare_input "the last of 100,000 epochs a second late" "9 $last" 1
+
+"$made/files" file P 1 100001 >input
+compare_input "100,001 epochs" "7 1" 1
+
+"$made/files" file V 255 96 >input
+compare_input "255 satellites with velocities" "0 0" 255
+
+yes one | head -n 8000 | xargs cat >input
+compare_input "8,000 files laid end to end" "11 $(($(wc -l <one) + 1))" 1
+
+repeated x 50000000 >input
+compare_input "a line of 50 MB without its LF" "1 1" 1
+
+echo >>input
+compare_input "a line of 50 MB" "3 1" 1
+
+{ repeated x 49999999; printf '\177\n'; } >input
+compare_input "a line of 50 MB with a wrong byte" "2 1" 1
+
+{ head -n 19 one; printf '/* '; repeated x 50000000; echo; tail -n +21 one; } >input
+compare_input "a comment of 50 MB" "3 20" 1
+
+"$made/files" bytes "$seed" 10000000 >input
+compare_input "10 MB of random bytes, seed $seed" "[124] 1" 1
+
+echo "large inputs agree"
