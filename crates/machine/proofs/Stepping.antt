@@ -1,15 +1,15 @@
 -- What a line does, on plain values: each test that the code makes, and what follows of it.
 -- Assumes nothing.
 use mathlib.Core.Path.{_≡_, refl, sym, ap, ap₂, _∙_}
-use mathlib.Core.Bool.{true, false}
+use mathlib.Core.Bool.{Bool, true, false, _&&_}
 use mathlib.Core.List.{List, [], _∷_, _++_, append-nil}
-use Prim.Native.Nat.{ℕ, _+_, _-_, _≤_, _<_, zero-le}
+use Prim.Native.Nat.{ℕ, zero, suc, _+_, _-_, _≤_, _<_, zero-le}
 use native.Mathlib.Omega.{arith}
 use borrow.Author.Tests.{eq-eqb, ne-eqb, le-leb, lt-leb}
 use borrow.Rule.Slice.PartMut.{putMid}
 use lib.ListN.{length, take, drop, length-drop}
 use lib.Seq.{take-all, length-take-le}
-use Rattle.laws.specs.Texts.{every, isPrintable}
+use Rattle.laws.specs.Texts.{every, isPrintable, blanks}
 use Rattle.laws.proofs.Lists.{rest-none}
 use Rattle.layout.specs.Line.{padded}
 use Rattle.lines.specs.Lent.{laid}
@@ -32,6 +32,22 @@ use Rattle.machine.specs.declared.types.Verdict.{Verdict}
 use Rattle.machine.specs.declared.types.Verdict.the-variants as verdict
 use Rattle.machine.specs.declared.types.LineRead.{LineRead}
 use Rattle.machine.specs.declared.types.LineRead.the-variants as found
+
+-- The 80 columns of a line that is not longer have only characters 32 to 126 where the line has.
+blanks-plain : (n m : ℕ) → every isPrintable (take n (blanks m)) ≡ true
+blanks-plain zero zero = refl
+blanks-plain zero (suc m) = refl
+blanks-plain (suc n) zero = refl
+blanks-plain (suc n) (suc m) = blanks-plain n m
+
+columns-plain : (line : List ℕ) (n m : ℕ) → length line ≤ n → every isPrintable (take n (line ++ blanks m)) ≡ every isPrintable line
+columns-plain [] n m h = blanks-plain n m
+columns-plain (b ∷ line) zero m h = absurd (omega arith)
+columns-plain (b ∷ line) (suc n) m h = ap (λ (rest : Bool). isPrintable b && rest) (columns-plain line n m (omega arith))
+
+pub padded-plain : (line : List ℕ) → length line ≤ 80 → every isPrintable (padded line) ≡ every isPrintable line
+unfolding padded
+padded-plain line h = columns-plain line 80 80 h
 
 module _ (rules : Rules) (s : State) (names line : List ℕ) where
   -- a byte outside 32 to 126
