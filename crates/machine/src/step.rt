@@ -118,26 +118,37 @@ fn keep_names(rules: Rules, state: State, names: &mut [u64], line: &[u8])
     store_names(rules, state, names, &padded);
 }
 
-// The plain line reader: what the line at a place does, and where the next begins. A `+ ` line leaves its identifiers in `names`. No LF from
-// the place on: no line.
-pub fn read_line(rules: Rules, bytes: &[u8], at: usize, state: State, names: &mut [u64]) -> LineRead
+// What the line at a place does, where the header's identifiers so far are `names`, and where the next begins. No LF from the place on: no line.
+pub fn line_at(rules: Rules, bytes: &[u8], at: usize, state: State, names: &[u64]) -> LineRead
     ensures result { λ r. ⌜ toldRead r ≡ toldRead (lineRead rules (now (bytes .entry)) at state (now (names .entry))) ⌝ }
-    ensures lent { λ _. ⌜ now (names .exit) ≡ lineNames rules (now (bytes .entry)) at state (now (names .entry)) ⌝ }
 {
     let end = lines::line_end(bytes, at);
     if end >= bytes.len() {
         return LineRead::NoLine;
     }
-    let line = &bytes[at..end];
-    match step_line(rules, state, names, line) {
+    match step_line(rules, state, names, &bytes[at..end]) {
         Verdict::Fault { number, column } => LineRead::Fault { number, column },
         Verdict::Finished => LineRead::Finished { at: end + 1 },
-        Verdict::Next(next) => {
-            keep_names(rules, state, names, line);
-            LineRead::Next {
-                at: end + 1,
-                state: next,
-            }
-        }
+        Verdict::Next(next) => LineRead::Next {
+            at: end + 1,
+            state: next,
+        },
     }
+}
+
+// The plain line reader: the same, and a `+ ` line leaves its identifiers in `names`.
+pub fn read_line(rules: Rules, bytes: &[u8], at: usize, state: State, names: &mut [u64]) -> LineRead
+    ensures result { λ r. ⌜ toldRead r ≡ toldRead (lineRead rules (now (bytes .entry)) at state (now (names .entry))) ⌝ }
+    ensures lent { λ _. ⌜ now (names .exit) ≡ lineNames rules (now (bytes .entry)) at state (now (names .entry)) ⌝ }
+{
+    let found = line_at(rules, bytes, at, state, names);
+    let LineRead::Next { at: _, state: _ } = found else {
+        return found;
+    };
+    let end = lines::line_end(bytes, at);
+    if end >= bytes.len() {
+        return found;
+    }
+    keep_names(rules, state, names, &bytes[at..end]);
+    found
 }

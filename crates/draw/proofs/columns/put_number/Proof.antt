@@ -14,7 +14,7 @@ returns c =
     let a = put .before .before .before .args in
     c .before .before .fill-blanks .ensures
     ∙ too-wide (λ (w : ℕ). fitsWhole w (a .n)) (λ (w : ℕ). showWhole w (a .n)) (a .out .now) (put .put-whole .result) (put .put-whole .ensures .0)
-      (put .put-whole .last .0) (put .put-whole .ensures .1) (c .before .before .before .before .if1 .taken)
+    (put .put-whole .last .0) (put .put-whole .ensures .1) (c .before .before .before .before .if1 .taken)
 
 returns-2 : tie.Need-returns-2
 returns-2 c =
@@ -22,7 +22,7 @@ returns-2 c =
     let a = put .before .before .before .args in
     put .put-whole .ensures .1
     ∙ fitting (λ (w : ℕ). fitsWhole w (a .n)) (λ (w : ℕ). showWhole w (a .n)) (a .out .now) (put .put-whole .result) (put .put-whole .ensures .0)
-      (c .if1 .left)
+    (c .if1 .left)
 
 pub put-number-spec : {M : Type 1} → statement M
 put-number-spec =

@@ -14,8 +14,8 @@ returns c =
     let a = put .before .before .before .args in
     c .before .before .fill-blanks .ensures
     ∙ too-wide (λ (w : ℕ). fitsDecimal w (a .places) (a .negative) (a .m)) (λ (w : ℕ). showDecimal w (a .places) (a .negative) (a .m)) (a .out .now)
-      (put .put-decimal .result) (put .put-decimal .ensures .0) (put .put-decimal .last .0) (put .put-decimal .ensures .1)
-      (c .before .before .before .before .if1 .taken)
+    (put .put-decimal .result) (put .put-decimal .ensures .0) (put .put-decimal .last .0) (put .put-decimal .ensures .1)
+    (c .before .before .before .before .if1 .taken)
 
 returns-2 : tie.Need-returns-2
 returns-2 c =
@@ -23,7 +23,7 @@ returns-2 c =
     let a = put .before .before .before .args in
     put .put-decimal .ensures .1
     ∙ fitting (λ (w : ℕ). fitsDecimal w (a .places) (a .negative) (a .m)) (λ (w : ℕ). showDecimal w (a .places) (a .negative) (a .m)) (a .out .now)
-      (put .put-decimal .result) (put .put-decimal .ensures .0) (c .if1 .left)
+    (put .put-decimal .result) (put .put-decimal .ensures .0) (c .if1 .left)
 
 pub put-places-spec : {M : Type 1} → statement M
 put-places-spec =
