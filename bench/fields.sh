@@ -1,9 +1,11 @@
 #!/usr/bin/env bash
-# Instructions for a 14-column decimal read and written, and for a date, beside plain scalar C, counted by callgrind in one run.
+# Instructions for a decimal of 14 columns read and written, and for a date, beside plain scalar C at -O2 and at -O3, all in one run: what a call costs
+# beyond that of a function that does nothing. include/sp3.h shows no single field, so doors of its own are built (fields.rt.txt).
 set -eu
-. "$(dirname "$0")/count.sh"
-count fields 6000 laws field calendar
-row 'well-formed decimal read' our_read c_read good
-row 'malformed decimal read' our_read c_read bad
-row 'decimal written' our_write c_write good
-printf '%-34s %5s\n' 'date asked' "$(of our_date good.2)"
+. "$(dirname "$0")/counting.sh"
+doors fields laws field calendar
+calls 6000 fields
+row 'well-formed decimal read' good
+row 'malformed decimal read' bad
+row 'decimal written' written
+row 'date asked' date

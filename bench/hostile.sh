@@ -4,12 +4,11 @@
 # above it; `16x/1x` is `a byte` at 16 times the size over `a byte` at once the size: about 1 where the cost is linear, and far below where
 # a refusal came before the end. Where that, or the last `more` over the one before it, is above 1.1, the cost is not linear and this ends with 1;
 # only the satellites of a header, at most 255, may cost their number squared (*), since their identifiers are compared with each other.
-# Counted by bench/insns.c; nothing is timed. Ours is what `rt staticlib` compiles (LLVM, -O3) for x86-64.
-# Needs rt, gcc, qemu-user of Debian 12 (the kit's has no plugins), gcc-x86-64-linux-gnu and, where the machine is no x86-64, libc6-dev-amd64-cross.
+# Nothing is timed. The library is target/staticlib/libabi.a, what include/sp3.h is linked with, proved and built first as far as that is not done.
 set -eu
-. "$(dirname "$0")/doors.sh"
+. "$(dirname "$0")/counting.sh"
 
-right() { awk "$@" -f "$bench/reader_file.awk"; }
+right() { awk "$@" -f "$bench/file.awk"; }
 few() { right -v epochs=1 -v satellites=2 "$@"; }
 many() { head -c "$2" /dev/zero | tr '\0' "$1"; }
 
@@ -38,8 +37,8 @@ sizes() {
     done
 }
 
-reader_doors
-harness hostile_count
+archive
+harness hostile
 sizes 'one line of x without LF' unended 250000 1000000 4000000
 sizes 'line 1, then x without LF' unended_second 250000 1000000 4000000
 sizes 'one line of blanks' blanks 250000 1000000 4000000
@@ -51,11 +50,12 @@ sizes 'comments of 2 columns, 2 rows' short_comments 21000 84000 336000
 sizes 'comments and no more' comments_alone 1312 5250 21000
 sizes '255 satellites; 1, 4, 16 epochs' epochs 1 4 16
 sizes '15, 60, 240 satellites; 1 epoch *' satellites 15 60 240
-counted input*
+counted hostile input*
+grep '^file ' said >answers
 
 awk 'FILENAME == "titles" { title[FNR - 1] = $0; next }
-     FILENAME == "said" { bytes[FNR - 1] = $1; answer[FNR - 1] = sprintf("%7d %6d", $2, $3); next }
-     $1 == "mark" { count[$2] = $3 }
+     FILENAME == "answers" { bytes[FNR - 1] = $2; answer[FNR - 1] = sprintf("%7d %6d", $3, $4); next }
+     { count[FNR - 1] = $2 }
      # the price of file k, judged (0) or read (1), beside those of the two sizes before it
      function more(k, how) { return (count[2 * k + how] - count[2 * k - 2 + how]) / (bytes[k] - bytes[k - 1]) }
      function each(k, how) { return count[2 * k + how] / bytes[k] }
@@ -83,4 +83,4 @@ awk 'FILENAME == "titles" { title[FNR - 1] = $0; next }
          }
          printf "the largest growth, those with * apart, is %.2f\n", worst
          exit (worst > 1.1)
-     }' titles said marks
+     }' titles answers counts

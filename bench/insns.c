@@ -1,4 +1,4 @@
-// A plugin for Debian's qemu-user (7.2, plugin API 1) that counts the instructions run between two marks. The declarations are qemu's.
+// A plugin for Debian's qemu-user (7.2, plugin API 1) that counts the instructions between the two calls of bench/count.h. The declarations are qemu's.
 //   gcc -shared -fPIC -O2 -o libinsns.so insns.c; qemu-x86_64 -plugin ./libinsns.so PROGRAM
 #include <inttypes.h>
 #include <stddef.h>
@@ -17,21 +17,19 @@ size_t qemu_plugin_tb_n_insns(const struct qemu_plugin_tb *tb);
 
 __attribute__((visibility("default"))) int qemu_plugin_version = 1;
 
-static uint64_t count, last;
+static uint64_t count, from;
 
 static void translated(qemu_plugin_id_t id, struct qemu_plugin_tb *tb) {
     (void)id;
     qemu_plugin_register_vcpu_tb_exec_inline(tb, QEMU_PLUGIN_INLINE_ADD_U64, &count, qemu_plugin_tb_n_insns(tb));
 }
 
-// A mark is a close() of descriptor 1000 + label (system call 3 of x86-64): the count since the mark before it goes to standard error.
+// Counting begins with a close() of descriptor 1000 (system call 3 of x86-64) and ends with one of 1001: the count goes to standard error.
 static void called(qemu_plugin_id_t id, unsigned cpu, int64_t number, uint64_t a, uint64_t b, uint64_t c, uint64_t d, uint64_t e, uint64_t f,
                    uint64_t g, uint64_t h) {
     (void)id, (void)cpu, (void)b, (void)c, (void)d, (void)e, (void)f, (void)g, (void)h;
-    if (number == 3 && a >= 1000 && a < 2000) {
-        fprintf(stderr, "mark %" PRIu64 " %" PRIu64 "\n", a - 1000, count - last);
-        last = count;
-    }
+    if (number == 3 && a == 1000) from = count;
+    if (number == 3 && a == 1001) fprintf(stderr, "%" PRIu64 "\n", count - from);
 }
 
 __attribute__((visibility("default"))) int qemu_plugin_install(qemu_plugin_id_t id, const qemu_info_t *info, int argc, char **argv) {

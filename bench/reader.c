@@ -1,11 +1,8 @@
-// A plain scalar reader of SP3-d files in C, the yardstick of bench/reader.sh. It is written from the documents alone and shares no code with
-// the library: one line at a time, every column judged in a first pass, the lent lists filled in a second.
-#include <stdbool.h>
-#include <stddef.h>
-#include <stdint.h>
+// A plain scalar reader and divider of SP3-d files in C, the yardstick of bench/run.sh. It is written from the documents alone and shares with the
+// library the types of its answers and no code: one line at a time, every column judged in a first pass, the lent lists filled in a second.
 #include <string.h>
 
-#include "reader.h"
+#include "plain.h"
 
 enum { COLUMNS = 80, SLOTS = 17, MOST_SATELLITES = 255, MOST_EPOCHS = 100000, TEXT = 77, NUMBERS = 12, UNKNOWN = 1000 };
 
@@ -23,10 +20,9 @@ struct file {
     uint8_t padded[COLUMNS];
 };
 
+// what the header lines say, and the identifiers of its satellites
 struct header {
-    bool velocities;
-    uint64_t start, interval;   // in 10^-8 s, the start from MJD 0
-    size_t epochs, satellites, comments;
+    sp3_header_t said;
     uint64_t identifiers[MOST_SATELLITES];
 };
 
@@ -181,17 +177,21 @@ static uint64_t instant(struct file *f) {
 static bool first_line(struct file *f, struct header *h) {
     if (!take_kind(f, "#d")) return false;
     if (f->line[2] != 'P' && f->line[2] != 'V') fault(f, MALFORMED);
-    h->velocities = f->line[2] == 'V';
-    h->start = instant(f);
+    h->said.velocity = f->line[2] == 'V';
+    h->said.start8 = instant(f);
     unused(f, 32, 32);
-    h->epochs = integer_at(f, 33, 39);
-    if (h->epochs < 1 || h->epochs > MOST_EPOCHS) fault(f, BOUNDS);
+    h->said.epochs = integer_at(f, 33, 39);
+    if (h->said.epochs < 1 || h->said.epochs > MOST_EPOCHS) fault(f, BOUNDS);
     unused(f, 40, 40), unused(f, 46, 46), unused(f, 52, 52), unused(f, 56, 56), unused(f, 61, 80);
+    memcpy(h->said.texts.data_used, f->line + 40, 5);
+    memcpy(h->said.texts.coordinates, f->line + 46, 5);
+    memcpy(h->said.texts.orbit, f->line + 52, 3);
+    memcpy(h->said.texts.agency, f->line + 56, 4);
     return f->fault == NO_FAULT;
 }
 
 static bool second_line(struct file *f, struct header *h) {
-    uint64_t week, seconds, mjd, fraction, days = h->start / DAY, time = h->start % DAY, one, other;
+    uint64_t week, seconds, mjd, fraction, days = h->said.start8 / DAY, time = h->said.start8 % DAY, one, other;
     if (!take_kind(f, "##")) return false;
     unused(f, 3, 3);
     week = integer_at(f, 4, 7);
@@ -199,8 +199,8 @@ static bool second_line(struct file *f, struct header *h) {
     seconds = decimal_at(f, 9, 23, 8);
     if (seconds >= 604800 * SECOND) fault(f, BOUNDS);
     unused(f, 24, 24);
-    h->interval = decimal_at(f, 25, 38, 8);
-    if (h->interval == 0) fault(f, BOUNDS);
+    h->said.interval8 = decimal_at(f, 25, 38, 8);
+    if (h->said.interval8 == 0) fault(f, BOUNDS);
     unused(f, 39, 39);
     mjd = integer_at(f, 40, 44);
     unused(f, 45, 45);
@@ -235,7 +235,7 @@ static bool repeats(const struct header *h, size_t k) {
 static void identifier_slots(struct file *f, struct header *h, size_t j) {
     for (size_t i = 0; i < SLOTS; i++) {
         size_t k = SLOTS * j + i;
-        if (k < h->satellites) {
+        if (k < h->said.satellites) {
             h->identifiers[k] = identifier_at(f, 10 + 3 * i);
             if (repeats(h, k)) fault(f, DISAGREES);
         } else {
@@ -253,7 +253,7 @@ static bool identifier_lines(struct file *f, struct header *h) {
         return false;
     }
     if (n < 1 || n > MOST_SATELLITES) fault(f, BOUNDS);
-    h->satellites = n;
+    h->said.satellites = n;
     identifier_slots(f, h, 0);
     if (f->fault != NO_FAULT) return false;
     for (size_t j = 1; j < satellite_lines(n); j++) {
@@ -266,11 +266,11 @@ static bool identifier_lines(struct file *f, struct header *h) {
 }
 
 static bool exponent_lines(struct file *f, const struct header *h) {
-    for (size_t j = 0; j < satellite_lines(h->satellites); j++) {
+    for (size_t j = 0; j < satellite_lines(h->said.satellites); j++) {
         if (!take_kind(f, "++")) return false;
         unused(f, 3, 9), unused(f, 61, 80);
         for (size_t i = 0; i < SLOTS; i++) {
-            if (SLOTS * j + i < h->satellites)
+            if (SLOTS * j + i < h->said.satellites)
                 integer_at(f, 10 + 3 * i, 12 + 3 * i);
             else
                 empty_slot(f, 10 + 3 * i);
@@ -308,18 +308,19 @@ static bool time_system(const uint8_t *s) {
     return false;
 }
 
-static bool character_lines(struct file *f, const struct header *h) {
+static bool character_lines(struct file *f, struct header *h) {
     uint8_t type;
     if (!take_kind(f, "%c")) return false;
     unused(f, 3, 3);
-    type = f->line[3];
+    h->said.file_type = type = f->line[3];
+    memcpy(h->said.time_system, f->line + 9, 3);
     if (!listed(type, "GMRLSIECJ") || f->line[4] != ' ') fault(f, MALFORMED);
     unused(f, 6, 6);
     placeholder(f, 7, 8);
     if (!time_system(f->line + 9)) fault(f, MALFORMED);
     unused(f, 13, 13);
     character_fields(f);
-    for (size_t k = 0; k < h->satellites; k++)
+    for (size_t k = 0; k < h->said.satellites; k++)
         if (type != 'M' && h->identifiers[k] / 100 != type) fault(f, DISAGREES);
     if (f->fault != NO_FAULT) return false;
     if (!take_kind(f, "%c")) return false;
@@ -329,12 +330,13 @@ static bool character_lines(struct file *f, const struct header *h) {
     return f->fault == NO_FAULT;
 }
 
-static bool float_lines(struct file *f) {
+static bool float_lines(struct file *f, struct header *h) {
     for (size_t j = 0; j < 2; j++) {
         if (!take_kind(f, "%f")) return false;
         unused(f, 3, 3), unused(f, 14, 14), unused(f, 27, 27), unused(f, 42, 42), unused(f, 61, 80);
         if (j == 0) {
-            decimal_at(f, 4, 13, 7), decimal_at(f, 15, 26, 9);
+            h->said.bases.place = decimal_at(f, 4, 13, 7);
+            h->said.bases.clock = decimal_at(f, 15, 26, 9);
         } else {
             zero_decimal_at(f, 4, 13, 7), zero_decimal_at(f, 15, 26, 9);
         }
@@ -359,13 +361,13 @@ static bool integer_lines(struct file *f) {
 
 // Four comments or more; the line after them is taken.
 static bool comment_lines(struct file *f, struct header *h) {
-    for (h->comments = 0;; h->comments++) {
+    for (h->said.comments = 0;; h->said.comments++) {
         if (!take(f)) return false;
         if (!begins(f, "/*")) break;
         unused(f, 3, 3);
         if (f->fault != NO_FAULT) return false;
     }
-    if (h->comments < 4) fault(f, KIND);
+    if (h->said.comments < 4) fault(f, KIND);
     return f->fault == NO_FAULT;
 }
 
@@ -376,7 +378,7 @@ static bool epoch_line(struct file *f, const struct header *h, size_t k) {
         return false;
     }
     unused(f, 3, 3);
-    if (instant(f) != h->start + k * h->interval) fault(f, INSTANT);
+    if (instant(f) != h->said.start8 + k * h->said.interval8) fault(f, INSTANT);
     unused(f, 32, 80);
     return f->fault == NO_FAULT;
 }
@@ -431,11 +433,11 @@ static bool take_after(struct file *f, const char *correlation) {
 
 // The epochs, from the line that was taken; the line after them is taken.
 static bool epochs(struct file *f, const struct header *h) {
-    for (size_t e = 0; e < h->epochs; e++) {
+    for (size_t e = 0; e < h->said.epochs; e++) {
         if (!epoch_line(f, h, e) || !take(f)) return false;
-        for (size_t k = 0; k < h->satellites; k++) {
+        for (size_t k = 0; k < h->said.satellites; k++) {
             if (!row_line(f, h, k, 'P') || !take_after(f, "EP")) return false;
-            if (h->velocities && (!row_line(f, h, k, 'V') || !take_after(f, "EV"))) return false;
+            if (h->said.velocity && (!row_line(f, h, k, 'V') || !take_after(f, "EV"))) return false;
         }
     }
     return true;
@@ -451,26 +453,26 @@ static bool last_line(struct file *f) {
 
 static bool records(struct file *f, struct header *h) {
     return first_line(f, h) && second_line(f, h) && identifier_lines(f, h) && exponent_lines(f, h) && character_lines(f, h)
-        && float_lines(f) && integer_lines(f) && comment_lines(f, h) && epochs(f, h) && last_line(f);
+        && float_lines(f, h) && integer_lines(f) && comment_lines(f, h) && epochs(f, h) && last_line(f);
 }
 
-static struct outcome refused(uint64_t number, uint64_t line) { return (struct outcome){number, line, 0}; }
+static sp3_reading_t refused(size_t number, uint64_t line) { return (sp3_reading_t){.refusal = number, .line = line}; }
 
-static struct outcome judge(const uint8_t *bytes, size_t length, bool whole, struct header *h) {
+static sp3_reading_t judged(const uint8_t *bytes, size_t length, bool whole, struct header *h) {
     struct file f = {.bytes = bytes, .length = length};
     if (!records(&f, h)) return refused(f.fault, f.number);
     if (whole && f.place < length) return refused(AFTER, f.number + 1);
-    return (struct outcome){0, 0, f.place};
+    return (sp3_reading_t){0, 0, f.place, h->said};
 }
 
-struct outcome READER(front)(const uint8_t *bytes, size_t length) {
+sp3_reading_t PLAIN(judge_front)(const uint8_t *stretch, size_t length) {
     struct header h;
-    return judge(bytes, length, false, &h);
+    return judged(stretch, length, false, &h);
 }
 
-struct outcome READER(judge)(const uint8_t *bytes, size_t length) {
+sp3_reading_t PLAIN(judge)(const uint8_t *file, size_t length) {
     struct header h;
-    return judge(bytes, length, true, &h);
+    return judged(file, length, true, &h);
 }
 
 // The second pass, over a file that was accepted: its lines and fields are well-formed.
@@ -505,30 +507,67 @@ static void fill_row(const uint8_t *s, int64_t *row) {
     row[8] = s[74] == 'E', row[9] = s[75] == 'P', row[10] = s[78] == 'M', row[11] = s[79] == 'P';
 }
 
-struct outcome READER(read)(const uint8_t *bytes, size_t length, struct lent *to) {
+static void fill_exponents(struct file *f, size_t n, uint64_t *exponents) {
+    for (size_t j = 0; j < satellite_lines(n); j++) {
+        next(f);
+        for (size_t i = 0; i < SLOTS && SLOTS * j + i < n; i++) exponents[SLOTS * j + i] = (uint64_t)number(f->line + 9 + 3 * i, 3);
+    }
+}
+
+static void fill_comments(struct file *f, size_t count, uint8_t *comments) {
+    for (size_t k = 0; k < count; k++) {
+        next(f);
+        memcpy(comments + TEXT * k, f->line + 3, TEXT);
+    }
+}
+
+static void fill_rows(struct file *f, size_t count, int64_t *rows) {
+    for (size_t k = 0; k < count;) {
+        next(f);
+        if (f->line[0] == 'P' || f->line[0] == 'V') fill_row(f->line, rows + NUMBERS * k++);
+    }
+}
+
+sp3_reading_t PLAIN(read)(const uint8_t *file, size_t length, uint64_t *identifiers, size_t identifier_room, uint64_t *exponents,
+                          size_t exponent_room, uint8_t *comments, size_t comment_room, int64_t *rows, size_t row_room) {
     struct header h;
-    struct file f = {.bytes = bytes, .length = length};
-    struct outcome answer = judge(bytes, length, true, &h);
-    size_t n, lines, rows;
+    struct file f = {.bytes = file, .length = length};
+    sp3_reading_t answer = judged(file, length, true, &h);
+    size_t n, row_count;
     if (answer.refusal != 0) return answer;
-    n = h.satellites, lines = satellite_lines(n), rows = n * h.epochs * (h.velocities ? 2 : 1);
-    if (to->identifier_room < n || to->exponent_room < n || to->comment_room < TEXT * h.comments || to->row_room < NUMBERS * rows)
+    n = h.said.satellites, row_count = n * h.said.epochs * (h.said.velocity ? 2 : 1);
+    if (identifier_room < n || exponent_room < n || comment_room < TEXT * h.said.comments || row_room < NUMBERS * row_count)
         return refused(ROOM, 0);
-    next(&f), next(&f);
-    for (size_t j = 0; j < lines; j++) next(&f);
-    for (size_t k = 0; k < n; k++) to->identifiers[k] = h.identifiers[k];
-    for (size_t j = 0; j < lines; j++) {
-        next(&f);
-        for (size_t i = 0; i < SLOTS && SLOTS * j + i < n; i++) to->exponents[SLOTS * j + i] = number(f.line + 9 + 3 * i, 3);
-    }
+    for (size_t j = 0; j < 2 + satellite_lines(n); j++) next(&f);
+    for (size_t k = 0; k < n; k++) identifiers[k] = h.identifiers[k];
+    fill_exponents(&f, n, exponents);
     for (size_t j = 0; j < 6; j++) next(&f);
-    for (size_t k = 0; k < h.comments; k++) {
-        next(&f);
-        memcpy(to->comments + TEXT * k, f.line + 3, TEXT);
-    }
-    for (size_t k = 0; k < rows;) {
-        next(&f);
-        if (f.line[0] == 'P' || f.line[0] == 'V') fill_row(f.line, to->rows + NUMBERS * k++);
-    }
+    fill_comments(&f, h.said.comments, comments);
+    fill_rows(&f, row_count, rows);
     return answer;
+}
+
+// The length of the file at the front, which was accepted: it ends with the first line that begins as EOF does.
+static size_t file_length(const uint8_t *bytes, size_t length) {
+    struct file f = {.bytes = bytes, .length = length};
+    do next(&f);
+    while (!begins(&f, "EOF"));
+    return f.place;
+}
+
+// All files are counted before a length is stored: where there are more than room, nothing may be written.
+sp3_division_t PLAIN(divide)(const uint8_t *stretch, size_t length, uint64_t *lengths, size_t room) {
+    sp3_division_t d = {0, 0, 0, 0};
+    size_t place = 0;
+    while (d.rest < length) {
+        sp3_reading_t front = PLAIN(judge_front)(stretch + d.rest, length - d.rest);
+        if (front.refusal != 0) {
+            d.refusal = front.refusal, d.line = front.line;
+            break;
+        }
+        if (++d.count > room) return (sp3_division_t){0, 0, ROOM, 0};
+        d.rest += front.length;
+    }
+    for (uint64_t k = 0; k < d.count; k++) place += lengths[k] = file_length(stretch + place, length - place);
+    return d;
 }

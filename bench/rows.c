@@ -1,9 +1,7 @@
-// Counts calls, under callgrind, of the library's judging of a P line and of taking its row, beside plain C that does the same.
+// Counts calls of the library's judging of a P line and of taking its row, beside plain C that does the same and a function that does nothing.
 #include <stdbool.h>
-#include <stddef.h>
-#include <stdint.h>
-#include <stdio.h>
-#include <string.h>
+
+#include "count.h"
 
 size_t our_judge(const uint8_t line[80]);
 uint64_t our_take(const uint8_t *line, size_t n);
@@ -73,10 +71,11 @@ __attribute__((noipa)) size_t c_judge(const uint8_t *s) {
     return read_row(s, &r);
 }
 
-__attribute__((noipa)) uint64_t c_take(const uint8_t *s) {
+__attribute__((noipa)) uint64_t c_take(const uint8_t *s, size_t n) {
     struct row r;
     uint64_t sum = 0;
     bool any = false;
+    (void)n;
     read_row(s, &r);
     for (int k = 0; k < 4; k++) {
         sum += r.number[k] % 4294967296u + r.spread[k] % 4096;
@@ -85,31 +84,53 @@ __attribute__((noipa)) uint64_t c_take(const uint8_t *s) {
     return sum + r.satellite % 16384 + any;
 }
 
-static const char *const good[] = {
+__attribute__((noipa)) size_t no_judge(const uint8_t *s) { return *s; }
+__attribute__((noipa)) uint64_t no_take(const uint8_t *s, size_t n) { return *s + n; }
+
+enum { LINES = 4, ROUNDS = 1000, WIDTH = 80 };
+
+static const char *const good[LINES] = {
     "PG01   5783.206741 -18133.044484 -18510.756016     12.734450 18 18 18 219 EP  MP",
     "PR24 -12345.678901  25000.000001      0.000000 999999.999999                    ",
     "PE07      0.000000      0.000000      0.000000 999999.999999 99 99 99 999       ",
     "PC33  20123.456789 -20123.456789   -123.000001     -0.000001  0  1  9   0     M ",
 };
-static const char *const bad[] = {
+static const char *const bad[LINES] = {
     "PG01   5783.206741 -18133.04448x -18510.756016     12.734450 18 18 18 219 EP  MP",
     "PG00 -12345.678901  25000.000001      0.000000 999999.999999                    ",
     "PE071000000.000000      0.000000      0.000000 999999.999999 99 9a 99 999       ",
     "PC33  20123.456789 -20123.456789   -123.000001     -0.000001 .0  1  9   0    xM ",
 };
 
-// `good`: lines without fault are judged and taken; `bad`: lines with one are judged.
-int main(int count, char **words) {
-    bool well = count > 1 && words[1][0] == 'g';
-    const char *const *lines = well ? good : bad;
+static const char *const *lines;
+static uint64_t sum;
+static __typeof__(our_judge) *judge;
+static __typeof__(our_take) *take;
+
+static void judge_all(void) {
+    for (int i = 0; i < ROUNDS * LINES; i++) sum += judge((const uint8_t *)lines[i % LINES]);
+}
+static void take_all(void) {
+    for (int i = 0; i < ROUNDS * LINES; i++) sum += take((const uint8_t *)lines[i % LINES], WIDTH);
+}
+
+// both sides name the same fault, or none, and take the same row
+static int differences(void) {
     int wrong = 0;
-    for (int round = 0; round < 1000; round++)
-        for (int k = 0; k < 4; k++) {
-            const uint8_t *s = (const uint8_t *)lines[k];
-            size_t a = our_judge(s), b = c_judge(s);
-            wrong += a != b || (a == 0) != well;
-            if (well) wrong += our_take(s, 80) != c_take(s);
-        }
-    printf("%s\n", wrong ? "DIFFERENT" : "same answers");
+    for (int k = 0; k < LINES; k++) {
+        const uint8_t *s = (const uint8_t *)good[k], *t = (const uint8_t *)bad[k];
+        wrong += our_judge(s) != 0 || c_judge(s) != 0 || our_judge(t) != c_judge(t) || our_judge(t) == 0 || our_take(s, WIDTH) != c_take(s, WIDTH);
+    }
+    return wrong;
+}
+
+int main(void) {
+    static __typeof__(our_judge) *const judges[] = {no_judge, our_judge, c_judge};
+    static __typeof__(our_take) *const takes[] = {no_take, our_take, c_take};
+    int wrong = differences();
+    for (int k = 0; k < 3; k++) judge = judges[k], lines = good, counted("good", judge_all);
+    for (int k = 0; k < 3; k++) judge = judges[k], lines = bad, counted("bad", judge_all);
+    for (int k = 0; k < 3; k++) take = takes[k], lines = good, counted("taken", take_all);
+    printf("%s %llu\n", wrong ? "DIFFERENT" : "same", (unsigned long long)sum);
     return wrong != 0;
 }

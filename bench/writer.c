@@ -1,13 +1,24 @@
-// A plain scalar writer of SP3-d files in C, the yardstick of bench/writer.sh. It is written from the documents alone and shares no code with the
-// library: a table is judged and its form measured in a first pass, then written in a second, one line at a time.
+// A plain scalar writer of SP3-d files in C, the yardstick of bench/run.sh. It is written from the documents alone and shares with the library the
+// types of its answers and no code: a table is judged and its form measured in a first pass, then written in a second, one line at a time.
 #include <string.h>
 
-#include "writer.h"
+#include "plain.h"
 
 enum { COLUMNS = 80, SLOTS = 17, TEXT = 77, NUMBERS = 12, UNKNOWN = 1000 };
 
 static const uint64_t SECOND = 100000000, DAY = 86400 * 100000000ull, FIRST_DAY = 44244, LAST_DAY = 88068;
 static const int64_t LARGEST = 999999999999;
+
+// the lists of a table and their lengths
+struct lists {
+    const uint64_t *identifiers, *exponents;
+    const uint8_t *comments;
+    const int64_t *rows;
+    size_t identifier_count, exponent_count, comment_count, row_count;
+};
+
+// data used 5, coordinate system 5, orbit type 3, agency 4
+static const uint8_t *texts_of(const sp3_header_t *h) { return (const uint8_t *)&h->texts; }
 
 // ---- judging
 
@@ -24,30 +35,30 @@ static bool listed(const uint8_t *s, size_t width, const char *list) {
 }
 
 // letters and texts that their fields may hold
-static bool letters_listed(const struct head *h) {
-    return listed(&h->file_type, 1, "GMRLSIECJ") && listed(h->time_system, 3, "GPSGLOGALBDTTAIUTCIRNQZS") && printable(h->texts, 17);
+static bool letters_listed(const sp3_header_t *h) {
+    return listed(&h->file_type, 1, "GMRLSIECJ") && listed(h->time_system, 3, "GPSGLOGALBDTTAIUTCIRNQZS") && printable(texts_of(h), 17);
 }
 
 // I7 up to 100,000, F14.8 above 0, 1 to 255, four or more, F10.7 and F12.9
-static bool numbers_bounded(const struct head *h) {
-    return h->epochs >= 1 && h->epochs <= 100000 && h->interval >= 1 && h->interval <= 9999999999999 && h->satellites >= 1
-        && h->satellites <= 255 && h->comments >= 4 && h->bases[0] <= 999999999 && h->bases[1] <= 99999999999;
+static bool numbers_bounded(const sp3_header_t *h) {
+    return h->epochs >= 1 && h->epochs <= 100000 && h->interval8 >= 1 && h->interval8 <= 9999999999999 && h->satellites >= 1
+        && h->satellites <= 255 && h->comments >= 4 && h->bases.place <= 999999999 && h->bases.clock <= 99999999999;
 }
 
 static bool allowed_day(uint64_t instant) { return instant / DAY >= FIRST_DAY && instant / DAY <= LAST_DAY; }
 
 // every epoch is a date within the bounds; nothing overflows, as the numbers are bounded by now
-static bool epochs_allowed(const struct head *h) { return allowed_day(h->start) && allowed_day(h->start + (h->epochs - 1) * h->interval); }
+static bool epochs_allowed(const sp3_header_t *h) { return allowed_day(h->start8) && allowed_day(h->start8 + (h->epochs - 1) * h->interval8); }
 
-static size_t rows_of(const struct head *h) { return h->satellites * h->epochs * (h->velocities ? 2 : 1); }
+static size_t rows_of(const sp3_header_t *h) { return h->satellites * h->epochs * (h->velocity ? 2 : 1); }
 
-static bool lists_suffice(const struct head *h, const struct lists *t) {
+static bool lists_suffice(const sp3_header_t *h, const struct lists *t) {
     return t->identifier_count >= h->satellites && t->exponent_count >= h->satellites && t->comment_count / TEXT >= h->comments
         && t->row_count >= NUMBERS * rows_of(h);
 }
 
 // a capital letter and 01 to 99, no other like it before; the file type is M or its letter
-static bool identifiers_valid(const struct head *h, const uint64_t *codes) {
+static bool identifiers_valid(const sp3_header_t *h, const uint64_t *codes) {
     for (size_t i = 0; i < h->satellites; i++) {
         uint64_t letter = codes[i] / 100;
         if (letter < 'A' || letter > 'Z' || codes[i] % 100 == 0) return false;
@@ -58,7 +69,7 @@ static bool identifiers_valid(const struct head *h, const uint64_t *codes) {
     return true;
 }
 
-static bool exponents_valid(const struct head *h, const uint64_t *exponents) {
+static bool exponents_valid(const sp3_header_t *h, const uint64_t *exponents) {
     for (size_t i = 0; i < h->satellites; i++)
         if (exponents[i] > 999) return false;
     return true;
@@ -88,16 +99,16 @@ static size_t row_columns(const int64_t *row) {
 }
 
 // whether all rows are valid, and the bytes of their lines
-static bool rows_valid(const struct head *h, const int64_t *rows, size_t *length) {
+static bool rows_valid(const sp3_header_t *h, const int64_t *rows, size_t *length) {
     size_t count = rows_of(h);
     for (size_t k = 0; k < count; k++, rows += NUMBERS) {
-        if (!row_valid(rows, h->velocities && k % 2 == 1 ? 0 : 1)) return false;
+        if (!row_valid(rows, h->velocity && k % 2 == 1 ? 0 : 1)) return false;
         *length += row_columns(rows) + 1;
     }
     return true;
 }
 
-static bool comments_valid(const struct head *h, const uint8_t *text, size_t *length) {
+static bool comments_valid(const sp3_header_t *h, const uint8_t *text, size_t *length) {
     for (size_t k = 0; k < h->comments; k++, text += TEXT) {
         size_t n = TEXT;
         if (!printable(text, TEXT)) return false;
@@ -118,10 +129,10 @@ static size_t first_columns(const uint8_t *texts) {
 static size_t slot_lines(size_t n) { return n <= 5 * SLOTS ? 5 : (n + SLOTS - 1) / SLOTS; }
 
 // whether the table is valid, and the length of its form
-static bool valid(const struct head *h, const struct lists *t, size_t *length) {
+static bool valid(const sp3_header_t *h, const struct lists *t, size_t *length) {
     if (!letters_listed(h) || !numbers_bounded(h) || !epochs_allowed(h) || !lists_suffice(h, t)) return false;
     if (!identifiers_valid(h, t->identifiers) || !exponents_valid(h, t->exponents)) return false;
-    *length = first_columns(h->texts) + 1 + 61 * (1 + 2 * slot_lines(h->satellites) + 6) + 32 * h->epochs + 4;
+    *length = first_columns(texts_of(h)) + 1 + 61 * (1 + 2 * slot_lines(h->satellites) + 6) + 32 * h->epochs + 4;
     return comments_valid(h, t->comments, length) && rows_valid(h, t->rows, length);
 }
 
@@ -200,27 +211,27 @@ static void moment(struct pen *p, uint64_t instant) {
     decimal(p, 31, 8, time % (60 * SECOND));
 }
 
-static void write_start(struct pen *p, const struct head *h) {
-    uint64_t day = h->start / DAY, time = h->start % DAY;
-    begin(p, h->velocities ? "#dV" : "#dP");
-    moment(p, h->start);
+static void write_start(struct pen *p, const sp3_header_t *h) {
+    uint64_t day = h->start8 / DAY, time = h->start8 % DAY;
+    begin(p, h->velocity ? "#dV" : "#dP");
+    moment(p, h->start8);
     integer(p, 39, h->epochs);
-    text(p, 41, h->texts, 5);
-    text(p, 47, h->texts + 5, 5);
-    text(p, 53, h->texts + 10, 3);
-    text(p, 57, h->texts + 13, 4);
+    text(p, 41, h->texts.data_used, 5);
+    text(p, 47, h->texts.coordinates, 5);
+    text(p, 53, h->texts.orbit, 3);
+    text(p, 57, h->texts.agency, 4);
     end(p);
     begin(p, "##");
     integer(p, 7, (day - FIRST_DAY) / 7);
     decimal(p, 23, 8, (day - FIRST_DAY) % 7 * DAY + time);
-    decimal(p, 38, 8, h->interval);
+    decimal(p, 38, 8, h->interval8);
     integer(p, 44, day);
     decimal(p, 60, 13, (125 * time + 54) / 108);
     end(p);
 }
 
 // the lines `+ `, or `++` where exponents are given
-static void write_slots(struct pen *p, const struct head *h, const char *symbol, const uint64_t *numbers, bool names) {
+static void write_slots(struct pen *p, const sp3_header_t *h, const char *symbol, const uint64_t *numbers, bool names) {
     for (size_t line = 0; line < slot_lines(h->satellites); line++) {
         begin(p, symbol);
         if (names && line == 0) integer(p, 6, h->satellites);
@@ -242,14 +253,14 @@ static void write_floats(struct pen *p, uint64_t place, uint64_t clock) {
     end(p);
 }
 
-static void write_fixed(struct pen *p, const struct head *h) {
+static void write_fixed(struct pen *p, const sp3_header_t *h) {
     begin(p, "%c    cc     ccc cccc cccc cccc cccc ccccc ccccc ccccc ccccc");
     text(p, 4, &h->file_type, 1);
     text(p, 10, h->time_system, 3);
     end(p);
     begin(p, "%c cc cc ccc ccc cccc cccc cccc cccc ccccc ccccc ccccc ccccc");
     end(p);
-    write_floats(p, h->bases[0], h->bases[1]);
+    write_floats(p, h->bases.place, h->bases.clock);
     write_floats(p, 0, 0);
     for (size_t i = 0; i < 2; i++) {
         begin(p, "%i    0    0    0    0      0      0      0      0         0");
@@ -269,16 +280,16 @@ static void write_row(struct pen *p, uint64_t code, const int64_t *row, bool vel
     end(p);
 }
 
-static void write_epochs(struct pen *p, const struct head *h, const struct lists *t) {
+static void write_epochs(struct pen *p, const sp3_header_t *h, const struct lists *t) {
     const int64_t *row = t->rows;
     for (uint64_t k = 0; k < h->epochs; k++) {
         begin(p, "*");
-        moment(p, h->start + k * h->interval);
+        moment(p, h->start8 + k * h->interval8);
         end(p);
         for (size_t j = 0; j < h->satellites; j++) {
             write_row(p, t->identifiers[j], row, false);
             row += NUMBERS;
-            if (h->velocities) {
+            if (h->velocity) {
                 write_row(p, t->identifiers[j], row, true);
                 row += NUMBERS;
             }
@@ -286,23 +297,31 @@ static void write_epochs(struct pen *p, const struct head *h, const struct lists
     }
 }
 
-struct written WRITER(write)(const struct head *h, const struct lists *t, uint8_t *out, size_t room) {
+static void write_comments(struct pen *p, const sp3_header_t *h, const uint8_t *comments) {
+    for (size_t k = 0; k < h->comments; k++) {
+        begin(p, "/*");
+        text(p, 4, comments + TEXT * k, TEXT);
+        end(p);
+    }
+}
+
+sp3_measured_t PLAIN(write)(sp3_header_t header, const uint64_t *identifiers, size_t identifier_count, const uint64_t *exponents,
+                            size_t exponent_count, const uint8_t *comments, size_t comment_bytes, const int64_t *rows, size_t row_numbers,
+                            uint8_t *out, size_t out_room) {
+    const struct lists t = {identifiers, exponents, comments, rows, identifier_count, exponent_count, comment_bytes, row_numbers};
+    const sp3_header_t *h = &header;
     size_t length = 0;
     struct pen p;
-    if (!valid(h, t, &length)) return (struct written){13, 0};
-    if (length > room) return (struct written){12, 0};
+    if (!valid(h, &t, &length)) return (sp3_measured_t){13, 0};
+    if (length > out_room) return (sp3_measured_t){12, 0};
     p.out = out;
     write_start(&p, h);
-    write_slots(&p, h, "+", t->identifiers, true);
-    write_slots(&p, h, "++", t->exponents, false);
+    write_slots(&p, h, "+", identifiers, true);
+    write_slots(&p, h, "++", exponents, false);
     write_fixed(&p, h);
-    for (size_t k = 0; k < h->comments; k++) {
-        begin(&p, "/*");
-        text(&p, 4, t->comments + TEXT * k, TEXT);
-        end(&p);
-    }
-    write_epochs(&p, h, t);
+    write_comments(&p, h, comments);
+    write_epochs(&p, h, &t);
     begin(&p, "EOF");
     end(&p);
-    return (struct written){0, (size_t)(p.out - out)};
+    return (sp3_measured_t){0, (size_t)(p.out - out)};
 }

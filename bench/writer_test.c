@@ -1,5 +1,4 @@
 // Answers the tables of a batch of tests/forms.rs from standard input with the writer of writer.c; its files are left out.
-//   gcc -O2 -o BIN bench/writer_test.c; FORMS generate SEED COUNT >batch; FORMS answer-tables <batch >right; BIN <batch >said
 #include <inttypes.h>
 #include <stdio.h>
 #include <stdlib.h>
@@ -33,9 +32,10 @@ static int64_t *signed_numbers(size_t count) {
     return list;
 }
 
-static struct head head_of(const uint64_t n[ARGUMENTS], uint64_t start) {
-    struct head h = {n[0] == 'V', start, n[7], n[8], {0}, n[9], n[10], (uint8_t)n[11], {0}, {n[15], n[16]}};
-    for (size_t i = 0; i < 17; i++) h.texts[i] = (uint8_t)n[17 + i];
+static sp3_header_t head_of(const uint64_t n[ARGUMENTS], uint64_t start) {
+    sp3_header_t h = {.velocity = n[0] == 'V', .start8 = start, .epochs = n[7], .interval8 = n[8], .satellites = n[9], .comments = n[10],
+                      .file_type = (uint8_t)n[11], .bases = {n[15], n[16]}};
+    for (size_t i = 0; i < 17; i++) ((uint8_t *)&h.texts)[i] = (uint8_t)n[17 + i];
     for (size_t i = 0; i < 3; i++) h.time_system[i] = (uint8_t)n[12 + i];
     return h;
 }
@@ -52,17 +52,18 @@ static uint64_t start_of(const uint64_t n[ARGUMENTS]) {
 }
 
 static unsigned made(const uint64_t n[ARGUMENTS]) {
-    struct head h = head_of(n, start_of(n));
+    sp3_header_t h = head_of(n, start_of(n));
     if ((n[0] != 'P' && n[0] != 'V') || !letters_listed(&h)) return 6;
-    return h.start == 0 || !numbers_bounded(&h) ? 7 : 0;
+    return h.start8 == 0 || !numbers_bounded(&h) ? 7 : 0;
 }
 
-static void table(const struct head *h, const struct lists *t, size_t size) {
+static void table(sp3_header_t h, const struct lists *t, size_t size) {
     uint8_t *out = room(size, 1);
     size_t kept = 0;
     memset(out, MARK, size);
-    struct written w = WRITER(write)(h, t, out, size);
-    printf("write %" PRIu64 " %zu\n", w.refusal, w.length);
+    sp3_measured_t w = PLAIN(write)(h, t->identifiers, t->identifier_count, t->exponents, t->exponent_count, t->comments, t->comment_count, t->rows,
+                                    t->row_count, out, size);
+    printf("write %zu %zu\n", w.refusal, w.length);
     fwrite(out, 1, w.length, stdout);
     for (size_t i = w.length; i < size; i++) kept += out[i] == MARK;
     printf(kept == size - w.length ? "kept\n" : "changed\n");
@@ -84,8 +85,7 @@ static void table_case(size_t size) {
     printf("new %u\n", refusal);
     if (refusal == 0) {
         if (field < ARGUMENTS) n[field] = value;
-        struct head h = head_of(n, field == 1 ? value : start);
-        table(&h, &t, size);
+        table(head_of(n, field == 1 ? value : start), &t, size);
     }
     free(identifiers), free(exponents), free(comments), free(rows);
 }

@@ -15,16 +15,18 @@ use record::rows::UNKNOWN;
 pub(crate) fn put_number(out: &mut [u8], n: u64)
     ensures { λ _. ⌜ now (out .exit) ≡ shownIn (whole 0 0) (length (now (out .entry))) (one n) ⌝ }
 {
-    laws::fill_blanks(out);
-    field::write::put_whole(out, n);
+    if !field::write::put_whole(out, n) {
+        laws::fill_blanks(out);
+    }
 }
 
 // A decimal in all of `out`.
 fn put_places(out: &mut [u8], places: usize, negative: bool, m: u64)
     ensures { λ _. ⌜ now (out .exit) ≡ shownIn (signed places) (length (now (out .entry))) (amount negative m) ⌝ }
 {
-    laws::fill_blanks(out);
-    field::write::put_decimal(out, places, negative, m);
+    if !field::write::put_decimal(out, places, negative, m) {
+        laws::fill_blanks(out);
+    }
 }
 
 // An exponent in all of `out`: blanks where it is unknown.
@@ -116,14 +118,14 @@ pub(crate) fn with_decimal(
     shown
 }
 
-// A number of 14 columns with a sign.
+// A number of 14 columns with a sign: so many in any line, which the compiler makes use of.
 pub(crate) fn with_signed(line: [u8; 80], n: Signed, first: usize, last: usize) -> [u8; 80]
-    requires { ⌜ (1 ≤ first) × (first ≤ last) × (last ≤ 80) ⌝ }
+    requires { ⌜ (1 ≤ first) × (last ≤ 80) × (last ≡ first + 13) ⌝ }
     ensures { λ r. ⌜ r ≡ overlaid first last (shownIn (signed 6) (last - (first - 1)) (amount (n .negative) (n .magnitude))) line ⌝ }
 {
     let mut shown = line;
     let from = first - 1;
-    put_places(&mut shown[from..last], 6, n.negative, n.magnitude);
+    put_places(&mut shown[from..from + 14], 6, n.negative, n.magnitude);
     shown
 }
 

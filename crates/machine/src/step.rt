@@ -1,5 +1,7 @@
 // What a line does at its place: the plain line reader.
 ghost use mathlib.Core.Path.{_≡_};
+ghost use Rattle.laws.specs.Texts.{every, isPrintable};
+ghost use Rattle.layout.specs.Line.{padded};
 ghost use Rattle.machine.specs.State.{startState, namesAfter};
 ghost use Rattle.machine.specs.Told.{toldVerdict, toldRead};
 ghost use Rattle.machine.specs.Step.{judgedLine, stepOf, namesBrought, lineRead, lineNames};
@@ -45,17 +47,30 @@ fn judge_line(kind: LineKind, rules: Rules, state: State, names: &[u64], line: &
     }
 }
 
+// Whether a line has only characters 32 to 126. Of a line that is not too long its 80 columns are tested: so many in any line, which the compiler
+// makes use of.
+fn is_plain(line: &[u8], columns: &[u8; 80]) -> bool
+    requires { ⌜ now columns ≡ padded (now line) ⌝ }
+    ensures { λ r. ⌜ r ≡ every isPrintable (now (line .entry)) ⌝ }
+{
+    if line.len() > 80 {
+        return layout::is_printable(line);
+    }
+    let s = &columns[..];
+    layout::is_printable(s)
+}
+
 // What a line does where the header's identifiers so far are `names`: CR in column 61 is 2 at column 61, 81 blanks are 3 at column 81.
 pub fn step_line(rules: Rules, state: State, names: &[u64], line: &[u8]) -> Verdict
     ensures result { λ r. ⌜ toldVerdict r ≡ toldVerdict (stepOf rules state (now (names .entry)) (now (line .entry))) ⌝ }
 {
-    if !layout::is_printable(line) {
+    let padded = layout::pad(line);
+    if !is_plain(line, &padded) {
         return Verdict::Fault {
             number: 2,
             column: checks::first_unprintable(line),
         };
     }
-    let padded = layout::pad(line);
     let kind = record::kind::kind_of(rules, &padded);
     let longest = faults::longest_line(rules, kind);
     if line.len() > longest {
@@ -103,26 +118,37 @@ fn keep_names(rules: Rules, state: State, names: &mut [u64], line: &[u8])
     store_names(rules, state, names, &padded);
 }
 
-// The plain line reader: what the line at a place does, and where the next begins. A `+ ` line leaves its identifiers in `names`. No LF from
-// the place on: no line.
-pub fn read_line(rules: Rules, bytes: &[u8], at: usize, state: State, names: &mut [u64]) -> LineRead
+// What the line at a place does, where the header's identifiers so far are `names`, and where the next begins. No LF from the place on: no line.
+pub fn line_at(rules: Rules, bytes: &[u8], at: usize, state: State, names: &[u64]) -> LineRead
     ensures result { λ r. ⌜ toldRead r ≡ toldRead (lineRead rules (now (bytes .entry)) at state (now (names .entry))) ⌝ }
-    ensures lent { λ _. ⌜ now (names .exit) ≡ lineNames rules (now (bytes .entry)) at state (now (names .entry)) ⌝ }
 {
     let end = lines::line_end(bytes, at);
     if end >= bytes.len() {
         return LineRead::NoLine;
     }
-    let line = &bytes[at..end];
-    match step_line(rules, state, names, line) {
+    match step_line(rules, state, names, &bytes[at..end]) {
         Verdict::Fault { number, column } => LineRead::Fault { number, column },
         Verdict::Finished => LineRead::Finished { at: end + 1 },
-        Verdict::Next(next) => {
-            keep_names(rules, state, names, line);
-            LineRead::Next {
-                at: end + 1,
-                state: next,
-            }
-        }
+        Verdict::Next(next) => LineRead::Next {
+            at: end + 1,
+            state: next,
+        },
     }
+}
+
+// The plain line reader: the same, and a `+ ` line leaves its identifiers in `names`.
+pub fn read_line(rules: Rules, bytes: &[u8], at: usize, state: State, names: &mut [u64]) -> LineRead
+    ensures result { λ r. ⌜ toldRead r ≡ toldRead (lineRead rules (now (bytes .entry)) at state (now (names .entry))) ⌝ }
+    ensures lent { λ _. ⌜ now (names .exit) ≡ lineNames rules (now (bytes .entry)) at state (now (names .entry)) ⌝ }
+{
+    let found = line_at(rules, bytes, at, state, names);
+    let LineRead::Next { at: _, state: _ } = found else {
+        return found;
+    };
+    let end = lines::line_end(bytes, at);
+    if end >= bytes.len() {
+        return found;
+    }
+    keep_names(rules, state, names, &bytes[at..end]);
+    found
 }

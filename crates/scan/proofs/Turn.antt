@@ -6,13 +6,14 @@ use mathlib.Core.List.{List, [], _∷_}
 use Prim.Native.Nat.{ℕ, suc, _+_, _-_, _≤_, _<_, zero-le}
 use native.Mathlib.Omega.{arith}
 use lib.Dec.{eqb}
-use lib.ListN.{length, take, drop, length-append, length-take, length-drop}
+use lib.ListN.{length, getD, take, drop, length-append, length-take, length-drop}
 use lib.Seq.{take-at, drop-append-add, drop-drop}
 use Rattle.lines.specs.Lent.{laid}
 use Rattle.lines.specs.Lines.{linesOf}
 use Rattle.lines.proofs.Laying.{laid-length}
 use Rattle.lines.proofs.Split.{first}
 use Rattle.file.specs.Kinds.{kindIn, isKind, isRow}
+use Rattle.file.proofs.Finding.{kind-told}
 use Rattle.header.specs.declared.types.Rules.{Rules}
 use Rattle.machine.specs.State.{startState, noNames, seen, knownNames, namesIn, namesAfter}
 use Rattle.machine.specs.Step.{stepOf, namesBrought, keptOn, namesKept, readAs, readFirst, namesFirst, lineRead, lineNames}
@@ -24,6 +25,10 @@ use Rattle.machine.specs.declared.types.LineRead.the-variants as found
 use Rattle.scan.specs.declared.Tally.{Tally}
 use Rattle.scan.specs.declared.Front.the-variants as front
 use Rattle.scan.specs.Run.{nothing, oneMore, counted, onVerdict, run, scanOf}
+
+-- the kind of a P line by its first column
+pub position-told : (rules : Rules) (line : List ℕ) → getD line 0 32 ≡ 80 → 10 ≡ kindIn rules line
+position-told rules line e = rw (← kind-told rules line 80 (getD line 1 32) (getD line 2 32) (sym e) refl refl)
 
 -- one line more, by the number of its kind
 pub counted-as : (rules : Rules) (t : Tally) (line : List ℕ) (kind comments rows : ℕ) → kind ≡ kindIn rules line

@@ -2,6 +2,7 @@
 ghost use mathlib.Core.Path.{_≡_};
 ghost use Prim.Native.Nat.{_+_, _<_, _^_};
 ghost use lib.ListN.{length};
+ghost use Rattle.file.specs.Kinds.{kindIn};
 ghost use Rattle.scan.specs.Told.{toldFront};
 ghost use Rattle.scan.specs.Run.{counted, scanOf, wholeOf};
 use header::Rules;
@@ -26,12 +27,24 @@ pub enum Front {
     },
 }
 
+// The number of a line's kind. Most lines of a file are P, which the first column tells.
+fn kind_told(rules: Rules, line: &[u8]) -> u64
+    ensures { λ r. ⌜ r ≡ kindIn rules (now (line .entry)) ⌝ }
+{
+    if line.len() > 0 {
+        if line[0] == b'P' {
+            return 10;
+        }
+    }
+    file::kind_in(rules, line)
+}
+
 // One line more, with its LF.
 fn count_line(rules: Rules, tally: Tally, line: &[u8]) -> Tally
     requires { ⌜ (tally .lines + 1 < 2 ^ 64) × (tally .comments + 1 < 2 ^ 64) × (tally .rows + 1 < 2 ^ 64) × (tally .end + length (now line) + 1 < 2 ^ 64) ⌝ }
     ensures { λ r. ⌜ r ≡ counted rules tally (now (line .entry)) ⌝ }
 {
-    let kind = file::kind_in(rules, line);
+    let kind = kind_told(rules, line);
     let comments = if kind == 8 {
         tally.comments + 1
     } else {
@@ -65,7 +78,12 @@ pub fn scan_front(rules: Rules, bytes: &[u8]) -> Front
     loop {
         let at = tally.end;
         let line = tally.lines + 1;
-        match machine::read_line(rules, bytes, at, state, &mut names) {
+        let found = if state.due == 3 {
+            machine::read_line(rules, bytes, at, state, &mut names)
+        } else {
+            machine::line_at(rules, bytes, at, state, &names)
+        };
+        match found {
             LineRead::NoLine => {
                 return Front::Refused {
                     number: 1,

@@ -8,7 +8,6 @@ ghost use Rattle.walker.specs.Places.{firstPlace, placeAfter, placesAfte
 use header::Rules;
 use machine::LineRead;
 use machine::State;
-use machine::Verdict;
 
 // Between two lines of a file: the byte at which the next line begins, and what must stand there.
 #[repr(C)]
@@ -38,20 +37,8 @@ pub fn first_place() -> Place
 pub fn read_known<'a>(file: &'a [u8], names: &'a [u64], place: Place) -> LineRead
     ensures result { λ r. ⌜ toldRead r ≡ toldRead (lineRead d (now (file .entry)) (place .at) (place .state) (now (names .entry))) ⌝ }
 {
-    let at = place.at;
     let state = place.state;
-    let end = lines::line_end(file, at);
-    if end >= file.len() {
-        return LineRead::NoLine;
-    }
-    match machine::step_line(Rules::d(), state, names, &file[at..end]) {
-        Verdict::Fault { number, column } => LineRead::Fault { number, column },
-        Verdict::Finished => LineRead::Finished { at: end + 1 },
-        Verdict::Next(next) => LineRead::Next {
-            at: end + 1,
-            state: next,
-        },
-    }
+    machine::line_at(Rules::d(), file, place.at, state, names)
 }
 
 // The place after the line at a place; the same place where no line is left, where the line is refused and where it ends the file.

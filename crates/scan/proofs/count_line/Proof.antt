@@ -13,8 +13,8 @@ returns c =
     let comments-counted = rows-counted .before in
     let told = comments-counted .before in
     let a = told .before .before .args in
-    counted-as (a .rules) (a .tally) (a .line .now) (told .kind-in .result) (comments-counted .if1 .comments) (rows-counted .if2 .rows) (told .kind-in .ensures)
-    (⊎-elim (λ w. rw (eq-eqb (told .kind-in .result) 8 (w .0 .taken)) (w .2)) (λ w. rw (ne-eqb (told .kind-in .result) 8 (w .0 .left)) (w .1)) (comments-counted .if1 .came))
+    counted-as (a .rules) (a .tally) (a .line .now) (told .kind-told .result) (comments-counted .if1 .comments) (rows-counted .if2 .rows) (told .kind-told .ensures)
+    (⊎-elim (λ w. rw (eq-eqb (told .kind-told .result) 8 (w .0 .taken)) (w .2)) (λ w. rw (ne-eqb (told .kind-told .result) 8 (w .0 .left)) (w .1)) (comments-counted .if1 .came))
     (⊎-elim (λ w. rw (w .0 .taken) (w .2)) (λ w. rw (w .0 .left) (w .1)) (rows-counted .if2 .came))
 
 pub count-line-spec : {M : Type 1} → statement M

@@ -1,11 +1,14 @@
 -- `scan::scan_front` meets its contract. The loop's invariant and its turn are in `Turn`.
 -- Assumes nothing.
-use mathlib.Core.Path.{_≡_, ap}
+use mathlib.Core.Logic.{⊎-elim}
+use mathlib.Core.Path.{_≡_, _∙_, ap}
 use Prim.Native.Nat.{_-_}
 use borrow.Author.Needs.{needs}
 use lib.ListN.{length}
+use Rattle.machine.specs.Told.{toldRead}
 use Rattle.machine.specs.declared.types.LineRead.{LineRead}
 use Rattle.machine.proofs.Told.{toldRead-one}
+use Rattle.machine.proofs.Stepping.{ReadAs, names-stay}
 use Rattle.scan.specs.Told.{toldFront}
 use Rattle.scan.proofs.Turn.{Going, going-first, Turned, turned}
 use Rattle.scan.proofs.scan_front.Statement.{statement}
@@ -20,36 +23,53 @@ abbrev μ-loop : tie.MeasureT-loop
 loop-holds : tie.Need-loop-holds Inv-loop μ-loop
 loop-holds c = going-first (c .before .before .args .rules) (c .before .before .args .bytes .now) (c .start .result) (c .start .ensures)
 
+-- by either reader: where no `+ ` line is due the identifiers stay as they are
+read : (c : tie.Joined1 Inv-loop μ-loop)
+    → let here = c .before .before .before in
+    let a = here .before .before .before .args in
+    ReadAs (a .rules) (a .bytes .now) (here .loop .tally .end) (here .loop .state) (here .loop .names) (c .if1 .found) (c .if1 .names)
+read c =
+    let here = c .before .before .before in
+    let a = here .before .before .before .args in
+    ⊎-elim
+    (λ w. (ap toldRead (w .5) ∙ w .2 .ensures .0, w .4 ∙ w .2 .ensures .1))
+    (λ w. (
+      ap toldRead (w .4) ∙ w .2 .ensures,
+      w .3 ∙ names-stay (a .rules) (a .bytes .now) (here .loop .tally .end) (here .loop .state) (here .loop .names) (w .0 .left),
+    ))
+    (c .if1 .came)
+
 -- where the line has been read
-after-read : (c : tie.After-read-line Inv-loop μ-loop) (w : LineRead) → c .read-line .result ≡ w
-    → Turned (c .before .before .before .before .before .before .args .rules) (c .before .before .before .before .before .before .args .bytes .now)
-    (c .read-line .last .1 .1 .1 .1 .0) (c .before .before .before .loop .tally) w
+after-read : (c : tie.Joined1 Inv-loop μ-loop) (w : LineRead) → c .if1 .found ≡ w
+    → let here = c .before .before .before in
+    let a = here .before .before .before .args in
+    Turned (a .rules) (a .bytes .now) (c .if1 .names) (here .loop .tally) w
 after-read c w e =
     let here = c .before .before .before in
     let a = here .before .before .before .args in
     turned (a .rules) (a .bytes .now) (here .loop .names) (here .loop .state) (here .loop .tally) (here .loop .inv)
-    (c .read-line .last .1 .1 .1 .1 .0) (c .read-line .result) w (toldRead-one _ _ (c .read-line .ensures .0)) (c .read-line .ensures .1) e
+    (c .if1 .names) (c .if1 .found) w (toldRead-one _ _ (read c .0)) (read c .1) e
 
 returns : tie.Need-returns Inv-loop μ-loop
-returns c = ap toldFront (after-read (c .before .before .before) _ (c .enum-told .given .1))
+returns c = ap toldFront (after-read (c .before .before) _ (c .enum-told .given .1))
 
 returns-2 : tie.Need-returns-2 Inv-loop μ-loop
-returns-2 c = let known = c .before in ap toldFront (after-read (known .before .before .before) _ (known .number .given .1))
+returns-2 c = let known = c .before in ap toldFront (after-read (known .before .before) _ (known .found .given .1))
 
 returns-3 : tie.Need-returns-3 Inv-loop μ-loop
 returns-3 c =
     let known = c .before .before .before in
-    ap toldFront (after-read (known .before .before .before) _ (known .end .given .1) .finished (c .count-line .result) (c .count-line .ensures))
+    ap toldFront (after-read (known .before .before) _ (known .found2 .given .1) .finished (c .count-line .result) (c .count-line .ensures))
 
 loop-less : tie.Need-loop-less Inv-loop μ-loop
 loop-less c =
     let known = c .before .before .before in
-    after-read (known .before .before .before) _ (known .end2 .given .1) .falls (c .count-line2 .result) (c .count-line2 .ensures)
+    after-read (known .before .before) _ (known .found3 .given .1) .falls (c .count-line2 .result) (c .count-line2 .ensures)
 
 loop-again : tie.Need-loop-again Inv-loop μ-loop
 loop-again c =
     let known = c .before .before .before in
-    after-read (known .before .before .before) _ (known .end2 .given .1) .goes-on (c .count-line2 .result) (c .count-line2 .ensures)
+    after-read (known .before .before) _ (known .found3 .given .1) .goes-on (c .count-line2 .result) (c .count-line2 .ensures)
 
 pub scan-front-spec : {M : Type 1} → statement M
 scan-front-spec =
@@ -63,21 +83,23 @@ scan-front-spec =
     (λ c. search needs)
     (λ c κs. search needs)
     (λ c. search needs)
+    (λ c κs. search needs)
+    (λ c. search needs)
     returns
     (λ c. search needs)
     returns-2
     (λ c. search needs)
-    (λ c. let p = after-read (c .before .before .before .before) _ (c .before .end .given .1) in search needs)
-    (λ c. let p = after-read (c .before .before .before .before) _ (c .before .end .given .1) in search needs)
-    (λ c. let p = after-read (c .before .before .before .before) _ (c .before .end .given .1) in search needs)
-    (λ c. let p = after-read (c .before .before .before .before) _ (c .before .end .given .1) in search needs)
-    (λ c κs. let p = after-read (c .before .before .before .before .before) _ (c .before .before .end .given .1) in search needs)
+    (λ c. let p = after-read (c .before .before .before) _ (c .before .found2 .given .1) in search needs)
+    (λ c. let p = after-read (c .before .before .before) _ (c .before .found2 .given .1) in search needs)
+    (λ c. let p = after-read (c .before .before .before) _ (c .before .found2 .given .1) in search needs)
+    (λ c. let p = after-read (c .before .before .before) _ (c .before .found2 .given .1) in search needs)
+    (λ c κs. let p = after-read (c .before .before .before .before) _ (c .before .before .found2 .given .1) in search needs)
     returns-3
     (λ c. search needs)
-    (λ c. let p = after-read (c .before .before .before .before) _ (c .before .end2 .given .1) in search needs)
-    (λ c. let p = after-read (c .before .before .before .before) _ (c .before .end2 .given .1) in search needs)
-    (λ c. let p = after-read (c .before .before .before .before) _ (c .before .end2 .given .1) in search needs)
-    (λ c. let p = after-read (c .before .before .before .before) _ (c .before .end2 .given .1) in search needs)
-    (λ c κs. let p = after-read (c .before .before .before .before .before) _ (c .before .before .end2 .given .1) in search needs)
+    (λ c. let p = after-read (c .before .before .before) _ (c .before .found3 .given .1) in search needs)
+    (λ c. let p = after-read (c .before .before .before) _ (c .before .found3 .given .1) in search needs)
+    (λ c. let p = after-read (c .before .before .before) _ (c .before .found3 .given .1) in search needs)
+    (λ c. let p = after-read (c .before .before .before) _ (c .before .found3 .given .1) in search needs)
+    (λ c κs. let p = after-read (c .before .before .before .before) _ (c .before .before .found3 .given .1) in search needs)
     loop-less
     loop-again)

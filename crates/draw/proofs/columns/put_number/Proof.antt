@@ -1,12 +1,28 @@
 -- `draw::columns::put_number` meets its contract.
 -- Assumes nothing.
 use mathlib.Core.Path.{_∙_}
+use Prim.Native.Nat.{ℕ}
 use borrow.Author.Needs.{needs}
+use Rattle.field.specs.Show.{fitsWhole, showWhole}
+use Rattle.draw.proofs.Filling.{fitting, too-wide}
 use Rattle.draw.proofs.columns.put_number.Statement.{statement}
 use Rattle.draw.proofs.columns.put_number.Tie as tie
 
 returns : tie.Need-returns
-returns c = c .before .before .put-whole .ensures .1 ∙ rw (c .before .before .before .before .before .before .fill-blanks .ensures)
+returns c =
+    let put = c .before .before .before .before .before .before .before in
+    let a = put .before .before .before .args in
+    c .before .before .fill-blanks .ensures
+    ∙ too-wide (λ (w : ℕ). fitsWhole w (a .n)) (λ (w : ℕ). showWhole w (a .n)) (a .out .now) (put .put-whole .result) (put .put-whole .ensures .0)
+    (put .put-whole .last .0) (put .put-whole .ensures .1) (c .before .before .before .before .if1 .taken)
+
+returns-2 : tie.Need-returns-2
+returns-2 c =
+    let put = c .before .before .before in
+    let a = put .before .before .before .args in
+    put .put-whole .ensures .1
+    ∙ fitting (λ (w : ℕ). fitsWhole w (a .n)) (λ (w : ℕ). showWhole w (a .n)) (a .out .now) (put .put-whole .result) (put .put-whole .ensures .0)
+    (c .if1 .left)
 
 pub put-number-spec : {M : Type 1} → statement M
 put-number-spec =
@@ -15,4 +31,6 @@ put-number-spec =
     (λ c κs. search needs)
     (λ c κs. search needs)
     (λ c. search needs)
-    returns)
+    returns
+    (λ c. search needs)
+    returns-2)

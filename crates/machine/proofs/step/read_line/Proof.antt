@@ -1,62 +1,50 @@
 -- `machine::step::read_line` meets its contract.
 -- Assumes nothing.
-use mathlib.Core.Path.{_≡_, _∙_}
-use Prim.Native.Nat.{_+_, _-_}
+use mathlib.Core.Path.{_∙_}
 use borrow.Author.Needs.{needs}
-use lib.ListN.{take, drop}
-use Rattle.machine.specs.Step.{readAs, keptOn}
-use Rattle.machine.specs.declared.types.Verdict.{Verdict}
-use Rattle.machine.proofs.Stepping.{ReadAs, none-left, judged-read}
+use Rattle.machine.proofs.Stepping.{none-left, names-left, names-brought}
 use Rattle.machine.proofs.step.read_line.Statement.{statement}
 use Rattle.machine.proofs.step.read_line.Tie as tie
 
 returns : tie.Need-returns
 returns c =
-    let a = c .before .before .before .before .args in
-    none-left (a .rules) (a .bytes .now) (a .at) (a .state) (a .names .now) (c .before .line-end .result) (c .before .line-end .ensures) (c .if1 .taken)
-
--- where the line has been judged
-judged : (c : tie.After-step-line) (w : Verdict) → c .step-line .result ≡ w
-    → let ended = c .before .before .before .before in
-    let a = ended .before .before .before .args in
-    ReadAs (a .rules) (a .bytes .now) (a .at) (a .state) (a .names .now) (readAs w (ended .line-end .result + 1))
-    (keptOn w (a .rules) (a .state) (a .names .now) (take (ended .line-end .result - a .at) (drop (a .at) (a .bytes .now))))
-judged c w is =
-    let ended = c .before .before .before .before in
-    let a = ended .before .before .before .args in
-    judged-read (a .rules) (a .bytes .now) (a .at) (a .state) (a .names .now) (ended .line-end .result) (ended .line-end .ensures)
-    (c .before .before .before .if1 .left) (c .step-line .result) w (c .step-line .ensures) is
+    let read = c .before in
+    let a = read .before .before .before .before .args in
+    (read .line-at .ensures, names-left (a .rules) (a .bytes .now) (a .at) (a .state) (a .names .now) (read .line-at .result) (read .line-at .ensures) (c .match .keys2))
 
 returns-2 : tie.Need-returns-2
-returns-2 c = judged (c .before .before .before) _ (c .before .number .given .1)
+returns-2 c =
+    let ended = c .before in
+    let read = ended .before .before .before in
+    let a = read .before .before .before .before .args in
+    (read .line-at .ensures, none-left (a .rules) (a .bytes .now) (a .at) (a .state) (a .names .now) (ended .line-end .result) (ended .line-end .ensures) (c .if1 .taken) .1)
 
 returns-3 : tie.Need-returns-3
-returns-3 c = judged (c .before .before) _ (c .enum-told .given .1)
-
-returns-4 : tie.Need-returns-4
-returns-4 c =
-    let read = judged (c .before .before .before .before .before .before .before) _ (c .before .before .before .before .before .next .given .1) in
-    (read .0, c .before .before .keep-names .ensures ∙ read .1)
+returns-3 c =
+    let kept = c .before .before in
+    let ended = kept .before .before .before .before in
+    let read = ended .before .before .before in
+    let a = read .before .before .before .before .args in (
+      read .line-at .ensures,
+      kept .keep-names .ensures
+          ∙ names-brought (a .rules) (a .bytes .now) (a .at) (a .state) (a .names .now) (ended .line-end .result) (ended .line-end .ensures)
+          (kept .before .before .before .if1 .left) (read .line-at .result) _ _ (read .line-at .ensures) (ended .before .enum-told .given .1),
+    )
 
 pub read-line-spec : {M : Type 1} → statement M
 read-line-spec =
     tie.close
     (tie.spec
     (λ c κs. search needs)
+    (λ c. search needs)
+    (λ c. search needs)
     returns
-    (λ c. search needs)
-    (λ c. search needs)
-    (λ c. search needs)
     (λ c κs. search needs)
-    (λ c. search needs)
-    (λ c. search needs)
-    (λ c. search needs)
-    (λ c. search needs)
-    (λ c κs. search needs)
-    (λ c. search needs)
     (λ c. search needs)
     returns-2
     (λ c. search needs)
-    returns-3
     (λ c. search needs)
-    returns-4)
+    (λ c. search needs)
+    (λ c κs. search needs)
+    (λ c. search needs)
+    returns-3)

@@ -1,7 +1,7 @@
-# A file in mode P for bench/reader.sh, bench/writer.sh and bench/hostile.sh: `awk -v epochs=96 -v satellites=32 -f reader_file.awk`. It begins on
-# 2013-04-03 and has an epoch each 900 s, so at most 96 of them, or with `-v minutes=5` one each 300 s and at most 288; every place, clock and
-# exponent is known, rows have all their 80 columns, and flags stand in some of them. `-v comments=9` says how many comments it has (else 4);
-# `-v front=1` ends it after them.
+# A file in mode P for the counts of this folder: `awk -v epochs=96 -v satellites=32 -f file.awk`. It begins on 2013-04-03 and its epochs, 480 at most,
+# are spread over the day by whole minutes; every place, clock and exponent is known, rows have all their 80 columns, and flags stand in some of
+# them. Its canonical form is the file with the trailing blanks of each line cut. `-v comments=9` says how many comments it has (else 4); `-v front=1`
+# ends it after them.
 function random(below) {
     seed = (seed * 16807) % 2147483647
     return seed % below
@@ -30,7 +30,7 @@ function slots(symbol, count, exponents, j, i, k) {
 BEGIN {
     seed = 20130403
     if (comments == "") comments = 4
-    if (minutes == "") minutes = 15
+    minutes = int(1440 / epochs)
     printf "#dP2013  4  3  0  0  0.00000000 %7d ORBIT WGS84 BCT PORT\n", epochs
     printf "## 1734 259200.00000000 %5d.00000000 56385 0.0000000000000\n", 60 * minutes
     slots("+", 1, 0)
