@@ -1,7 +1,8 @@
 //! A divider of stretches and a walker of SP3-d files, written from the
 //! documents. Where they are silent it follows the definitions: in what the
 //! state of a place between two lines is (the kind of line due, satellites and
-//! epochs still to come), and in what names other than the file's do.
+//! epochs still to come), in what names other than the file's do, or fewer, and
+//! in the column of a refusal.
 //!
 //! It says how a stretch of bytes divides into files, which rows a walk of one
 //! file gives, and where the walk stands after so many lines. It also makes the
