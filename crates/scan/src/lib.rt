@@ -3,6 +3,7 @@ ghost use mathlib.Core.Path.{_≡_};
 ghost use Prim.Native.Nat.{_+_, _<_, _^_};
 ghost use lib.ListN.{length};
 ghost use Rattle.file.specs.Kinds.{kindIn};
+ghost use Rattle.scan.specs.declared.Front.the-variants as front;
 ghost use Rattle.scan.specs.Told.{toldFront};
 ghost use Rattle.scan.specs.Run.{counted, scanOf, wholeOf};
 use header::Rules;
@@ -63,6 +64,17 @@ fn count_line(rules: Rules, tally: Tally, line: &[u8]) -> Tally
     }
 }
 
+// The refusal of a line.
+fn refused(number: usize, line: u64, column: usize) -> Front
+    ensures { λ r. ⌜ r ≡ front.Refused number line column ⌝ }
+{
+    Front::Refused {
+        number,
+        line,
+        column,
+    }
+}
+
 // The file at the front of the bytes, judged line by line: no bytes are refused with 1 at line 1.
 pub fn scan_front(rules: Rules, bytes: &[u8]) -> Front
     ensures result { λ r. ⌜ toldFront r ≡ toldFront (scanOf rules (now (bytes .entry))) ⌝ }
@@ -85,18 +97,10 @@ pub fn scan_front(rules: Rules, bytes: &[u8]) -> Front
         };
         match found {
             LineRead::NoLine => {
-                return Front::Refused {
-                    number: 1,
-                    line,
-                    column: 0,
-                };
+                return refused(1, line, 0);
             }
             LineRead::Fault { number, column } => {
-                return Front::Refused {
-                    number,
-                    line,
-                    column,
-                };
+                return refused(number, line, column);
             }
             LineRead::Finished { at: end } => {
                 return Front::File(count_line(rules, tally, &bytes[at..end - 1]));

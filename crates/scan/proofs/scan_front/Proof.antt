@@ -51,10 +51,10 @@ after-read c w e =
     (c .if1 .names) (c .if1 .found) w (toldRead-one _ _ (read c .0)) (read c .1) e
 
 returns : tie.Need-returns Inv-loop μ-loop
-returns c = ap toldFront (after-read (c .before .before) _ (c .enum-told .given .1))
+returns c = ap toldFront (c .refused .ensures ∙ after-read (c .before .before .before) _ (c .before .enum-told .given .1))
 
 returns-2 : tie.Need-returns-2 Inv-loop μ-loop
-returns-2 c = let known = c .before in ap toldFront (after-read (known .before .before) _ (known .found .given .1))
+returns-2 c = let known = c .before .before in ap toldFront (c .refused2 .ensures ∙ after-read (known .before .before) _ (known .found .given .1))
 
 returns-3 : tie.Need-returns-3 Inv-loop μ-loop
 returns-3 c =
@@ -85,8 +85,10 @@ scan-front-spec =
     (λ c. search needs)
     (λ c κs. search needs)
     (λ c. search needs)
+    (λ c κs. search needs)
     returns
     (λ c. search needs)
+    (λ c κs. search needs)
     returns-2
     (λ c. search needs)
     (λ c. let p = after-read (c .before .before .before) _ (c .before .found2 .given .1) in search needs)
