@@ -279,7 +279,8 @@ sp3_line_answer_t sp3_read_line(const uint8_t *file, size_t length, sp3_place_t 
 /* The walker's step, where all identifiers of the header are known (sp3_begin): what the line at its place does. Refused: as sp3_read_line. */
 sp3_line_answer_t sp3_next_line(const uint8_t *file, size_t length, const uint64_t *names, size_t name_count, sp3_place_t place);
 
-/* The place so many lines further; it stays at a line that is refused, and at the one that ends the file. Has no refusal. */
+/* The place so many lines further; it stays at a line that is refused, and at the one that ends the file. Every step costs a line, also one that stays.
+ * Has no refusal. */
 sp3_place_t sp3_after_lines(const uint8_t *file, size_t length, const uint64_t *names, size_t name_count, sp3_place_t place, size_t lines);
 
 /* ---- A file row by row, for the adjustment's loop ---- */
