@@ -34,8 +34,7 @@ tools() {
 
 archive() {
     tools
-    cd "$root"
-    rt staticlib abi >"$work/log" 2>&1 || { tail -n 20 "$work/log"; exit 1; }
+    "$root/tests/archive.sh"
     built=$root/target/staticlib/libabi.a
     cd "$work"
 }

@@ -9,32 +9,12 @@ set -eu
 
 root=$(cd "$(dirname "$0")/.." && pwd -P)
 cd "$root"
-command -v rt >/dev/null || { echo "rt is missing: install the Rattle kit and put its bin/ into PATH" >&2; exit 2; }
 . tests/x86.sh
+tests/archive.sh
 
 archive=target/staticlib/libabi.a
 made=target/desk
 mkdir -p "$made"
-
-# A sum over the kit, the sources and the archive.
-archive_sum() {
-    {
-        rt version
-        find crates.txt crates "$archive" -type f \( -name '*.rt' -o -name '*.antt' -o -name crates.txt -o -path "$archive" \) | LC_ALL=C sort |
-            xargs sha256sum
-    } | sha256sum
-}
-
-if [ ! -f "$archive" ] || [ ! -f "$made/archive.sum" ] || [ "$(archive_sum)" != "$(cat "$made/archive.sum")" ]; then
-    echo "proving and building the library; where nothing is proved yet this takes minutes:" >&2
-    { rt staticlib abi 2>&1 && echo built; } | tee "$made/archive.log" | sed -n 's/^rt: /  /p' >&2
-    [ "$(tail -n 1 "$made/archive.log")" = built ] || {
-        grep -v '^rt: .* proved' "$made/archive.log" | tail -n 20 >&2
-        exit 1
-    }
-    archive_sum >"$made/archive.sum"
-fi
-
 x86_cc -std=c11 -Wall -Wextra -O2 -o "$made/sp3.new" desk/*.c "$archive"
 if [ -n "$x86_emulator" ]; then
     mv "$made/sp3.new" "$made/sp3.x86"

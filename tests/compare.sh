@@ -23,13 +23,7 @@ root=$(cd "$(dirname "$0")/.." && pwd -P)
 archive=$root/target/staticlib/libabi.a
 made=$root/target/compare
 
-# the compiler for x86-64, and the emulator for its programs where one is needed
-x86_emulator=
-if [ -f "$root/tests/x86.sh" ]; then
-    . "$root/tests/x86.sh"
-else
-    x86_cc() { gcc "$@"; }
-fi
+. "$root/tests/x86.sh"
 
 # whether a file is missing or older than one of the others
 stale() {
@@ -52,12 +46,6 @@ oracle_of() {
     if [ "$1" = tables ]; then echo files; else echo "$1"; fi
 }
 
-build_archive() {
-    if stale "$archive" "$root/crates" "$root/crates.txt"; then
-        said=$(cd "$root" && rt staticlib abi </dev/null 2>&1) || { printf '%s\n' "$said" | tail -n 5 >&2; exit 2; }
-    fi
-}
-
 build_driver() {
     if stale "$made/doors" "$archive" "$root/include/sp3.h" "$root/tests/doors.c" "$root/tests/doors"; then
         x86_cc -std=c11 -Wall -Wextra -Werror -O2 -I "$root/include" -o "$made/doors.new" "$root/tests/doors.c" "$root"/tests/doors/*.c "$archive"
@@ -76,7 +64,7 @@ build_oracle() {
 
 build() {
     mkdir -p "$made"
-    build_archive
+    "$root/tests/archive.sh"
     build_driver
     for oracle in files forms stretches dates; do build_oracle "$oracle"; done
 }

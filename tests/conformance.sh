@@ -4,7 +4,7 @@
 #   tests/conformance.sh            all cases of tests/conformance/cases.txt (files) and calls.txt (calls)
 #   tests/conformance.sh NAME       prints the file of one case, to be tried by hand
 #
-# Needs GNU sed, awk and a C compiler for x86-64; target/staticlib/libabi.a is built where it is missing or older than a source.
+# Needs GNU sed, awk and a C compiler for x86-64; target/staticlib/libabi.a is built where that is not done.
 set -eu
 LC_ALL=C
 export LC_ALL
@@ -78,18 +78,9 @@ if [ $# -gt 0 ]; then
     exit 0
 fi
 
-# the compiler for x86-64 and the way to run what it made
-if [ -f "$root/tests/x86.sh" ]; then
-    . "$root/tests/x86.sh"
-else
-    x86_cc() { gcc "$@"; }
-    x86_run() { "$@"; }
-fi
-
-# the archive is proved and built again where a source is newer
-if [ ! -f "$archive" ] || [ -n "$(find "$root/crates" -name '*.rt' -newer "$archive" | head -n 1)" ]; then
-    (cd "$root" && rt staticlib abi >"$work/log" 2>&1) || { tail -n 5 "$work/log" >&2; fail "target/staticlib/libabi.a was not built"; }
-fi
+# the compiler for x86-64 and the way to run what it made; the archive
+. "$root/tests/x86.sh"
+"$root/tests/archive.sh"
 x86_cc -std=c11 -Wall -Wextra -Werror -O2 -I"$root/include" -o "$work/answers" "$here/answers.c" "$here/calls.c" "$archive"
 
 # the answers of the library, NAME and answer, beside what is expected

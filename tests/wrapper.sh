@@ -21,10 +21,7 @@ fail() {
     exit 1
 }
 
-# Compilers and runners for x86-64: those of tests/x86.sh, else this machine's own.
-x86_cc() { gcc "$@"; }
-x86_run() { "$@"; }
-[ ! -f "$root/tests/x86.sh" ] || . "$root/tests/x86.sh"
+. "$root/tests/x86.sh"
 
 # same NAME EXPECTED FOUND: two files are the same
 same() {
@@ -53,20 +50,14 @@ says() {
     same "$name" "$made/expected" "$made/said"
 }
 
-# The archive, not older than what it is made from.
+# The archive, built where that is not done.
 find_archive() {
     library=${SP3_LIB_DIR:-$root/target/staticlib}
     if [ -n "${SP3_LIB_DIR:-}" ]; then
         [ -f "$library/libabi.a" ] || fail "no file $library/libabi.a"
         return 0
     fi
-    if [ -f "$library/libabi.a" ] && [ -z "$(find "$root/crates" -name '*.rt' -newer "$library/libabi.a")" ]; then
-        return 0
-    fi
-    (cd "$root" && rt staticlib abi) >"$made/log" 2>&1 || {
-        tail -n 5 "$made/log" >&2
-        fail "target/staticlib/libabi.a cannot be built"
-    }
+    "$root/tests/archive.sh"
 }
 
 # script NAME FUNCTION: a program that calls a function of tests/x86.sh
@@ -201,7 +192,7 @@ wrapper_tests() {
         set --
     elif [ -d "$(rustc --print sysroot)/lib/rustlib/$target" ]; then
         set -- --target "$target"
-        [ ! -f "$root/tests/x86.sh" ] || link_for_x86
+        link_for_x86
     else
         cargo_in check --offline --locked --all-targets
         echo "wrapper: checked only: the tests of the wrapper need Rust's target $target"
