@@ -56,13 +56,20 @@ int take_input(input_t *input, const char *argument) {
 
 void drop_input(input_t *input) { free(input->bytes); }
 
+// Says why a file is refused. One without bytes is an input of no use, whatever the refusal is.
+static int refused_input(const input_t *file, const sp3_reading_t *judged) {
+    if (file->length > 0) return refused(judged->refusal, judged->line, "%s", file->name);
+    refused(judged->refusal, judged->line, "%s: it has no bytes", file->name);
+    return UNUSABLE;
+}
+
 int begin_table(table_t *table, const char *argument) {
     *table = (table_t){0};
     input_t *file = &table->file;
     int status = take_input(file, argument);
     if (status != ACCEPTED) return status;
     sp3_reading_t judged = sp3_judge(file->bytes, file->length);
-    if (judged.refusal != 0) return refused(judged.refusal, judged.line, "%s", file->name);
+    if (judged.refusal != 0) return refused_input(file, &judged);
     table->header = judged.header;
     table->identifiers = lend(judged.header.satellites, sizeof *table->identifiers);
     if (table->identifiers == NULL) return out_of_memory(file);

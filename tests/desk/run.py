@@ -178,9 +178,9 @@ def test_damaged(desk):
     assert {number for _, number, _ in damaged()} == set(range(1, 12))
     for content, number, line in damaged():
         name = desk.file("damaged.sp3", content)
-        message = refused(name, number, line)
+        message = refused(name if content else f"{name}: it has no bytes", number, line)
         for words in [*about(name), ["row", name, "9", "0"]]:
-            desk.expect(words, 1, "", message)
+            desk.expect(words, 1 if content else 2, "", message)
         if number != 11:
             desk.expect(["divide", name], *((1, "", refused(f"{name}: from byte 0", number, line)) if content else (0, expected.divide([]))))
     whole = make.joined(PAPER)
@@ -237,7 +237,7 @@ def test_generated(desk):
         number, line, held, answers = desk.oracles.judged(file, asked)
         if number:
             for words in (["check", name], ["table", name], ["rewrite", name], ["comment", name, str(asked[0])]):
-                desk.expect(words, 1, "", refused(name, number, line))
+                desk.expect(words, 1 if file else 2, "", refused(name if file else f"{name}: it has no bytes", number, line))
         else:
             desk.expect(["check", name], 0, expected.check(name, held))
             desk.expect(["table", name], 0, expected.table(held))
@@ -355,7 +355,7 @@ def test_inputs(desk):
     for words in (["check", "-"], ["rewrite", "-"], ["divide", "-"]):
         desk.expect(words, 2, "", f"sp3: standard input: {os.strerror(errno.EBADF)}\n", stdin=None, preexec_fn=lambda: os.close(0))
     for words in (["check", "/dev/null"], ["table", "/dev/null"]):
-        desk.expect(words, 1, "", refused("/dev/null", 1, 1))
+        desk.expect(words, 2, "", refused("/dev/null: it has no bytes", 1, 1))
     # a file that says it has no bytes and has some, with a tab in its first line
     desk.expect(["check", "/proc/self/status"], 1, "", refused("/proc/self/status", 2, 1))
     for name in ("-odd", "a b.sp3", "100%s%n.sp3", "\u00fc.sp3"):
@@ -379,7 +379,7 @@ def test_pipes(desk):
     desk.expect(["row", "-", "0", "G07"], 0, expected.row(held, 0, 0), stdin=whole)
     desk.expect(["comment", "-", "0"], 0, "ONE ROW\n", stdin=whole)
     desk.expect(["divide", "-"], 0, expected.divide([1215] * 3), stdin=whole * 3)
-    desk.expect(["check", "-", "-"], 1, accepted, refused("standard input", 1, 1), stdin=whole)
+    desk.expect(["check", "-", "-"], 2, accepted, refused("standard input: it has no bytes", 1, 1), stdin=whole)
     os.mkfifo(desk.folder / "pipe")
     writer = threading.Thread(target=lambda: (desk.folder / "pipe").write_bytes(day), daemon=True)
     writer.start()
