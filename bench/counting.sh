@@ -69,26 +69,28 @@ harness() {
 # the counts of a run, one a line, in their order
 by_valgrind() {
     rm -f dump*
-    valgrind --tool=callgrind --callgrind-out-file=dump --zero-before=count_from --dump-before=count_to "$@" >said 2>log || { cat said log; exit 1; }
+    valgrind --tool=callgrind --callgrind-out-file=dump --zero-before=count_from --dump-before=count_to "$@" >said 2>log || { cat said log; return 1; }
     for k in $(seq "$(grep -c '^counted ' said)"); do awk '/^totals:/ { print $2 }' "dump.$k"; done
 }
 
 by_qemu() {
     [ -f libinsns.so ] || gcc -shared -fPIC -O2 -o libinsns.so "$bench/insns.c"
-    qemu-x86_64 -plugin ./libinsns.so "$@" 2>&1 >said || { cat said; exit 1; }
+    { qemu-x86_64 -plugin ./libinsns.so "$@" >said; } 2>&1 || { cat said; return 1; }
 }
 
 counted() {
     program=./$1
     shift
-    "by_$counter" "$program" "$@" >numbers || { cat numbers; exit 1; }
+    "by_$counter" "$program" "$@" >numbers </dev/null || { cat numbers; exit 1; }
     sed -n 's/^counted //p' said | paste -d ' ' - numbers >counts
     [ "$(wc -l <numbers)" = "$(grep -c '^counted ' said)" ] || { echo "not every run was counted"; exit 1; }
 }
 
 # runs a program that is not counted
 run() {
-    if [ "$(uname -m)" = x86_64 ]; then "./$@"; else qemu-x86_64 "./$@"; fi
+    program=./$1
+    shift
+    if [ "$(uname -m)" = x86_64 ]; then "$program" "$@"; else qemu-x86_64 "$program" "$@"; fi
 }
 
 # calls NUMBER NAME: counts NAME, which makes so many calls of each function, with its C at -O2 and at -O3; row TITLE WHAT prints a line of the table

@@ -1,7 +1,7 @@
-# A file in mode P for the counts of this folder: `awk -v epochs=96 -v satellites=32 -f file.awk`. It begins on 2013-04-03 and its epochs, 480 at most,
-# are spread over the day by whole minutes; every place, clock and exponent is known, rows have all their 80 columns, and flags stand in some of
-# them. Its canonical form is the file with the trailing blanks of each line cut. `-v comments=9` says how many comments it has (else 4); `-v front=1`
-# ends it after them.
+# A file in mode P for the counts of this folder: `awk -v epochs=96 -v satellites=32 -f file.awk`. It begins on 2013-04-03 and its epochs, 1440 at
+# most, are spread over the day by whole minutes; every place, clock and exponent is known, rows have all their 80 columns, and flags stand in some
+# of them. Its canonical form is the file with the trailing blanks of each line cut. `-v comments=9` says how many comments it has (else 4);
+# `-v front=1` ends it after them.
 function random(below) {
     seed = (seed * 16807) % 2147483647
     return seed % below

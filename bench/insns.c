@@ -1,4 +1,5 @@
-// A plugin for Debian's qemu-user (7.2, plugin API 1) that counts the instructions between the two calls of bench/count.h. The declarations are qemu's.
+// A plugin for Debian's qemu-user (7.2, plugin API 1) that counts the instructions between the two calls of bench/count.h. The declarations
+// are qemu's.
 //   gcc -shared -fPIC -O2 -o libinsns.so insns.c; qemu-x86_64 -plugin ./libinsns.so PROGRAM
 #include <inttypes.h>
 #include <stddef.h>

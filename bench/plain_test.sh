@@ -1,7 +1,7 @@
 #!/usr/bin/env bash
 # Compares the plain C of reader.c and writer.c with tests/files.rs (reading), tests/forms.rs (tables written) and tests/stretches.rs (dividing), on
 # their stored cases and on generated ones: plain_test.sh [SEED [COUNT]]. Needs gcc and rustc.
-set -eu
+set -euo pipefail
 bench=$(cd "$(dirname "$0")" && pwd -P)
 work=$(mktemp -d)
 trap 'rm -rf "$work"' EXIT

@@ -26,7 +26,8 @@ static void told(const char *what, sp3_reading_t r) { printf("%s %zu %" PRIu64 "
 static void told_header(const sp3_header_t *h) {
     const sp3_texts_t *t = &h->texts;
     printf("mode %c\nstart8 %" PRIu64 "\nepochs %" PRIu64 "\ninterval8 %" PRIu64 "\n", h->velocity ? 'V' : 'P', h->start8, h->epochs, h->interval8);
-    printf("texts |%.5s|%.5s|%.3s|%.4s|\n", (const char *)t->data_used, (const char *)t->coordinates, (const char *)t->orbit, (const char *)t->agency);
+    printf("texts |%.5s|%.5s|%.3s|%.4s|\n", (const char *)t->data_used, (const char *)t->coordinates, (const char *)t->orbit,
+           (const char *)t->agency);
     printf("type %c\ntime %.3s\nbases %" PRIu64 " %" PRIu64 "\n", h->file_type, (const char *)h->time_system, h->bases.place, h->bases.clock);
     printf("satellites %" PRIu64 "\ncomments %" PRIu64 "\n", h->satellites, h->comments);
 }

@@ -144,7 +144,7 @@ static void count_all(void) {
             of_side(k);
             counted(name, operations[i].run);
         }
-    printf("bytes %zu\nwritten %zu\n", length, answers->written.length);
+    printf("bytes file %zu\nbytes divide %zu\nbytes write %zu\n", length, copies * length, answers->written.length);
 }
 
 static uint64_t now(void) {
