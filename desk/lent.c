@@ -42,26 +42,27 @@ static int read_all(input_t *input, int source) {
     return ENOMEM;
 }
 
+// Whether a name is that of a pipe, which could keep the tool waiting for ever.
+static bool is_pipe(const char *name) {
+    struct stat about;
+    return stat(name, &about) == 0 && S_ISFIFO(about.st_mode);
+}
+
 int take_input(input_t *input, const char *argument) {
     bool standard = strcmp(argument, "-") == 0;
     *input = (input_t){.name = standard ? "standard input" : argument};
     if (*argument == '\0') return unusable("the name is empty", "FILE ''");
+    if (!standard && is_pipe(argument)) return unusable("a pipe is read from standard input alone, by the name -", "%s", argument);
     int source = standard ? STDIN_FILENO : open(argument, O_RDONLY);
     if (source < 0) return unusable(strerror(errno), "%s", argument);
     int reason = read_all(input, source);
     if (!standard) close(source);
     if (reason == ENOMEM) return out_of_memory(input);
-    return reason == 0 ? ACCEPTED : unusable(strerror(reason), "%s", input->name);
+    if (reason != 0) return unusable(strerror(reason), "%s", input->name);
+    return input->length > 0 ? ACCEPTED : unusable("it has no bytes", "%s", input->name);
 }
 
 void drop_input(input_t *input) { free(input->bytes); }
-
-// Says why a file is refused. One without bytes is an input of no use, whatever the refusal is.
-static int refused_input(const input_t *file, const sp3_reading_t *judged) {
-    if (file->length > 0) return refused(judged->refusal, judged->line, "%s", file->name);
-    refused(judged->refusal, judged->line, "%s: it has no bytes", file->name);
-    return UNUSABLE;
-}
 
 int begin_table(table_t *table, const char *argument) {
     *table = (table_t){0};
@@ -69,7 +70,7 @@ int begin_table(table_t *table, const char *argument) {
     int status = take_input(file, argument);
     if (status != ACCEPTED) return status;
     sp3_reading_t judged = sp3_judge(file->bytes, file->length);
-    if (judged.refusal != 0) return refused_input(file, &judged);
+    if (judged.refusal != 0) return refused(judged.refusal, judged.line, "%s", file->name);
     table->header = judged.header;
     table->identifiers = lend(judged.header.satellites, sizeof *table->identifiers);
     if (table->identifiers == NULL) return out_of_memory(file);

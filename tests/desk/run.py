@@ -13,7 +13,6 @@ import pathlib
 import re
 import subprocess
 import sys
-import threading
 
 import expected
 from expected import ROOT, of_model, refused
@@ -135,7 +134,6 @@ def test_paper(desk):
     for k, text in enumerate(["ONE ROW", "", "", ""]):
         desk.expect(["comment", name, str(k)], 0, text + "\n")
     desk.expect(["divide", name], 0, "file 0 first byte 0 length 1215\nnothing is left: files 1, bytes 1215\n")
-    desk.expect(["divide", desk.file("empty.sp3", b"")], 0, "nothing is left: files 0, bytes 0\n")
 
 
 def test_dates(desk):
@@ -147,6 +145,11 @@ def test_dates(desk):
     for date in (("2001", "2", "29"), ("1980", "1", "5"), ("2100", "1", "1"), ("2013", "0", "1"), ("2013", "13", "1"), ("2013", "4", "31"),
                  ("2013", "4", "0"), ("18446744073709551615", "18446744073709551615", "18446744073709551615")):
         desk.expect(["date", *date], 1, "", f"{' '.join(date)}: refused 7: {expected.WORDS[7]}\n")
+
+
+def no_bytes(name):
+    """What is said of an input without bytes."""
+    return f"sp3: {name}: it has no bytes\n"
 
 
 def about(name):
@@ -165,7 +168,7 @@ def damaged():
     """Files that 01 refuses, each with the number and the line."""
     whole = make.joined(PAPER)
     names = "".join(f"G{k:02}" for k in range(1, 18))
-    return [(b"", 1, 1), (whole[:-1], 1, 25), (whole[:700], 1, whole[:700].count(b"\n") + 1), (changed(19, 4, "\a"), 2, 19),
+    return [(whole[:-1], 1, 25), (whole[:700], 1, whole[:700].count(b"\n") + 1), (changed(19, 4, "\a"), 2, 19),
             (whole.replace(b"\n", b"\r\n"), 2, 1), (changed(19, 4, "X" * 78), 3, 19), (PAPER[:21] + PAPER[22:], 4, 22), (changed(1, 46, "x"), 5, 1),
             (changed(16, 4, "  0.0000001"), 5, 16), (changed(1, 3, "v"), 6, 1), (changed(13, 10, "gps"), 6, 13),
             (changed(24, 19, "       .500000"), 6, 24), (changed(1, 33, "      0"), 7, 1), (changed(3, 4, "256   " + names), 7, 3),
@@ -178,11 +181,11 @@ def test_damaged(desk):
     assert {number for _, number, _ in damaged()} == set(range(1, 12))
     for content, number, line in damaged():
         name = desk.file("damaged.sp3", content)
-        message = refused(name if content else f"{name}: it has no bytes", number, line)
+        message = refused(name, number, line)
         for words in [*about(name), ["row", name, "9", "0"]]:
-            desk.expect(words, 1 if content else 2, "", message)
+            desk.expect(words, 1, "", message)
         if number != 11:
-            desk.expect(["divide", name], *((1, "", refused(f"{name}: from byte 0", number, line)) if content else (0, expected.divide([]))))
+            desk.expect(["divide", name], 1, "", refused(f"{name}: from byte 0", number, line))
     whole = make.joined(PAPER)
     name = desk.file("rest.sp3", whole + whole[:-1])
     desk.expect(["divide", name], 1, expected.divide([len(whole)], 1), refused(f"{name}: from byte {len(whole)}", 1, 25))
@@ -234,10 +237,13 @@ def test_generated(desk):
     """Generated files, right and damaged, as the independent implementation answers for them."""
     for file, asked in desk.oracles.cases(SEED, GENERATED):
         name = desk.file("made.sp3", file)
+        if not file:
+            desk.expect(["check", name], 2, "", no_bytes(name))
+            continue
         number, line, held, answers = desk.oracles.judged(file, asked)
         if number:
             for words in (["check", name], ["table", name], ["rewrite", name], ["comment", name, str(asked[0])]):
-                desk.expect(words, 1 if file else 2, "", refused(name if file else f"{name}: it has no bytes", number, line))
+                desk.expect(words, 1, "", refused(name, number, line))
         else:
             desk.expect(["check", name], 0, expected.check(name, held))
             desk.expect(["table", name], 0, expected.table(held))
@@ -354,8 +360,9 @@ def test_inputs(desk):
         desk.expect(words, 2, "", "sp3: FILE '': the name is empty\n")
     for words in (["check", "-"], ["rewrite", "-"], ["divide", "-"]):
         desk.expect(words, 2, "", f"sp3: standard input: {os.strerror(errno.EBADF)}\n", stdin=None, preexec_fn=lambda: os.close(0))
-    for words in (["check", "/dev/null"], ["table", "/dev/null"]):
-        desk.expect(words, 2, "", refused("/dev/null: it has no bytes", 1, 1))
+    for name in ("/dev/null", desk.file("empty.sp3", b"")):
+        for words in [*about(name), ["divide", name]]:
+            desk.expect(words, 2, "", no_bytes(name))
     # a file that says it has no bytes and has some, with a tab in its first line
     desk.expect(["check", "/proc/self/status"], 1, "", refused("/proc/self/status", 2, 1))
     for name in ("-odd", "a b.sp3", "100%s%n.sp3", "\u00fc.sp3"):
@@ -379,12 +386,10 @@ def test_pipes(desk):
     desk.expect(["row", "-", "0", "G07"], 0, expected.row(held, 0, 0), stdin=whole)
     desk.expect(["comment", "-", "0"], 0, "ONE ROW\n", stdin=whole)
     desk.expect(["divide", "-"], 0, expected.divide([1215] * 3), stdin=whole * 3)
-    desk.expect(["check", "-", "-"], 2, accepted, refused("standard input: it has no bytes", 1, 1), stdin=whole)
+    desk.expect(["check", "-", "-"], 2, accepted, no_bytes("standard input"), stdin=whole)
     os.mkfifo(desk.folder / "pipe")
-    writer = threading.Thread(target=lambda: (desk.folder / "pipe").write_bytes(day), daemon=True)
-    writer.start()
-    desk.expect(["check", "pipe"], 0, expected.check("pipe", of_model(make.day())))
-    writer.join()
+    for words in [*about("pipe"), ["divide", "pipe"]]:
+        desk.expect(words, 2, "", "sp3: pipe: a pipe is read from standard input alone, by the name -\n")
 
 
 def test_many(desk):

@@ -1,5 +1,6 @@
 //! The proved SP3-d reader and writer for Rust: the functions of include/sp3.h under their names, with absence as an `Option` and refusals as a
-//! `Result`. The crate holds no rule of the format: it lends memory and hands answers on.
+//! `Result`. The crate judges nothing: it lends memory and hands answers on.
+//! It knows how a row and a comment are stored (`include/sp3.h`), so that rows can be made out of `Option`s; whether they are right the library says.
 //!
 //! ```
 //! let file = include_bytes!("../../../samples/paper.sp3");
