@@ -97,8 +97,9 @@ sp3-read-line-determined κs a r r′ s s′ p q = (p .0 ∙ sym (q .0), p .1 �
 pub sp3-next-line-determined : (κs : _) (a : _) (r r′ : _) (s s′ : _) → sp3-next-line.Post κs a r s → sp3-next-line.Post κs a r′ s′ → r ≡ r′
 sp3-next-line-determined κs a r r′ s s′ p q = p ∙ sym q
 
-pub sp3-after-lines-determined : (κs : _) (a : _) (r r′ : _) (s s′ : _) → sp3-after-lines.Post κs a r s → sp3-after-lines.Post κs a r′ s′ → r ≡ r′
-sp3-after-lines-determined κs a r r′ s s′ p q = p ∙ sym q
+pub sp3-after-lines-determined : (κs : _) (a : _) (r r′ : _) (s s′ : _) → sp3-after-lines.Post κs a r s → sp3-after-lines.Post κs a r′ s′
+    → (r ≡ r′) × (now (s .1 .0) ≡ now (s′ .1 .0))
+sp3-after-lines-determined κs a r r′ s s′ p q = (p .0 ∙ sym (q .0), p .1 ∙ sym (q .1))
 
 pub sp3-begin-determined : (κs : _) (a : _) (r r′ : _) (s s′ : _) → sp3-begin.Post κs a r s → sp3-begin.Post κs a r′ s′
     → (r ≡ r′) × (now (s .1 .0) ≡ now (s′ .1 .0))

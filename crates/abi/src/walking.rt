@@ -2,9 +2,9 @@
 ghost use mathlib.Core.Path.{_≡_};
 ghost use lib.ListN.{length};
 ghost use Rattle.header.specs.Rules.{d};
-ghost use Rattle.machine.specs.Step.{lineRead, lineNames};
+ghost use Rattle.machine.specs.Step.{lineAt, lineRead, lineNames};
 ghost use Rattle.reader.specs.Reading.{fileOf, judged};
-ghost use Rattle.walker.specs.Places.{firstPlace, placesAfter};
+ghost use Rattle.walker.specs.Places.{firstPlace, placesAfter, identifiersAfter};
 ghost use Rattle.walk.specs.Begin.{begunAs, namesBegun};
 ghost use Rattle.walk.specs.Rows.{firstWalk, rowStep};
 ghost use Rattle.abi.specs.Doors.{lineParts, lineDoor, noRow, rowFound, rowDoor};
@@ -51,7 +51,7 @@ fn line_answer(found: LineRead, place: Place) -> LineAnswer
     }
 }
 
-// The plain line reader: what the line at a place does. A `+ ` line leaves its identifiers in `names`.
+// The plain line reader: what the line at a place does. A `+ ` line leaves its identifiers in `names`; 12 where they are more than fit.
 #[no_mangle]
 pub extern "C" fn sp3_read_line(bytes: &[u8], place: Place, names: &mut [u64]) -> LineAnswer
     ensures result { λ r. ⌜ r ≡ lineDoor place (lineRead d (now (bytes .entry)) (place .at) (place .state) (now (names .entry))) ⌝ }
@@ -63,26 +63,27 @@ pub extern "C" fn sp3_read_line(bytes: &[u8], place: Place, names: &mut [u64]) -
     line_answer(found, place)
 }
 
-// The same where the identifiers of the header are known: what a walker's next line does.
+// The same where the identifiers of the header are known.
 #[no_mangle]
 pub extern "C" fn sp3_next_line<'a>(file: &'a [u8], names: &'a [u64], place: Place) -> LineAnswer
-    ensures result { λ r. ⌜ r ≡ lineDoor place (lineRead d (now (file .entry)) (place .at) (place .state) (now (names .entry))) ⌝ }
+    ensures result { λ r. ⌜ r ≡ lineDoor place (lineAt d (now (file .entry)) (place .at) (place .state) (now (names .entry))) ⌝ }
 {
-    let found = walker::read_known(file, names, place);
+    let found = walk::read_known(file, names, place);
     line_answer(found, place)
 }
 
-// The place so many lines further.
+// A walk: the place so many lines further. A `+ ` line leaves its identifiers in `names`.
 #[no_mangle]
-pub extern "C" fn sp3_after_lines<'a>(
-    file: &'a [u8],
-    names: &'a [u64],
+pub extern "C" fn sp3_after_lines(
+    file: &[u8],
+    names: &mut [u64],
     place: Place,
     lines: usize,
 ) -> Place
     ensures result { λ r. ⌜ r ≡ placesAfter d (now (file .entry)) (now (names .entry)) place lines ⌝ }
+    ensures lent { λ _. ⌜ now (names .exit) ≡ identifiersAfter d (now (file .entry)) (now (names .entry)) place lines ⌝ }
 {
-    walker::after_lines(file, names, place, lines)
+    walker::after_lines(file, place, lines, names)
 }
 
 // Before a walk over rows: the file judged, the identifiers of its header left in `identifiers`.

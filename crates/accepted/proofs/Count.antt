@@ -7,9 +7,8 @@ use mathlib.Core.List.{List, [], _∷_, _++_}
 use Prim.Native.Nat.{ℕ, suc, _+_, _-_, _≤_}
 use native.Mathlib.Omega.{arith}
 use lib.Dec.{eqb}
-use lib.ListN.{length, take, drop, length-drop}
-use lib.Seq.{take-all}
-use borrow.Author.Tests.{eqb-true, eq-eqb, ne-eqb}
+use lib.ListN.{length, drop, length-drop}
+use borrow.Author.Tests.{eqb-true, eq-eqb, ne-eqb, le-leb}
 use Rattle.laws.proofs.Bools.{and-left, and-right}
 use Rattle.layout.specs.Line.{padded}
 use Rattle.record.specs.SlotLines.{satellitesOf}
@@ -17,7 +16,7 @@ use Rattle.header.specs.Rules.{slotLines}
 use Rattle.header.specs.declared.types.Rules.{Rules}
 use Rattle.record.specs.declared.types.LineKind.the-variants as kind
 use Rattle.machine.specs.Checks.{repeats}
-use Rattle.machine.specs.State.{namesIn, namesAfter}
+use Rattle.machine.specs.State.{namesIn, fitBehind, laidBehind, namesAfter}
 use Rattle.machine.specs.Faults.{satellitesFault}
 use Rattle.machine.specs.Next.{expect, leave, afterCount, afterSatellites}
 use Rattle.machine.specs.Step.{namesBrought}
@@ -62,9 +61,10 @@ module _ (rules : Rules) where
     others l = drop (length (freshIn (said l) l)) names
 
     pub count-brought : (l : List ℕ) → namesBrought rules s names l ≡ freshIn (said l) l ++ others l
-    unfolding namesBrought namesAfter namesIn
+    unfolding namesBrought namesAfter laidBehind namesIn
     count-brought l =
-        let fits : take (length names) (freshIn (said l) l) ≡ freshIn (said l) l = take-all (length names) (freshIn (said l) l) (omega (arith, fresh-length (said l) l, wide)) in
+        let fits : fitBehind 0 (freshIn (said l) l) names ≡ true =
+        le-leb (0 + length (freshIn (said l) l)) (length names) (omega (arith, fresh-length (said l) l, wide)) in
         rw (due, is-first s none, none-seen s none, first-fresh rules l, fits)
 
     pub count-next : (l : List ℕ) → afterSatellites rules s (padded l) ≡ afterCount (said l) s

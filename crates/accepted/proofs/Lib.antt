@@ -3,6 +3,7 @@ pub mod Lowest
 pub mod Numbered
 pub mod Used
 pub mod Local
+pub mod Room
 pub mod Stepping
 pub mod Refused
 pub mod Passing

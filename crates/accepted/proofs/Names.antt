@@ -8,8 +8,8 @@ use Prim.Native.Nat.{ℕ, zero, suc, _+_, _-_, _≤_}
 use native.Mathlib.Omega.{arith}
 use lib.Dec.{eqb}
 use lib.ListN.{length, take, drop, length-append, length-drop}
-use lib.Seq.{take-all, take-at, drop-at}
-use borrow.Author.Tests.{eqb-true, ne-eqb, not-true}
+use lib.Seq.{take-at, drop-at}
+use borrow.Author.Tests.{eqb-true, ne-eqb, not-true, le-leb}
 use Rattle.laws.proofs.Bools.{and-left, and-right, and-both}
 use Rattle.laws.proofs.Lists.{one-less}
 use Rattle.layout.specs.Fault.{lower}
@@ -21,7 +21,7 @@ use Rattle.header.specs.Rules.{slotLines}
 use Rattle.header.specs.declared.types.Rules.{Rules}
 use Rattle.record.specs.declared.types.LineKind.the-variants as kind
 use Rattle.machine.specs.Checks.{repeats}
-use Rattle.machine.specs.State.{namesIn, namesAfter}
+use Rattle.machine.specs.State.{namesIn, fitBehind, laidBehind, namesAfter}
 use Rattle.machine.specs.Faults.{satellitesFault}
 use Rattle.machine.specs.Next.{expect, leave, afterNames, afterSatellites}
 use Rattle.machine.specs.Step.{namesBrought}
@@ -79,9 +79,10 @@ module _ (rules : Rules) (s : State) (some : eqb (s .satellites) 0 ≡ false) wh
     brought l = (known ++ freshIn left l) ++ drop (length (freshIn left l)) rest
 
     pub brought-is : left ≤ length rest → (lines : ℕ) (l : List ℕ) → namesBrought rules (namesDue lines left) (known ++ rest) l ≡ brought l
-    unfolding namesBrought namesAfter namesIn
+    unfolding namesBrought namesAfter laidBehind namesIn
     brought-is room lines l =
-        let fits : take (length rest) (freshIn left l) ≡ freshIn left l = take-all (length rest) (freshIn left l) (omega (arith, fresh-length left l, room)) in
+        let fits : fitBehind (s .satellites - left) (freshIn left l) (known ++ rest) ≡ true =
+        le-leb (s .satellites - left + length (freshIn left l)) (length (known ++ rest)) (omega (arith, length-append known rest, fresh-length left l, room, many)) in
         rw (some, known-are, rest-is, more-fresh left l, fits) (sym (append-assoc known (freshIn left l) (drop (length (freshIn left l)) rest)))
 
     pub many-on : (l : List ℕ) → length (known ++ freshIn left l) + (left - 17) ≡ s .satellites

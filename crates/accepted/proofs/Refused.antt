@@ -16,11 +16,12 @@ use Rattle.machine.specs.declared.types.Verdict.{Verdict}
 use Rattle.machine.specs.declared.types.Verdict.the-variants as verdict
 use Rattle.machine.specs.declared.types.LineRead.the-variants as found
 use Rattle.accepted.proofs.Numbered.{step-numbered}
+use Rattle.file.specs.Plain.{Sound}
 use Rattle.scan.specs.declared.Tally.{Tally}
 use Rattle.scan.specs.declared.Front.{Front}
 use Rattle.scan.specs.declared.Front.the-variants as front
 use Rattle.scan.specs.Run.{nothing, counted, onVerdict, run, scanOf, Going, stepped, steppedOver, atFirst}
-use Rattle.accepted.proofs.Stepping.{judged, GoesOn, behind, GoOn, next-line, go-first, go-later, go-more, stepped-on, stands-behind}
+use Rattle.accepted.proofs.Stepping.{judged, GoesOn, behind, GoOn, next-line, go-first, go-later, go-more, stepped-on, place-behind, stands-behind}
 
 -- what has been read, some lines further
 abbrev talliedOver : Rules → Tally → List (List ℕ) → Tally
@@ -186,16 +187,14 @@ pub record EndsAfter (rules : Rules) (bytes : List ℕ) (t : Tally) (k : ℕ) : 
   pub within : k < length (linesOf bytes)
   pub goes : GoOn rules atFirst (linesOf bytes) k
   pub last : judged rules (behind rules atFirst (linesOf bytes) k) (nth k (linesOf bytes)) ≡ verdict.Finished
-  pub reads :
-      lineRead
-      rules
-      bytes
-      (behind rules atFirst (linesOf bytes) k .at)
-      (behind rules atFirst (linesOf bytes) k .state)
-      (behind rules atFirst (linesOf bytes) k .names)
-      ≡ found.Finished (t .end)
+  pub end : t .end ≡ behind rules atFirst (linesOf bytes) k .at + length (nth k (linesOf bytes)) + 1
 
 module _ (rules : Rules) (bytes : List ℕ) (t : Tally) where
+  -- there the line reader ends the file at its last byte
+  pub reads-end : Sound rules → (k : ℕ) → EndsAfter rules bytes t k
+      → let g = behind rules atFirst (linesOf bytes) k in lineRead rules bytes (g .at) (g .state) (g .names) ≡ found.Finished (t .end)
+  reads-end sound k e = stands-behind rules sound bytes k (e .goes) (omega (arith, e .within)) .reads (e .within) ∙ rw (e .last, e .end) refl
+
   ends-after : (k : ℕ) (h : k < length (linesOf bytes)) (goes : GoOn rules atFirst (linesOf bytes) k)
       → judged rules (behind rules atFirst (linesOf bytes) k) (nth k (linesOf bytes)) ≡ verdict.Finished
       → tallied rules nothing (linesOf bytes) k ≡ t → EndsAfter rules bytes t k
@@ -204,16 +203,16 @@ module _ (rules : Rules) (bytes : List ℕ) (t : Tally) where
       let ls = linesOf bytes in
       let g = behind rules atFirst ls k in
       let below : k ≤ length ls = omega arith in
-      let stands = stands-behind rules bytes k goes below in
+      let place = place-behind rules k ls atFirst goes below in
       let many = lines-then rules k ls atFirst nothing goes below in
       let end : t .end ≡ g .at + length (nth k ls) + 1 =
-      sym (ap (λ (x : Tally). x .end) e) ∙ omega (arith, tallied-end rules (take k ls) nothing, stands .place) in
+      sym (ap (λ (x : Tally). x .end) e) ∙ omega (arith, tallied-end rules (take k ls) nothing, place) in
       record {
         lines = sym (ap (λ (x : Tally). x .lines) e) ∙ omega (arith, many);
         within = h;
         goes = goes;
         last = last;
-        reads = stands .reads h ∙ rw (last, end) refl;
+        end = end;
       }
 
   -- Each line of an accepted file but its last goes on, and the last ends the file at its last byte.

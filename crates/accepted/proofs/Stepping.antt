@@ -9,12 +9,14 @@ use lib.ListN.{length, take, drop, take-append-drop, drop-of-length-le}
 use Rattle.lines.specs.Lines.{linesOf, joinLines, bytesIn, nth}
 use Rattle.lines.proofs.Split.{parted, bytes-in}
 use Rattle.header.specs.declared.types.Rules.{Rules}
-use Rattle.machine.specs.Step.{stepOf, namesBrought, namesKept, readAs, readFirst, namesFirst, lineRead, lineNames}
+use Rattle.machine.specs.Step.{stepOf, namesBrought, namesKept, stepWithin, readAs, readFirst, namesFirst, lineRead, lineNames}
 use Rattle.machine.specs.declared.types.State.{State}
 use Rattle.machine.specs.declared.types.Verdict.{Verdict}
 use Rattle.machine.specs.declared.types.Verdict.the-variants as verdict
 use Rattle.machine.specs.declared.types.LineRead.the-variants as found
+use Rattle.file.specs.Plain.{Sound}
 use Rattle.scan.specs.Run.{Going, stepped, steppedOver, atFirst}
+use Rattle.accepted.proofs.Room.{Ready, ready-first, ready-next, never-short}
 
 -- what the machine says of a line
 abbrev pub judged : Rules → Going → List ℕ → Verdict
@@ -83,6 +85,15 @@ module _ (rules : Rules) where
       let at : stepped rules g l .at ≡ g .at + length l + 1 = ap (λ (x : Going). x .at) (stepped-on g l (here .0) (here .1)) in
       omega (arith, place-behind k ls (stepped rules g l) (go-later k l ls g goes) (le-of-suc-le-suc h))
 
+  -- Behind lines that go on the judge's list has room for what any line brings.
+  pub ready-behind : (k : ℕ) (ls : List (List ℕ)) (g : Going) → Ready rules g → GoOn rules g ls k → k ≤ length ls → Ready rules (behind rules g ls k)
+  unfolding steppedOver
+  ready-behind zero ls g ready goes h = ready
+  ready-behind (suc k) [] g ready goes h = absurd (not-suc-le-zero h)
+  ready-behind (suc k) (l ∷ ls) g ready goes h =
+      let here = go-first k l ls g goes in
+      ready-behind k ls (stepped rules g l) (ready-next rules g l (here .0) ready (here .1)) (go-later k l ls g goes) (le-of-suc-le-suc h)
+
 -- What the line reader does after k lines of some bytes: it stands behind them, and reads the next.
 pub record Stands (rules : Rules) (bytes : List ℕ) (k : ℕ) (g : Going) : Type 0 where
   pub place : g .at ≡ bytesIn (take k (linesOf bytes))
@@ -95,7 +106,7 @@ pub record Stands (rules : Rules) (bytes : List ℕ) (k : ℕ) (g : Going) : Typ
       k < length (linesOf bytes) → lineNames rules bytes (g .at) (g .state) (g .names) ≡ namesKept rules (g .state) (g .names) (nth k (linesOf bytes))
   pub ends : length (linesOf bytes) ≤ k → lineRead rules bytes (g .at) (g .state) (g .names) ≡ found.NoLine
 
-module _ (rules : Rules) (bytes : List ℕ) where
+module _ (rules : Rules) (sound : Sound rules) (bytes : List ℕ) where
   abbrev lines : List (List ℕ)
   lines = linesOf bytes
 
@@ -111,13 +122,17 @@ module _ (rules : Rules) (bytes : List ℕ) where
         ap (λ (n : ℕ). linesOf (drop n bytes)) (place ∙ bytes-in (take k lines))
         ∙ parted (take k lines) bytes (drop k lines) (sym (take-append-drop k lines)) .rest-lines
 
+    -- with the judge's list the line reader does what the machine says
+    does : (l : List ℕ) → stepWithin rules (g k .state) (g k .names) l ≡ stepOf rules (g k .state) (g k .names) l
+    does l = never-short rules sound (g k) (ready-behind rules k lines atFirst (ready-first rules) goes h) l
+
     -- Where each of the first k lines goes on, the line reader stands behind them and reads the next, for every k.
     pub stands-behind : Stands rules bytes k (g k)
     unfolding readFirst namesFirst
     stands-behind = record {
       place = place;
       joined = place ∙ bytes-in (take k lines);
-      reads = λ more. rw (rest ∙ next-line k lines more) refl;
+      reads = λ more. rw (rest ∙ next-line k lines more) (ap (λ (v : Verdict). readAs v (g k .at + length (nth k lines) + 1)) (does (nth k lines)));
       keeps = λ more. rw (rest ∙ next-line k lines more) refl;
       ends = λ none. rw (rest ∙ drop-of-length-le lines none) refl;
     }

@@ -1,7 +1,7 @@
--- Any two outcomes that a contract allows agree, in the result and in every byte of a line that is handed back.
+-- Any two outcomes that a contract allows agree, in the result, and of a line that is handed back in every byte and in its address.
 -- Assumes nothing.
 use mathlib.Core.Path.{_≡_, sym, _∙_}
-use denote.Ref.{now}
+use Rattle.laws.specs.Places.{Same}
 use Rattle.file.proofs.kind_in.Reads as kind-in
 use Rattle.file.proofs.place_of.Reads as place-of
 use Rattle.file.proofs.line_at.Reads as line-at
@@ -16,11 +16,11 @@ kind-in-determined κs a r r′ s s′ p q = p ∙ sym q
 pub place-of-determined : (κs : _) (a : _) (r r′ : _) (s s′ : _) → place-of.Post κs a r s → place-of.Post κs a r′ s′ → r ≡ r′
 place-of-determined κs a r r′ s s′ p q = p ∙ sym q
 
-pub line-at-determined : (κs : _) (a : _) (r r′ : _) (s s′ : _) → line-at.Post κs a r s → line-at.Post κs a r′ s′ → now r ≡ now r′
-line-at-determined κs a r r′ s s′ p q = p ∙ sym q
+pub line-at-determined : (κs : _) (a : _) (r r′ : _) (s s′ : _) → line-at.Post κs a r s → line-at.Post κs a r′ s′ → Same r r′
+line-at-determined κs a r r′ s s′ p q = (p .0 ∙ sym (q .0), p .1 ∙ sym (q .1))
 
-pub line-of-determined : (κs : _) (a : _) (r r′ : _) (s s′ : _) → line-of.Post κs a r s → line-of.Post κs a r′ s′ → now r ≡ now r′
-line-of-determined κs a r r′ s s′ p q = p ∙ sym q
+pub line-of-determined : (κs : _) (a : _) (r r′ : _) (s s′ : _) → line-of.Post κs a r s → line-of.Post κs a r′ s′ → Same r r′
+line-of-determined κs a r r′ s s′ p q = (p .0 ∙ sym (q .0), p .1 ∙ sym (q .1))
 
 pub padded-line-determined : (κs : _) (a : _) (r r′ : _) (s s′ : _) → padded-line.Post κs a r s → padded-line.Post κs a r′ s′ → r ≡ r′
 padded-line-determined κs a r r′ s s′ p q = p ∙ sym q

@@ -7,14 +7,14 @@ use Prim.Native.Nat.{ℕ, zero, suc, _+_, _-_, _<_, _≤_}
 use native.Mathlib.Nat.{le-of-suc-le-suc, not-suc-le-zero, zero-add}
 use native.Mathlib.Decide.{decLt}
 use native.Mathlib.Omega.{arith}
-use lib.ListN.{length, getD, take, drop, getD-replicate}
+use lib.ListN.{length, getD, take, drop, length-append, length-drop, getD-replicate}
 use lib.Seq.{getD-take}
 use Rattle.laws.specs.Texts.{blanks}
 use Rattle.layout.specs.Line.{padded}
 use Rattle.lines.specs.Lines.{lineLength, linesOf, bytesIn, select, nth, placeFrom}
 use Rattle.lines.proofs.Ends.{no-line, first-line}
 use Rattle.lines.proofs.Picking.{nth-none, nth-here, nth-past, place-past, placed}
-use Rattle.lines.proofs.Split.{bytes-in, parted}
+use Rattle.lines.proofs.Split.{bytes-in, parted, first}
 use Rattle.record.specs.LineKinds.{kindBy, kindOf}
 use Rattle.header.specs.declared.types.Rules.{Rules}
 
@@ -70,3 +70,22 @@ line-at-place test k bytes = go (decLt k (length (select test (linesOf bytes))))
         ∙ ap (nth 0) (none-behind bytes)
         ∙ nth-none 0
         ∙ sym (nth-past k (select test (linesOf bytes)) (omega arith))
+
+-- complete lines take up no more than the bytes
+pub lines-within : (bytes : List ℕ) → bytesIn (linesOf bytes) ≤ length bytes
+lines-within bytes = omega (arith, bytes-in (linesOf bytes), parted (linesOf bytes) bytes [] (sym (append-nil (linesOf bytes))) .within)
+
+-- the k-th line that passes a test ends within the bytes
+pub line-within : (test : List ℕ → Bool) (k : ℕ) (bytes : List ℕ)
+    → placeFrom test k 0 (linesOf bytes) + length (nth k (select test (linesOf bytes))) ≤ length bytes
+line-within test k bytes = go (decLt k (length (select test (linesOf bytes))))
+  where
+    go : Dec (k < length (select test (linesOf bytes))) → placeFrom test k 0 (linesOf bytes) + length (nth k (select test (linesOf bytes))) ≤ length bytes
+    go (yes h) =
+        let p = placed test k bytes h in
+        let place = placeFrom test k 0 (linesOf bytes) in
+        let line = nth k (select test (linesOf bytes)) in
+        let f = first (drop place bytes) line (p .more) (p .there) in
+        omega (arith, p .within, length-drop place bytes, ap length (f .bytes-are) ∙ length-append line (10 ∷ f .rest))
+    go (no h) =
+        omega (arith, place-past test k 0 (linesOf bytes) (omega arith), ap length (nth-past k (select test (linesOf bytes)) (omega arith)), lines-within bytes)

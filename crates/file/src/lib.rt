@@ -1,6 +1,9 @@
 // The lines of a file by their kind: which kind a line is, and where the k-th line of a kind begins.
 ghost use mathlib.Core.Path.{_≡_};
-ghost use lib.ListN.{getD, drop};
+ghost use Prim.Native.Nat.{min};
+ghost use lib.ListN.{length, getD, drop};
+ghost use denote.Ref.{ptr};
+ghost use Rattle.laws.specs.Places.{byteOf};
 ghost use Rattle.lines.specs.Lines.{linesOf, nth, placeFrom};
 ghost use Rattle.file.specs.Kinds.{kindIn, isKind, ofKind};
 use header::Rules;
@@ -56,20 +59,23 @@ pub fn place_of(rules: Rules, bytes: &[u8], kind: u64, k: u64) -> usize
     }
 }
 
-// The line of some bytes that begins at a place, without its LF; nothing where there is no line.
+// The line of some bytes that begins at a place, without its LF; nothing where there is no line. It lies there, or at the end of the bytes.
 pub fn line_at(bytes: &[u8], at: usize) -> &[u8]
     ensures result { λ r. ⌜ now r ≡ nth 0 (linesOf (drop at (now (bytes .entry)))) ⌝ }
+    ensures place { λ r. ⌜ ptr r ≡ byteOf (bytes .entry) (min at (length (now (bytes .entry)))) ⌝ }
 {
     let end = lines::line_end(bytes, at);
     if end >= bytes.len() {
-        return &bytes[0..0];
+        let here = laws::fewer(at, bytes.len());
+        return &bytes[here..here];
     }
     &bytes[at..end]
 }
 
-// The k-th line of a kind, without its LF; nothing where there is none.
+// The k-th line of a kind, without its LF; nothing where there is none. It lies where `place_of` says.
 pub fn line_of(rules: Rules, bytes: &[u8], kind: u64, k: u64) -> &[u8]
     ensures result { λ r. ⌜ now r ≡ nth k (ofKind rules kind (linesOf (now (bytes .entry)))) ⌝ }
+    ensures place { λ r. ⌜ ptr r ≡ byteOf (bytes .entry) (placeFrom (isKind rules kind) k 0 (linesOf (now (bytes .entry)))) ⌝ }
 {
     let at = place_of(rules, bytes, kind, k);
     line_at(bytes, at)

@@ -1,3 +1,4 @@
+pub mod Places
 pub mod Bools
 pub mod Bounds
 pub mod Answers

@@ -19,6 +19,20 @@ fn lf_in_sixteen(bytes: &[u8], at: usize) -> bool
     found
 }
 
+// The same of the eighty bytes from `at` on, the columns of a full line.
+fn lf_in_eighty(bytes: &[u8], at: usize) -> bool
+    requires { ⌜ at + 80 ≤ length (now bytes) ⌝ }
+    ensures { λ r. ⌜ r ≡ hasLf (take 80 (drop at (now (bytes .entry)))) ⌝ }
+{
+    let mut found = false;
+    let mut i = 0;
+    while i < 80 {
+        found = found | (bytes[at + i] == 10);
+        i += 1;
+    }
+    found
+}
+
 // The end of the line at `at`, byte by byte.
 fn line_end_by_bytes(bytes: &[u8], at: usize) -> usize
     ensures { λ r. ⌜ r ≡ at + lineLength (drop at (now (bytes .entry))) ⌝ }
@@ -37,6 +51,15 @@ fn line_end_by_bytes(bytes: &[u8], at: usize) -> usize
 pub fn line_end(bytes: &[u8], at: usize) -> usize
     ensures result { λ r. ⌜ r ≡ at + lineLength (drop at (now (bytes .entry))) ⌝ }
 {
+    if at < bytes.len() {
+        if 80 < bytes.len() - at {
+            if bytes[at + 80] == 10 {
+                if !lf_in_eighty(bytes, at) {
+                    return at + 80;
+                }
+            }
+        }
+    }
     let mut from = at;
     while from < bytes.len() {
         if bytes.len() - from < 16 {

@@ -9,6 +9,7 @@ use Rattle.machine.proofs.checks.type_agrees.Reads as type-agrees
 use Rattle.machine.proofs.faults.kind_number.Reads as kind-number
 use Rattle.machine.proofs.step.start.Reads as start
 use Rattle.machine.proofs.step.step_line.Reads as step-line
+use Rattle.machine.proofs.step.keep_names.Reads as keep-names
 use Rattle.machine.proofs.step.line_at.Reads as line-at
 use Rattle.machine.proofs.step.read_line.Reads as read-line
 
@@ -29,6 +30,10 @@ start-determined κs a r r′ s s′ p q = p ∙ sym q
 
 pub step-line-determined : (κs : _) (a : _) (r r′ : _) (s s′ : _) → step-line.Post κs a r s → step-line.Post κs a r′ s′ → r ≡ r′
 step-line-determined κs a r r′ s s′ p q = toldVerdict-one r r′ (p ∙ sym q)
+
+pub keep-names-determined : (κs : _) (a : _) (r r′ : _) (s s′ : _) → keep-names.Post κs a r s → keep-names.Post κs a r′ s′
+    → (r ≡ r′) × (now (s .1 .1 .0) ≡ now (s′ .1 .1 .0))
+keep-names-determined κs a r r′ s s′ p q = (p .0 ∙ sym (q .0), p .1 ∙ sym (q .1))
 
 pub line-at-determined : (κs : _) (a : _) (r r′ : _) (s s′ : _) → line-at.Post κs a r s → line-at.Post κs a r′ s′ → r ≡ r′
 line-at-determined κs a r r′ s s′ p q = toldRead-one r r′ (p ∙ sym q)

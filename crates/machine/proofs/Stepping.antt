@@ -1,34 +1,35 @@
 -- What a line does, on plain values: each test that the code makes, and what follows of it.
 -- Assumes nothing.
-use mathlib.Core.Path.{_≡_, refl, sym, ap, ap₂, _∙_, subst}
+use mathlib.Core.Path.{_≡_, refl, sym, ap, _∙_, subst}
 use mathlib.Core.Bool.{Bool, true, false, _&&_}
-use mathlib.Core.List.{List, [], _∷_, _++_, append-nil}
+use mathlib.Core.List.{List, [], _∷_, _++_}
 use Prim.Native.Nat.{ℕ, zero, suc, _+_, _-_, _≤_, _<_, zero-le}
 use native.Mathlib.Omega.{arith}
 use denote.Enum.Declared.{tagOf}
 use types.Run.{OneOf, miss}
-use borrow.Author.Tests.{eq-eqb, ne-eqb, le-leb, lt-leb}
+use borrow.Author.Tests.{eq-eqb, ne-eqb, le-leb, lt-leb, leb-true}
 use borrow.Rule.Slice.PartMut.{putMid}
-use lib.ListN.{length, take, drop, length-drop}
-use lib.Seq.{take-all, length-take-le}
+use lib.Dec.{eqb}
+use lib.ListN.{length, take, drop, length-append, length-drop}
+use lib.Seq.{length-take-le}
 use Rattle.laws.specs.Texts.{every, isPrintable, blanks}
-use Rattle.laws.proofs.Lists.{rest-none}
 use Rattle.layout.specs.Line.{padded}
-use Rattle.lines.specs.Lent.{laid}
+use Rattle.lines.specs.Lent.{over, laid}
 use Rattle.lines.specs.Lines.{lineLength, linesOf}
 use Rattle.lines.proofs.Ends.{no-line, first-line}
-use Rattle.lines.proofs.Laying.{rest-lent, rest-back}
+use Rattle.lines.proofs.Laying.{rest-lent, rest-back, laid-fits}
+use Rattle.lines.proofs.Lined.{Lined, lined}
 use Rattle.record.specs.LineKinds.{toldKind, kindOf}
 use Rattle.record.specs.SlotLines.{satellitesOf, moreOf}
 use Rattle.record.proofs.Determined.{toldKind-one}
 use Rattle.header.specs.declared.types.Rules.{Rules}
 use Rattle.record.specs.declared.types.LineKind.{LineKind}
 use Rattle.machine.specs.Checks.{firstUnprintable}
-use Rattle.machine.specs.State.{seen, namesIn, namesAfter}
+use Rattle.machine.specs.State.{seen, namesIn, fitBehind, laidBehind, hasRoom, namesAfter}
 use Rattle.machine.specs.Faults.{longest}
-use Rattle.machine.specs.Step.{judgedLine, printedLine, stepOf, namesBrought, keptOn, namesKept, readAs, readFirst, namesFirst, lineRead, lineNames}
-use Rattle.machine.specs.Told.{toldVerdict, toldRead}
-use Rattle.machine.proofs.Told.{toldVerdict-one, toldRead-one}
+use Rattle.machine.specs.Step.{judgedLine, printedLine, stepOf, namesBrought, keptOn, namesKept, findsRoom, ifRoom, stepWithin, readAs, readFirst, namesFirst, lineAt, lineRead, lineNames}
+use Rattle.machine.specs.Told.{toldRead}
+use Rattle.machine.proofs.Told.{toldRead-one}
 use Rattle.machine.proofs.types.LineRead.{the-type}
 use Rattle.machine.specs.declared.types.State.{State}
 use Rattle.machine.specs.declared.types.Verdict.{Verdict}
@@ -83,25 +84,41 @@ module _ (rules : Rules) (s : State) (names line : List ℕ) where
     pub short-enough : (v : Verdict) → length line ≤ most → v ≡ judgedLine kind rules s names pad → v ≡ stepOf rules s names line
     short-enough v h e = e ∙ ap (judgedLine kind rules s names) pad-is ∙ fits h ∙ printed
 
--- The names of a `+ ` line of 80 columns.
-module _ (rules : Rules) (s : State) (names line : List ℕ) (from : ℕ) (from-is : from ≡ seen s) where
-  -- no room is left for any
-  pub names-full : length names ≤ from → names ≡ namesAfter rules s names line
-  unfolding namesAfter
-  names-full h =
-      sym (append-nil names)
-      ∙ ap₂ (λ (a b : List ℕ). a ++ b) (sym (take-all from names h)) (sym (rest-none [] (length (namesIn rules s line)) zero-le))
-      ∙ rw (← from-is, rest-none names from h)
+-- Numbers laid into a list behind its first `from`, where they fit and where not.
+module _ (from : ℕ) (new list : List ℕ) where
+  pub none-laid : length list < from + length new → (false ≡ fitBehind from new list) × (list ≡ laidBehind from new list)
+  unfolding laidBehind
+  none-laid h = let e = lt-leb (from + length new) (length list) h in rw e (refl, refl)
 
-  -- laid over the part from those known on
-  pub names-stored : (new part : List ℕ) → new ≡ namesIn rules s line → from ≤ length names
-      → part ≡ laid new (take (length names - from) (drop from names))
-      → putMid from (length names - from) names part ≡ namesAfter rules s names line
-  unfolding namesAfter
-  names-stored new part new-is h e =
-      rest-back from names part h
-      ∙ ap (λ (p : List ℕ). take from names ++ p) (e ∙ ap (laid new) (rest-lent from names))
-      ∙ rw (from-is, new-is)
+  pub all-laid : (part : List ℕ) → from + length new ≤ length list → part ≡ laid new (take (length list - from) (drop from list))
+      → (true ≡ fitBehind from new list) × (putMid from (length list - from) list part ≡ laidBehind from new list)
+  unfolding laidBehind
+  all-laid part h e =
+      let fit = le-leb (from + length new) (length list) h in
+      let room : length new ≤ length (drop from list) = omega (arith, length-drop from list) in
+      let placed : putMid from (length list - from) list part ≡ take from list ++ over new (drop from list) =
+      rest-back from list part (omega arith)
+      ∙ ap (λ (p : List ℕ). take from list ++ p) (e ∙ ap (laid new) (rest-lent from list) ∙ laid-fits new (drop from list) room) in
+      rw fit (refl, placed)
+
+  -- either way the list is as long as it was
+  pub laid-length : length (laidBehind from new list) ≡ length list
+  unfolding laidBehind
+  laid-length = go (fitBehind from new list) refl
+    where
+      go : (fit : Bool) → fitBehind from new list ≡ fit → length (laidBehind from new list) ≡ length list
+      go true e =
+          let h = leb-true (from + length new) (length list) e in
+          rw e
+          (omega (
+            arith,
+            length-append (take from list) (over new (drop from list)),
+            length-append new (drop (length new) (drop from list)),
+            length-take-le from list (omega arith),
+            length-drop (length new) (drop from list),
+            length-drop from list,
+          ))
+      go false e = rw e
 
 -- those of the first `+ ` line, and those of a further one
 module _ (rules : Rules) (s : State) (line new : List ℕ) where
@@ -113,78 +130,155 @@ module _ (rules : Rules) (s : State) (line new : List ℕ) where
   unfolding namesIn
   further-names e is = is ∙ rw (ne-eqb (s .satellites) 0 e)
 
--- The line at a place of some bytes.
+-- the room for them and the list after them, by what the code has in hand
+pub kept-so : (rules : Rules) (s : State) (names line pad new : List ℕ) (from : ℕ) → pad ≡ padded line → from ≡ seen s → new ≡ namesIn rules s pad
+    → (fitBehind from new names ≡ hasRoom rules s names (padded line)) × (laidBehind from new names ≡ namesAfter rules s names (padded line))
+unfolding hasRoom namesAfter
+kept-so rules s names line pad new from pad-is from-is new-is = rw (new-is, from-is, pad-is) (refl, refl)
+
+-- a line keeps the number of places for identifiers
+pub brought-length : (rules : Rules) (s : State) (names line : List ℕ) → length (namesBrought rules s names line) ≡ length names
+unfolding namesBrought namesAfter
+brought-length rules s names line = go (eqb (s .due) 3) refl
+  where
+    go : (due : Bool) → eqb (s .due) 3 ≡ due → length (namesBrought rules s names line) ≡ length names
+    go true e = rw e (laid-length (seen s) (namesIn rules s (padded line)) names)
+    go false e = rw e
+
+-- The line at a place of some bytes, by what lines do.
+module _ (does : List ℕ → Verdict) (bytes : List ℕ) (at end : ℕ) (ended : end ≡ at + lineLength (drop at bytes)) where
+  -- there is none
+  pub none-left : length bytes ≤ end → found.NoLine ≡ readFirst does at (linesOf (drop at bytes))
+  unfolding readFirst
+  none-left h = rw (no-line bytes at end ended h)
+
+  -- there is one, which does so
+  module _ (h : end < length bytes) where
+    abbrev line : List ℕ
+    line = take (end - at) (drop at bytes)
+
+    next-place : at + length line + 1 ≡ end + 1
+    next-place = omega (arith, length-line)
+      where
+        length-line : length line ≡ end - at
+        length-line = length-take-le (end - at) (drop at bytes) (omega (arith, length-drop at bytes))
+
+    pub judged-read : (v : Verdict) → v ≡ does line → readAs v (end + 1) ≡ readFirst does at (linesOf (drop at bytes))
+    unfolding readFirst
+    judged-read v judged = rw (first-line bytes at end ended h, ← judged, next-place)
+
+-- What the line reader makes of the line that was found where the identifiers are known.
 module _ (rules : Rules) (bytes : List ℕ) (at : ℕ) (s : State) (names : List ℕ) where
-  -- a reading and the identifiers beside it are those of the line
+  -- a reading and the identifiers beside it are those of the line reader
   abbrev pub ReadAs : LineRead → List ℕ → Type 0
   ReadAs r kept = (toldRead r ≡ toldRead (lineRead rules bytes at s names)) × (kept ≡ lineNames rules bytes at s names)
 
-  -- only a line that goes on may bring identifiers
-  none-brought : (ls : List (List ℕ)) → OneOf (0 ∷ 1 ∷ 3 ∷ []) (tagOf the-type (readFirst rules s names at ls)) → names ≡ namesFirst rules s names ls
-  unfolding readFirst namesFirst namesKept
-  none-brought [] k = refl
-  none-brought (l ∷ ls) k = go (stepOf rules s names l) k
+  -- where no line goes on: the same, and no identifier is kept
+  none-brought : (ls : List (List ℕ)) → OneOf (0 ∷ 1 ∷ 3 ∷ []) (tagOf the-type (readFirst (stepOf rules s names) at ls))
+      → (readFirst (stepOf rules s names) at ls ≡ readFirst (stepWithin rules s names) at ls) × (names ≡ namesFirst rules s names ls)
+  unfolding readFirst namesFirst namesKept stepWithin
+  none-brought [] k = (refl, refl)
+  none-brought (l ∷ ls) k = go (findsRoom rules s names l) (stepOf rules s names l) k
     where
-      go : (v : Verdict) → OneOf (0 ∷ 1 ∷ 3 ∷ []) (tagOf the-type (readAs v (at + length l + 1))) → names ≡ keptOn v rules s names l
-      go (verdict.Fault number column) h = refl
-      go (verdict.Next s′) h = absurd (miss (0 ∷ 1 ∷ 3 ∷ []) 2 tt h)
-      go verdict.Finished h = refl
+      go : (roomy : Bool) (v : Verdict) → OneOf (0 ∷ 1 ∷ 3 ∷ []) (tagOf the-type (readAs v (at + length l + 1)))
+          → (readAs v (at + length l + 1) ≡ readAs (ifRoom roomy v) (at + length l + 1)) × (names ≡ keptOn v rules s names l)
+      go roomy (verdict.Fault number column) h = (refl, refl)
+      go roomy (verdict.Next s′) h = absurd (miss (0 ∷ 1 ∷ 3 ∷ []) 2 tt h)
+      go roomy verdict.Finished h = (refl, refl)
 
-  pub names-left : (r : LineRead) → toldRead r ≡ toldRead (lineRead rules bytes at s names) → OneOf (0 ∷ 1 ∷ 3 ∷ []) (tagOf the-type r)
-      → names ≡ lineNames rules bytes at s names
-  names-left r told k =
-      none-brought (linesOf (drop at bytes)) (subst (λ (x : LineRead). OneOf (0 ∷ 1 ∷ 3 ∷ []) (tagOf the-type x)) (toldRead-one r (lineRead rules bytes at s names) told) k)
+  pub read-same : (r : LineRead) → toldRead r ≡ toldRead (lineAt rules bytes at s names) → OneOf (0 ∷ 1 ∷ 3 ∷ []) (tagOf the-type r) → ReadAs r names
+  read-same r told k =
+      let same = toldRead-one r (lineAt rules bytes at s names) told in
+      let none = none-brought (linesOf (drop at bytes)) (subst (λ (x : LineRead). OneOf (0 ∷ 1 ∷ 3 ∷ []) (tagOf the-type x)) same k) in
+      (ap toldRead (same ∙ none .0), none .1)
 
-  -- and only where a `+ ` line is due
-  pub names-stay : (s .due ≡ 3 → ⊥) → names ≡ lineNames rules bytes at s names
-  unfolding namesFirst namesKept namesBrought
-  names-stay not-due = go (linesOf (drop at bytes))
+  -- a line that goes on: its text, and the place behind its LF
+  pub record Goes (place : ℕ) (s′ : State) : Type 0 where
+    line : List ℕ
+    after : List (List ℕ)
+    lines-are : linesOf (drop at bytes) ≡ line ∷ after
+    place-is : at + length line + 1 ≡ place
+    pub lined-so : Lined bytes at place line after
+    does : stepOf rules s names line ≡ verdict.Next s′
+
+  goes-by : (ls : List (List ℕ)) (place : ℕ) (s′ : State) → linesOf (drop at bytes) ≡ ls → readFirst (stepOf rules s names) at ls ≡ found.Next place s′ → Goes place s′
+  unfolding readFirst
+  goes-by [] place s′ e r = absurd (other-tag r)
     where
-      kept : (l : List ℕ) (v : Verdict) → names ≡ keptOn v rules s names l
-      kept l (verdict.Fault number column) = refl
-      kept l (verdict.Next s′) = rw (ne-eqb (s .due) 3 not-due)
-      kept l verdict.Finished = refl
+      other-tag : found.NoLine ≡ found.Next place s′ → ⊥
+      other-tag x = let z : _≡_ {A = ℕ} 0 1 = cc in absurd (omega arith)
+  goes-by (l ∷ ls) place s′ e r = go (stepOf rules s names l) refl r
+    where
+      go : (v : Verdict) → stepOf rules s names l ≡ v → readAs v (at + length l + 1) ≡ found.Next place s′ → Goes place s′
+      go (verdict.Fault number column) is x = let z : _≡_ {A = ℕ} 0 1 = cc in absurd (omega arith)
+      go verdict.Finished is x = let z : _≡_ {A = ℕ} 0 1 = cc in absurd (omega arith)
+      go (verdict.Next s″) is x =
+          let where-to : at + length l + 1 ≡ place = cc in
+          let state : s″ ≡ s′ = cc in
+          record {
+            line = l;
+            after = ls;
+            lines-are = e;
+            place-is = where-to;
+            lined-so = subst (λ (n : ℕ). Lined bytes at n l ls) where-to (lined bytes at l ls e);
+            does = is ∙ ap verdict.Next state;
+          }
 
-      go : (ls : List (List ℕ)) → names ≡ namesFirst rules s names ls
-      go [] = refl
-      go (l ∷ ls) = kept l (stepOf rules s names l)
+  module _ (r : LineRead) (place : ℕ) (s′ : State) (told : toldRead r ≡ toldRead (lineAt rules bytes at s names)) (is : r ≡ found.Next place s′) where
+    pub goes-on : Goes place s′
+    goes-on = goes-by (linesOf (drop at bytes)) place s′ refl (sym (toldRead-one r (lineAt rules bytes at s names) told) ∙ is)
 
-  module _ (end : ℕ) (ended : end ≡ at + lineLength (drop at bytes)) where
-    -- there is none
-    pub none-left : length bytes ≤ end → ReadAs found.NoLine names
-    unfolding readFirst namesFirst
-    none-left h = rw (no-line bytes at end ended h) (refl, refl)
+    abbrev g : Goes place s′
+    g = goes-on
 
-    module _ (h : end < length bytes) where
-      abbrev line : List ℕ
-      line = take (end - at) (drop at bytes)
+    text-is : take (place - 1 - at) (drop at bytes) ≡ g .line
+    text-is = g .lined-so .text
 
-      next-place : at + length line + 1 ≡ end + 1
-      next-place = omega (arith, length-line)
-        where
-          length-line : length line ≡ end - at
-          length-line = length-take-le (end - at) (drop at bytes) (omega (arith, length-drop at bytes))
+    -- the line reader's answer and the list after it, by the room for a line
+    read-by : (roomy : Bool) → roomy ≡ findsRoom rules s names (g .line) → readAs (ifRoom roomy (verdict.Next s′)) place ≡ lineRead rules bytes at s names
+    unfolding readFirst stepWithin
+    read-by roomy e = rw (g .lines-are, g .does, g .place-is, ← e)
 
-      read-is : (v : Verdict) → v ≡ stepOf rules s names line
-          → (readAs v (end + 1) ≡ lineRead rules bytes at s names) × (keptOn v rules s names line ≡ lineNames rules bytes at s names)
-      unfolding readFirst namesFirst namesKept
-      read-is v judged = (rw (first-line bytes at end ended h, ← judged, next-place), rw (first-line bytes at end ended h, ← judged))
+    kept-by : namesBrought rules s names (g .line) ≡ lineNames rules bytes at s names
+    unfolding namesFirst namesKept
+    kept-by = rw (g .lines-are, g .does)
 
-      -- a line that goes on keeps the identifiers that it brings
-      pub names-brought : (r : LineRead) (place : ℕ) (s′ : State) → toldRead r ≡ toldRead (lineRead rules bytes at s names) → r ≡ found.Next place s′
-          → namesBrought rules s names line ≡ lineNames rules bytes at s names
-      names-brought r place s′ told is =
-          let read = read-is (stepOf rules s names line) refl in
-          go (stepOf rules s names line) (read .0 ∙ sym (toldRead-one r (lineRead rules bytes at s names) told) ∙ is) ∙ read .1
-        where
-          go : (v : Verdict) → readAs v (end + 1) ≡ found.Next place s′ → namesBrought rules s names line ≡ keptOn v rules s names line
-          go (verdict.Fault number column) e = cc
-          go (verdict.Next s″) e = refl
-          go verdict.Finished e = cc
+    -- where no `+ ` line is due
+    pub read-other : (s .due ≡ 3 → ⊥) → ReadAs (found.Next place s′) names
+    unfolding namesBrought
+    read-other not-due =
+        let not-three = ne-eqb (s .due) 3 not-due in
+        let free : true ≡ findsRoom rules s names (g .line) = rw not-three in
+        let same : names ≡ namesBrought rules s names (g .line) = rw not-three in
+        (ap toldRead (read-by true free), same ∙ kept-by)
 
-      -- what is read is what the line does
-      pub judged-read : (v w : Verdict) → toldVerdict v ≡ toldVerdict (stepOf rules s names line) → v ≡ w
-          → ReadAs (readAs w (end + 1)) (keptOn w rules s names line)
-      judged-read v w told is =
-          let read = read-is w (sym is ∙ toldVerdict-one v (stepOf rules s names line) told) in
-          (ap toldRead (read .0), read .1)
+    -- where one is due, by the room for what it brings
+    pub read-names : s .due ≡ 3 → (roomy : Bool) (kept : List ℕ) → let text = take (place - 1 - at) (drop at bytes) in
+        roomy ≡ hasRoom rules s names (padded text) → kept ≡ namesAfter rules s names (padded text)
+        → ReadAs (readAs (ifRoom roomy (verdict.Next s′)) place) kept
+    unfolding namesBrought
+    read-names due roomy kept e k =
+        let three = eq-eqb (s .due) 3 due in
+        let room : roomy ≡ findsRoom rules s names (g .line) = rw three (e ∙ ap (λ (l : List ℕ). hasRoom rules s names (padded l)) text-is) in
+        let new : kept ≡ namesBrought rules s names (g .line) = rw three (k ∙ ap (λ (l : List ℕ). namesAfter rules s names (padded l)) text-is) in
+        (ap toldRead (read-by roomy room), new ∙ kept-by)
+
+-- The list after a line, by what the line reader makes of it: without room it is as it was.
+module _ (rules : Rules) (s : State) (names l : List ℕ) where
+  no-room : findsRoom rules s names l ≡ false → namesBrought rules s names l ≡ names
+  unfolding namesBrought namesAfter laidBehind hasRoom
+  no-room e = go (eqb (s .due) 3) refl
+    where
+      go : (due : Bool) → eqb (s .due) 3 ≡ due → namesBrought rules s names l ≡ names
+      go true three = let none : hasRoom rules s names (padded l) ≡ false = rw three at e in rw (three, none)
+      go false three = rw three
+
+  pub kept-within : (v : Verdict) → stepWithin rules s names l ≡ v → namesKept rules s names l ≡ keptOn v rules s names l
+  unfolding stepWithin namesKept
+  kept-within v e = go (findsRoom rules s names l) refl (stepOf rules s names l) ∙ ap (λ (x : Verdict). keptOn x rules s names l) e
+    where
+      go : (roomy : Bool) → findsRoom rules s names l ≡ roomy → (w : Verdict) → keptOn w rules s names l ≡ keptOn (ifRoom (findsRoom rules s names l) w) rules s names l
+      go roomy is (verdict.Fault number column) = refl
+      go true is (verdict.Next s′) = rw is
+      go false is (verdict.Next s′) = rw is (no-room is)
+      go roomy is verdict.Finished = refl

@@ -4,3 +4,4 @@ pub mod Faults
 pub mod Next
 pub mod Step
 pub mod Told
+pub mod Usual

@@ -2,10 +2,10 @@
 use mathlib.Core.Bool.{Bool, false, cond, _||_}
 use mathlib.Core.List.{List, _++_}
 use Prim.Native.Nat.{ℕ, _+_, _-_}
-use lib.Dec.{eqb}
-use lib.ListN.{getD, take, drop, replicate}
+use lib.Dec.{eqb, leb}
+use lib.ListN.{length, getD, take, drop, replicate}
 use Rattle.header.specs.Rules.{maxSatellites}
-use Rattle.lines.specs.Lent.{laid}
+use Rattle.lines.specs.Lent.{over}
 use Rattle.record.specs.LineKinds.{toldKind}
 use Rattle.record.specs.SlotLines.{satellitesOf, moreOf}
 use Rattle.header.specs.declared.types.Rules.{Rules}
@@ -59,6 +59,18 @@ namesIn rules s line =
     (take (satellitesOf rules line .count) (satellitesOf rules line .names))
     (take (s .left) (moreOf false (s .left) line .values))
 
+-- new numbers fit into a list behind its first so many
+abbrev pub fitBehind : ℕ → List ℕ → List ℕ → Bool
+fitBehind from new list = leb (from + length new) (length list)
+
+-- laid there; where they do not fit the list is as it was
+unfoldable pub laidBehind : ℕ → List ℕ → List ℕ → List ℕ
+laidBehind from new list = cond (fitBehind from new list) (take from list ++ over new (drop from list)) list
+
+-- the list has room for the identifiers that a `+ ` line brings, behind those known
+unfoldable pub hasRoom : Rules → State → List ℕ → List ℕ → Bool
+hasRoom rules s names line = fitBehind (seen s) (namesIn rules s line) names
+
 -- the identifiers after a `+ ` line
 unfoldable pub namesAfter : Rules → State → List ℕ → List ℕ → List ℕ
-namesAfter rules s names line = knownNames s names ++ laid (namesIn rules s line) (drop (seen s) names)
+namesAfter rules s names line = laidBehind (seen s) (namesIn rules s line) names

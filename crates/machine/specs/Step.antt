@@ -1,6 +1,6 @@
 -- What a line does at its place, and what the lines of some bytes do one after another. 01: "Readers go line by line. First they take plain
 -- bytes and a place".
-use mathlib.Core.Bool.{Bool, cond}
+use mathlib.Core.Bool.{Bool, true, cond}
 use mathlib.Core.List.{List, [], _∷_}
 use Prim.Native.Nat.{ℕ, _+_}
 use lib.Dec.{eqb, leb}
@@ -13,7 +13,7 @@ use Rattle.record.specs.LineKinds.{kindOf}
 use Rattle.header.specs.declared.types.Rules.{Rules}
 use Rattle.record.specs.declared.types.LineKind.{LineKind}
 use Rattle.machine.specs.Checks.{firstUnprintable}
-use Rattle.machine.specs.State.{namesAfter}
+use Rattle.machine.specs.State.{hasRoom, namesAfter}
 use Rattle.machine.specs.Faults.{longest, placeFault}
 use Rattle.machine.specs.Next.{nextOf}
 use Rattle.machine.specs.declared.types.State.{State}
@@ -44,7 +44,7 @@ stepOf rules s names line =
 unfoldable pub namesBrought : Rules → State → List ℕ → List ℕ → List ℕ
 namesBrought rules s names line = cond (eqb (s .due) 3) (namesAfter rules s names (padded line)) names
 
--- the identifiers after a line, by what it does
+-- the identifiers after a line, by what it does; where there is no room for them `namesAfter` leaves the list as it was
 abbrev pub keptOn : Verdict → Rules → State → List ℕ → List ℕ → List ℕ
 keptOn (verdict.Fault number column) rules s names line = names
 keptOn (verdict.Next s′) rules s names line = namesBrought rules s names line
@@ -53,24 +53,42 @@ keptOn verdict.Finished rules s names line = names
 unfoldable pub namesKept : Rules → State → List ℕ → List ℕ → List ℕ
 namesKept rules s names line = keptOn (stepOf rules s names line) rules s names line
 
--- what the line reader finds: a verdict at the place after the line
+-- where a `+ ` line (3) is due, the list has room for the identifiers that it brings; any other line needs none
+abbrev pub findsRoom : Rules → State → List ℕ → List ℕ → Bool
+findsRoom rules s names line = cond (eqb (s .due) 3) (hasRoom rules s names (padded line)) true
+
+-- 12 where a line goes on and there is no room
+abbrev pub ifRoom : Bool → Verdict → Verdict
+ifRoom roomy (verdict.Fault number column) = verdict.Fault number column
+ifRoom roomy (verdict.Next s) = cond roomy (verdict.Next s) (verdict.Fault 12 0)
+ifRoom roomy verdict.Finished = verdict.Finished
+
+-- what a line does where its identifiers are kept in a lent list. 01: 12 is "lent room is too small" and "comes after all other checks"
+unfoldable pub stepWithin : Rules → State → List ℕ → List ℕ → Verdict
+stepWithin rules s names line = ifRoom (findsRoom rules s names line) (stepOf rules s names line)
+
+-- what is found: a verdict at the place after the line
 abbrev pub readAs : Verdict → ℕ → LineRead
 readAs (verdict.Fault number column) at = found.Fault number column
 readAs (verdict.Next s) at = found.Next at s
 readAs verdict.Finished at = found.Finished at
 
--- the first of the lines that are left
-unfoldable pub readFirst : Rules → State → List ℕ → ℕ → List (List ℕ) → LineRead
-readFirst rules s names at [] = found.NoLine
-readFirst rules s names at (l ∷ ls) = readAs (stepOf rules s names l) (at + length l + 1)
+-- the first of the lines that are left, by what lines do
+unfoldable pub readFirst : (List ℕ → Verdict) → ℕ → List (List ℕ) → LineRead
+readFirst does at [] = found.NoLine
+readFirst does at (l ∷ ls) = readAs (does l) (at + length l + 1)
 
 unfoldable pub namesFirst : Rules → State → List ℕ → List (List ℕ) → List ℕ
 namesFirst rules s names [] = names
 namesFirst rules s names (l ∷ ls) = namesKept rules s names l
 
--- the line of some bytes that begins at a place
+-- the line of some bytes that begins at a place, where the identifiers are known
+abbrev pub lineAt : Rules → List ℕ → ℕ → State → List ℕ → LineRead
+lineAt rules bytes at s names = readFirst (stepOf rules s names) at (linesOf (drop at bytes))
+
+-- the same by the plain line reader, which keeps them in a lent list; and the list after it
 abbrev pub lineRead : Rules → List ℕ → ℕ → State → List ℕ → LineRead
-lineRead rules bytes at s names = readFirst rules s names at (linesOf (drop at bytes))
+lineRead rules bytes at s names = readFirst (stepWithin rules s names) at (linesOf (drop at bytes))
 
 abbrev pub lineNames : Rules → List ℕ → ℕ → State → List ℕ → List ℕ
 lineNames rules bytes at s names = namesFirst rules s names (linesOf (drop at bytes))

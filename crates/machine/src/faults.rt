@@ -48,7 +48,7 @@ pub(crate) fn front_of(names: &[u64], n: usize) -> &[u64]
 }
 
 // The name of the satellite whose row must come.
-fn name_due(state: State, names: &[u64]) -> u64
+pub(crate) fn name_due(state: State, names: &[u64]) -> u64
     ensures { λ r. ⌜ r ≡ nameDue state (now (names .entry)) ⌝ }
 {
     let at = seen_so_far(state);

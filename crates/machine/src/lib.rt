@@ -9,6 +9,7 @@ pub use checks::instant_in;
 pub use checks::repeats_name;
 pub use checks::type_agrees;
 pub use faults::kind_number;
+pub use step::keep_names;
 pub use step::line_at;
 pub use step::read_line;
 pub use step::start;

@@ -194,7 +194,7 @@ fn satellite_done(also: u64, state: State) -> State
 }
 
 // A P line: in mode V the same satellite's V must come; one EP may stand.
-fn after_position(state: State) -> State
+pub(crate) fn after_position(state: State) -> State
     ensures { λ r. ⌜ r ≡ afterPosition state ⌝ }
 {
     if state.velocity {

@@ -2,9 +2,10 @@
 ghost use mathlib.Core.Path.{_≡_};
 ghost use Rattle.laws.specs.Texts.{every, isPrintable};
 ghost use Rattle.layout.specs.Line.{padded};
-ghost use Rattle.machine.specs.State.{startState, namesAfter};
+ghost use Rattle.machine.specs.State.{startState, fitBehind, laidBehind, hasRoom, namesAfter};
 ghost use Rattle.machine.specs.Told.{toldVerdict, toldRead};
-ghost use Rattle.machine.specs.Step.{judgedLine, stepOf, namesBrought, lineRead, lineNames};
+ghost use Rattle.machine.specs.Usual.{dueRow};
+ghost use Rattle.machine.specs.Step.{judgedLine, stepOf, lineAt, lineRead, lineNames};
 use crate::checks;
 use crate::faults;
 use crate::next;
@@ -60,11 +61,26 @@ fn is_plain(line: &[u8], columns: &[u8; 80]) -> bool
     layout::is_printable(s)
 }
 
+// Whether a line is the P line that is due, without fault and of the usual kind: most lines of a file are, and no more is asked of them.
+fn is_due_row(state: State, names: &[u64], line: &[u8], columns: &[u8; 80]) -> bool
+    ensures { λ r. ⌜ r ≡ dueRow state (now (names .entry)) (now (line .entry)) (now (columns .entry)) ⌝ }
+{
+    let due = (state.due == 10) & (line.len() <= 80);
+    if !due {
+        return false;
+    }
+    let named = record::rows::satellite_in(columns) == faults::name_due(state, names);
+    record::rows::is_usual(columns) & named
+}
+
 // What a line does where the header's identifiers so far are `names`: CR in column 61 is 2 at column 61, 81 blanks are 3 at column 81.
 pub fn step_line(rules: Rules, state: State, names: &[u64], line: &[u8]) -> Verdict
     ensures result { λ r. ⌜ toldVerdict r ≡ toldVerdict (stepOf rules state (now (names .entry)) (now (line .entry))) ⌝ }
 {
     let padded = layout::pad(line);
+    if is_due_row(state, names, line, &padded) {
+        return Verdict::Next(next::after_position(state));
+    }
     if !is_plain(line, &padded) {
         return Verdict::Fault {
             number: 2,
@@ -82,45 +98,42 @@ pub fn step_line(rules: Rules, state: State, names: &[u64], line: &[u8]) -> Verd
     judge_line(kind, rules, state, names, &padded)
 }
 
-// Stores the names that a `+ ` line of 80 columns brings after those known.
-fn store_names(rules: Rules, state: State, names: &mut [u64], line: &[u8; 80])
-    ensures { λ _. ⌜ now (names .exit) ≡ namesAfter rules state (now (names .entry)) (now (line .entry)) ⌝ }
+// Lays numbers into a list behind its first `from`, and tells whether they fit; where they do not nothing changes.
+fn lay_behind(list: &mut [u64], from: usize, new: &[u64]) -> bool
+    ensures result { λ r. ⌜ r ≡ fitBehind from (now (new .entry)) (now (list .entry)) ⌝ }
+    ensures lent { λ _. ⌜ now (list .exit) ≡ laidBehind from (now (new .entry)) (now (list .entry)) ⌝ }
 {
-    let from = faults::seen_so_far(state);
-    if names.len() <= from {
-        return;
+    if list.len() < from {
+        return false;
     }
-    if state.satellites == 0 {
-        let first = record::slots::read_satellites(rules, line);
-        let all = first.names;
-        lines::lay_numbers(
-            &mut names[from..],
-            faults::front_of(&all, first.count as usize),
-        );
-        return;
+    if list.len() - from < new.len() {
+        return false;
     }
-    let more = record::slots::read_slots(line, false, state.left);
-    let all = more.values;
-    lines::lay_numbers(
-        &mut names[from..],
-        faults::front_of(&all, state.left as usize),
-    );
+    lines::lay_numbers(&mut list[from..], new);
+    true
 }
 
-// The names after a line without fault: a `+ ` line brings some.
-fn keep_names(rules: Rules, state: State, names: &mut [u64], line: &[u8])
-    ensures { λ _. ⌜ now (names .exit) ≡ namesBrought rules state (now (names .entry)) (now (line .entry)) ⌝ }
+// Keeps the identifiers that a `+ ` line without fault brings, behind those known, and tells whether there is room for them; where there is none
+// nothing changes.
+pub fn keep_names(rules: Rules, state: State, names: &mut [u64], line: &[u8]) -> bool
+    ensures result { λ r. ⌜ r ≡ hasRoom rules state (now (names .entry)) (padded (now (line .entry))) ⌝ }
+    ensures lent { λ _. ⌜ now (names .exit) ≡ namesAfter rules state (now (names .entry)) (padded (now (line .entry))) ⌝ }
 {
-    if state.due != 3 {
-        return;
-    }
     let padded = layout::pad(line);
-    store_names(rules, state, names, &padded);
+    let from = faults::seen_so_far(state);
+    if state.satellites == 0 {
+        let first = record::slots::read_satellites(rules, &padded);
+        let all = first.names;
+        return lay_behind(names, from, faults::front_of(&all, first.count as usize));
+    }
+    let more = record::slots::read_slots(&padded, false, state.left);
+    let all = more.values;
+    lay_behind(names, from, faults::front_of(&all, state.left as usize))
 }
 
 // What the line at a place does, where the header's identifiers so far are `names`, and where the next begins. No LF from the place on: no line.
 pub fn line_at(rules: Rules, bytes: &[u8], at: usize, state: State, names: &[u64]) -> LineRead
-    ensures result { λ r. ⌜ toldRead r ≡ toldRead (lineRead rules (now (bytes .entry)) at state (now (names .entry))) ⌝ }
+    ensures result { λ r. ⌜ toldRead r ≡ toldRead (lineAt rules (now (bytes .entry)) at state (now (names .entry))) ⌝ }
 {
     let end = lines::line_end(bytes, at);
     if end >= bytes.len() {
@@ -136,19 +149,24 @@ pub fn line_at(rules: Rules, bytes: &[u8], at: usize, state: State, names: &[u64
     }
 }
 
-// The plain line reader: the same, and a `+ ` line leaves its identifiers in `names`.
+// The plain line reader: the same, and a `+ ` line leaves its identifiers in `names`. Where a `+ ` line without fault brings more than fit: 12, and
+// nothing changes.
 pub fn read_line(rules: Rules, bytes: &[u8], at: usize, state: State, names: &mut [u64]) -> LineRead
     ensures result { λ r. ⌜ toldRead r ≡ toldRead (lineRead rules (now (bytes .entry)) at state (now (names .entry))) ⌝ }
     ensures lent { λ _. ⌜ now (names .exit) ≡ lineNames rules (now (bytes .entry)) at state (now (names .entry)) ⌝ }
 {
     let found = line_at(rules, bytes, at, state, names);
-    let LineRead::Next { at: _, state: _ } = found else {
+    let LineRead::Next { at: next, state: _ } = found else {
         return found;
     };
-    let end = lines::line_end(bytes, at);
-    if end >= bytes.len() {
+    if state.due != 3 {
         return found;
     }
-    keep_names(rules, state, names, &bytes[at..end]);
-    found
+    if keep_names(rules, state, names, &bytes[at..next - 1]) {
+        return found;
+    }
+    LineRead::Fault {
+        number: 12,
+        column: 0,
+    }
 }

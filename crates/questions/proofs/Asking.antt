@@ -1,6 +1,6 @@
 -- Laws of the questions, on plain values: a text without its trailing blanks, a name's number, where a line lies, and what bounds the lines
 -- of an accepted file. Assumes nothing.
-use mathlib.Core.Path.{_≡_, sym, ap, ap₂, _∙_}
+use mathlib.Core.Path.{_≡_, refl, sym, ap, ap₂, _∙_}
 use mathlib.Core.Bool.{Bool, true, false, _&&_}
 use mathlib.Core.List.{List, [], _∷_, _++_, append-nil}
 use Prim.Native.Nat.{ℕ, _+_, _*_, _-_, _<_, _≤_, min}
@@ -11,6 +11,9 @@ use borrow.Author.Tests.{eq-eqb, ne-eqb, lt-ltb, le-ltb, ltb-true}
 use lib.Dec.{ltb}
 use lib.ListN.{length, getD, take, drop, length-append, length-drop, drop-of-length-le}
 use lib.Seq.{take-append-seam}
+use denote.Ref.{RefT, now}
+use Rattle.laws.specs.Places.{byteOf}
+use Rattle.laws.proofs.Places.{in-front, in-part}
 use Rattle.layout.specs.Line.{trimmed}
 use Rattle.lines.specs.Lent.{laid}
 use Rattle.lines.proofs.Laying.{laid-fits}
@@ -19,6 +22,7 @@ use Rattle.header.specs.Rules.{d}
 use Rattle.file.specs.Kinds.{isKind, ofKind}
 use Rattle.file.specs.Plain.{Plain}
 use Rattle.file.specs.Table.{firstIn, countOf, slotsIn}
+use Rattle.file.proofs.Finding.{line-within}
 use Rattle.scan.specs.Run.{scanOf, wholeOf}
 use Rattle.reader.specs.Reading.{linesTo, fileOf, identifiersOf}
 use Rattle.questions.specs.Questions.{textIn, noComment, commentLine, commentPlace, commentAt, commentAnswer, commentWords, indexOf, satelliteIn, satelliteAnswer, epochsOf, noRow, rowAt, rowPlace}
@@ -64,25 +68,6 @@ module _ (name : ℕ) (names : List ℕ) (i : ℕ) where
   pub index-none : length names ≤ i → i + indexOf name (drop i names) ≡ i
   unfolding indexOf
   index-none h = rw (rest-none names i h, add-zero)
-
--- complete lines take up no more than the bytes
-pub lines-within : (bytes : List ℕ) → bytesIn (linesOf bytes) ≤ length bytes
-lines-within bytes = omega (arith, bytes-in (linesOf bytes), parted (linesOf bytes) bytes [] (sym (append-nil (linesOf bytes))) .within)
-
--- the k-th line that passes a test ends within the bytes
-pub line-within : (test : List ℕ → Bool) (k : ℕ) (bytes : List ℕ)
-    → placeFrom test k 0 (linesOf bytes) + length (nth k (select test (linesOf bytes))) ≤ length bytes
-line-within test k bytes = go (decLt k (length (select test (linesOf bytes))))
-  where
-    go : Dec (k < length (select test (linesOf bytes))) → placeFrom test k 0 (linesOf bytes) + length (nth k (select test (linesOf bytes))) ≤ length bytes
-    go (yes h) =
-        let p = placed test k bytes h in
-        let place = placeFrom test k 0 (linesOf bytes) in
-        let line = nth k (select test (linesOf bytes)) in
-        let f = first (drop place bytes) line (p .more) (p .there) in
-        omega (arith, p .within, length-drop place bytes, ap length (f .bytes-are) ∙ length-append line (10 ∷ f .rest))
-    go (no h) =
-        omega (arith, place-past test k 0 (linesOf bytes) (omega arith), ap length (nth-past k (select test (linesOf bytes)) (omega arith)), lines-within bytes)
 
 -- where a comment's text lies, by its line's place, its line and the text
 pub comment-told : (rules : Rules) (lines : List (List ℕ)) (k place indent : ℕ) (line text : List ℕ)
@@ -197,6 +182,19 @@ no-comment-there bytes t k a h is = is ∙ rw (le-ltb k (t .comments) h)
 pub no-words-there : (bytes : List ℕ) (t : Tally) (k : ℕ) → t .comments ≤ k → [] ≡ commentWords d bytes (front.File t) k
 unfolding commentWords
 no-words-there bytes t k h = rw (le-ltb k (t .comments) h)
+
+-- the text of a comment lies where the answer says
+pub at-comment : (rules : Rules) → rules ≡ d → (file : RefT (List ℕ)) (t : Tally) → fileOf d (now file) ≡ front.File t → (k : ℕ) (line text : RefT (List ℕ)) → k < t .comments
+    → now line ≡ commentLine rules (linesTo (t .end - 0) (now file)) k
+    → line .ptr ≡ (file .ptr .0, commentPlace rules (linesTo (t .end - 0) (now file)) k + (0 + file .ptr .1))
+    → now text ≡ textIn (now line) → text .ptr ≡ byteOf line (min 3 (length (now line)))
+    → text .ptr ≡ byteOf file (commentAnswer d (now file) (fileOf d (now file)) k .at)
+at-comment rules r file t e k line text h is-line at-line is-text at-text =
+    let lines = linesTo (t .end - 0) (now file) in
+    let place = commentPlace rules lines k in
+    let told = comment-told rules lines k place (min 3 (length (now line))) (now line) (now text) refl is-line refl is-text in
+    in-part file line text place (min 3 (length (now line))) (at-line ∙ in-front file place) at-text
+    ∙ ap (λ (a : CommentAnswer). byteOf file (a .at)) (comment-as (now file) (front.File t) e k _ (comment-there rules r (now file) t k _ h told))
 
 -- an accepted file ends within its bytes
 pub file-within : (bytes : List ℕ) (t : Tally) → fileOf d bytes ≡ front.File t → t .end ≤ length bytes

@@ -1,7 +1,7 @@
--- Any two outcomes that a contract allows agree, in the result and in every byte of a text that is handed back.
+-- Any two outcomes that a contract allows agree, in the result, and of a text that is handed back in every byte and in its address.
 -- Assumes nothing.
 use mathlib.Core.Path.{_≡_, sym, _∙_}
-use denote.Ref.{now}
+use Rattle.laws.specs.Places.{Same}
 use Rattle.questions.proofs.comments.comment_answer.Reads as comment-answer
 use Rattle.questions.proofs.comments.comment.Reads as comment
 use Rattle.questions.proofs.rows.row_place.Reads as row-place
@@ -11,8 +11,8 @@ use Rattle.questions.proofs.satellites.satellite_of.Reads as satellite-
 pub comment-answer-determined : (κs : _) (a : _) (r r′ : _) (s s′ : _) → comment-answer.Post κs a r s → comment-answer.Post κs a r′ s′ → r ≡ r′
 comment-answer-determined κs a r r′ s s′ p q = p ∙ sym q
 
-pub comment-determined : (κs : _) (a : _) (r r′ : _) (s s′ : _) → comment.Post κs a r s → comment.Post κs a r′ s′ → now r ≡ now r′
-comment-determined κs a r r′ s s′ p q = p ∙ sym q
+pub comment-determined : (κs : _) (a : _) (r r′ : _) (s s′ : _) → comment.Post κs a r s → comment.Post κs a r′ s′ → Same r r′
+comment-determined κs a r r′ s s′ p q = (p .0 ∙ sym (q .0), p .1 ∙ sym (q .1))
 
 pub row-place-determined : (κs : _) (a : _) (r r′ : _) (s s′ : _) → row-place.Post κs a r s → row-place.Post κs a r′ s′ → r ≡ r′
 row-place-determined κs a r r′ s s′ p q = p ∙ sym q

@@ -1,14 +1,16 @@
 -- What the answers of the questions mean for an accepted file.
 -- Assumes nothing.
-use mathlib.Core.Path.{_≡_, sym, ap, _∙_, subst}
+use mathlib.Core.Path.{_≡_, refl, sym, ap, _∙_, subst}
 use mathlib.Core.Bool.{true, false}
 use mathlib.Core.List.{List, _∷_, _++_}
 use Prim.Native.Nat.{ℕ, _+_, _*_, _<_, _≤_, min}
-use native.Mathlib.Decide.{decLe}
+use native.Mathlib.Decide.{decLe, decLt}
 use native.Mathlib.Omega.{arith}
-use borrow.Author.Tests.{lt-ltb}
+use borrow.Author.Tests.{lt-ltb, le-ltb}
 use lib.ListN.{length, getD, take, drop}
 use lib.Seq.{take-append-le, drop-append-le, drop-drop}
+use denote.Ref.{now}
+use Rattle.laws.specs.Places.{PartAt}
 use Rattle.lines.specs.Lines.{linesOf, nth, placeFrom}
 use Rattle.header.specs.Rules.{d}
 use Rattle.file.specs.Kinds.{isKind, ofKind}
@@ -31,6 +33,7 @@ use Rattle.plain.proofs.Selected.{satellites}
 use Rattle.plain.proofs.Counts.{count-is, identifiers-are}
 use Rattle.plain.proofs.Rule.{EpochAt, the-rule, place-at}
 use Rattle.questions.proofs.Asking.{epochs-are}
+use Rattle.questions.proofs.comments.comment.Reads as comment
 
 -- a text that begins at column 4 of a line, or at its end, is found there
 text-in-line : (line rest : List ℕ) → take (length (textIn line)) (drop (min 3 (length line)) (line ++ rest)) ≡ textIn line
@@ -109,3 +112,18 @@ module _ (bytes : List ℕ) (t : Tally) (e : fileOf d bytes ≡ front.File t) wh
           at-epoch = the-rule p epoch in-time;
           among = by-header ∙ the-rule p epoch in-time .places .numbered satellite in-header;
         }
+
+-- THE TEXT HANDED BACK is the part of the lent file that `comment_answer` names, for every file and every number.
+handed : (bytes : List ℕ) (k : ℕ) (f : Front) → fileOf d bytes ≡ f
+    → take (commentAnswer d bytes (fileOf d bytes) k .length) (drop (commentAnswer d bytes (fileOf d bytes) k .at) bytes) ≡ commentWords d bytes (fileOf d bytes) k
+unfolding commentAnswer commentWords
+handed bytes k (front.File t) e = go (decLt k (t .comments))
+  where
+    go : Dec (k < t .comments) → take (commentAnswer d bytes (fileOf d bytes) k .length) (drop (commentAnswer d bytes (fileOf d bytes) k .at) bytes) ≡ commentWords d bytes (fileOf d bytes) k
+    go (yes h) = comment-stretch bytes t e k h
+    go (no h) = rw (e, le-ltb k (t .comments) (omega arith))
+handed bytes k (front.Refused number line column) e = rw e
+
+pub comment-part : (κs : _) (a : _) (r : _) (s : _) → comment.Post κs a r s
+    → PartAt (a .0) (commentAnswer d (now (a .0)) (fileOf d (now (a .0))) (a .1 .0) .at) (commentAnswer d (now (a .0)) (fileOf d (now (a .0))) (a .1 .0) .length) r
+comment-part κs a r s p = (p .0 ∙ sym (handed (now (a .0)) (a .1 .0) (fileOf d (now (a .0))) refl), p .1)

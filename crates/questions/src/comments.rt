@@ -1,5 +1,9 @@
 // Comments of one whole file, asked for by number: the file's own refusal first, then 13 with line 0.
 ghost use mathlib.Core.Path.{_≡_};
+ghost use Prim.Native.Nat.{min};
+ghost use lib.ListN.{length};
+ghost use denote.Ref.{ptr};
+ghost use Rattle.laws.specs.Places.{byteOf};
 ghost use Rattle.lines.specs.Lines.{linesOf};
 ghost use Rattle.header.specs.Rules.{d};
 ghost use Rattle.reader.specs.Reading.{fileOf};
@@ -8,12 +12,13 @@ use crate::types::CommentAnswer;
 use header::Rules;
 use scan::Front;
 
-// The text of a comment's line: from column 4 on, without trailing blanks.
+// The text of a comment's line: from column 4 on, without trailing blanks. It lies at column 4, or at the line's end where the line is shorter.
 fn text_of(line: &[u8]) -> &[u8]
-    ensures { λ r. ⌜ now r ≡ textIn (now (line .entry)) ⌝ }
+    ensures result { λ r. ⌜ now r ≡ textIn (now (line .entry)) ⌝ }
+    ensures place { λ r. ⌜ ptr r ≡ byteOf (line .entry) (min 3 (length (now (line .entry)))) ⌝ }
 {
     if line.len() < 3 {
-        return &line[0..0];
+        return &line[line.len()..];
     }
     let words = &line[3..];
     let n = layout::trimmed_length(words);
@@ -69,9 +74,10 @@ pub fn comment_answer(file: &[u8], k: u64) -> CommentAnswer
     }
 }
 
-// The text of the k-th comment of a file, a stretch of it; empty on a refusal.
+// The text of the k-th comment of a file, that stretch of it: it lies where `comment_answer` says. Empty, at the file's first byte, on a refusal.
 pub fn comment(file: &[u8], k: u64) -> &[u8]
     ensures result { λ r. ⌜ now r ≡ commentWords d (now (file .entry)) (fileOf d (now (file .entry))) k ⌝ }
+    ensures place { λ r. ⌜ ptr r ≡ byteOf (file .entry) (commentAnswer d (now (file .entry)) (fileOf d (now (file .entry))) k .at) ⌝ }
 {
     let rules = Rules::d();
     match scan::scan_whole(rules, file) {

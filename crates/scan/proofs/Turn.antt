@@ -3,25 +3,25 @@
 use mathlib.Core.Path.{_≡_, refl, sym, ap, ap₂, _∙_, subst}
 use mathlib.Core.Bool.{Bool, true, false, _||_}
 use mathlib.Core.List.{List, [], _∷_}
-use Prim.Native.Nat.{ℕ, suc, _+_, _-_, _≤_, _<_, zero-le}
+use Prim.Native.Nat.{ℕ, _+_, _-_, _≤_, _<_, zero-le}
 use native.Mathlib.Omega.{arith}
+use borrow.Author.Tests.{eq-eqb, ne-eqb}
 use lib.Dec.{eqb}
-use lib.ListN.{length, getD, take, drop, length-append, length-take, length-drop}
-use lib.Seq.{take-at, drop-append-add, drop-drop}
-use Rattle.lines.specs.Lent.{laid}
+use lib.ListN.{length, getD, take, drop}
+use Rattle.layout.specs.Line.{padded}
 use Rattle.lines.specs.Lines.{linesOf}
-use Rattle.lines.proofs.Laying.{laid-length}
-use Rattle.lines.proofs.Split.{first}
+use Rattle.lines.proofs.Lined.{Lined, lined}
 use Rattle.file.specs.Kinds.{kindIn, isKind, isRow}
 use Rattle.file.proofs.Finding.{kind-told}
 use Rattle.header.specs.declared.types.Rules.{Rules}
-use Rattle.machine.specs.State.{startState, noNames, seen, knownNames, namesIn, namesAfter}
-use Rattle.machine.specs.Step.{stepOf, namesBrought, keptOn, namesKept, readAs, readFirst, namesFirst, lineRead, lineNames}
+use Rattle.machine.specs.State.{startState, noNames, namesAfter}
+use Rattle.machine.specs.Step.{stepOf, namesBrought, readAs, readFirst, lineAt}
 use Rattle.machine.specs.declared.types.State.{State}
 use Rattle.machine.specs.declared.types.Verdict.{Verdict}
 use Rattle.machine.specs.declared.types.Verdict.the-variants as verdict
 use Rattle.machine.specs.declared.types.LineRead.{LineRead}
 use Rattle.machine.specs.declared.types.LineRead.the-variants as found
+use Rattle.machine.proofs.Stepping.{brought-length}
 use Rattle.scan.specs.declared.Tally.{Tally}
 use Rattle.scan.specs.declared.Front.the-variants as front
 use Rattle.scan.specs.Run.{nothing, oneMore, counted, onVerdict, run, scanOf}
@@ -41,53 +41,6 @@ more-or-not : (b : Bool) (n : ℕ) → oneMore b n ≤ n + 1
 more-or-not true n = omega arith
 more-or-not false n = omega arith
 
--- a line keeps the number of places for identifiers
-after-size : (rules : Rules) (s : State) (names line : List ℕ) → length (namesAfter rules s names line) ≡ length names
-unfolding namesAfter
-after-size rules s names line =
-    omega (
-      arith,
-      length-append (knownNames s names) (laid (namesIn rules s line) (drop (seen s) names)),
-      laid-length (namesIn rules s line) (drop (seen s) names),
-      length-take (seen s) names,
-      length-drop (seen s) names,
-    )
-
-brought-size : (rules : Rules) (s : State) (names line : List ℕ) → length (namesBrought rules s names line) ≡ length names
-unfolding namesBrought
-brought-size rules s names line = go (eqb (s .due) 3) refl
-  where
-    go : (b : Bool) → eqb (s .due) 3 ≡ b → length (namesBrought rules s names line) ≡ length names
-    go true e = rw (e, after-size)
-    go false e = rw e
-
--- the next line of some bytes: it ends at an LF, and what follows the LF are the lines after it
-pub record Lined (bytes : List ℕ) (at end : ℕ) (l : List ℕ) (ls : List (List ℕ)) : Type 0 where
-  pub starts : at < end
-  pub within : end ≤ length bytes
-  pub text : take (end - 1 - at) (drop at bytes) ≡ l
-  pub rest : linesOf (drop end bytes) ≡ ls
-
-pub lined : (bytes : List ℕ) (at : ℕ) (l : List ℕ) (ls : List (List ℕ)) → linesOf (drop at bytes) ≡ l ∷ ls → Lined bytes at (at + length l + 1) l ls
-lined bytes at l ls e =
-    let f = first (drop at bytes) l ls e in
-    let size : length (drop at bytes) ≡ length l + suc (length (f .rest)) = ap length (f .bytes-are) ∙ length-append l (10 ∷ f .rest) in
-    let left = length-drop at bytes in
-    let here : length l ≡ at + length l + 1 - 1 - at = omega arith in
-    let past : at + length l + 1 ≡ at + (length l + 1) = omega arith in
-    record {
-      starts = omega arith;
-      within = omega arith;
-      text = ap (take (at + length l + 1 - 1 - at)) (f .bytes-are) ∙ take-at l (10 ∷ f .rest) (at + length l + 1 - 1 - at) here;
-      rest =
-          ap linesOf
-          (ap (λ (n : ℕ). drop n bytes) past
-          ∙ sym (drop-drop (length l + 1) at bytes)
-          ∙ ap (drop (length l + 1)) (f .bytes-are)
-          ∙ drop-append-add l (10 ∷ f .rest) 1)
-          ∙ f .rest-lines;
-    }
-
 pub record Going (rules : Rules) (bytes names : List ℕ) (s : State) (t : Tally) : Type 0 where
   pub size : length names ≡ 255
   pub within : t .end ≤ length bytes
@@ -106,19 +59,20 @@ pub record Ended (rules : Rules) (bytes : List ℕ) (t : Tally) (end : ℕ) : Ty
   pub within : end ≤ length bytes
   pub finished : (t′ : Tally) → t′ ≡ counted rules t (take (end - 1 - t .end) (drop (t .end) bytes)) → front.File t′ ≡ scanOf rules bytes
 
--- after another line
-pub record Passed (rules : Rules) (bytes names : List ℕ) (s : State) (t : Tally) (end : ℕ) : Type 0 where
+-- after another line, which ends before `end` and after which the state is `next`
+pub record Passed (rules : Rules) (bytes names : List ℕ) (s : State) (t : Tally) (end : ℕ) (next : State) : Type 0 where
   pub starts : t .end < end
   pub within : end ≤ length bytes
-  pub goes-on : (t′ : Tally) → t′ ≡ counted rules t (take (end - 1 - t .end) (drop (t .end) bytes)) → Going rules bytes names s t′
+  pub goes-on : let text = take (end - 1 - t .end) (drop (t .end) bytes) in
+      (names′ : List ℕ) (t′ : Tally) → names′ ≡ namesBrought rules s names text → t′ ≡ counted rules t text → Going rules bytes names′ next t′
   pub falls : (t′ : Tally) → t′ ≡ counted rules t (take (end - 1 - t .end) (drop (t .end) bytes)) → length bytes - t′ .end < length bytes - t .end
 
--- by what the reader found, with the identifiers after it
-abbrev pub Turned : Rules → List ℕ → List ℕ → Tally → LineRead → Type 0
-Turned rules bytes names t found.NoLine = front.Refused 1 (t .lines + 1) 0 ≡ scanOf rules bytes
-Turned rules bytes names t (found.Fault number column) = front.Refused number (t .lines + 1) column ≡ scanOf rules bytes
-Turned rules bytes names t (found.Next end s) = Passed rules bytes names s t end
-Turned rules bytes names t (found.Finished end) = Ended rules bytes t end
+-- by what was found at a state, with these identifiers
+abbrev pub Turned : Rules → List ℕ → List ℕ → State → Tally → LineRead → Type 0
+Turned rules bytes names s t found.NoLine = front.Refused 1 (t .lines + 1) 0 ≡ scanOf rules bytes
+Turned rules bytes names s t (found.Fault number column) = front.Refused number (t .lines + 1) column ≡ scanOf rules bytes
+Turned rules bytes names s t (found.Next end next) = Passed rules bytes names s t end next
+Turned rules bytes names s t (found.Finished end) = Ended rules bytes t end
 
 module _ (rules : Rules) (bytes names : List ℕ) (s : State) (t : Tally) (g : Going rules bytes names s t) where
   module _ (l : List ℕ) (ls : List (List ℕ)) (e : linesOf (drop (t .end) bytes) ≡ l ∷ ls) where
@@ -129,26 +83,28 @@ module _ (rules : Rules) (bytes names : List ℕ) (s : State) (t : Tally) (g : G
     unfolding run
     judged = sym (ap (run rules s names t) e) ∙ g .same
 
-    goes : (s′ : State) → stepOf rules s names l ≡ verdict.Next s′ → (t′ : Tally) → t′ ≡ counted rules t l → Going rules bytes (namesBrought rules s names l) s′ t′
+    goes : (s′ : State) → stepOf rules s names l ≡ verdict.Next s′ → (names′ : List ℕ) (t′ : Tally) → names′ ≡ namesBrought rules s names l → t′ ≡ counted rules t l
+        → Going rules bytes names′ s′ t′
     unfolding counted
-    goes s′ w t′ y =
+    goes s′ w names′ t′ x y =
         let ends : t′ .end ≡ t .end + length l + 1 = ap (λ (x : Tally). x .end) y in
+        let after : run rules s′ (namesBrought rules s names l) t′ (linesOf (drop (t′ .end) bytes)) ≡ scanOf rules bytes =
+        ap₂ (λ (x : Tally) (k : List (List ℕ)). run rules s′ (namesBrought rules s names l) x k) y (ap (λ (n : ℕ). linesOf (drop n bytes)) ends ∙ here .rest)
+        ∙ (rw w at judged) in
         record {
-          size = brought-size rules s names l ∙ g .size;
+          size = ap length x ∙ brought-length rules s names l ∙ g .size;
           within = omega (arith, here .within);
           lines = omega (arith, ap (λ (x : Tally). x .lines) y, g .lines);
           comments = omega (arith, ap (λ (x : Tally). x .comments) y, more-or-not (isKind rules 8 l) (t .comments), g .comments);
           rows = omega (arith, ap (λ (x : Tally). x .rows) y, more-or-not (isRow rules l) (t .rows), g .rows);
-          same =
-              ap₂ (λ (x : Tally) (k : List (List ℕ)). run rules s′ (namesBrought rules s names l) x k) y (ap (λ (n : ℕ). linesOf (drop n bytes)) ends ∙ here .rest)
-              ∙ (rw w at judged);
+          same = ap (λ (n : List ℕ). run rules s′ n t′ (linesOf (drop (t′ .end) bytes))) x ∙ after;
         }
 
     drops : (t′ : Tally) → t′ ≡ counted rules t l → length bytes - t′ .end < length bytes - t .end
     unfolding counted
     drops t′ y = omega (arith, ap (λ (x : Tally). x .end) y, here .starts, here .within)
 
-    line-turned : (v : Verdict) → stepOf rules s names l ≡ v → Turned rules bytes (keptOn v rules s names l) t (readAs v (t .end + length l + 1))
+    line-turned : (v : Verdict) → stepOf rules s names l ≡ v → Turned rules bytes names s t (readAs v (t .end + length l + 1))
     unfolding counted
     line-turned (verdict.Fault number column) w = rw w at judged
     line-turned (verdict.Next s′) w =
@@ -156,23 +112,30 @@ module _ (rules : Rules) (bytes names : List ℕ) (s : State) (t : Tally) (g : G
         record {
           starts = here .starts;
           within = here .within;
-          goes-on = λ t′ y. goes s′ w t′ (y ∙ known);
+          goes-on = λ names′ t′ x y. goes s′ w names′ t′ (x ∙ ap (namesBrought rules s names) (here .text)) (y ∙ known);
           falls = λ t′ y. drops t′ (y ∙ known);
         }
     line-turned verdict.Finished w =
         let known = ap (counted rules t) (here .text) in
         record { starts = here .starts; within = here .within; finished = λ t′ y. ap front.File (y ∙ known) ∙ (rw w at judged) }
 
-  first-turned : (ks : List (List ℕ)) → linesOf (drop (t .end) bytes) ≡ ks → Turned rules bytes (namesFirst rules s names ks) t (readFirst rules s names (t .end) ks)
-  unfolding readFirst namesFirst namesKept run
+  first-turned : (ks : List (List ℕ)) → linesOf (drop (t .end) bytes) ≡ ks → Turned rules bytes names s t (readFirst (stepOf rules s names) (t .end) ks)
+  unfolding readFirst run
   first-turned [] e = sym (ap (run rules s names t) e) ∙ g .same
   first-turned (l ∷ ls) e = line-turned l ls e (stepOf rules s names l) refl
 
-  pub turned : (names′ : List ℕ) (v w : LineRead) → v ≡ lineRead rules bytes (t .end) s names → names′ ≡ lineNames rules bytes (t .end) s names → v ≡ w
-      → Turned rules bytes names′ t w
-  turned names′ v w p q e =
-      subst (λ (x : LineRead). Turned rules bytes names′ t x) (sym p ∙ e)
-      (subst (λ (x : List ℕ). Turned rules bytes x t (lineRead rules bytes (t .end) s names)) (sym q) (first-turned (linesOf (drop (t .end) bytes)) refl))
+  pub turned : (v w : LineRead) → v ≡ lineAt rules bytes (t .end) s names → v ≡ w → Turned rules bytes names s t w
+  turned v w p e =
+      subst (λ (x : LineRead). Turned rules bytes names s t x) (sym p ∙ e) (first-turned (linesOf (drop (t .end) bytes)) refl)
+
+-- the identifiers after a line, whether it brings some or not
+pub brought-so : (rules : Rules) (s : State) (names line kept : List ℕ) → s .due ≡ 3 → kept ≡ namesAfter rules s names (padded line) → kept ≡ namesBrought rules s names line
+unfolding namesBrought
+brought-so rules s names line kept due e = rw (eq-eqb (s .due) 3 due) e
+
+pub none-brought : (rules : Rules) (s : State) (names line : List ℕ) → (s .due ≡ 3 → ⊥) → names ≡ namesBrought rules s names line
+unfolding namesBrought
+none-brought rules s names line not-due = rw (ne-eqb (s .due) 3 not-due)
 
 -- a file has no more lines than bytes
 no-more-lines : (ls : List (List ℕ)) (rules : Rules) (s : State) (names : List ℕ) (t t′ : Tally) → t .lines ≤ t .end → run rules s names t ls ≡ front.File t′ → t′ .lines ≤ t′ .end

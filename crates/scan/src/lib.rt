@@ -90,12 +90,7 @@ pub fn scan_front(rules: Rules, bytes: &[u8]) -> Front
     loop {
         let at = tally.end;
         let line = tally.lines + 1;
-        let found = if state.due == 3 {
-            machine::read_line(rules, bytes, at, state, &mut names)
-        } else {
-            machine::line_at(rules, bytes, at, state, &names)
-        };
-        match found {
+        match machine::line_at(rules, bytes, at, state, &names) {
             LineRead::NoLine => {
                 return refused(1, line, 0);
             }
@@ -109,7 +104,11 @@ pub fn scan_front(rules: Rules, bytes: &[u8]) -> Front
                 at: end,
                 state: next,
             } => {
-                tally = count_line(rules, tally, &bytes[at..end - 1]);
+                let text = &bytes[at..end - 1];
+                if state.due == 3 {
+                    machine::keep_names(rules, state, &mut names, text);
+                }
+                tally = count_line(rules, tally, text);
                 state = next;
             }
         }

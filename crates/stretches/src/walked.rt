@@ -149,36 +149,38 @@ fn stands(word: &[u8], k: usize, at: Place) {
 }
 
 // The place after the first k lines.
-fn after<'a>(file: &'a [u8], header: &'a [u64], k: usize) -> Place {
-    walker::after_lines(file, header, walker::first_place(), k)
+fn after(file: &[u8], k: usize) -> Place {
+    let mut names = [0; 255];
+    walker::after_lines(file, walker::first_place(), k, &mut names)
 }
 
 // The place after n lines, half of them first.
-fn in_two<'a>(file: &'a [u8], header: &'a [u64], n: usize) {
-    let half = after(file, header, n / 2);
+fn in_two(file: &[u8], n: usize) {
+    let mut names = [0; 255];
+    let half = walker::after_lines(file, walker::first_place(), n / 2, &mut names);
     stands(b"place", n / 2, half);
     stands(
         b"then",
         n,
-        walker::after_lines(file, header, half, n - n / 2),
+        walker::after_lines(file, half, n - n / 2, &mut names),
     );
 }
 
 // The places after no line, one, three, half of them, all of them and more.
-fn places<'a>(file: &'a [u8], header: &'a [u64]) {
+fn places(file: &[u8]) {
     let n = line_count(file);
-    stands(b"place", 0, after(file, header, 0));
-    stands(b"place", 1, after(file, header, 1));
-    stands(b"place", 3, after(file, header, 3));
-    in_two(file, header, n);
-    stands(b"place", n, after(file, header, n));
-    stands(b"place", more(n), after(file, header, more(n)));
+    stands(b"place", 0, after(file, 0));
+    stands(b"place", 1, after(file, 1));
+    stands(b"place", 3, after(file, 3));
+    in_two(file, n);
+    stands(b"place", n, after(file, n));
+    stands(b"place", more(n), after(file, more(n)));
 }
 
 // A walk with these names for those of the header.
 fn walk_with<'a>(file: &'a [u8], header: &'a [u64]) {
     rows(file, header);
-    places(file, header);
+    places(file);
 }
 
 // A file walked with the identifiers that `begin` fills; with the given names where it is refused.

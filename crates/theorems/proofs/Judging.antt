@@ -15,19 +15,20 @@ use lib.Seq.{take-append-le, length-take-le}
 use Rattle.header.specs.Rules.{d}
 use Rattle.lines.specs.Lines.{linesOf, joinLines, nth}
 use Rattle.file.specs.Plain.{Accepted}
-use Rattle.machine.specs.Step.{stepOf}
+use Rattle.machine.specs.Step.{stepOf, lineRead}
 use Rattle.scan.specs.Run.{wholeOf, IsFile, Going, atFirst}
 use Rattle.reader.specs.Reading.{linesTo, frontOf, fileOf, linesIn, judged, enough, delivered, filled}
-use Rattle.accepted.proofs.Files.{d-exactly}
+use Rattle.accepted.proofs.Files.{d-sound, d-exactly}
 use Rattle.accepted.proofs.Local as local
 use Rattle.accepted.proofs.Lowest.{Earns, lowest, none}
 use Rattle.accepted.proofs.Refused as stop
-use Rattle.accepted.proofs.Refused.{EndsAfter, accepted-steps, refusal-numbered}
+use Rattle.accepted.proofs.Refused.{EndsAfter, accepted-steps, reads-end, refusal-numbered}
 use Rattle.accepted.proofs.Stepping.{GoesOn, GoOn, behind, Stands, stands-behind}
 use Rattle.accepted.proofs.Used.{accepted-front}
 use Rattle.machine.specs.declared.types.State.{State}
 use Rattle.machine.specs.declared.types.Verdict.{Verdict}
 use Rattle.machine.specs.declared.types.Verdict.the-variants as verdict
+use Rattle.machine.specs.declared.types.LineRead.the-variants as found
 use Rattle.reader.specs.declared.types.Reading.{Reading}
 use Rattle.scan.specs.declared.Tally.{Tally}
 use Rattle.scan.specs.declared.Front.{Front}
@@ -202,7 +203,7 @@ front-whole bytes t e =
 -- STEPPING: after k lines that go on the place is the length of those lines, the state is the machine's after them, and there the line reader
 -- reads the next line, for every k.
 pub stepping : (bytes : List ℕ) (k : ℕ) → AllGoOn bytes k → k ≤ length (linesOf bytes) → Stands d bytes k (after bytes k)
-stepping bytes k goes h = stands-behind d bytes k goes h
+stepping bytes k goes h = stands-behind d d-sound bytes k goes h
 
 -- So it is after each line of an accepted file but its last.
 pub stepping-file : (bytes : List ℕ) (t : Tally) → frontOf d bytes ≡ front.File t → (k : ℕ) → k < t .lines → Stands d bytes k (after bytes k)
@@ -213,3 +214,8 @@ stepping-file bytes t e k h =
 -- Each line of an accepted file but its last goes on, and the last ends the file at its last byte.
 pub stepping-ends : (bytes : List ℕ) (t : Tally) → frontOf d bytes ≡ front.File t → EndsAfter d bytes t (t .lines - 1)
 stepping-ends bytes t e = accepted-steps d bytes t e
+
+-- There the line reader finds the end of the file.
+pub stepping-reads-end : (bytes : List ℕ) (t : Tally) → frontOf d bytes ≡ front.File t
+    → let g = after bytes (t .lines - 1) in lineRead d bytes (g .at) (g .state) (g .names) ≡ found.Finished (t .end)
+stepping-reads-end bytes t e = reads-end d bytes t d-sound (t .lines - 1) (accepted-steps d bytes t e)

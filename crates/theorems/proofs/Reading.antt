@@ -16,7 +16,7 @@ use Rattle.file.specs.Plain.{isEpochLine, isRowLine, Plain}
 use Rattle.file.specs.Table.{headerIn, rowLines, rowsIn}
 use Rattle.scan.specs.Run.{IsFile}
 use Rattle.reader.specs.Reading.{identifiersOf}
-use Rattle.questions.proofs.Asking.{lines-within}
+use Rattle.file.proofs.Finding.{lines-within}
 use Rattle.accepted.proofs.Files.{file-plain}
 use Rattle.plain.proofs.Bytes.{bytes-enough}
 use Rattle.plain.proofs.Counts.{identifiers-are, rows-many, rows-many-both, places-known-and-absent}

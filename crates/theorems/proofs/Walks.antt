@@ -1,7 +1,8 @@
--- The front page for the walker: after k steps the place and the state are those of the first k lines, for every k; and over an accepted file, with
--- its identifiers, they are those of the judge's own run.
+-- The front page for the walker: after k steps the place, the state and the identifiers are those of the first k lines, for every k and any bytes; so
+-- they are those of the judge's own run, as long as its lines go on.
 -- Assumes nothing.
 use mathlib.Core.Path.{_≡_, refl, sym, ap, ap₂, _∙_}
+use mathlib.Core.Bool.{false}
 use mathlib.Core.List.{List, [], _∷_}
 use Prim.Native.Nat.{ℕ, zero, suc, _+_, _-_, _≤_, _<_}
 use native.Mathlib.Nat.{le-of-suc-le-suc, not-suc-le-zero, add-zero, zero-add}
@@ -9,181 +10,271 @@ use native.Mathlib.Omega.{arith}
 use lib.ListN.{length, take, drop}
 use denote.Ref.{RefT, now}
 use Rattle.header.specs.Rules.{d}
+use Rattle.layout.specs.Line.{padded}
 use Rattle.lines.specs.Lines.{linesOf, nth}
-use Rattle.machine.specs.Step.{stepOf, readFirst}
+use Rattle.lines.proofs.Lined.{lined}
+use Rattle.machine.specs.State.{noNames, hasRoom}
+use Rattle.machine.specs.Step.{namesBrought, stepWithin, readFirst, namesFirst, lineRead, lineNames}
+use Rattle.machine.proofs.Stepping.{kept-within}
+use Rattle.file.specs.Plain.{Sound}
 use Rattle.scan.specs.Run.{Going, stepped, steppedOver, atFirst}
 use Rattle.reader.specs.Reading.{frontOf}
-use Rattle.walker.specs.Places.{firstPlace, placeAfter, placesAfter}
-use Rattle.walk.specs.Rows.{onward}
-use Rattle.walk.proofs.Going.{passed}
+use Rattle.walker.specs.Places.{firstPlace, placeAfter, placesAfter, identifiersAfter}
+use Rattle.walker.proofs.Promised.{Begins, Moves}
 use Rattle.accepted.proofs.Files.{d-sound}
 use Rattle.accepted.proofs.Refused.{EndsAfter, accepted-steps}
-use Rattle.accepted.proofs.Stepping.{judged, behind, GoOn, next-line, go-first, go-later, stepped-on}
+use Rattle.accepted.proofs.Room.{Ready, ready-first, ready-next, never-short}
+use Rattle.accepted.proofs.Stepping.{judged, behind, GoOn, next-line, go-first, go-later, stepped-on, ready-behind}
 use Rattle.theorems.proofs.Judging.{after}
-use Rattle.theorems.proofs.Known.{Knows, known-steps}
 use Rattle.header.specs.declared.types.Rules.{Rules}
+use Rattle.machine.specs.declared.types.State.{State}
 use Rattle.machine.specs.declared.types.Verdict.{Verdict}
 use Rattle.machine.specs.declared.types.Verdict.the-variants as verdict
+use Rattle.machine.specs.declared.types.LineRead.the-variants as found
 use Rattle.scan.specs.declared.Tally.{Tally}
 use Rattle.scan.specs.declared.Front.the-variants as front
 use Rattle.walker.specs.declared.Place.{Place}
 use Rattle.walker.specs.declared.Walker.{Walker}
 
--- the place after some lines, judged one after another with these identifiers: it stays where a line is refused or ends the file
-unfoldable pub overLines : Rules → List ℕ → Place → List (List ℕ) → Place
-overLines rules names p [] = p
-overLines rules names p (l ∷ ls) =
-    onward (stepOf rules (p .state) names l) p (λ s. overLines rules names (record { at = p .at + length l + 1; state = s }) ls)
-
-module _ (rules : Rules) (bytes names : List ℕ) where
-  -- a line at which the walk stays
-  stays-at : (p : Place) (l : List ℕ) (ls : List (List ℕ)) → onward (stepOf rules (p .state) names l) p (λ s. record { at = p .at + length l + 1; state = s }) ≡ p
-      → (k : ℕ) → overLines rules names p (take k (l ∷ ls)) ≡ p
-  unfolding overLines
-  stays-at p l ls stay zero = refl
-  stays-at p l ls stay (suc k) = go (stepOf rules (p .state) names l) refl
-    where
-      go : (v : Verdict) → stepOf rules (p .state) names l ≡ v
-          → onward v p (λ s. overLines rules names (record { at = p .at + length l + 1; state = s }) (take k ls)) ≡ p
-      go (verdict.Fault m c) e = refl
-      go verdict.Finished e = refl
-      go (verdict.Next s) e =
-          let moved : p .at + length l + 1 ≡ p .at = ap (λ (x : Place). x .at) (rw e at stay) in
-          absurd (omega arith)
-
-  abbrev Walks : ℕ → Type 0
-  Walks k = (p : Place) → placesAfter rules bytes names p k ≡ overLines rules names p (take k (linesOf (drop (p .at) bytes)))
-
-  walks-more : (k : ℕ) → Walks k → Walks (suc k)
-  unfolding placesAfter placeAfter overLines readFirst
-  walks-more k walks p = go (linesOf (drop (p .at) bytes)) refl
-    where
-      none : (k : ℕ) → overLines rules names p (take k []) ≡ p
-      none zero = refl
-      none (suc k) = refl
-
-      go : (ls : List (List ℕ)) → linesOf (drop (p .at) bytes) ≡ ls
-          → placesAfter rules bytes names (placeAfter rules bytes names p) k ≡ overLines rules names p (take (suc k) ls)
-      go [] e = rw e (walks p ∙ ap (λ (ls : List (List ℕ)). overLines rules names p (take k ls)) e ∙ none k)
-      go (l ∷ ls) e = by (stepOf rules (p .state) names l) refl
-        where
-          by : (v : Verdict) → stepOf rules (p .state) names l ≡ v
-              → placesAfter rules bytes names (placeAfter rules bytes names p) k ≡ overLines rules names p (take (suc k) (l ∷ ls))
-          by (verdict.Fault m c) v =
-              rw (e, v) (walks p ∙ ap (λ (x : List (List ℕ)). overLines rules names p (take k x)) e ∙ stays-at p l ls (rw v) k)
-          by verdict.Finished v =
-              rw (e, v) (walks p ∙ ap (λ (x : List (List ℕ)). overLines rules names p (take k x)) e ∙ stays-at p l ls (rw v) k)
-          by (verdict.Next s) v =
-              let next : Place = record { at = p .at + length l + 1; state = s } in
-              rw (e, v) (walks next ∙ ap (λ (x : List (List ℕ)). overLines rules names next (take k x)) (passed bytes (p .at) l ls e .rest))
-
-  -- AFTER K STEPS from any place the place and the state are those of the first k lines from there, for every k.
-  pub walks : (k : ℕ) → Walks k
-  unfolding placesAfter overLines
-  walks zero p = refl
-  walks (suc k) p = walks-more k (walks k) p
-
 -- where one is, without the identifiers
 abbrev pub placeOf : Going → Place
 placeOf g = record { at = g .at; state = g .state }
 
-module _ (rules : Rules) (names : List ℕ) where
-  -- the first k lines of a run do the same with these identifiers
-  abbrev Same : Going → List (List ℕ) → ℕ → Type 0
-  Same g ls k = (i : ℕ) → i < k → stepOf rules (behind rules g ls i .state) names (nth i ls) ≡ judged rules (behind rules g ls i) (nth i ls)
+-- and with them
+abbrev pub goingAt : Place → List ℕ → Going
+goingAt p names = record { at = p .at; state = p .state; names = names }
 
-  -- then a walk over them is where the run is, and what follows them is walked from there
-  over-behind : (k : ℕ) (ls : List (List ℕ)) (g : Going) (m : ℕ) → GoOn rules g ls k → Same g ls k → k ≤ length ls
-      → overLines rules names (placeOf g) (take (k + m) ls) ≡ overLines rules names (placeOf (behind rules g ls k)) (take m (drop k ls))
-  unfolding overLines steppedOver nth
-  over-behind zero ls g m goes same h = ap (λ (n : ℕ). overLines rules names (placeOf g) (take n ls)) (zero-add m)
-  over-behind (suc k) [] g m goes same h = absurd (not-suc-le-zero h)
-  over-behind (suc k) (l ∷ ls) g m goes same h =
+-- what the line reader makes of a line
+abbrev pub read : Rules → Going → List ℕ → Verdict
+read rules g l = stepWithin rules (g .state) (g .names) l
+
+-- a line that goes on leads to the lines after it; one that is refused or ends the file stays
+abbrev pub onFrom : Verdict → Going → (State → Going) → Going
+onFrom (verdict.Fault number column) g more = g
+onFrom (verdict.Next s) g more = more s
+onFrom verdict.Finished g more = g
+
+-- one is behind a line
+abbrev past : Rules → Going → List ℕ → State → Going
+past rules g l s = record { at = g .at + length l + 1; state = s; names = namesBrought rules (g .state) (g .names) l }
+
+-- after some lines, read one after another: one stays where a line is refused, 12 among the refusals, or ends the file
+unfoldable pub overLines : Rules → Going → List (List ℕ) → Going
+overLines rules g [] = g
+overLines rules g (l ∷ ls) = onFrom (read rules g l) g (λ s. overLines rules (past rules g l s) ls)
+
+-- where the walker is after k steps
+abbrev pub walkedFrom : Rules → List ℕ → Going → ℕ → Going
+walkedFrom rules bytes g k = goingAt (placesAfter rules bytes (g .names) (placeOf g) k) (identifiersAfter rules bytes (g .names) (placeOf g) k)
+
+no-fault : (m c : ℕ) (s : State) → verdict.Fault m c ≡ verdict.Next s → ⊥
+no-fault m c s x = let z : _≡_ {A = ℕ} 0 1 = cc in absurd (omega arith)
+
+no-end : (s : State) → verdict.Finished ≡ verdict.Next s → ⊥
+no-end s x = let z : _≡_ {A = ℕ} 0 1 = cc in absurd (omega arith)
+
+module _ (rules : Rules) (bytes : List ℕ) where
+  -- a line at which the walk stays
+  stays-at : (g : Going) (l : List ℕ) (ls : List (List ℕ)) → ((s : State) → read rules g l ≡ verdict.Next s → ⊥)
+      → (k : ℕ) → overLines rules g (take k (l ∷ ls)) ≡ g
+  unfolding overLines
+  stays-at g l ls stay zero = refl
+  stays-at g l ls stay (suc k) = go (read rules g l) refl
+    where
+      go : (v : Verdict) → read rules g l ≡ v → onFrom v g (λ s. overLines rules (past rules g l s) (take k ls)) ≡ g
+      go (verdict.Fault m c) e = refl
+      go verdict.Finished e = refl
+      go (verdict.Next s) e = absurd (stay s e)
+
+  abbrev Walks : ℕ → Type 0
+  Walks k = (g : Going) → walkedFrom rules bytes g k ≡ overLines rules g (take k (linesOf (drop (g .at) bytes)))
+
+  -- one step: where the line leads
+  record Leads (g h : Going) : Type 0 where
+    place : placeAfter rules bytes (g .names) (placeOf g) ≡ placeOf h
+    names : lineNames rules bytes (g .at) (g .state) (g .names) ≡ h .names
+
+  leads-on : (g h : Going) (k : ℕ) → Leads g h → walkedFrom rules bytes g (suc k) ≡ walkedFrom rules bytes h k
+  unfolding placesAfter identifiersAfter
+  leads-on g h k to =
+      ap₂ (λ (p : Place) (ns : List ℕ). goingAt (placesAfter rules bytes ns p k) (identifiersAfter rules bytes ns p k)) (to .place) (to .names)
+
+  module _ (g : Going) where
+    none-leads : linesOf (drop (g .at) bytes) ≡ [] → Leads g g
+    unfolding placeAfter readFirst namesFirst
+    none-leads e = record { place = rw e; names = rw e }
+
+    module _ (l : List ℕ) (ls : List (List ℕ)) (e : linesOf (drop (g .at) bytes) ≡ l ∷ ls) where
+      fault-leads : (m c : ℕ) → read rules g l ≡ verdict.Fault m c → Leads g g
+      unfolding placeAfter readFirst namesFirst
+      fault-leads m c v = record { place = rw (e, v); names = rw e (kept-within rules (g .state) (g .names) l (verdict.Fault m c) v) }
+
+      end-leads : read rules g l ≡ verdict.Finished → Leads g g
+      unfolding placeAfter readFirst namesFirst
+      end-leads v = record { place = rw (e, v); names = rw e (kept-within rules (g .state) (g .names) l verdict.Finished v) }
+
+      next-leads : (s : State) → read rules g l ≡ verdict.Next s → Leads g (past rules g l s)
+      unfolding placeAfter readFirst namesFirst
+      next-leads s v = record { place = rw (e, v); names = rw e (kept-within rules (g .state) (g .names) l (verdict.Next s) v) }
+
+  walks-more : (k : ℕ) → Walks k → Walks (suc k)
+  unfolding overLines
+  walks-more k walks g = go (linesOf (drop (g .at) bytes)) refl
+    where
+      none : (k : ℕ) → overLines rules g (take k []) ≡ g
+      none zero = refl
+      none (suc k) = refl
+
+      -- the walk stays here
+      here : (ls : List (List ℕ)) → linesOf (drop (g .at) bytes) ≡ ls → Leads g g → walkedFrom rules bytes g (suc k) ≡ overLines rules g (take k ls)
+      here ls e to = leads-on g g k to ∙ walks g ∙ ap (λ (x : List (List ℕ)). overLines rules g (take k x)) e
+
+      go : (ls : List (List ℕ)) → linesOf (drop (g .at) bytes) ≡ ls → walkedFrom rules bytes g (suc k) ≡ overLines rules g (take (suc k) ls)
+      go [] e = here [] e (none-leads g e) ∙ none k
+      go (l ∷ ls) e = by (read rules g l) refl
+        where
+          by : (v : Verdict) → read rules g l ≡ v → walkedFrom rules bytes g (suc k) ≡ overLines rules g (take (suc k) (l ∷ ls))
+          by (verdict.Fault m c) v =
+              let stay : (s : State) → read rules g l ≡ verdict.Next s → ⊥ = λ s on. no-fault m c s (sym v ∙ on) in
+              here (l ∷ ls) e (fault-leads g l ls e m c v) ∙ stays-at g l ls stay k ∙ sym (stays-at g l ls stay (suc k))
+          by verdict.Finished v =
+              let stay : (s : State) → read rules g l ≡ verdict.Next s → ⊥ = λ s on. no-end s (sym v ∙ on) in
+              here (l ∷ ls) e (end-leads g l ls e v) ∙ stays-at g l ls stay k ∙ sym (stays-at g l ls stay (suc k))
+          by (verdict.Next s) v =
+              leads-on g (past rules g l s) k (next-leads g l ls e s v)
+              ∙ walks (past rules g l s)
+              ∙ ap (λ (x : List (List ℕ)). overLines rules (past rules g l s) (take k x)) (lined bytes (g .at) l ls e .rest)
+              ∙ rw v refl
+
+  -- AFTER K STEPS from any place, with any list lent, the place, the state and the identifiers are those of the first k lines from there, for every k
+  -- and any bytes.
+  pub walks : (k : ℕ) → Walks k
+  unfolding placesAfter identifiersAfter overLines
+  walks zero g = refl
+  walks (suc k) g = walks-more k (walks k) g
+
+  -- A SHORT LIST: at a `+ ` line without fault that brings more identifiers than fit, the line reader says 12, the list is as it was, and the walker stays.
+  module _ (g : Going) (l : List ℕ) (ls : List (List ℕ)) (e : linesOf (drop (g .at) bytes) ≡ l ∷ ls)
+      (s : State) (goes : judged rules g l ≡ verdict.Next s) (due : g .state .due ≡ 3) (short : hasRoom rules (g .state) (g .names) (padded l) ≡ false) where
+    twelve : read rules g l ≡ verdict.Fault 12 0
+    unfolding stepWithin
+    twelve = rw (due, short, goes)
+
+    pub short-reads : lineRead rules bytes (g .at) (g .state) (g .names) ≡ found.Fault 12 0
+    unfolding readFirst
+    short-reads = rw (e, twelve)
+
+    pub short-keeps : lineNames rules bytes (g .at) (g .state) (g .names) ≡ g .names
+    unfolding namesFirst
+    short-keeps = rw e (kept-within rules (g .state) (g .names) l (verdict.Fault 12 0) twelve)
+
+    pub short-stays : (k : ℕ) → walkedFrom rules bytes g k ≡ g
+    short-stays k =
+        walks k g
+        ∙ ap (λ (x : List (List ℕ)). overLines rules g (take k x)) e
+        ∙ stays-at g l ls (λ s on. no-fault 12 0 s (sym twelve ∙ on)) k
+
+module _ (rules : Rules) (sound : Sound rules) where
+  -- over lines that go on, with the judge's list, a walk is where the run is, and what follows them is walked from there
+  over-behind : (k : ℕ) (ls : List (List ℕ)) (g : Going) (m : ℕ) → Ready rules g → GoOn rules g ls k → k ≤ length ls
+      → overLines rules g (take (k + m) ls) ≡ overLines rules (behind rules g ls k) (take m (drop k ls))
+  unfolding overLines steppedOver
+  over-behind zero ls g m ready goes h = ap (λ (n : ℕ). overLines rules g (take n ls)) (zero-add m)
+  over-behind (suc k) [] g m ready goes h = absurd (not-suc-le-zero h)
+  over-behind (suc k) (l ∷ ls) g m ready goes h =
       let here = go-first rules k l ls g goes in
-      let known : stepOf rules (g .state) names l ≡ verdict.Next (here .0) = same 0 (omega arith) ∙ here .1 in
-      let next : placeOf (stepped rules g l) ≡ record { at = g .at + length l + 1; state = here .0 } =
-      ap placeOf (stepped-on rules g l (here .0) (here .1)) in
       let sum : suc k + m ≡ suc (k + m) = omega arith in
-      rw (sum, known)
-      (ap (λ (p : Place). overLines rules names p (take (k + m) ls)) (sym next)
-      ∙ over-behind k ls (stepped rules g l) m (go-later rules k l ls g goes) (λ i below. same (suc i) (omega arith)) (le-of-suc-le-suc h))
+      rw (sum, never-short rules sound g ready l, here .1)
+      (ap (λ (x : Going). overLines rules x (take (k + m) ls)) (sym (stepped-on rules g l (here .0) (here .1)))
+      ∙ over-behind k ls (stepped rules g l) m (ready-next rules g l (here .0) ready (here .1)) (go-later rules k l ls g goes) (le-of-suc-le-suc h))
 
--- An accepted file, with a list that begins with its identifiers.
-module _ (bytes : List ℕ) (t : Tally) (accepted : frontOf d bytes ≡ front.File t) (names : List ℕ) (knows : Knows d bytes t names) where
+-- ANY BYTES: from the first line, with room for the identifiers as the judge has it.
+module _ (bytes : List ℕ) where
+  abbrev pub walkedTo : ℕ → Going
+  walkedTo k = walkedFrom d bytes atFirst k
+
+  walked : (k m : ℕ) → GoOn d atFirst (linesOf bytes) k → k ≤ length (linesOf bytes) → walkedTo (k + m) ≡ overLines d (after bytes k) (take m (drop k (linesOf bytes)))
+  walked k m goes h = walks d bytes (k + m) atFirst ∙ over-behind d d-sound k (linesOf bytes) atFirst m (ready-first d) goes h
+
+  -- STEPPING BY THE WALKER: after k steps over lines that go on, place, state and identifiers are those of the judge's run after the first k lines.
+  pub walker-steps : (k : ℕ) → GoOn d atFirst (linesOf bytes) k → k ≤ length (linesOf bytes) → walkedTo k ≡ after bytes k
+  unfolding overLines
+  walker-steps k goes h = ap walkedTo (sym (add-zero k)) ∙ walked k 0 goes h
+
+  -- At the first line that does not go on, refused or the last, it stays.
+  pub walker-stays : (k : ℕ) → GoOn d atFirst (linesOf bytes) k → k < length (linesOf bytes)
+      → ((s : State) → judged d (after bytes k) (nth k (linesOf bytes)) ≡ verdict.Next s → ⊥) → (m : ℕ) → walkedTo (k + m) ≡ after bytes k
+  walker-stays k goes h stay m =
+      let ready = ready-behind d k (linesOf bytes) atFirst (ready-first d) goes (omega arith) in
+      let same = never-short d d-sound (after bytes k) ready (nth k (linesOf bytes)) in
+      walked k m goes (omega arith)
+      ∙ ap (λ (ls : List (List ℕ)). overLines d (after bytes k) (take m ls)) (next-line k (linesOf bytes) h)
+      ∙ stays-at d bytes (after bytes k) (nth k (linesOf bytes)) (drop (suc k) (linesOf bytes)) (λ s on. stay s (sym same ∙ on)) m
+
+-- An accepted file: each of its lines is reached, and the walker stays before the EOF line.
+module _ (bytes : List ℕ) (t : Tally) (accepted : frontOf d bytes ≡ front.File t) where
   ends : EndsAfter d bytes t (t .lines - 1)
   ends = accepted-steps d bytes t accepted
 
-  same : (i : ℕ) → i < t .lines → stepOf d (after bytes i .state) names (nth i (linesOf bytes)) ≡ judged d (after bytes i) (nth i (linesOf bytes))
-  same i h = known-steps d d-sound bytes t accepted names knows i h .0
+  pub file-steps : (k : ℕ) → k < t .lines → walkedTo bytes k ≡ after bytes k
+  file-steps k h = walker-steps bytes k (λ i below. ends .goes i (omega arith)) (omega (arith, ends .within))
 
-  abbrev pub walkedTo : ℕ → Place
-  walkedTo k = placesAfter d bytes names firstPlace k
-
-  walked : (k m : ℕ) → k < t .lines → walkedTo (k + m) ≡ overLines d names (placeOf (after bytes k)) (take m (drop k (linesOf bytes)))
-  walked k m h =
-      walks d bytes names (k + m) firstPlace
-      ∙ over-behind d names k (linesOf bytes) atFirst m (λ i below. ends .goes i (omega arith)) (λ i below. same i (omega arith)) (omega (arith, ends .within))
-
-  -- STEPPING BY THE WALKER: after k steps from its first line the place and the state are those of the judge's run after the first k lines, for every k.
-  pub walker-steps : (k : ℕ) → k < t .lines → walkedTo k ≡ placeOf (after bytes k)
-  unfolding overLines
-  walker-steps k h = ap walkedTo (sym (add-zero k)) ∙ walked k 0 h
-
-  -- It stands before the EOF line at the end, and stays there.
-  pub walker-stays : (k : ℕ) → t .lines ≤ k + 1 → walkedTo k ≡ placeOf (after bytes (t .lines - 1))
-  walker-stays k h =
+  pub file-stays : (k : ℕ) → t .lines ≤ k + 1 → walkedTo bytes k ≡ after bytes (t .lines - 1)
+  file-stays k h =
       let last = t .lines - 1 in
-      let some : last < t .lines = omega (arith, ends .lines) in
       let sum : k ≡ last + (k - last) = omega (arith, ends .lines) in
-      let stay : stepOf d (after bytes last .state) names (nth last (linesOf bytes)) ≡ verdict.Finished = same last some ∙ ends .last in
-      ap walkedTo sum
-      ∙ walked last (k - last) some
-      ∙ ap (λ (ls : List (List ℕ)). overLines d names (placeOf (after bytes last)) (take (k - last) ls)) (next-line last (linesOf bytes) (ends .within))
-      ∙ stays-at d bytes names (placeOf (after bytes last)) (nth last (linesOf bytes)) (drop (suc last) (linesOf bytes)) (rw stay) (k - last)
+      ap (walkedTo bytes) sum ∙ walker-stays bytes last (λ i below. ends .goes i below) (ends .within) (λ s on. no-end s (sym (ends .last) ∙ on)) (k - last)
 
 -- one step more at the end
-last-step : (rules : Rules) (bytes names : List ℕ) (k : ℕ) (p : Place)
-    → placeAfter rules bytes names (placesAfter rules bytes names p k) ≡ placesAfter rules bytes names p (suc k)
-unfolding placesAfter
-last-step rules bytes names zero p = refl
-last-step rules bytes names (suc k) p = last-step rules bytes names k (placeAfter rules bytes names p)
+last-step : (rules : Rules) (bytes : List ℕ) (k : ℕ) (names : List ℕ) (p : Place)
+    → let q = placesAfter rules bytes names p k in let kept = identifiersAfter rules bytes names p k in
+    (placeAfter rules bytes kept q ≡ placesAfter rules bytes names p (suc k))
+    × (lineNames rules bytes (q .at) (q .state) kept ≡ identifiersAfter rules bytes names p (suc k))
+unfolding placesAfter identifiersAfter
+last-step rules bytes zero names p = (refl, refl)
+last-step rules bytes (suc k) names p = last-step rules bytes k (lineNames rules bytes (p .at) (p .state) names) (placeAfter rules bytes names p)
 
--- what `moved` promises of a walker v, moved from w: the same slices, and the place after the line
-pub record Moves (w v : Walker) : Type 0 where
-  pub file : v .file ≡ w .file
-  pub names : v .names ≡ w .names
-  pub place : v .place ≡ placeAfter d (now (w .file)) (now (w .names)) (w .place)
+-- a walker and the names lent, so many moves after another
+pub data After (from : Walker) (first : List ℕ) : ℕ → Walker → List ℕ → Type 0 where
+  none : After from first 0 from first
+  more : {k : ℕ} {w v : Walker} {names kept : List ℕ} → After from first k w names → Moves w names v kept → After from first (suc k) v kept
 
--- a walker, so many moves after another
-pub data After (from : Walker) : ℕ → Walker → Type 0 where
-  none : After from 0 from
-  more : {k : ℕ} {w v : Walker} → After from k w → Moves w v → After from (suc k) v
-
--- BY THE PROMISES OF `new` AND `moved`: k moves after a walker, the slices are the same and the place is k lines further, for every k;
-pub record Further (from : Walker) (k : ℕ) (w : Walker) : Type 0 where
+-- BY THE PROMISES OF `new` AND `moved`: k moves after a walker, the file is the same, the place is k lines further and the names are theirs, for every k;
+pub record Further (from : Walker) (first : List ℕ) (k : ℕ) (w : Walker) (names : List ℕ) : Type 0 where
   pub file : w .file ≡ from .file
-  pub names : w .names ≡ from .names
-  pub place : w .place ≡ placesAfter d (now (from .file)) (now (from .names)) (from .place) k
+  pub place : w .place ≡ placesAfter d (now (from .file)) first (from .place) k
+  pub names-are : names ≡ identifiersAfter d (now (from .file)) first (from .place) k
 
-pub after-moves : (from : Walker) {k : ℕ} {w : Walker} → After from k w → Further from k w
-unfolding placesAfter
-after-moves from none = record { file = refl; names = refl; place = refl }
-after-moves from (more {k} {w} steps move) =
-    let so-far = after-moves from steps in
+pub after-moves : (from : Walker) (first : List ℕ) {k : ℕ} {w : Walker} {names : List ℕ} → After from first k w names → Further from first k w names
+unfolding placesAfter identifiersAfter
+after-moves from first none = record { file = refl; place = refl; names-are = refl }
+after-moves from first (more {k} {w} {v} {names} {kept} steps move) =
+    let so-far = after-moves from first steps in
+    let bytes = now (from .file) in
+    let here : placeAfter d bytes names (w .place) ≡ placeAfter d bytes (identifiersAfter d bytes first (from .place) k) (placesAfter d bytes first (from .place) k) =
+    ap₂ (λ (ns : List ℕ) (p : Place). placeAfter d bytes ns p) (so-far .names-are) (so-far .place) in
+    let brought : lineNames d bytes (w .place .at) (w .place .state) names
+    ≡ lineNames d bytes (placesAfter d bytes first (from .place) k .at) (placesAfter d bytes first (from .place) k .state) (identifiersAfter d bytes first (from .place) k) =
+    ap₂ (λ (ns : List ℕ) (p : Place). lineNames d bytes (p .at) (p .state) ns) (so-far .names-are) (so-far .place) in
     record {
       file = move .file ∙ so-far .file;
-      names = move .names ∙ so-far .names;
       place =
           move .place
-          ∙ ap₂ (λ (f n : RefT (List ℕ)). placeAfter d (now f) (now n) (w .place)) (so-far .file) (so-far .names)
-          ∙ ap (placeAfter d (now (from .file)) (now (from .names))) (so-far .place)
-          ∙ last-step d (now (from .file)) (now (from .names)) k (from .place);
+          ∙ ap (λ (f : RefT (List ℕ)). placeAfter d (now f) names (w .place)) (so-far .file)
+          ∙ here
+          ∙ last-step d bytes k first (from .place) .0;
+      names-are =
+          move .names-are
+          ∙ ap (λ (f : RefT (List ℕ)). lineNames d (now f) (w .place .at) (w .place .state) names) (so-far .file)
+          ∙ brought
+          ∙ last-step d bytes k first (from .place) .1;
     }
 
--- so from `new` at the first line of an accepted file, with its identifiers, they are those of its first k lines.
-pub walker-walks : (from : Walker) (t : Tally) → frontOf d (now (from .file)) ≡ front.File t → Knows d (now (from .file)) t (now (from .names)) → from .place ≡ firstPlace
-    → (k : ℕ) (w : Walker) → After from k w → k < t .lines → w .place ≡ placeOf (after (now (from .file)) k)
-walker-walks from t accepted knows first k w steps h =
-    after-moves from steps .place
-    ∙ ap (λ (p : Place). placesAfter d (now (from .file)) (now (from .names)) p k) first
-    ∙ walker-steps (now (from .file)) t accepted (now (from .names)) knows k h
+-- so from `new` at the first line of any bytes, over lines that go on, they are those of its first k lines.
+pub walker-walks : (file : RefT (List ℕ)) (from : Walker) → Begins file firstPlace from → (k : ℕ) (w : Walker) (names : List ℕ) → After from noNames k w names
+    → GoOn d atFirst (linesOf (now file)) k → k ≤ length (linesOf (now file)) → goingAt (w .place) names ≡ after (now file) k
+walker-walks file from begins k w names steps goes h =
+    let far = after-moves from noNames steps in
+    ap₂ goingAt (far .place) (far .names-are)
+    ∙ ap₂ (λ (f : RefT (List ℕ)) (p : Place). goingAt (placesAfter d (now f) noNames p k) (identifiersAfter d (now f) noNames p k)) (begins .file-is) (begins .place-is)
+    ∙ walker-steps (now file) k goes h

@@ -5,6 +5,8 @@ use denote.Ref.{now}
 use Rattle.walk.proofs.beginning.begin.Reads as begin
 use Rattle.walk.proofs.rows.first.Reads as first
 use Rattle.walk.proofs.rows.next_row.Reads as next-row
+use Rattle.walk.proofs.rows.read_known.Reads as read-known
+use Rattle.machine.proofs.Told.{toldRead-one}
 use Rattle.walk.proofs.Told.{toldStep-one}
 
 -- the answer and the lent identifiers
@@ -16,3 +18,6 @@ first-determined κs a r r′ s s′ p q = p ∙ sym q
 
 pub next-row-determined : (κs : _) (a : _) (r r′ : _) (s s′ : _) → next-row.Post κs a r s → next-row.Post κs a r′ s′ → r ≡ r′
 next-row-determined κs a r r′ s s′ p q = toldStep-one r r′ (p ∙ sym q)
+
+pub read-known-determined : (κs : _) (a : _) (r r′ : _) (s s′ : _) → read-known.Post κs a r s → read-known.Post κs a r′ s′ → r ≡ r′
+read-known-determined κs a r r′ s s′ p q = toldRead-one r r′ (p ∙ sym q)

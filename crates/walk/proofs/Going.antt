@@ -18,7 +18,6 @@ use Rattle.record.specs.LineKinds.{toldKind, kindOf, kindBy, starKind, eKind, p
 use Rattle.file.specs.Kinds.{isKind}
 use Rattle.file.proofs.Finding.{padded-column}
 use Rattle.machine.specs.Step.{stepOf, readFirst}
-use Rattle.walker.specs.Places.{placeAfter, placesAfter}
 use Rattle.header.specs.declared.types.Rules.{Rules}
 use Rattle.record.specs.declared.types.LineKind.{LineKind}
 use Rattle.record.specs.declared.types.LineKind.the-variants as kind
@@ -26,7 +25,7 @@ use Rattle.machine.specs.declared.types.State.{State}
 use Rattle.machine.specs.declared.types.Verdict.{Verdict}
 use Rattle.machine.specs.declared.types.Verdict.the-variants as verdict
 use Rattle.walker.specs.declared.Place.{Place}
-use Rattle.walk.specs.Rows.{toRow, rowAhead}
+use Rattle.walk.specs.Rows.{placePast, toRow, rowAhead}
 
 -- a kind that is not P, or another that is not
 not-row : (p : Bool) (x y : LineKind) → eqb (toldKind x) 10 ≡ false → eqb (toldKind y) 10 ≡ false → eqb (toldKind (cond p x y)) 10 ≡ false
@@ -112,8 +111,8 @@ passed file at l ls e =
 -- the line at a place, or none: what the next step of a walk over the lines does
 module _ (rules : Rules) (file names : List ℕ) (p : Place) where
   -- nothing is left
-  stays-none : linesOf (drop (p .at) file) ≡ [] → (p ≡ rowAhead rules file names p) × (placeAfter rules file names p ≡ p)
-  unfolding toRow placeAfter readFirst
+  stays-none : linesOf (drop (p .at) file) ≡ [] → (p ≡ rowAhead rules file names p) × (placePast rules file names p ≡ p)
+  unfolding toRow placePast readFirst
   stays-none e = (rw e, rw e)
 
   module _ (l : List ℕ) (ls : List (List ℕ)) (e : linesOf (drop (p .at) file) ≡ l ∷ ls) where
@@ -124,13 +123,13 @@ module _ (rules : Rules) (file names : List ℕ) (p : Place) where
 
     -- another that is refused or ends the file does
     stays-fault : (m c : ℕ) → isKind rules 10 l ≡ false → stepOf rules (p .state) names l ≡ verdict.Fault m c
-        → (p ≡ rowAhead rules file names p) × (placeAfter rules file names p ≡ p)
-    unfolding toRow placeAfter readFirst
+        → (p ≡ rowAhead rules file names p) × (placePast rules file names p ≡ p)
+    unfolding toRow placePast readFirst
     stays-fault m c is v = (rw (e, is, v), rw (e, v))
 
     stays-end : isKind rules 10 l ≡ false → stepOf rules (p .state) names l ≡ verdict.Finished
-        → (p ≡ rowAhead rules file names p) × (placeAfter rules file names p ≡ p)
-    unfolding toRow placeAfter readFirst
+        → (p ≡ rowAhead rules file names p) × (placePast rules file names p ≡ p)
+    unfolding toRow placePast readFirst
     stays-end is v = (rw (e, is, v), rw (e, v))
 
     -- one that goes on leads to the lines after it
@@ -138,8 +137,8 @@ module _ (rules : Rules) (file names : List ℕ) (p : Place) where
     behind s = record { at = p .at + length l + 1; state = s }
 
     moves : (s : State) → isKind rules 10 l ≡ false → stepOf rules (p .state) names l ≡ verdict.Next s
-        → (rowAhead rules file names (behind s) ≡ rowAhead rules file names p) × (placeAfter rules file names p ≡ behind s)
-    unfolding toRow placeAfter readFirst
+        → (rowAhead rules file names (behind s) ≡ rowAhead rules file names p) × (placePast rules file names p ≡ behind s)
+    unfolding toRow placePast readFirst
     moves s is v = (rw (e, is, v, passed file (p .at) l ls e .rest), rw (e, v))
 
   -- a turn of the walk to the next row
@@ -148,16 +147,16 @@ module _ (rules : Rules) (file names : List ℕ) (p : Place) where
     pub goes : (next .at ≡ p .at → ⊥) → rowAhead rules file names next ≡ rowAhead rules file names p
     pub nearer : (next .at ≡ p .at → ⊥) → (p .at < next .at) × (next .at ≤ length file)
 
-  still : (p ≡ rowAhead rules file names p) × (placeAfter rules file names p ≡ p) → Turn (placeAfter rules file names p)
+  still : (p ≡ rowAhead rules file names p) × (placePast rules file names p ≡ p) → Turn (placePast rules file names p)
   still (here, same) =
-      let at : placeAfter rules file names p .at ≡ p .at = ap (λ (x : Place). x .at) same in
+      let at : placePast rules file names p .at ≡ p .at = ap (λ (x : Place). x .at) same in
       record { stays = λ e. here; goes = λ not. absurd (not at); nearer = λ not. absurd (not at) }
 
   turned : (s : State) (l : List ℕ) (ls : List (List ℕ)) → linesOf (drop (p .at) file) ≡ l ∷ ls
-      → (rowAhead rules file names (record { at = p .at + length l + 1; state = s }) ≡ rowAhead rules file names p) × (placeAfter rules file names p ≡ record { at = p .at + length l + 1; state = s })
-      → Turn (placeAfter rules file names p)
+      → (rowAhead rules file names (record { at = p .at + length l + 1; state = s }) ≡ rowAhead rules file names p) × (placePast rules file names p ≡ record { at = p .at + length l + 1; state = s })
+      → Turn (placePast rules file names p)
   turned s l ls e (same, next) =
-      let at : placeAfter rules file names p .at ≡ p .at + length l + 1 = ap (λ (x : Place). x .at) next in
+      let at : placePast rules file names p .at ≡ p .at + length l + 1 = ap (λ (x : Place). x .at) next in
       record {
         stays = λ stay. absurd (omega arith);
         goes = λ not. ap (rowAhead rules file names) next ∙ same;
@@ -168,17 +167,17 @@ module _ (rules : Rules) (file names : List ℕ) (p : Place) where
   here-byte = getD-drop (p .at) file 0 0 ∙ ap (λ (n : ℕ). getD file n 0) (add-zero (p .at))
 
   -- where no P line begins here
-  pub turn : eqb (getD file (p .at) 0) 80 ≡ false → Turn (placeAfter rules file names p)
+  pub turn : eqb (getD file (p .at) 0) 80 ≡ false → Turn (placePast rules file names p)
   turn none = go (linesOf (drop (p .at) file)) refl
     where
-      go : (ls : List (List ℕ)) → linesOf (drop (p .at) file) ≡ ls → Turn (placeAfter rules file names p)
+      go : (ls : List (List ℕ)) → linesOf (drop (p .at) file) ≡ ls → Turn (placePast rules file names p)
       go [] e = still (stays-none e)
       go (l ∷ ls) e = by (stepOf rules (p .state) names l) refl
         where
           is : isKind rules 10 l ≡ false
           is = row-begins rules (drop (p .at) file) l ls e ∙ ap (λ (b : ℕ). eqb b 80) here-byte ∙ none
 
-          by : (v : Verdict) → stepOf rules (p .state) names l ≡ v → Turn (placeAfter rules file names p)
+          by : (v : Verdict) → stepOf rules (p .state) names l ≡ v → Turn (placePast rules file names p)
           by (verdict.Fault m c) v = still (stays-fault l ls e m c is v)
           by verdict.Finished v = still (stays-end l ls e is v)
           by (verdict.Next s) v = turned s l ls e (moves l ls e s is v)
@@ -190,11 +189,6 @@ module _ (rules : Rules) (file names : List ℕ) (p : Place) where
       go : (ls : List (List ℕ)) → linesOf (drop (p .at) file) ≡ ls → p ≡ rowAhead rules file names p
       go [] e = stays-none e .0
       go (l ∷ ls) e = stays-row l ls e (row-begins rules (drop (p .at) file) l ls e ∙ ap (λ (b : ℕ). eqb b 80) here-byte ∙ some)
-
--- one line more
-pub one-after : (rules : Rules) (file names : List ℕ) (p next : Place) → next ≡ placesAfter rules file names p 1 → next ≡ placeAfter rules file names p
-unfolding placesAfter
-one-after rules file names p next e = e
 
 -- counting the lines before a place: those counted and those left are all
 pub record Counting (before : List ℕ) (from number : ℕ) : Type 0 where

@@ -13,7 +13,7 @@ use Rattle.lines.proofs.Laying.{laid-fits}
 use Rattle.header.specs.Rules.{d}
 use Rattle.record.specs.Rows.{rowOf}
 use Rattle.file.specs.Table.{slotsIn}
-use Rattle.machine.specs.Step.{lineRead}
+use Rattle.machine.specs.Step.{lineAt}
 use Rattle.machine.specs.Told.{toldRead}
 use Rattle.machine.proofs.Told.{toldRead-one}
 use Rattle.reader.specs.Reading.{refusedWith}
@@ -58,16 +58,16 @@ module _ (rules : Rules) (file names : List ℕ) (from : RowWalk) (p : Place) (p
   from-there : stepFrom rules file names (from .passed) p ≡ rowStep rules file names from
   from-there = ap (stepFrom rules file names (from .passed)) p-is
 
-  step-there : stepAt file p (from .passed) (lineRead rules file (p .at) (p .state) names) ≡ stepFrom rules file names (from .passed) p
+  step-there : stepAt file p (from .passed) (lineAt rules file (p .at) (p .state) names) ≡ stepFrom rules file names (from .passed) p
   unfolding stepFrom
   step-there = refl
 
-  pub steps-so : (r w : LineRead) (x : RowStep) → toldRead r ≡ toldRead (lineRead rules file (p .at) (p .state) names) → r ≡ w
+  pub steps-so : (r w : LineRead) (x : RowStep) → toldRead r ≡ toldRead (lineAt rules file (p .at) (p .state) names) → r ≡ w
       → x ≡ stepAt file p (from .passed) w → toldStep x ≡ toldStep (rowStep rules file names from)
   steps-so r w x told is so =
       ap toldStep
       (so
-      ∙ ap (stepAt file p (from .passed)) (sym is ∙ toldRead-one r (lineRead rules file (p .at) (p .state) names) told)
+      ∙ ap (stepAt file p (from .passed)) (sym is ∙ toldRead-one r (lineAt rules file (p .at) (p .state) names) told)
       ∙ step-there
       ∙ from-there)
 

@@ -9,9 +9,9 @@ use lib.ListN.{length, take, drop}
 use Rattle.lines.specs.Lines.{linesOf}
 use Rattle.record.specs.Rows.{rowOf}
 use Rattle.file.specs.Kinds.{isKind}
-use Rattle.machine.specs.Step.{stepOf, lineRead}
+use Rattle.machine.specs.Step.{stepOf, lineAt}
 use Rattle.adjust.specs.Floats.{floatRow, lineFrom}
-use Rattle.walker.specs.Places.{firstPlace}
+use Rattle.walker.specs.Places.{firstPlace, goneTo}
 use Rattle.header.specs.declared.types.Rules.{Rules}
 use Rattle.machine.specs.declared.types.State.{State}
 use Rattle.machine.specs.declared.types.Verdict.{Verdict}
@@ -27,6 +27,10 @@ use Rattle.walk.specs.declared.types.RowStep.the-variants as step
 -- before the first line, no row passed
 abbrev pub firstWalk : RowWalk
 firstWalk = record { place = firstPlace; passed = 0 }
+
+-- the place after the line at a place, where the identifiers are known
+unfoldable pub placePast : Rules → List ℕ → List ℕ → Place → Place
+placePast rules file names p = goneTo (lineAt rules file (p .at) (p .state) names) p
 
 -- a line that goes on leads to the lines after it; one that is refused or ends the file stays
 abbrev pub onward : Verdict → Place → (State → Place) → Place
@@ -76,7 +80,7 @@ stepAt file p passed (found.Finished at) = step.End
 
 -- the next row of a file from between two rows
 unfoldable pub stepFrom : Rules → List ℕ → List ℕ → ℕ → Place → RowStep
-stepFrom rules file names passed p = stepAt file p passed (lineRead rules file (p .at) (p .state) names)
+stepFrom rules file names passed p = stepAt file p passed (lineAt rules file (p .at) (p .state) names)
 
 abbrev pub rowStep : Rules → List ℕ → List ℕ → RowWalk → RowStep
 rowStep rules file names w = stepFrom rules file names (w .passed) (rowAhead rules file names (w .place))

@@ -6,5 +6,6 @@ mod types;
 pub use beginning::begin;
 pub use rows::first;
 pub use rows::next_row;
+pub use rows::read_known;
 pub use types::RowStep;
 pub use types::RowWalk;

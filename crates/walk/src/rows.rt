@@ -5,12 +5,14 @@ ghost use lib.Dec.{eqb};
 ghost use lib.ListN.{length, getD, take, drop};
 ghost use Rattle.lines.specs.Lines.{linesOf};
 ghost use Rattle.header.specs.Rules.{d};
-ghost use Rattle.walk.specs.Rows.{firstWalk, rowAhead, epochOf, satelliteOf, rowGiven, rowStep};
+ghost use Rattle.machine.specs.Step.{lineAt};
+ghost use Rattle.machine.specs.Told.{toldRead};
+ghost use Rattle.walk.specs.Rows.{firstWalk, placePast, rowAhead, epochOf, satelliteOf, rowGiven, rowStep};
 ghost use Rattle.walk.specs.Told.{toldStep};
 use crate::types::RowStep;
 use crate::types::RowWalk;
+use header::Rules;
 use machine::LineRead;
-use machine::State;
 use walker::Place;
 
 // Before the first line of a file.
@@ -33,6 +35,29 @@ fn is_row_at(file: &[u8], at: usize) -> bool
     false
 }
 
+// The plain line reader where the identifiers of the header are known: what the line at a place does, and where the next begins.
+pub fn read_known<'a>(file: &'a [u8], names: &'a [u64], place: Place) -> LineRead
+    ensures result { λ r. ⌜ toldRead r ≡ toldRead (lineAt d (now (file .entry)) (place .at) (place .state) (now (names .entry))) ⌝ }
+{
+    let state = place.state;
+    machine::line_at(Rules::d(), file, place.at, state, names)
+}
+
+// The place after the line at a place; the same place where no line is left, where the line is refused and where it ends the file.
+fn place_past<'a>(file: &'a [u8], names: &'a [u64], place: Place) -> Place
+    ensures { λ r. ⌜ r ≡ placePast d (now (file .entry)) (now (names .entry)) place ⌝ }
+{
+    match read_known(file, names, place) {
+        LineRead::Next { at, state } => Place { at, state },
+        LineRead::NoLine => place,
+        LineRead::Fault {
+            number: _,
+            column: _,
+        } => place,
+        LineRead::Finished { at: _ } => place,
+    }
+}
+
 // The place of the next P line; or of the line before it that is refused or ends the file.
 fn at_row<'a>(file: &'a [u8], names: &'a [u64], from: Place) -> Place
     ensures { λ r. ⌜ r ≡ rowAhead d (now (file .entry)) (now (names .entry)) from ⌝ }
@@ -43,7 +68,7 @@ fn at_row<'a>(file: &'a [u8], names: &'a [u64], from: Place) -> Place
         if is_row_at(file, at) {
             return place;
         }
-        let next = walker::after_lines(file, names, place, 1);
+        let next = place_past(file, names, place);
         if next.at == at {
             return place;
         }
@@ -131,7 +156,7 @@ pub fn next_row<'a>(file: &'a [u8], names: &'a [u64], from: RowWalk) -> RowStep
     let place = at_row(file, names, start);
     let at = place.at;
     let state = place.state;
-    match walker::read_known(file, names, place) {
+    match read_known(file, names, place) {
         LineRead::NoLine => RowStep::Refused {
             number: 1,
             line: line_number(file, at),

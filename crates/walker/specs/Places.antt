@@ -1,10 +1,10 @@
--- Places between the lines of a file whose identifiers are known. 01: "Readers go line by line. First they take plain bytes and a place; afterwards a
+-- Places between the lines of a file. 01: "Readers go line by line. First they take plain bytes and a place; afterwards a
 -- walker that holds the file's bytes and its place serves the adjustment's loop."
 use mathlib.Core.List.{List}
 use Prim.Native.Nat.{ℕ, zero, suc}
 use Rattle.header.specs.declared.types.Rules.{Rules}
 use Rattle.machine.specs.State.{startState}
-use Rattle.machine.specs.Step.{lineRead}
+use Rattle.machine.specs.Step.{lineRead, lineNames}
 use Rattle.machine.specs.declared.types.LineRead.{LineRead}
 use Rattle.machine.specs.declared.types.LineRead.the-variants as found
 use Rattle.walker.specs.declared.Place.{Place}
@@ -24,7 +24,11 @@ goneTo (found.Finished at) p = p
 unfoldable pub placeAfter : Rules → List ℕ → List ℕ → Place → Place
 placeAfter rules file names p = goneTo (lineRead rules file (p .at) (p .state) names) p
 
--- the place so many lines further
+-- so many lines further, where each line's identifiers are kept: the place, and the identifiers there
 unfoldable pub placesAfter : Rules → List ℕ → List ℕ → Place → ℕ → Place
 placesAfter rules file names p zero = p
-placesAfter rules file names p (suc k) = placesAfter rules file names (placeAfter rules file names p) k
+placesAfter rules file names p (suc k) = placesAfter rules file (lineNames rules file (p .at) (p .state) names) (placeAfter rules file names p) k
+
+unfoldable pub identifiersAfter : Rules → List ℕ → List ℕ → Place → ℕ → List ℕ
+identifiersAfter rules file names p zero = names
+identifiersAfter rules file names p (suc k) = identifiersAfter rules file (lineNames rules file (p .at) (p .state) names) (placeAfter rules file names p) k

@@ -1,10 +1,10 @@
-// A walker over the lines of a file: it holds the file's bytes, the identifiers of its header and its place. Each function over a walker takes
-// it apart and calls a function over plain bytes; `after_lines` stands above them and has plain parameters.
+// A walker over the lines of a file: it holds the file's bytes and its place. The identifiers of the header are lent at each step. Each function over
+// a walker takes it apart and calls the plain line reader; `after_lines` stands above them and has plain parameters.
 ghost use mathlib.Core.Path.{_≡_};
 ghost use Rattle.header.specs.Rules.{d};
-ghost use Rattle.machine.specs.Step.{lineRead};
+ghost use Rattle.machine.specs.Step.{lineRead, lineNames};
 ghost use Rattle.machine.specs.Told.{toldRead};
-ghost use Rattle.walker.specs.Places.{firstPlace, placeAfter, placesAfter};
+ghost use Rattle.walker.specs.Places.{firstPlace, placeAfter, placesAfter, identifiersAfter};
 use header::Rules;
 use machine::LineRead;
 use machine::State;
@@ -16,10 +16,9 @@ pub struct Place {
     pub state: State,
 }
 
-// A file, the identifiers of its header, and a place in it.
+// A file, and a place in it.
 pub struct Walker<'a> {
     pub file: &'a [u8],
-    pub names: &'a [u64],
     pub place: Place,
 }
 
@@ -33,19 +32,22 @@ pub fn first_place() -> Place
     }
 }
 
-// The plain line reader where the identifiers of the header are known: what the line at a place does, and where the next begins.
-pub fn read_known<'a>(file: &'a [u8], names: &'a [u64], place: Place) -> LineRead
+// The plain line reader at a place: what the line there does, and where the next begins; a `+ ` line leaves its identifiers in `names`.
+pub fn read_at<'a, 'b>(file: &'a [u8], place: Place, names: &'b mut [u64]) -> LineRead
     ensures result { λ r. ⌜ toldRead r ≡ toldRead (lineRead d (now (file .entry)) (place .at) (place .state) (now (names .entry))) ⌝ }
+    ensures lent { λ _. ⌜ now (names .exit) ≡ lineNames d (now (file .entry)) (place .at) (place .state) (now (names .entry)) ⌝ }
 {
+    let at = place.at;
     let state = place.state;
-    machine::line_at(Rules::d(), file, place.at, state, names)
+    machine::read_line(Rules::d(), file, at, state, names)
 }
 
-// The place after the line at a place; the same place where no line is left, where the line is refused and where it ends the file.
-pub fn place_after<'a>(file: &'a [u8], names: &'a [u64], place: Place) -> Place
+// The place after that line; the same place where no line is left, where the line is refused and where it ends the file.
+pub fn place_after<'a, 'b>(file: &'a [u8], place: Place, names: &'b mut [u64]) -> Place
     ensures result { λ r. ⌜ r ≡ placeAfter d (now (file .entry)) (now (names .entry)) place ⌝ }
+    ensures lent { λ _. ⌜ now (names .exit) ≡ lineNames d (now (file .entry)) (place .at) (place .state) (now (names .entry)) ⌝ }
 {
-    match read_known(file, names, place) {
+    match read_at(file, place, names) {
         LineRead::Next { at, state } => Place { at, state },
         LineRead::NoLine => place,
         LineRead::Fault {
@@ -57,27 +59,28 @@ pub fn place_after<'a>(file: &'a [u8], names: &'a [u64], place: Place) -> Place
 }
 
 // A walker at a place of a file.
-pub fn new<'a>(file: &'a [u8], names: &'a [u64], place: Place) -> Walker<'a>
-    ensures result { λ w. ⌜ (w .file ≡ file .entry) × (w .names ≡ names .entry) × (w .place ≡ place) ⌝ }
+pub fn new<'a>(file: &'a [u8], place: Place) -> Walker<'a>
+    ensures result { λ w. ⌜ (w .file ≡ file .entry) × (w .place ≡ place) ⌝ }
 {
-    Walker { file, names, place }
+    Walker { file, place }
 }
 
 // What the line at the walker's place does.
-pub fn next<'a>(w: Walker<'a>) -> LineRead
-    ensures result { λ r. ⌜ toldRead r ≡ toldRead (lineRead d (now (w .entry .file)) (w .entry .place .at) (w .entry .place .state) (now (w .entry .names))) ⌝ }
+pub fn next<'a, 'b>(w: Walker<'a>, names: &'b mut [u64]) -> LineRead
+    ensures result { λ r. ⌜ toldRead r ≡ toldRead (lineRead d (now (w .entry .file)) (w .entry .place .at) (w .entry .place .state) (now (names .entry))) ⌝ }
+    ensures lent { λ _. ⌜ now (names .exit) ≡ lineNames d (now (w .entry .file)) (w .entry .place .at) (w .entry .place .state) (now (names .entry)) ⌝ }
 {
-    read_known(w.file, w.names, w.place)
+    read_at(w.file, w.place, names)
 }
 
 // The walker after that line: the same file, and the next place.
-pub fn moved<'a>(w: Walker<'a>) -> Walker<'a>
-    ensures result { λ v. ⌜ (v .file ≡ w .entry .file) × (v .names ≡ w .entry .names) × (v .place ≡ placeAfter d (now (w .entry .file)) (now (w .entry .names)) (w .entry .place)) ⌝ }
+pub fn moved<'a, 'b>(w: Walker<'a>, names: &'b mut [u64]) -> Walker<'a>
+    ensures result { λ v. ⌜ (v .file ≡ w .entry .file) × (v .place ≡ placeAfter d (now (w .entry .file)) (now (names .entry)) (w .entry .place)) ⌝ }
+    ensures lent { λ _. ⌜ now (names .exit) ≡ lineNames d (now (w .entry .file)) (w .entry .place .at) (w .entry .place .state) (now (names .entry)) ⌝ }
 {
-    let place = place_after(w.file, w.names, w.place);
+    let place = place_after(w.file, w.place, names);
     Walker {
         file: w.file,
-        names: w.names,
         place,
     }
 }
@@ -89,14 +92,20 @@ pub fn place_of<'a>(w: Walker<'a>) -> Place
     w.place
 }
 
-// A walk: the place so many lines further.
-pub fn after_lines<'a>(file: &'a [u8], names: &'a [u64], place: Place, lines: usize) -> Place
+// A walk: the place so many lines further, and the identifiers that they bring.
+pub fn after_lines<'a, 'b>(
+    file: &'a [u8],
+    place: Place,
+    lines: usize,
+    names: &'b mut [u64],
+) -> Place
     ensures result { λ r. ⌜ r ≡ placesAfter d (now (file .entry)) (now (names .entry)) place lines ⌝ }
+    ensures lent { λ _. ⌜ now (names .exit) ≡ identifiersAfter d (now (file .entry)) (now (names .entry)) place lines ⌝ }
 {
-    let mut w = new(file, names, place);
+    let mut w = new(file, place);
     let mut left = lines;
     while 0 < left {
-        w = moved(w);
+        w = moved(w, names);
         left -= 1;
     }
     place_of(w)

@@ -14,7 +14,7 @@ returns-2 : tie.Need-returns-2
 returns-2 c =
     let found = c .before .before .before in
     let placed = found .before .before in
-    answered-as (placed .before .before .args .file .now) (placed .row-place .ensures) (found .if1 .left) (c .before .before .line-at .ensures)
+    answered-as (placed .before .before .args .file .now) (placed .row-place .ensures) (found .if1 .left) (c .before .before .line-at .ensures .0)
     (c .before .row-of .ensures) (c .float-row .ensures)
 
 pub row-spec : {M : Type 1} → statement M

@@ -1,21 +1,29 @@
 -- `file::line_of` meets its contract.
 -- Assumes nothing.
-use Prim.Native.Nat.{ℕ}
-use mathlib.Core.Path.{ap, _∙_}
+use Prim.Native.Nat.{ℕ, min}
+use mathlib.Core.Path.{_≡_, ap, _∙_}
+use native.Mathlib.Omega.{arith}
 use borrow.Author.Needs.{needs}
-use lib.ListN.{drop}
-use Rattle.lines.specs.Lines.{linesOf, nth}
+use lib.ListN.{length, drop}
+use Rattle.laws.specs.Places.{byteOf}
+use Rattle.lines.specs.Lines.{linesOf, nth, placeFrom}
 use Rattle.file.specs.Kinds.{isKind}
-use Rattle.file.proofs.Finding.{line-at-place}
+use Rattle.file.proofs.Finding.{line-at-place, line-within}
 use Rattle.file.proofs.line_of.Statement.{statement}
 use Rattle.file.proofs.line_of.Tie as tie
 
 returns : tie.Need-returns
 returns c =
     let a = c .before .before .before .args in
-    c .line-at .ensures
-    ∙ ap (λ (n : ℕ). nth 0 (linesOf (drop n (a .bytes .now)))) (c .before .place-of .ensures)
-    ∙ line-at-place (isKind (a .rules) (a .kind)) (a .k) (a .bytes .now)
+    let at = c .before .place-of .result in
+    let told = c .before .place-of .ensures in
+    let test = isKind (a .rules) (a .kind) in
+    let here : min at (length (a .bytes .now)) ≡ placeFrom test (a .k) 0 (linesOf (a .bytes .now)) = omega (arith, told, line-within test (a .k) (a .bytes .now)) in (
+      c .line-at .ensures .0
+          ∙ ap (λ (n : ℕ). nth 0 (linesOf (drop n (a .bytes .now)))) told
+          ∙ line-at-place test (a .k) (a .bytes .now),
+      c .line-at .ensures .1 ∙ ap (byteOf (a .bytes)) here,
+    )
 
 pub line-of-spec : {M : Type 1} → statement M
 line-of-spec = tie.close (tie.spec (λ c κs. search needs) (λ c κs. search needs) returns)

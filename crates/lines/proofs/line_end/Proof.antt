@@ -4,9 +4,10 @@ use Prim.Native.Nat.{_+_, _-_}
 use mathlib.Core.Path.{_≡_, refl, sym, _∙_}
 use native.Mathlib.Omega.{arith}
 use borrow.Author.Needs.{needs}
+use borrow.Author.Tests.{not-true, eq-eqb}
 use lib.ListN.{length, drop}
 use Rattle.lines.specs.Lines.{lineLength}
-use Rattle.lines.proofs.Ends.{line-at-end, line-over}
+use Rattle.lines.proofs.Ends.{line-at-end, line-at-lf, line-over}
 use Rattle.lines.proofs.line_end.Statement.{statement}
 use Rattle.lines.proofs.line_end.Tie as tie
 
@@ -16,43 +17,31 @@ Inv-loop bytes at from₀ from = from + lineLength (drop from bytes) ≡ at + li
 abbrev μ-loop : tie.MeasureT-loop
 μ-loop bytes at from₀ from = length bytes - from
 
+returns : tie.Need-returns Inv-loop μ-loop
+returns c =
+    let a = c .before .before .before .before .before .before .before .args in
+    let none = sym (c .before .lf-in-eighty .ensures) ∙ not-true _ (c .if4 .taken) in
+    sym (line-over 80 (a .bytes .now) (a .at) (omega arith) none ∙ line-at-lf (a .bytes .now) (a .at + 80) (omega arith) (eq-eqb _ _ (c .before .before .if3 .taken)))
+
 loop-holds : tie.Need-loop-holds Inv-loop μ-loop
 loop-holds c = refl
 
-sub-if1 : tie.Need-sub-if1 Inv-loop μ-loop
-sub-if1 c = search needs
-
-line-end-by-bytes-requires : tie.Need-line-end-by-bytes-requires Inv-loop μ-loop
-line-end-by-bytes-requires c κs = search needs
-
-returns : tie.Need-returns Inv-loop μ-loop
-returns c = c .line-end-by-bytes .ensures ∙ c .before .before .before .loop .inv
-
-lf-in-sixteen-requires : tie.Need-lf-in-sixteen-requires Inv-loop μ-loop
-lf-in-sixteen-requires c κs = search needs
-
-line-end-by-bytes-requires-2 : tie.Need-line-end-by-bytes-requires-2 Inv-loop μ-loop
-line-end-by-bytes-requires-2 c κs = search needs
-
 returns-2 : tie.Need-returns-2 Inv-loop μ-loop
-returns-2 c = c .line-end-by-bytes2 .ensures ∙ c .before .before .before .before .before .loop .inv
+returns-2 c = c .line-end-by-bytes .ensures ∙ c .before .before .before .loop .inv
 
-add-from : tie.Need-add-from Inv-loop μ-loop
-add-from c = search needs
-
-loop-less : tie.Need-loop-less Inv-loop μ-loop
-loop-less c = search needs
+returns-3 : tie.Need-returns-3 Inv-loop μ-loop
+returns-3 c = c .line-end-by-bytes2 .ensures ∙ c .before .before .before .before .before .loop .inv
 
 loop-again : tie.Need-loop-again Inv-loop μ-loop
 loop-again c =
     let at-loop = c .before .before .before .before in
-    let bytes = at-loop .before .before .args .bytes .now in
-    sym (line-over 16 bytes (at-loop .loop .from) (omega arith) (sym (c .before .lf-in-sixteen .ensures) ∙ c .if2 .left)) ∙ at-loop .loop .inv
+    let bytes = at-loop .before .before .before .args .bytes .now in
+    sym (line-over 16 bytes (at-loop .loop .from) (omega arith) (sym (c .before .lf-in-sixteen .ensures) ∙ c .if6 .left)) ∙ at-loop .loop .inv
 
-returns-3 : tie.Need-returns-3 Inv-loop μ-loop
-returns-3 c =
+returns-4 : tie.Need-returns-4 Inv-loop μ-loop
+returns-4 c =
     let at-loop = c .before in
-    sym (line-at-end (at-loop .before .before .args .bytes .now) (at-loop .loop .from) (c .loop-test .left)) ∙ at-loop .loop .inv
+    sym (line-at-end (at-loop .before .before .before .args .bytes .now) (at-loop .loop .from) (c .loop-test .left)) ∙ at-loop .loop .inv
 
 pub line-end-spec : {M : Type 1} → statement M
 line-end-spec =
@@ -60,14 +49,20 @@ line-end-spec =
     (tie.spec
     Inv-loop
     μ-loop
-    loop-holds
-    sub-if1
-    line-end-by-bytes-requires
+    (λ c. search needs)
+    (λ c. search needs)
+    (λ c. search needs)
+    (λ c κs. search needs)
+    (λ c. search needs)
     returns
-    lf-in-sixteen-requires
-    line-end-by-bytes-requires-2
+    loop-holds
+    (λ c. search needs)
+    (λ c κs. search needs)
     returns-2
-    add-from
-    loop-less
+    (λ c κs. search needs)
+    (λ c κs. search needs)
+    returns-3
+    (λ c. search needs)
+    (λ c. search needs)
     loop-again
-    returns-3)
+    returns-4)

@@ -4,13 +4,11 @@ use mathlib.Core.Logic.{⊎-elim}
 use mathlib.Core.Path.{_≡_, _∙_, ap}
 use Prim.Native.Nat.{_-_}
 use borrow.Author.Needs.{needs}
-use lib.ListN.{length}
-use Rattle.machine.specs.Told.{toldRead}
+use lib.ListN.{length, take, drop}
 use Rattle.machine.specs.declared.types.LineRead.{LineRead}
 use Rattle.machine.proofs.Told.{toldRead-one}
-use Rattle.machine.proofs.Stepping.{ReadAs, names-stay}
 use Rattle.scan.specs.Told.{toldFront}
-use Rattle.scan.proofs.Turn.{Going, going-first, Turned, turned}
+use Rattle.scan.proofs.Turn.{Going, going-first, Turned, turned, brought-so, none-brought}
 use Rattle.scan.proofs.scan_front.Statement.{statement}
 use Rattle.scan.proofs.scan_front.Tie as tie
 
@@ -23,53 +21,47 @@ abbrev μ-loop : tie.MeasureT-loop
 loop-holds : tie.Need-loop-holds Inv-loop μ-loop
 loop-holds c = going-first (c .before .before .args .rules) (c .before .before .args .bytes .now) (c .start .result) (c .start .ensures)
 
--- by either reader: where no `+ ` line is due the identifiers stay as they are
-read : (c : tie.Joined1 Inv-loop μ-loop)
-    → let here = c .before .before .before in
-    let a = here .before .before .before .args in
-    ReadAs (a .rules) (a .bytes .now) (here .loop .tally .end) (here .loop .state) (here .loop .names) (c .if1 .found) (c .if1 .names)
-read c =
-    let here = c .before .before .before in
-    let a = here .before .before .before .args in
-    ⊎-elim
-    (λ w. (ap toldRead (w .5) ∙ w .2 .ensures .0, w .4 ∙ w .2 .ensures .1))
-    (λ w. (
-      ap toldRead (w .4) ∙ w .2 .ensures,
-      w .3 ∙ names-stay (a .rules) (a .bytes .now) (here .loop .tally .end) (here .loop .state) (here .loop .names) (w .0 .left),
-    ))
-    (c .if1 .came)
-
 -- where the line has been read
-after-read : (c : tie.Joined1 Inv-loop μ-loop) (w : LineRead) → c .if1 .found ≡ w
+after-read : (c : tie.After-line-at Inv-loop μ-loop) (w : LineRead) → c .line-at .result ≡ w
     → let here = c .before .before .before in
     let a = here .before .before .before .args in
-    Turned (a .rules) (a .bytes .now) (c .if1 .names) (here .loop .tally) w
+    Turned (a .rules) (a .bytes .now) (here .loop .names) (here .loop .state) (here .loop .tally) w
 after-read c w e =
     let here = c .before .before .before in
     let a = here .before .before .before .args in
     turned (a .rules) (a .bytes .now) (here .loop .names) (here .loop .state) (here .loop .tally) (here .loop .inv)
-    (c .if1 .names) (c .if1 .found) w (toldRead-one _ _ (read c .0)) (read c .1) e
+    (c .line-at .result) w (toldRead-one _ _ (c .line-at .ensures)) e
 
 returns : tie.Need-returns Inv-loop μ-loop
 returns c = ap toldFront (c .refused .ensures ∙ after-read (c .before .before .before) _ (c .before .enum-told .given .1))
 
 returns-2 : tie.Need-returns-2 Inv-loop μ-loop
-returns-2 c = let known = c .before .before in ap toldFront (c .refused2 .ensures ∙ after-read (known .before .before) _ (known .found .given .1))
+returns-2 c = let known = c .before .before in ap toldFront (c .refused2 .ensures ∙ after-read (known .before .before) _ (known .number .given .1))
 
 returns-3 : tie.Need-returns-3 Inv-loop μ-loop
 returns-3 c =
     let known = c .before .before .before in
-    ap toldFront (after-read (known .before .before) _ (known .found2 .given .1) .finished (c .count-line .result) (c .count-line .ensures))
+    ap toldFront (after-read (known .before .before) _ (known .end .given .1) .finished (c .count-line .result) (c .count-line .ensures))
 
 loop-less : tie.Need-loop-less Inv-loop μ-loop
 loop-less c =
-    let known = c .before .before .before in
-    after-read (known .before .before) _ (known .found3 .given .1) .falls (c .count-line2 .result) (c .count-line2 .ensures)
+    let known = c .before .before .before .before .before in
+    after-read (known .before .before) _ (known .end2 .given .1) .falls (c .count-line2 .result) (c .count-line2 .ensures)
 
+-- the identifiers that the line brings are kept, where a `+ ` line was due
 loop-again : tie.Need-loop-again Inv-loop μ-loop
 loop-again c =
-    let known = c .before .before .before in
-    after-read (known .before .before) _ (known .found3 .given .1) .goes-on (c .count-line2 .result) (c .count-line2 .ensures)
+    let joined = c .before in
+    let known = joined .before .before .before .before in
+    let here = known .before .before .before .before .before in
+    let a = here .before .before .before .args in
+    let text = take (known .end2 .given .0 .0 - 1 - here .loop .tally .end) (drop (here .loop .tally .end) (a .bytes .now)) in
+    after-read (known .before .before) _ (known .end2 .given .1) .goes-on (joined .if1 .names) (c .count-line2 .result)
+    (⊎-elim
+    (λ w. w .4 ∙ brought-so (a .rules) (here .loop .state) (here .loop .names) text _ (w .0 .taken) (w .2 .ensures .1))
+    (λ w. w .1 ∙ none-brought (a .rules) (here .loop .state) (here .loop .names) text (w .0 .left))
+    (joined .if1 .came))
+    (c .count-line2 .ensures)
 
 pub scan-front-spec : {M : Type 1} → statement M
 scan-front-spec =
@@ -84,24 +76,24 @@ scan-front-spec =
     (λ c κs. search needs)
     (λ c. search needs)
     (λ c κs. search needs)
-    (λ c. search needs)
-    (λ c κs. search needs)
     returns
     (λ c. search needs)
     (λ c κs. search needs)
     returns-2
     (λ c. search needs)
-    (λ c. let p = after-read (c .before .before .before) _ (c .before .found2 .given .1) in search needs)
-    (λ c. let p = after-read (c .before .before .before) _ (c .before .found2 .given .1) in search needs)
-    (λ c. let p = after-read (c .before .before .before) _ (c .before .found2 .given .1) in search needs)
-    (λ c. let p = after-read (c .before .before .before) _ (c .before .found2 .given .1) in search needs)
-    (λ c κs. let p = after-read (c .before .before .before .before) _ (c .before .before .found2 .given .1) in search needs)
+    (λ c. let p = after-read (c .before .before .before) _ (c .before .end .given .1) in search needs)
+    (λ c. let p = after-read (c .before .before .before) _ (c .before .end .given .1) in search needs)
+    (λ c. let p = after-read (c .before .before .before) _ (c .before .end .given .1) in search needs)
+    (λ c. let p = after-read (c .before .before .before) _ (c .before .end .given .1) in search needs)
+    (λ c κs. let p = after-read (c .before .before .before .before) _ (c .before .before .end .given .1) in search needs)
     returns-3
     (λ c. search needs)
-    (λ c. let p = after-read (c .before .before .before) _ (c .before .found3 .given .1) in search needs)
-    (λ c. let p = after-read (c .before .before .before) _ (c .before .found3 .given .1) in search needs)
-    (λ c. let p = after-read (c .before .before .before) _ (c .before .found3 .given .1) in search needs)
-    (λ c. let p = after-read (c .before .before .before) _ (c .before .found3 .given .1) in search needs)
-    (λ c κs. let p = after-read (c .before .before .before .before) _ (c .before .before .found3 .given .1) in search needs)
+    (λ c. let p = after-read (c .before .before .before) _ (c .before .end2 .given .1) in search needs)
+    (λ c. let p = after-read (c .before .before .before) _ (c .before .end2 .given .1) in search needs)
+    (λ c. let p = after-read (c .before .before .before) _ (c .before .end2 .given .1) in search needs)
+    (λ c. let p = after-read (c .before .before .before) _ (c .before .end2 .given .1) in search needs)
+    (λ c. search needs)
+    (λ c κs. search needs)
+    (λ c κs. let known = c .before .before .before .before in let p = after-read (known .before .before) _ (known .end2 .given .1) in search needs)
     loop-less
     loop-again)

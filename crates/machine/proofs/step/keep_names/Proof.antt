@@ -1,20 +1,59 @@
 -- `machine::step::keep_names` meets its contract.
 -- Assumes nothing.
-use Rattle.machine.specs.State.{namesAfter}
-use Rattle.machine.specs.Step.{namesBrought}
-use borrow.Author.Needs.{needs}
-use borrow.Author.Tests.{eq-eqb, ne-eqb}
 use mathlib.Core.Path.{_∙_, ap}
+use borrow.Author.Needs.{needs}
+use lib.ListN.{take}
+use Rattle.record.specs.declared.types.Satellites.{Satellites}
+use Rattle.record.specs.declared.types.Slots.{Slots}
+use Rattle.machine.proofs.Stepping.{first-names, further-names, kept-so}
 use Rattle.machine.proofs.step.keep_names.Statement.{statement}
 use Rattle.machine.proofs.step.keep_names.Tie as tie
 
 returns : tie.Need-returns
-unfolding namesBrought
-returns c = rw (ne-eqb _ 3 (c .if1 .taken))
+returns c =
+    let laying = c .before .before in
+    let front = laying .before in
+    let reading = front .before .before .before .before in
+    let first = reading .before .before in
+    let from = first .before .before in
+    let pad = from .before in
+    let a = pad .before .before .before .args in
+    let new =
+    first-names (a .rules) (a .state) (pad .pad .result) _ (first .if1 .taken)
+    (front .front-of .ensures ∙ ap (λ (x : Satellites). take (x .count) (x .names)) (reading .read-satellites .ensures)) in
+    let so = kept-so (a .rules) (a .state) (a .names .now) (a .line .now) (pad .pad .result) _ (from .seen-so-far .result) (pad .pad .ensures) (from .seen-so-far .ensures) new in
+    (laying .lay-behind .ensures .0 ∙ so .0, laying .lay-behind .ensures .1 ∙ so .1)
 
 returns-2 : tie.Need-returns-2
-unfolding namesBrought
-returns-2 c = rw (eq-eqb _ 3 (c .before .before .before .before .before .before .if1 .left)) (c .before .before .store-names .ensures ∙ ap (namesAfter (c .before .before .before .before .before .before .before .before .before .before .args .rules) (c .before .before .before .before .before .before .before .before .before .before .args .state) (c .before .before .before .before .before .before .before .before .before .before .args .names .now)) (c .before .before .before .before .before .pad .ensures))
+returns-2 c =
+    let laying = c .before .before in
+    let front = laying .before in
+    let reading = front .before .before .before .before in
+    let further = reading .before .before in
+    let from = further .before .before in
+    let pad = from .before in
+    let a = pad .before .before .before .args in
+    let new =
+    further-names (a .rules) (a .state) (pad .pad .result) _ (further .if1 .left)
+    (front .front-of2 .ensures ∙ ap (λ (x : Slots). take (a .state .left) (x .values)) (reading .read-slots .ensures)) in
+    let so = kept-so (a .rules) (a .state) (a .names .now) (a .line .now) (pad .pad .result) _ (from .seen-so-far .result) (pad .pad .ensures) (from .seen-so-far .ensures) new in
+    (laying .lay-behind2 .ensures .0 ∙ so .0, laying .lay-behind2 .ensures .1 ∙ so .1)
 
 pub keep-names-spec : {M : Type 1} → statement M
-keep-names-spec = tie.close (tie.spec returns (λ c κs. search needs) (λ c κs. search needs) (λ c. search needs) returns-2)
+keep-names-spec =
+    tie.close
+    (tie.spec
+    (λ c κs. search needs)
+    (λ c κs. search needs)
+    (λ c κs. search needs)
+    (λ c. search needs)
+    (λ c κs. search needs)
+    (λ c κs. search needs)
+    (λ c. search needs)
+    returns
+    (λ c κs. search needs)
+    (λ c. search needs)
+    (λ c κs. search needs)
+    (λ c κs. search needs)
+    (λ c. search needs)
+    returns-2)

@@ -1,11 +1,13 @@
 -- `machine::step::line_at` meets its contract.
 -- Assumes nothing.
-use mathlib.Core.Path.{_≡_}
+use mathlib.Core.Path.{_≡_, sym, ap, _∙_}
 use Prim.Native.Nat.{_+_}
 use borrow.Author.Needs.{needs}
-use Rattle.machine.specs.Step.{readAs, lineRead}
+use lib.ListN.{take, drop}
+use Rattle.machine.specs.Step.{stepOf, readAs, lineAt}
 use Rattle.machine.specs.Told.{toldRead}
 use Rattle.machine.specs.declared.types.Verdict.{Verdict}
+use Rattle.machine.proofs.Told.{toldVerdict-one}
 use Rattle.machine.proofs.Stepping.{none-left, judged-read}
 use Rattle.machine.proofs.step.line_at.Statement.{statement}
 use Rattle.machine.proofs.step.line_at.Tie as tie
@@ -13,18 +15,21 @@ use Rattle.machine.proofs.step.line_at.Tie as tie
 returns : tie.Need-returns
 returns c =
     let a = c .before .before .before .before .args in
-    none-left (a .rules) (a .bytes .now) (a .at) (a .state) (a .names .now) (c .before .line-end .result) (c .before .line-end .ensures) (c .if1 .taken) .0
+    ap toldRead
+    (none-left (stepOf (a .rules) (a .state) (a .names .now)) (a .bytes .now) (a .at) (c .before .line-end .result) (c .before .line-end .ensures)
+    (c .if1 .taken))
 
 -- where the line has been judged
 judged : (c : tie.After-step-line) (w : Verdict) → c .step-line .result ≡ w
     → let ended = c .before .before .before in
     let a = ended .before .before .before .args in
-    toldRead (readAs w (ended .line-end .result + 1)) ≡ toldRead (lineRead (a .rules) (a .bytes .now) (a .at) (a .state) (a .names .now))
+    toldRead (readAs w (ended .line-end .result + 1)) ≡ toldRead (lineAt (a .rules) (a .bytes .now) (a .at) (a .state) (a .names .now))
 judged c w is =
     let ended = c .before .before .before in
     let a = ended .before .before .before .args in
-    judged-read (a .rules) (a .bytes .now) (a .at) (a .state) (a .names .now) (ended .line-end .result) (ended .line-end .ensures)
-    (c .before .before .if1 .left) (c .step-line .result) w (c .step-line .ensures) is .0
+    ap toldRead
+    (judged-read (stepOf (a .rules) (a .state) (a .names .now)) (a .bytes .now) (a .at) (ended .line-end .result) (ended .line-end .ensures)
+    (c .before .before .if1 .left) w (sym is ∙ toldVerdict-one (c .step-line .result) _ (c .step-line .ensures)))
 
 returns-2 : tie.Need-returns-2
 returns-2 c = judged (c .before .before .before) _ (c .before .number .given .1)

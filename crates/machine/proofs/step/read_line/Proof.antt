@@ -1,8 +1,14 @@
 -- `machine::step::read_line` meets its contract.
 -- Assumes nothing.
-use mathlib.Core.Path.{_∙_}
+use mathlib.Core.Path.{_≡_, sym, _∙_}
+use mathlib.Core.Bool.{true, false}
+use Prim.Native.Nat.{ℕ, _≤_, _<_}
+use native.Mathlib.Omega.{arith}
 use borrow.Author.Needs.{needs}
-use Rattle.machine.proofs.Stepping.{none-left, names-left, names-brought}
+use lib.ListN.{length}
+use Rattle.machine.specs.declared.types.State.{State}
+use Rattle.machine.specs.declared.types.LineRead.the-variants as found
+use Rattle.machine.proofs.Stepping.{goes-on, read-same, read-other, read-names}
 use Rattle.machine.proofs.step.read_line.Statement.{statement}
 use Rattle.machine.proofs.step.read_line.Tie as tie
 
@@ -10,26 +16,43 @@ returns : tie.Need-returns
 returns c =
     let read = c .before in
     let a = read .before .before .before .before .args in
-    (read .line-at .ensures, names-left (a .rules) (a .bytes .now) (a .at) (a .state) (a .names .now) (read .line-at .result) (read .line-at .ensures) (c .match .keys2))
+    read-same (a .rules) (a .bytes .now) (a .at) (a .state) (a .names .now) (read .line-at .result) (read .line-at .ensures) (c .match .keys2)
+
+-- where the line goes on: its bounds
+bounds : (c : tie.After-line-at) (place : ℕ) (s′ : State) → c .line-at .result ≡ found.Next place s′
+    → let a = c .before .before .before .before .args in
+    (a .at < place) × (place ≤ length (a .bytes .now))
+bounds c place s′ is =
+    let a = c .before .before .before .before .args in
+    let g = goes-on (a .rules) (a .bytes .now) (a .at) (a .state) (a .names .now) (c .line-at .result) place s′ (c .line-at .ensures) is .lined-so in
+    (g .starts, g .within)
 
 returns-2 : tie.Need-returns-2
 returns-2 c =
-    let ended = c .before in
-    let read = ended .before .before .before in
+    let told = c .before .before .before in
+    let read = told .before .before in
     let a = read .before .before .before .before .args in
-    (read .line-at .ensures, none-left (a .rules) (a .bytes .now) (a .at) (a .state) (a .names .now) (ended .line-end .result) (ended .line-end .ensures) (c .if1 .taken) .1)
+    read-other (a .rules) (a .bytes .now) (a .at) (a .state) (a .names .now) (read .line-at .result) _ _ (read .line-at .ensures) (told .found .given .1) (c .if1 .taken)
 
 returns-3 : tie.Need-returns-3
 returns-3 c =
-    let kept = c .before .before in
-    let ended = kept .before .before .before .before in
-    let read = ended .before .before .before in
-    let a = read .before .before .before .before .args in (
-      read .line-at .ensures,
-      kept .keep-names .ensures
-          ∙ names-brought (a .rules) (a .bytes .now) (a .at) (a .state) (a .names .now) (ended .line-end .result) (ended .line-end .ensures)
-          (kept .before .before .before .if1 .left) (read .line-at .result) _ _ (read .line-at .ensures) (ended .before .enum-told .given .1),
-    )
+    let keeping = c .before .before .before in
+    let due = keeping .before .before .before in
+    let told = due .before .before .before in
+    let read = told .before .before in
+    let a = read .before .before .before .before .args in
+    read-names (a .rules) (a .bytes .now) (a .at) (a .state) (a .names .now) (read .line-at .result) _ _ (read .line-at .ensures) (told .found .given .1)
+    (due .if1 .left) true _ (sym (c .if2 .taken) ∙ keeping .keep-names .ensures .0) (keeping .keep-names .ensures .1)
+
+returns-4 : tie.Need-returns-4
+returns-4 c =
+    let keeping = c .before .before .before in
+    let due = keeping .before .before .before in
+    let told = due .before .before .before in
+    let read = told .before .before in
+    let a = read .before .before .before .before .args in
+    read-names (a .rules) (a .bytes .now) (a .at) (a .state) (a .names .now) (read .line-at .result) _ _ (read .line-at .ensures) (told .found .given .1)
+    (due .if1 .left) false _ (sym (c .if2 .left) ∙ keeping .keep-names .ensures .0) (keeping .keep-names .ensures .1)
 
 pub read-line-spec : {M : Type 1} → statement M
 read-line-spec =
@@ -39,12 +62,14 @@ read-line-spec =
     (λ c. search needs)
     (λ c. search needs)
     returns
-    (λ c κs. search needs)
     (λ c. search needs)
     returns-2
-    (λ c. search needs)
-    (λ c. search needs)
-    (λ c. search needs)
+    (λ c. let told = c .before .before .before .before in let h = bounds (told .before .before) _ _ (told .found .given .1) in omega (arith, h))
+    (λ c. let told = c .before .before .before .before in let h = bounds (told .before .before) _ _ (told .found .given .1) in omega (arith, h))
+    (λ c. let told = c .before .before .before .before in let h = bounds (told .before .before) _ _ (told .found .given .1) in omega (arith, h))
+    (λ c. let told = c .before .before .before .before in let h = bounds (told .before .before) _ _ (told .found .given .1) in omega (arith, h))
     (λ c κs. search needs)
     (λ c. search needs)
-    returns-3)
+    returns-3
+    (λ c. search needs)
+    returns-4)

@@ -1,6 +1,6 @@
 -- `questions::comments::comment` meets its contract: what was found says which case holds.
 -- Assumes nothing.
-use mathlib.Core.Path.{_≡_, refl}
+use mathlib.Core.Path.{_≡_, refl, ap}
 use mathlib.Core.List.{[]}
 use native.Mathlib.Omega.{arith}
 use borrow.Author.Needs.{needs}
@@ -8,9 +8,11 @@ use Rattle.scan.proofs.Told.{toldFront-one}
 use denote.Ref.{now}
 use Rattle.header.specs.Rules.{d}
 use Rattle.reader.specs.Reading.{fileOf}
-use Rattle.questions.specs.Questions.{commentWords}
+use Rattle.laws.specs.Places.{byteOf}
+use Rattle.questions.specs.Questions.{noComment, commentAnswer, commentWords}
+use Rattle.questions.specs.declared.types.CommentAnswer.{CommentAnswer}
 use Rattle.scan.specs.declared.Front.the-variants as front
-use Rattle.questions.proofs.Asking.{found-as, words-as, words-there, no-words-there, file-within}
+use Rattle.questions.proofs.Asking.{found-as, comment-as, no-comment-there, words-as, words-there, no-words-there, at-comment, file-within}
 use Rattle.questions.proofs.comments.comment.Statement.{statement}
 use Rattle.questions.proofs.comments.comment.Tie as tie
 
@@ -30,28 +32,41 @@ returns : tie.Need-returns
 returns c =
     let known = c .before .before .before .before .before .before in
     let start = known .before .before .before .before .before in
-    let t = known .tally .given .0 .0 in
-    words-as (start .args .file .now) (front.File t) (found-file known) (start .args .k) (now (c .text-of .result))
-    (words-there (known .before .before .before .d .result) (known .before .before .before .d .ensures) (start .args .file .now) t (start .args .k) (now (c .text-of .result))
-    (now (c .before .line-of .result)) (c .before .before .before .if1 .taken) (c .text-of .ensures) (c .before .line-of .ensures))
+    let t = known .tally .given .0 .0 in (
+      words-as (start .args .file .now) (front.File t) (found-file known) (start .args .k) (now (c .text-of .result))
+          (words-there (known .before .before .before .d .result) (known .before .before .before .d .ensures) (start .args .file .now) t (start .args .k) (now (c .text-of .result))
+          (now (c .before .line-of .result)) (c .before .before .before .if1 .taken) (c .text-of .ensures .0) (c .before .line-of .ensures .0)),
+      at-comment (known .before .before .before .d .result) (known .before .before .before .d .ensures) (start .args .file) t (found-file known) (start .args .k)
+          (c .before .line-of .result) (c .text-of .result) (c .before .before .before .if1 .taken)
+          (c .before .line-of .ensures .0) (c .before .line-of .ensures .1) (c .text-of .ensures .0) (c .text-of .ensures .1),
+    )
 
 returns-2 : tie.Need-returns-2
-unfolding commentWords
+unfolding commentAnswer commentWords
 returns-2 c =
     let known = c .before in
     let ran = known .before .before in
-    let start = ran .before .before .before in
-    words-as (start .args .file .now) _
-    (found-as (ran .before .d .result) (start .args .file .now) (ran .scan-whole .result) _ (ran .before .d .ensures) (toldFront-one _ _ (ran .scan-whole .ensures)) (known .enum-told .given .1))
-    (start .args .k) [] refl
+    let start = ran .before .before .before in (
+      words-as (start .args .file .now) _
+          (found-as (ran .before .d .result) (start .args .file .now) (ran .scan-whole .result) _ (ran .before .d .ensures) (toldFront-one _ _ (ran .scan-whole .ensures)) (known .enum-told .given .1))
+          (start .args .k) [] refl,
+      ap (λ (a : CommentAnswer). byteOf (start .args .file) (a .at))
+          (comment-as (start .args .file .now) _
+          (found-as (ran .before .d .result) (start .args .file .now) (ran .scan-whole .result) _ (ran .before .d .ensures) (toldFront-one _ _ (ran .scan-whole .ensures)) (known .enum-told .given .1))
+          (start .args .k) (noComment _ _) refl),
+    )
 
 returns-3 : tie.Need-returns-3
 returns-3 c =
     let known = c .before .before .before .before in
     let start = known .before .before .before .before .before in
-    let t = known .tally .given .0 .0 in
-    words-as (start .args .file .now) (front.File t) (found-file known) (start .args .k) []
-    (no-words-there (start .args .file .now) t (start .args .k) (c .before .if1 .left))
+    let t = known .tally .given .0 .0 in (
+      words-as (start .args .file .now) (front.File t) (found-file known) (start .args .k) []
+          (no-words-there (start .args .file .now) t (start .args .k) (c .before .if1 .left)),
+      ap (λ (a : CommentAnswer). byteOf (start .args .file) (a .at))
+          (comment-as (start .args .file .now) (front.File t) (found-file known) (start .args .k) (noComment 13 0)
+          (no-comment-there (start .args .file .now) t (start .args .k) (noComment 13 0) (c .before .if1 .left) refl)),
+    )
 
 pub comment-spec : {M : Type 1} → statement M
 comment-spec =

@@ -16,7 +16,7 @@ add-t8 c =
     omega (
       arith,
       text-within (a .rules) (a .bytes .now) (a .k) (lined .before .place-of .result) (indented .fewer .result) (now (lined .line-of .result))
-          (lined .before .place-of .ensures) (lined .line-of .ensures) (indented .fewer .ensures),
+          (lined .before .place-of .ensures) (lined .line-of .ensures .0) (indented .fewer .ensures),
     )
 
 returns : tie.Need-returns
@@ -25,7 +25,7 @@ returns c =
     let lined = indented .before in
     let a = lined .before .before .before .args in
     comment-told (a .rules) (linesOf (a .bytes .now)) (a .k) (lined .before .place-of .result) (indented .fewer .result) (now (lined .line-of .result)) (now (c .text-of .result))
-    (lined .before .place-of .ensures) (lined .line-of .ensures) (indented .fewer .ensures) (c .text-of .ensures)
+    (lined .before .place-of .ensures) (lined .line-of .ensures .0) (indented .fewer .ensures) (c .text-of .ensures .0)
 
 pub comment-at-spec : {M : Type 1} → statement M
 comment-at-spec = tie.close (tie.spec (λ c κs. search needs) (λ c κs. search needs) (λ c κs. search needs) (λ c κs. search needs) add-t8 returns)

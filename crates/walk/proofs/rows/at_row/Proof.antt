@@ -8,7 +8,7 @@ use lib.ListN.{length}
 use Rattle.header.specs.Rules.{d}
 use Rattle.walk.specs.Rows.{rowAhead}
 use Rattle.walker.specs.declared.Place.{Place}
-use Rattle.walk.proofs.Going.{Turn, turn, row-here, one-after}
+use Rattle.walk.proofs.Going.{Turn, turn, row-here}
 use Rattle.walk.proofs.rows.at_row.Statement.{statement}
 use Rattle.walk.proofs.rows.at_row.Tie as tie
 
@@ -25,14 +25,14 @@ returns c =
     row-here d (a .file .now) (a .names .now) (at-loop .loop .place) (sym (c .before .is-row-at .ensures) ∙ c .if1 .taken) ∙ at-loop .loop .inv
 
 -- the place after the line
-turned : (c : tie.After-after-lines Inv-loop μ-loop) → let at-loop = c .before .before .before in
+turned : (c : tie.After-place-past Inv-loop μ-loop) → let at-loop = c .before .before .before in
     let a = at-loop .before .before .before .args in
-    Turn d (a .file .now) (a .names .now) (at-loop .loop .place) (c .after-lines .result)
+    Turn d (a .file .now) (a .names .now) (at-loop .loop .place) (c .place-past .result)
 turned c =
     let at-loop = c .before .before .before in
     let a = at-loop .before .before .before .args in
     subst (λ (p : Place). Turn d (a .file .now) (a .names .now) (at-loop .loop .place) p)
-    (sym (one-after d (a .file .now) (a .names .now) (at-loop .loop .place) (c .after-lines .result) (c .after-lines .ensures)))
+    (sym (c .place-past .ensures))
     (turn d (a .file .now) (a .names .now) (at-loop .loop .place) (sym (c .before .before .is-row-at .ensures) ∙ c .before .if1 .left))
 
 returns-2 : tie.Need-returns-2 Inv-loop μ-loop

@@ -1,0 +1,15 @@
+-- The P line that is due, without fault and of the usual kind.
+use mathlib.Core.Bool.{Bool, _&&_}
+use mathlib.Core.List.{List}
+use Prim.Native.Nat.{ℕ}
+use lib.Dec.{eqb, leb}
+use lib.ListN.{length}
+use Rattle.layout.specs.Kind.{nameCode}
+use Rattle.record.specs.Rows.{cut}
+use Rattle.record.specs.Usual.{usual}
+use Rattle.machine.specs.State.{nameDue}
+use Rattle.machine.specs.declared.types.State.{State}
+
+abbrev pub dueRow : State → List ℕ → List ℕ → List ℕ → Bool
+dueRow s names line columns =
+    (eqb (s .due) 10 && leb (length line) 80) && (usual columns && eqb (nameCode (cut 2 4 columns)) (nameDue s names))

@@ -1,0 +1,54 @@
+-- A decimal of 14 columns of the usual kind has no fault. Assumes nothing.
+use mathlib.Core.Path.{_≡_, refl, sym, _∙_, ap}
+use mathlib.Core.Bool.{Bool, true, false, cond, _&&_}
+use mathlib.Core.List.{List, [], _∷_}
+use Prim.Native.Nat.{ℕ, suc, _+_, _<_, _≤_, _^_}
+use native.Mathlib.Omega.{arith}
+use borrow.Author.Tests.{le-leb}
+use lib.Dec.{leb, ltb, eqb}
+use lib.ListN.{length, getD, take, drop}
+use Rattle.field.specs.Digits.{trim, isDigit, allDigits, valueFrom, pointOf}
+use Rattle.field.specs.Read.{integerOf, decimalOf, carried, settled}
+use Rattle.field.specs.Sign.{largest}
+use Rattle.field.specs.declared.Amount.{Amount}
+use Rattle.field.specs.declared.Amount.the-variants as amount
+use Rattle.field.proofs.Bounds.{decimal-bound}
+use Rattle.layout.specs.Fault.{clean}
+use Rattle.layout.specs.Kind.{amountFault, faultIn}
+use Rattle.layout.specs.Kind.Kind.{signed}
+use Rattle.laws.proofs.Bools.{and-both}
+use Rattle.record.specs.Usual.{ledFrom}
+use Rattle.record.proofs.UsualIntegers.{Taken, integer-led}
+
+within-bounds : (column : ℕ) (n : Bool) (m : ℕ) → m < 1000000000000 → amountFault column 0 largest (amount.Value n m) ≡ clean
+within-bounds column n m h = rw (le-leb 0 m (omega arith), le-leb m 999999999999 (omega arith))
+
+module _ (b1 b2 b3 b4 b5 b6 c1 c2 c3 c4 c5 c6 : ℕ) where
+  abbrev before : List ℕ
+  before = b1 ∷ b2 ∷ b3 ∷ b4 ∷ b5 ∷ b6 ∷ []
+
+  abbrev after : List ℕ
+  after = c1 ∷ c2 ∷ c3 ∷ c4 ∷ c5 ∷ c6 ∷ []
+
+  abbrev thirteen : List ℕ
+  thirteen = b1 ∷ b2 ∷ b3 ∷ b4 ∷ b5 ∷ b6 ∷ 46 ∷ c1 ∷ c2 ∷ c3 ∷ c4 ∷ c5 ∷ c6 ∷ []
+
+  -- the thirteen columns after the first are such a decimal already
+  read-thirteen : (n : Bool) (v : ℕ) → integerOf true before ≡ amount.Value n v → allDigits after ≡ true
+      → decimalOf thirteen 6 true ≡ settled n (valueFrom v after)
+  unfolding decimalOf
+  read-thirteen n v e d = rw (e, d)
+
+  -- and a blank before them changes nothing
+  read-fourteen : decimalOf (32 ∷ thirteen) 6 true ≡ decimalOf thirteen 6 true
+  unfolding decimalOf integerOf
+  read-fourteen = refl
+
+  pub decimal-usual : (column : ℕ) → ledFrom 32 before ≡ true → allDigits after ≡ true → faultIn (signed 6) column (32 ∷ thirteen) ≡ clean
+  decimal-usual column h d =
+      let t = integer-led before h in
+      let n = t .0 in
+      let v = t .1 in
+      let read = read-thirteen n v (t .2) d in
+      let small = decimal-bound thirteen 6 true (n && ltb 0 (valueFrom v after)) (valueFrom v after) read in
+      rw (read-fourteen, read) (within-bounds column (n && ltb 0 (valueFrom v after)) (valueFrom v after) small)

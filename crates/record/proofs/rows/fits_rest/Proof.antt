@@ -1,0 +1,53 @@
+-- `record::rows::fits_rest` meets its contract. The invariant: the flag says whether the columns before the i-th fit.
+-- Assumes nothing.
+use mathlib.Core.Path.{_≡_, refl}
+use Prim.Native.Nat.{_-_, _≤_}
+use native.Mathlib.Omega.{arith}
+use borrow.Author.Needs.{needs}
+use Rattle.laws.specs.Tests.{everyBelow}
+use Rattle.record.specs.Usual.{fitsAt}
+use Rattle.record.proofs.UsualColumns.{below-more, below-end}
+use Rattle.record.proofs.rows.fits_rest.Statement.{statement}
+use Rattle.record.proofs.rows.fits_rest.Tie as tie
+
+abbrev Inv-loop : tie.InvT-loop
+Inv-loop line low high also sign ok₀ i₀ ok i = (i ≤ 64) × (ok ≡ everyBelow i (fitsAt low high also sign line 15))
+
+abbrev μ-loop : tie.MeasureT-loop
+μ-loop line low high also sign ok₀ i₀ ok i = 64 - i
+
+loop-holds : tie.Need-loop-holds Inv-loop μ-loop
+loop-holds c = (omega arith, refl)
+
+loop-again : tie.Need-loop-again Inv-loop μ-loop
+loop-again c =
+    let l = c .before .before .before .before .before .before .before in
+    let a = l .before .args in
+    (omega arith, below-more (fitsAt (a .low .now) (a .high .now) (a .also .now) (a .sign .now) (a .line .now) 15) (l .loop .i) (l .loop .ok) (l .loop .inv .1))
+
+returns : tie.Need-returns Inv-loop μ-loop
+returns c =
+    let l = c .before in
+    let a = l .before .args in
+    below-end (fitsAt (a .low .now) (a .high .now) (a .also .now) (a .sign .now) (a .line .now) 15) 64 (l .loop .i) (l .loop .ok) (l .loop .inv .0) (c .loop-test .left) (l .loop .inv .1)
+
+pub fits-rest-spec : {M : Type 1} → statement M
+fits-rest-spec =
+    tie.close
+    (tie.spec
+    Inv-loop
+    μ-loop
+    loop-holds
+    (λ c. search needs)
+    (λ c. search needs)
+    (λ c. search needs)
+    (λ c. search needs)
+    (λ c. search needs)
+    (λ c. search needs)
+    (λ c. search needs)
+    (λ c. search needs)
+    (λ c. search needs)
+    (λ c. search needs)
+    (λ c. search needs)
+    loop-again
+    returns)
