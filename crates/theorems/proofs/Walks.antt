@@ -7,6 +7,7 @@ use mathlib.Core.List.{List, [], _∷_}
 use Prim.Native.Nat.{ℕ, zero, suc, _+_, _-_, _≤_, _<_}
 use native.Mathlib.Nat.{le-of-suc-le-suc, not-suc-le-zero, add-zero, zero-add}
 use native.Mathlib.Omega.{arith}
+use borrow.Author.Tests.{eq-eqb}
 use lib.ListN.{length, take, drop}
 use denote.Ref.{RefT, now}
 use Rattle.header.specs.Rules.{d}
@@ -158,7 +159,7 @@ module _ (rules : Rules) (bytes : List ℕ) where
       (s : State) (goes : judged rules g l ≡ verdict.Next s) (due : g .state .due ≡ 3) (short : hasRoom rules (g .state) (g .names) (padded l) ≡ false) where
     twelve : read rules g l ≡ verdict.Fault 12 0
     unfolding stepWithin
-    twelve = rw (due, short, goes)
+    twelve = rw (eq-eqb (g .state .due) 3 due, short, goes)
 
     pub short-reads : lineRead rules bytes (g .at) (g .state) (g .names) ≡ found.Fault 12 0
     unfolding readFirst
