@@ -1,9 +1,8 @@
 -- The P line that is due, of the usual kind, leads to the state after it. Assumes nothing.
-use mathlib.Core.Path.{_≡_, refl, sym, _∙_, ap}
-use mathlib.Core.Bool.{Bool, true, false, cond, _&&_, _||_}
+use mathlib.Core.Path.{_≡_, sym, _∙_}
+use mathlib.Core.Bool.{true, false, _&&_}
 use mathlib.Core.List.{List}
-use Prim.Native.Nat.{ℕ, _≤_}
-use native.Mathlib.Omega.{arith}
+use Prim.Native.Nat.{ℕ}
 use borrow.Author.Tests.{leb-true, eqb-true}
 use lib.Dec.{eqb, leb}
 use lib.ListN.{length, getD}
@@ -13,15 +12,14 @@ use Rattle.layout.specs.Line.{padded}
 use Rattle.layout.specs.Kind.{nameCode}
 use Rattle.record.specs.LineKinds.{kindOf}
 use Rattle.record.specs.Rows.{rowFault, cut}
-use Rattle.record.specs.Usual.{usual}
-use Rattle.record.proofs.UsualRows.{usual-clean}
-use Rattle.record.proofs.UsualPrinted.{usual-printed}
+use Rattle.picture.specs.Picture.{usual}
+use Rattle.picture.proofs.Rows.{usual-clean}
+use Rattle.picture.proofs.Printed.{usual-printed}
 use Rattle.header.specs.declared.types.Rules.{Rules}
-use Rattle.record.specs.declared.types.LineKind.{LineKind}
 use Rattle.record.specs.declared.types.LineKind.the-variants as kind
 use Rattle.machine.specs.State.{nameDue}
-use Rattle.machine.specs.Faults.{longest, namedFault, placeFault}
-use Rattle.machine.specs.Next.{afterPosition, nextOf}
+use Rattle.machine.specs.Faults.{namedFault, placeFault}
+use Rattle.machine.specs.Next.{afterPosition}
 use Rattle.machine.specs.Step.{onKey, judgedLine, printedLine, stepOf}
 use Rattle.machine.specs.Usual.{dueRow}
 use Rattle.machine.specs.declared.types.State.{State}

@@ -6,7 +6,7 @@ use lib.Dec.{eqb, leb}
 use lib.ListN.{length}
 use Rattle.layout.specs.Kind.{nameCode}
 use Rattle.record.specs.Rows.{cut}
-use Rattle.record.specs.Usual.{usual}
+use Rattle.picture.specs.Picture.{usual}
 use Rattle.machine.specs.State.{nameDue}
 use Rattle.machine.specs.declared.types.State.{State}
 

@@ -70,7 +70,7 @@ fn is_due_row(state: State, names: &[u64], line: &[u8], columns: &[u8; 80]) -> b
         return false;
     }
     let named = record::rows::satellite_in(columns) == faults::name_due(state, names);
-    record::rows::is_usual(columns) & named
+    picture::is_usual(columns) & named
 }
 
 // What a line does where the header's identifiers so far are `names`: CR in column 61 is 2 at column 61, 81 blanks are 3 at column 81.

@@ -8,9 +8,3 @@ pub mod Taking
 pub mod Absent
 pub mod RoundTrips
 pub mod Determined
-pub mod UsualIntegers
-pub mod UsualDecimals
-pub mod UsualColumns
-pub mod UsualOthers
-pub mod UsualRows
-pub mod UsualPrinted

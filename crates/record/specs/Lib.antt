@@ -7,4 +7,3 @@ pub mod Descriptors
 pub mod Plain
 pub mod Absence
 pub mod Rows
-pub mod Usual

@@ -5,8 +5,6 @@ ghost use lib.ListN.{length};
 ghost use Rattle.layout.specs.Kind.{nameCode};
 ghost use Rattle.layout.specs.Layout.{faultFrom};
 ghost use Rattle.record.specs.Rows.{bodyItems, flagItems, rowFault, cut, signedIn, exponentIn, flagIn, rowTaken, rowOf};
-ghost use Rattle.laws.specs.Tests.{everyBelow};
-ghost use Rattle.record.specs.Usual.{fitsAt, usual};
 use crate::fields;
 use crate::types::Row;
 use crate::types::Signed;
@@ -44,76 +42,6 @@ fn flags_fault(lowest: usize, line: &[u8; 80]) -> usize
     let d = fields::unused_in(c, line, 77, 78);
     let e = fields::flag_in(d, line, b'M', 79);
     fields::flag_in(e, line, b'P', 80)
-}
-
-// Whether columns 2 to 33 fit their pictures: each a byte from `low` to `high`, or after a blank one of `also` and `sign`. A flag to the end,
-// and no way out, lets LLVM take sixteen columns at once; it does so where they are a multiple of 32.
-fn fits_front(
-    line: &[u8; 80],
-    low: &[u8; 32],
-    high: &[u8; 32],
-    also: &[u8; 32],
-    sign: &[u8; 32],
-) -> bool
-    ensures { λ r. ⌜ r ≡ everyBelow 32 (fitsAt (now (low .entry)) (now (high .entry)) (now (also .entry)) (now (sign .entry)) (now (line .entry)) 0) ⌝ }
-{
-    let mut ok = true;
-    let mut i: usize = 0;
-    while i < 32 {
-        let p = line[0 + i];
-        let q = line[0 + i + 1];
-        ok = (((low[i] <= q) & (q <= high[i])) | ((p == 32) & ((q == also[i]) | (q == sign[i]))))
-            & ok;
-        i += 1;
-    }
-    ok
-}
-
-// Whether columns 17 to 80 fit their pictures: each a byte from `low` to `high`, or after a blank one of `also` and `sign`. A flag to the end,
-// and no way out, lets LLVM take sixteen columns at once; it does so where they are a multiple of 32.
-fn fits_rest(
-    line: &[u8; 80],
-    low: &[u8; 64],
-    high: &[u8; 64],
-    also: &[u8; 64],
-    sign: &[u8; 64],
-) -> bool
-    ensures { λ r. ⌜ r ≡ everyBelow 64 (fitsAt (now (low .entry)) (now (high .entry)) (now (also .entry)) (now (sign .entry)) (now (line .entry)) 15) ⌝ }
-{
-    let mut ok = true;
-    let mut i: usize = 0;
-    while i < 64 {
-        let p = line[15 + i];
-        let q = line[15 + i + 1];
-        ok = (((low[i] <= q) & (q <= high[i])) | ((p == 32) & ((q == also[i]) | (q == sign[i]))))
-            & ok;
-        i += 1;
-    }
-    ok
-}
-
-// Whether a line is a P line without fault of the usual kind, which its picture tells: each number with its first column blank, each flag but P
-// after a blank. What is unusual is judged field by field.
-pub fn is_usual(line: &[u8; 80]) -> bool
-    ensures result { λ r. ⌜ r ≡ usual (now (line .entry)) ⌝ }
-{
-    let front = fits_front(
-        line,
-        b"A00 000000.000000 000000.000000 ",
-        b"Z99 999999.999999 999999.999999 ",
-        b"A00      0.000000      0.000000 ",
-        b"A00 -----0.000000 -----0.000000 ",
-    );
-    let rest = fits_rest(
-        line,
-        b"00 000000.000000 000000.000000 000000.000000 00 00 00 000  P   P",
-        b"99 999999.999999 999999.999999 999999.999999 99 99 99 999  P   P",
-        b"00      0.000000      0.000000      0.000000                    ",
-        b"00 -----0.000000 -----0.000000 -----0.000000              E   M ",
-    );
-    let s = &line[..];
-    let zero = (s[2] == 48) & (s[3] == 48);
-    (s.len() == 80) & ((s[0] == 80) & (!zero & (front & rest)))
 }
 
 // The fault that decides a P line, or a V line where `velocity` says so: `PG07` with a blank x is 6 at column 5.

@@ -1,18 +1,26 @@
 -- Bytes that may each stand after the one before them are an integer that reading takes. Assumes nothing.
 use mathlib.Core.Path.{_≡_, refl, sym, _∙_}
-use mathlib.Core.Bool.{Bool, true, false, cond, _&&_, _||_, or-false}
+use mathlib.Core.Bool.{Bool, true, false, _&&_, _||_}
 use mathlib.Core.List.{List, [], _∷_}
-use Prim.Native.Nat.{ℕ, suc, _+_, _<_, _≤_}
+use Prim.Native.Nat.{ℕ, _≤_}
 use native.Mathlib.Omega.{arith}
 use borrow.Author.Tests.{leb-true, eqb-true, ne-eqb}
 use lib.Dec.{leb, eqb}
-use lib.ListN.{length, getD, drop}
-use Rattle.field.specs.Digits.{blanksOf, trim, isDigit, allDigits, valueFrom}
-use Rattle.field.specs.Read.{digitsFrom, numberOf, minusFirst, withSign, signedOf, integerOf}
+use lib.ListN.{length}
+use Rattle.field.specs.Digits.{isDigit, allDigits, valueFrom}
+use Rattle.field.specs.Read.{digitsFrom, numberOf, minusFirst, signedOf, integerOf}
 use Rattle.field.specs.declared.Whole.the-variants as whole
 use Rattle.field.specs.declared.Amount.the-variants as amount
 use Rattle.laws.proofs.Bools.{and-left, and-right, and-both}
-use Rattle.record.specs.Usual.{mayFollow, ledFrom}
+
+-- whether b may stand after p: a digit after anything, a blank or a minus after a blank
+abbrev pub mayFollow : ℕ → ℕ → Bool
+mayFollow p b = isDigit b || (eqb p 32 && (eqb b 32 || eqb b 45))
+
+-- each byte may stand after the one before it, and the last is a digit
+abbrev pub ledFrom : ℕ → List ℕ → Bool
+ledFrom p [] = isDigit p
+ledFrom p (b ∷ s) = mayFollow p b && ledFrom b s
 
 pub no-blank : (p : ℕ) → isDigit p ≡ true → eqb p 32 ≡ false
 no-blank p e = let h : 48 ≤ p = leb-true 48 p (and-left (leb 48 p) (leb p 57) e) in ne-eqb p 32 (λ n. omega arith)

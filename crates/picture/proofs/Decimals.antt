@@ -1,24 +1,20 @@
 -- A decimal of 14 columns of the usual kind has no fault. Assumes nothing.
-use mathlib.Core.Path.{_≡_, refl, sym, _∙_, ap}
-use mathlib.Core.Bool.{Bool, true, false, cond, _&&_}
+use mathlib.Core.Path.{_≡_, refl}
+use mathlib.Core.Bool.{Bool, true, _&&_}
 use mathlib.Core.List.{List, [], _∷_}
-use Prim.Native.Nat.{ℕ, suc, _+_, _<_, _≤_, _^_}
+use Prim.Native.Nat.{ℕ, _<_}
 use native.Mathlib.Omega.{arith}
 use borrow.Author.Tests.{le-leb}
-use lib.Dec.{leb, ltb, eqb}
-use lib.ListN.{length, getD, take, drop}
-use Rattle.field.specs.Digits.{trim, isDigit, allDigits, valueFrom, pointOf}
-use Rattle.field.specs.Read.{integerOf, decimalOf, carried, settled}
+use lib.Dec.{ltb}
+use Rattle.field.specs.Digits.{allDigits, valueFrom}
+use Rattle.field.specs.Read.{integerOf, decimalOf, settled}
 use Rattle.field.specs.Sign.{largest}
-use Rattle.field.specs.declared.Amount.{Amount}
 use Rattle.field.specs.declared.Amount.the-variants as amount
 use Rattle.field.proofs.Bounds.{decimal-bound}
 use Rattle.layout.specs.Fault.{clean}
 use Rattle.layout.specs.Kind.{amountFault, faultIn}
 use Rattle.layout.specs.Kind.Kind.{signed}
-use Rattle.laws.proofs.Bools.{and-both}
-use Rattle.record.specs.Usual.{ledFrom}
-use Rattle.record.proofs.UsualIntegers.{Taken, integer-led}
+use Rattle.picture.proofs.Integers.{ledFrom, integer-led}
 
 within-bounds : (column : ℕ) (n : Bool) (m : ℕ) → m < 1000000000000 → amountFault column 0 largest (amount.Value n m) ≡ clean
 within-bounds column n m h = rw (le-leb 0 m (omega arith), le-leb m 999999999999 (omega arith))

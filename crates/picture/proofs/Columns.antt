@@ -1,19 +1,20 @@
 -- Columns of a line: the bytes of an item one by one, and what a picture says of each. Assumes nothing.
-use mathlib.Core.Path.{_≡_, refl, sym, _∙_, ap, subst}
-use mathlib.Core.Bool.{Bool, true, false, cond, not, _&&_, _||_}
+use mathlib.Core.Path.{_≡_, refl, ap}
+use mathlib.Core.Bool.{Bool, true, false, _&&_, _||_}
 use mathlib.Core.List.{List, [], _∷_}
 use Prim.Native.Nat.{ℕ, zero, suc, _+_, _<_, _≤_}
 use native.Mathlib.Omega.{arith}
-use native.Mathlib.Numerals.{add-one}
-use borrow.Author.Tests.{leb-true, eqb-true, eqb-false, ne-eqb, le-leb}
+use borrow.Author.Tests.{leb-true, eqb-true, le-leb}
+use denote.Floats.{is-true, passes as passed}
 use lib.Dec.{leb, eqb}
 use lib.ListN.{length, getD, take, drop}
 use Rattle.laws.specs.Tests.{within, everyBelow}
-use Rattle.laws.proofs.Bools.{and-left, and-right}
+use Rattle.laws.proofs.Bools.{and-left, and-right, and-both}
+use Rattle.laws.proofs.Bounds.{below}
 use Rattle.laws.proofs.Lists.{rest-step}
-use Rattle.layout.specs.Fault.{clean, lower}
+use Rattle.layout.specs.Fault.{clean}
 use Rattle.layout.specs.Layout.{Item, faultAt, faultFrom}
-use Rattle.record.specs.Usual.{fitsColumn, frontFits, restFits, usual}
+use Rattle.picture.specs.Picture.{fitsColumn}
 
 -- so many columns from the one at k on, counted from 0
 abbrev pub cells : List ℕ → ℕ → ℕ → List ℕ
@@ -24,14 +25,13 @@ pub take-cells : (line : List ℕ) (k w : ℕ) → k + w ≤ length line → tak
 take-cells line k zero h = refl
 take-cells line k (suc w) h = rw (rest-step line k (omega arith)) (ap (λ (t : List ℕ). getD line k 0 ∷ t) (take-cells line (k + 1) w (omega arith)))
 
--- a test that passes below n passes at each
+-- a test that passes at each number below n passes at any one of them, and the other way about
 pub passes : (n : ℕ) (test : ℕ → Bool) (k : ℕ) → k < n → everyBelow n test ≡ true → test k ≡ true
-passes zero test k h e = absurd (omega arith)
-passes (suc n) test k h e = here (eqb k n) refl (λ below. passes n test k below (and-right (test n) (everyBelow n test) e))
-  where
-    here : (t : Bool) → eqb k n ≡ t → (k < n → test k ≡ true) → test k ≡ true
-    here true q rest = rw (eqb-true k n q) (and-left (test n) (everyBelow n test) e)
-    here false q rest = let other = eqb-false k n q in rest (omega arith)
+passes n test k h e = is-true (test k) (below n test (passed (everyBelow n test) e) k h)
+
+pub each-passes : (n : ℕ) (test : ℕ → Bool) → ((k : ℕ) → k < n → test k ≡ true) → everyBelow n test ≡ true
+each-passes zero test f = refl
+each-passes (suc n) test f = and-both (test n) (everyBelow n test) (f n (omega arith)) (each-passes n test (λ k h. f k (omega arith)))
 
 -- a column whose other bytes are within its range too
 pub ranged : (low high also sign p q : ℕ) → within low high also ≡ true → within low high sign ≡ true → fitsColumn low high also sign p q ≡ true
@@ -65,19 +65,3 @@ Clean (item ∷ items) line = (faultAt item line ≡ clean) × Clean items line
 pub clean-line : (items : List Item) (line : List ℕ) → Clean items line → faultFrom clean items line ≡ clean
 clean-line [] line c = refl
 clean-line (item ∷ items) line c = rw (c .0) (clean-line items line (c .1))
-
--- one turn of a loop that tests one number after another, and its end
-pub below-more : (test : ℕ → Bool) (i : ℕ) (ok : Bool) → ok ≡ everyBelow i test → (test i && ok) ≡ everyBelow (i + 1) test
-below-more test i ok e = rw (add-one, e)
-
-pub below-end : (test : ℕ → Bool) (n i : ℕ) (ok : Bool) → i ≤ n → n ≤ i → ok ≡ everyBelow i test → ok ≡ everyBelow n test
-below-end test n i ok h k e = subst (λ (m : ℕ). ok ≡ everyBelow m test) (same i n h k) e
-  where
-    same : (i n : ℕ) → i ≤ n → n ≤ i → i ≡ n
-    same i n h k = omega arith
-
--- the four tests of a usual line
-pub usual-by : (line : List ℕ) (front rest : Bool) → front ≡ everyBelow 32 (frontFits line) → rest ≡ everyBelow 64 (restFits line)
-    → (eqb (length line) 80 && (eqb (getD line 0 0) 80 && (not (eqb (getD line 2 0) 48 && eqb (getD line 3 0) 48) && (front && rest)))) ≡ usual line
-unfolding usual
-usual-by line front rest e f = rw (e, f)

@@ -1,24 +1,23 @@
 -- Exponents, flags and the identifier of a line of the usual kind. Assumes nothing.
-use mathlib.Core.Path.{_≡_, refl, sym, _∙_, ap}
-use mathlib.Core.Bool.{Bool, true, false, cond, not, _&&_, _||_}
-use mathlib.Core.List.{List, [], _∷_}
-use Prim.Native.Nat.{ℕ, _+_, _-_, _*_, _<_, _≤_}
+use mathlib.Core.Path.{_≡_, refl, sym}
+use mathlib.Core.Bool.{Bool, true, false, not, _&&_, _||_}
+use mathlib.Core.List.{[], _∷_}
+use Prim.Native.Nat.{ℕ, _+_, _-_, _*_, _≤_}
 use native.Mathlib.Omega.{arith}
-use borrow.Author.Tests.{leb-true, eqb-true, eqb-false, ne-eqb, le-leb}
-use lib.Dec.{leb, eqb}
-use lib.ListN.{length, getD}
+use borrow.Author.Tests.{eqb-true, eqb-false}
+use lib.Dec.{eqb}
 use Rattle.laws.specs.Tests.{within}
-use Rattle.laws.proofs.Bools.{and-left, and-right, and-both}
+use Rattle.laws.proofs.Bools.{and-both}
 use Rattle.laws.proofs.Bounds.{within-true, true-within}
-use Rattle.field.specs.Digits.{blanksOf, trim, isDigit, allDigits, valueFrom}
-use Rattle.field.specs.Read.{wholeOf, numberOf, asExponent, exponentOf}
+use Rattle.field.specs.Digits.{isDigit}
+use Rattle.field.specs.Read.{wholeOf, exponentOf}
 use Rattle.field.specs.declared.Whole.the-variants as whole
 use Rattle.field.specs.declared.Exponent.the-variants as exponents
 use Rattle.layout.specs.Fault.{clean}
 use Rattle.layout.specs.Kind.{faultIn}
-use Rattle.layout.specs.Kind.Kind.{exponent, flag, identifier, unused}
-use Rattle.record.specs.Usual.{fitsColumn}
-use Rattle.record.proofs.UsualIntegers.{no-blank, digits-number}
+use Rattle.layout.specs.Kind.Kind.{exponent, flag, identifier}
+use Rattle.picture.specs.Picture.{fitsColumn}
+use Rattle.picture.proofs.Integers.{no-blank, digits-number}
 
 -- a column of an exponent: a digit, or a blank after a blank
 abbrev pub Spaced : ℕ → ℕ → Type 0
