@@ -1,16 +1,19 @@
 -- Where a line ends: at the end of the bytes, at an LF, past a byte that is none, and past a block that has none.
 -- Assumes nothing.
 use mathlib.Core.Path.{_≡_, refl, sym, ap, _∙_}
-use mathlib.Core.Bool.{Bool, true, false, _||_, true≢false}
+use mathlib.Core.Bool.{Bool, true, false, not, _&&_, _||_, true≢false}
 use mathlib.Core.List.{List, [], _∷_, _++_}
 use Prim.Native.Nat.{ℕ, zero, suc, _+_, _-_, _≤_, _<_}
 use native.Mathlib.Nat.{add-zero, zero-add, add-suc, suc-add, not-suc-le-zero, le-of-suc-le-suc}
 use native.Mathlib.Numerals.{add-one}
 use native.Mathlib.Omega.{arith}
+use borrow.Author.Tests.{ltb-true, lt-ltb, le-ltb}
+use lib.Dec.{ltb}
 use lib.ListN.{length, getD, take, drop, length-drop}
 use lib.Seq.{drop-drop, take-suc, getD-drop}
+use Rattle.laws.proofs.Bools.{and-left, and-right}
 use Rattle.laws.proofs.Lists.{rest-step, rest-none}
-use Rattle.lines.specs.Lines.{isLf, lineLength, hasLf, onFirst, linesOf}
+use Rattle.lines.specs.Lines.{isLf, lineLength, hasLf, isFullLine, onFirst, linesOf}
 
 -- both halves of a test of either that fails
 pub neither : (p q : Bool) → (p || q) ≡ false → (p ≡ false) × (q ≡ false)
@@ -77,6 +80,34 @@ line-over n l i h e =
     let over : lineLength (drop i l) ≡ n + lineLength (drop (i + n) l) =
     passed-over n (drop i l) fits e ∙ ap (λ (x : List ℕ). n + lineLength x) (drop-drop n i l) in
     omega arith
+
+-- a full line, by the tests that the code makes, and where it ends
+module _ (l : List ℕ) (at : ℕ) where
+  pub no-full-end : length l ≤ at + 80 → false ≡ isFullLine (drop at l)
+  unfolding isFullLine
+  no-full-end h = rw (le-ltb 80 (length (drop at l)) (omega (arith, length-drop at l)))
+
+  pub full-so : at + 80 < length l → isLf (getD l (at + 80) 0) ≡ true → (found : Bool) → found ≡ hasLf (take 80 (drop at l)) → not found ≡ isFullLine (drop at l)
+  unfolding isFullLine
+  full-so h e found f = rw (lt-ltb 80 (length (drop at l)) (omega (arith, length-drop at l)), getD-drop at l 80 0, e, f)
+
+  pub no-full-lf : at + 80 < length l → isLf (getD l (at + 80) 0) ≡ false → false ≡ isFullLine (drop at l)
+  unfolding isFullLine
+  no-full-lf h e = rw (lt-ltb 80 (length (drop at l)) (omega (arith, length-drop at l)), getD-drop at l 80 0, e)
+
+  pub full-ends : isFullLine (drop at l) ≡ true → (at + 80 < length l) × (at + 80 ≡ at + lineLength (drop at l))
+  unfolding isFullLine
+  full-ends e =
+      let long = ltb-true 80 (length (drop at l)) (and-left (ltb 80 (length (drop at l))) _ e) in
+      let more = and-right (ltb 80 (length (drop at l))) _ e in
+      let lf = sym (ap isLf (getD-drop at l 80 0)) ∙ and-left (isLf (getD (drop at l) 80 0)) _ more in
+      let none = not-true-false (hasLf (take 80 (drop at l))) (and-right (isLf (getD (drop at l) 80 0)) _ more) in
+      let within : at + 80 < length l = omega (arith, length-drop at l) in
+      (within, sym (line-over 80 l at (omega arith) none ∙ line-at-lf l (at + 80) within lf))
+    where
+      not-true-false : (t : Bool) → not t ≡ true → t ≡ false
+      not-true-false true e = sym e
+      not-true-false false e = refl
 
 -- the first line of some bytes, and those after it
 pub lines-none : (xs : List ℕ) → length xs ≤ lineLength xs → linesOf xs ≡ []

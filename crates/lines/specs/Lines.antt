@@ -1,9 +1,9 @@
 -- Bytes as lines. 01, "Lines": "A line is the bytes up to the next LF." A file is read line by line; bytes after the last LF are no line.
-use mathlib.Core.Bool.{Bool, false, cond, _||_}
+use mathlib.Core.Bool.{Bool, false, not, cond, _&&_, _||_}
 use mathlib.Core.List.{List, [], _∷_, _++_}
 use Prim.Native.Nat.{ℕ, zero, suc, _+_}
-use lib.Dec.{eqb}
-use lib.ListN.{length}
+use lib.Dec.{eqb, ltb}
+use lib.ListN.{length, getD, take}
 
 -- the byte that ends a line, LF
 abbrev pub isLf : ℕ → Bool
@@ -18,6 +18,10 @@ lineLength (b ∷ bs) = cond (isLf b) 0 (suc (lineLength bs))
 unfoldable pub hasLf : List ℕ → Bool
 hasLf [] = false
 hasLf (b ∷ bs) = isLf b || hasLf bs
+
+-- whether 80 columns and then an LF stand first
+unfoldable pub isFullLine : List ℕ → Bool
+isFullLine s = ltb 80 (length s) && (isLf (getD s 80 0) && not (hasLf (take 80 s)))
 
 -- a byte before the first of some lines
 unfoldable pub onFirst : ℕ → List (List ℕ) → List (List ℕ)

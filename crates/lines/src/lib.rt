@@ -2,35 +2,37 @@
 ghost use mathlib.Core.Path.{_≡_};
 ghost use Prim.Native.Nat.{_+_, _≤_};
 ghost use lib.ListN.{length, take, drop};
-ghost use Rattle.lines.specs.Lines.{lineLength, hasLf};
+ghost use Rattle.lines.specs.Lines.{lineLength, hasLf, isFullLine};
 ghost use Rattle.lines.specs.Lent.{laid};
 
-// Whether an LF stands in the sixteen bytes from `at` on. A flag to the end, and no way out, lets LLVM take them at once.
-fn lf_in_sixteen(bytes: &[u8], at: usize) -> bool
-    requires { ⌜ at + 16 ≤ length (now bytes) ⌝ }
-    ensures { λ r. ⌜ r ≡ hasLf (take 16 (drop at (now (bytes .entry)))) ⌝ }
+// Whether an LF stands in the n bytes from `at` on. A flag to the end, and no way out, lets LLVM take sixteen of them at once.
+fn lf_in(bytes: &[u8], at: usize, n: usize) -> bool
+    requires { ⌜ at + n ≤ length (now bytes) ⌝ }
+    ensures { λ r. ⌜ r ≡ hasLf (take n (drop at (now (bytes .entry)))) ⌝ }
 {
     let mut found = false;
     let mut i = 0;
-    while i < 16 {
+    while i < n {
         found = found | (bytes[at + i] == 10);
         i += 1;
     }
     found
 }
 
-// The same of the eighty bytes from `at` on, the columns of a full line.
-fn lf_in_eighty(bytes: &[u8], at: usize) -> bool
-    requires { ⌜ at + 80 ≤ length (now bytes) ⌝ }
-    ensures { λ r. ⌜ r ≡ hasLf (take 80 (drop at (now (bytes .entry)))) ⌝ }
+// Whether 80 columns and then an LF stand from `at` on, as in most lines of a file.
+fn is_full_line(bytes: &[u8], at: usize) -> bool
+    ensures { λ r. ⌜ r ≡ isFullLine (drop at (now (bytes .entry))) ⌝ }
 {
-    let mut found = false;
-    let mut i = 0;
-    while i < 80 {
-        found = found | (bytes[at + i] == 10);
-        i += 1;
+    if at >= bytes.len() {
+        return false;
     }
-    found
+    if bytes.len() - at <= 80 {
+        return false;
+    }
+    if bytes[at + 80] != 10 {
+        return false;
+    }
+    !lf_in(bytes, at, 80)
 }
 
 // The end of the line at `at`, byte by byte.
@@ -51,21 +53,15 @@ fn line_end_by_bytes(bytes: &[u8], at: usize) -> usize
 pub fn line_end(bytes: &[u8], at: usize) -> usize
     ensures result { λ r. ⌜ r ≡ at + lineLength (drop at (now (bytes .entry))) ⌝ }
 {
-    if at < bytes.len() {
-        if 80 < bytes.len() - at {
-            if bytes[at + 80] == 10 {
-                if !lf_in_eighty(bytes, at) {
-                    return at + 80;
-                }
-            }
-        }
+    if is_full_line(bytes, at) {
+        return at + 80;
     }
     let mut from = at;
     while from < bytes.len() {
         if bytes.len() - from < 16 {
             return line_end_by_bytes(bytes, from);
         }
-        if lf_in_sixteen(bytes, from) {
+        if lf_in(bytes, from, 16) {
             return line_end_by_bytes(bytes, from);
         }
         from += 16;

@@ -1,6 +1,7 @@
 -- What a line does at its place, and what the lines of some bytes do one after another. 01: "Readers go line by line. First they take plain
 -- bytes and a place".
-use mathlib.Core.Bool.{Bool, true, cond}
+use mathlib.Core.Path.{_≡_}
+use mathlib.Core.Bool.{Bool, true, false, cond}
 use mathlib.Core.List.{List, [], _∷_}
 use Prim.Native.Nat.{ℕ, _+_}
 use lib.Dec.{eqb, leb}
@@ -92,3 +93,13 @@ lineRead rules bytes at s names = readFirst (stepWithin rules s names) at (lines
 
 abbrev pub lineNames : Rules → List ℕ → ℕ → State → List ℕ → List ℕ
 lineNames rules bytes at s names = namesFirst rules s names (linesOf (drop at bytes))
+
+-- the line at a place brings more identifiers than fit: a `+ ` line is due there and has no fault, and the list has no room for those it brings
+pub record Overfull (rules : Rules) (bytes : List ℕ) (at : ℕ) (s : State) (names : List ℕ) : Type 0 where
+  pub line : List ℕ
+  pub after : List (List ℕ)
+  pub stands : linesOf (drop at bytes) ≡ line ∷ after
+  pub due : s .due ≡ 3
+  pub next : State
+  pub good : stepOf rules s names line ≡ verdict.Next next
+  pub full : hasRoom rules s names (padded line) ≡ false

@@ -11,6 +11,7 @@ pub mod Lent
 pub mod Writing
 pub mod Rewritten
 pub mod Known
+pub mod LineRoom
 pub mod Walks
 pub mod WalkedRows
 pub mod Beginning

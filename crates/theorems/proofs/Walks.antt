@@ -2,20 +2,17 @@
 -- they are those of the judge's own run, as long as its lines go on.
 -- Assumes nothing.
 use mathlib.Core.Path.{_≡_, refl, sym, ap, ap₂, _∙_}
-use mathlib.Core.Bool.{false}
 use mathlib.Core.List.{List, [], _∷_}
 use Prim.Native.Nat.{ℕ, zero, suc, _+_, _-_, _≤_, _<_}
 use native.Mathlib.Nat.{le-of-suc-le-suc, not-suc-le-zero, add-zero, zero-add}
 use native.Mathlib.Omega.{arith}
-use borrow.Author.Tests.{eq-eqb}
 use lib.ListN.{length, take, drop}
 use denote.Ref.{RefT, now}
 use Rattle.header.specs.Rules.{d}
-use Rattle.layout.specs.Line.{padded}
 use Rattle.lines.specs.Lines.{linesOf, nth}
 use Rattle.lines.proofs.Lined.{lined}
-use Rattle.machine.specs.State.{noNames, hasRoom}
-use Rattle.machine.specs.Step.{namesBrought, stepWithin, readFirst, namesFirst, lineRead, lineNames}
+use Rattle.machine.specs.State.{noNames}
+use Rattle.machine.specs.Step.{namesBrought, stepWithin, readFirst, namesFirst, lineNames, Overfull}
 use Rattle.machine.proofs.Stepping.{kept-within}
 use Rattle.file.specs.Plain.{Sound}
 use Rattle.scan.specs.Run.{Going, stepped, steppedOver, atFirst}
@@ -26,12 +23,12 @@ use Rattle.accepted.proofs.Files.{d-sound}
 use Rattle.accepted.proofs.Refused.{EndsAfter, accepted-steps}
 use Rattle.accepted.proofs.Room.{Ready, ready-first, ready-next, never-short}
 use Rattle.accepted.proofs.Stepping.{judged, behind, GoOn, next-line, go-first, go-later, stepped-on, ready-behind}
+use Rattle.theorems.proofs.LineRoom.{overfull-twelve}
 use Rattle.theorems.proofs.Judging.{after}
 use Rattle.header.specs.declared.types.Rules.{Rules}
 use Rattle.machine.specs.declared.types.State.{State}
 use Rattle.machine.specs.declared.types.Verdict.{Verdict}
 use Rattle.machine.specs.declared.types.Verdict.the-variants as verdict
-use Rattle.machine.specs.declared.types.LineRead.the-variants as found
 use Rattle.scan.specs.declared.Tally.{Tally}
 use Rattle.scan.specs.declared.Front.the-variants as front
 use Rattle.walker.specs.declared.Place.{Place}
@@ -154,26 +151,12 @@ module _ (rules : Rules) (bytes : List ℕ) where
   walks zero g = refl
   walks (suc k) g = walks-more k (walks k) g
 
-  -- A SHORT LIST: at a `+ ` line without fault that brings more identifiers than fit, the line reader says 12, the list is as it was, and the walker stays.
-  module _ (g : Going) (l : List ℕ) (ls : List (List ℕ)) (e : linesOf (drop (g .at) bytes) ≡ l ∷ ls)
-      (s : State) (goes : judged rules g l ≡ verdict.Next s) (due : g .state .due ≡ 3) (short : hasRoom rules (g .state) (g .names) (padded l) ≡ false) where
-    twelve : read rules g l ≡ verdict.Fault 12 0
-    unfolding stepWithin
-    twelve = rw (eq-eqb (g .state .due) 3 due, short, goes)
-
-    pub short-reads : lineRead rules bytes (g .at) (g .state) (g .names) ≡ found.Fault 12 0
-    unfolding readFirst
-    short-reads = rw (e, twelve)
-
-    pub short-keeps : lineNames rules bytes (g .at) (g .state) (g .names) ≡ g .names
-    unfolding namesFirst
-    short-keeps = rw e (kept-within rules (g .state) (g .names) l (verdict.Fault 12 0) twelve)
-
-    pub short-stays : (k : ℕ) → walkedFrom rules bytes g k ≡ g
-    short-stays k =
-        walks k g
-        ∙ ap (λ (x : List (List ℕ)). overLines rules g (take k x)) e
-        ∙ stays-at g l ls (λ s on. no-fault 12 0 s (sym twelve ∙ on)) k
+  -- A SHORT LIST: at a `+ ` line that brings more identifiers than fit the walker stays.
+  pub short-stays : (g : Going) → Overfull rules bytes (g .at) (g .state) (g .names) → (k : ℕ) → walkedFrom rules bytes g k ≡ g
+  short-stays g o k =
+      walks k g
+      ∙ ap (λ (x : List (List ℕ)). overLines rules g (take k x)) (o .stands)
+      ∙ stays-at g (o .line) (o .after) (λ s on. no-fault 12 0 s (sym (overfull-twelve rules bytes (g .at) (g .state) (g .names) o) ∙ on)) k
 
 module _ (rules : Rules) (sound : Sound rules) where
   -- over lines that go on, with the judge's list, a walk is where the run is, and what follows them is walked from there

@@ -4,10 +4,9 @@ use Prim.Native.Nat.{_+_, _-_}
 use mathlib.Core.Path.{_≡_, refl, sym, _∙_}
 use native.Mathlib.Omega.{arith}
 use borrow.Author.Needs.{needs}
-use borrow.Author.Tests.{not-true, eq-eqb}
 use lib.ListN.{length, drop}
 use Rattle.lines.specs.Lines.{lineLength}
-use Rattle.lines.proofs.Ends.{line-at-end, line-at-lf, line-over}
+use Rattle.lines.proofs.Ends.{line-at-end, line-over, full-ends}
 use Rattle.lines.proofs.line_end.Statement.{statement}
 use Rattle.lines.proofs.line_end.Tie as tie
 
@@ -19,9 +18,8 @@ abbrev μ-loop : tie.MeasureT-loop
 
 returns : tie.Need-returns Inv-loop μ-loop
 returns c =
-    let a = c .before .before .before .before .before .before .before .args in
-    let none = sym (c .before .lf-in-eighty .ensures) ∙ not-true _ (c .if4 .taken) in
-    sym (line-over 80 (a .bytes .now) (a .at) (omega arith) none ∙ line-at-lf (a .bytes .now) (a .at + 80) (omega arith) (eq-eqb _ _ (c .before .before .if3 .taken)))
+    let a = c .before .before .before .args in
+    full-ends (a .bytes .now) (a .at) (sym (c .before .is-full-line .ensures) ∙ c .if1 .taken) .1
 
 loop-holds : tie.Need-loop-holds Inv-loop μ-loop
 loop-holds c = refl
@@ -35,13 +33,13 @@ returns-3 c = c .line-end-by-bytes2 .ensures ∙ c .before .before .before .befo
 loop-again : tie.Need-loop-again Inv-loop μ-loop
 loop-again c =
     let at-loop = c .before .before .before .before in
-    let bytes = at-loop .before .before .before .args .bytes .now in
-    sym (line-over 16 bytes (at-loop .loop .from) (omega arith) (sym (c .before .lf-in-sixteen .ensures) ∙ c .if6 .left)) ∙ at-loop .loop .inv
+    let bytes = at-loop .before .before .before .before .args .bytes .now in
+    sym (line-over 16 bytes (at-loop .loop .from) (omega arith) (sym (c .before .lf-in .ensures) ∙ c .if3 .left)) ∙ at-loop .loop .inv
 
 returns-4 : tie.Need-returns-4 Inv-loop μ-loop
 returns-4 c =
     let at-loop = c .before in
-    sym (line-at-end (at-loop .before .before .before .args .bytes .now) (at-loop .loop .from) (c .loop-test .left)) ∙ at-loop .loop .inv
+    sym (line-at-end (at-loop .before .before .before .before .args .bytes .now) (at-loop .loop .from) (c .loop-test .left)) ∙ at-loop .loop .inv
 
 pub line-end-spec : {M : Type 1} → statement M
 line-end-spec =
@@ -49,11 +47,8 @@ line-end-spec =
     (tie.spec
     Inv-loop
     μ-loop
-    (λ c. search needs)
-    (λ c. search needs)
-    (λ c. search needs)
     (λ c κs. search needs)
-    (λ c. search needs)
+    (λ c. let a = c .before .before .before .args in let h = full-ends (a .bytes .now) (a .at) (sym (c .before .is-full-line .ensures) ∙ c .if1 .taken) in search needs)
     returns
     loop-holds
     (λ c. search needs)

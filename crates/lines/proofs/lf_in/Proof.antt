@@ -1,4 +1,4 @@
--- `lines::lf_in_eighty` meets its contract. The invariant: the flag is that of the bytes passed.
+-- `lines::lf_in` meets its contract. The invariant: the flag is that of the bytes passed.
 -- Assumes nothing.
 use borrow.Author.Needs.{needs}
 use Prim.Native.Nat.{_-_, _≤_}
@@ -7,14 +7,14 @@ use mathlib.Core.Path.{_≡_}
 use lib.ListN.{take, drop}
 use Rattle.lines.specs.Lines.{hasLf}
 use Rattle.lines.proofs.Ends.{flag-none, flag-more, flag-all}
-use Rattle.lines.proofs.lf_in_eighty.Statement.{statement}
-use Rattle.lines.proofs.lf_in_eighty.Tie as tie
+use Rattle.lines.proofs.lf_in.Statement.{statement}
+use Rattle.lines.proofs.lf_in.Tie as tie
 
 abbrev Inv-loop : tie.InvT-loop
-Inv-loop bytes at found₀ i₀ found i = (i ≤ 80) × (found ≡ hasLf (take i (drop at bytes)))
+Inv-loop bytes at n found₀ i₀ found i = (i ≤ n) × (found ≡ hasLf (take i (drop at bytes)))
 
 abbrev μ-loop : tie.MeasureT-loop
-μ-loop bytes at found₀ i₀ found i = 80 - i
+μ-loop bytes at n found₀ i₀ found i = n - i
 
 loop-holds : tie.Need-loop-holds Inv-loop μ-loop
 loop-holds c = (omega arith, flag-none (drop (c .args .at) (c .args .bytes .now)))
@@ -41,10 +41,10 @@ returns : tie.Need-returns Inv-loop μ-loop
 returns c =
     let at-loop = c .before in
     let a = at-loop .before .args in
-    flag-all (drop (a .at) (a .bytes .now)) 80 (at-loop .loop .i) (at-loop .loop .found) (omega arith) (at-loop .loop .inv .1)
+    flag-all (drop (a .at) (a .bytes .now)) (a .n) (at-loop .loop .i) (at-loop .loop .found) (omega arith) (at-loop .loop .inv .1)
 
-pub lf-in-eighty-spec : {M : Type 1} → statement M
-lf-in-eighty-spec =
+pub lf-in-spec : {M : Type 1} → statement M
+lf-in-spec =
     tie.close
     (tie.spec
     Inv-loop
