@@ -2176,7 +2176,7 @@ fn another_spelling(draft: &mut Draft, _: &Plan, random: &mut Random) {
 
 fn another_character(draft: &mut Draft, _: &Plan, random: &mut Random) {
     let line = choose_line(draft, random);
-    let length = draft.0.get(line - 1).map_or(1, Vec::len);
+    let length = draft.0.get(line - 1).map_or(1, |text| text.len().max(1));
     let column =
         if once_in(random, 6) { 1 + random.below(80) } else { 1 + random.below(length.min(80)) };
     draft.put(line, column, &[*random.pick(b"0123456789 -.xcGRPVEM+*/#%")]);
