@@ -10,8 +10,10 @@ void place_out(const char *word, uint64_t k, sp3_place_t place) {
            place.state.epochs);
 }
 
+/* The number of the kind `+ `. */
+enum { NAMES_DUE = 3 };
+
 size_t brought(sp3_place_t place) {
-    enum { NAMES_DUE = 3 };
     return place.state.satellites - (place.state.due == NAMES_DUE ? place.state.left : 0);
 }
 
@@ -85,10 +87,19 @@ static void check_room(bytes_t file, sp3_place_t at, sp3_line_answer_t line, con
     }
 }
 
-/* A line that was read: one that is refused leaves the names as they were, and a `+ ` line needs room for just its own and those before it. */
+/* A line that is refused where a `+ ` line is due is refused the same with room for the names before it alone: its own fault comes before 12. */
+static void check_fault(bytes_t file, sp3_place_t at, sp3_line_answer_t line, const uint64_t *names) {
+    size_t room = brought(at);
+    uint64_t *list = lent_numbers(room, NUMBER_MARK);
+    memcpy(list, names, room * sizeof *list);
+    check(same_line(read_at(file, at, list, room), line) && same_names(list, names, room), "a line refused without room for its names");
+}
+
+/* A line that was read: one that brings no names leaves them as they were; a `+ ` line needs room for just its own and those before it. */
 static void check_line(bytes_t file, sp3_place_t at, sp3_line_answer_t line, const uint64_t *before, const uint64_t *names, size_t room) {
-    bool brings = line.refusal == 0 && at.state.due == 3;
+    bool names_due = at.state.due == NAMES_DUE, brings = names_due && line.refusal == 0;
     check(brings || same_names(before, names, room), "the names after a line that brings none");
+    if (names_due && !brings) check_fault(file, at, line, names);
     if (!brings) return;
     size_t needed = brought(line.next);
     check_room(file, at, line, names, needed);
