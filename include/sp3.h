@@ -272,16 +272,17 @@ typedef struct {
 sp3_place_t sp3_first_place(void);
 
 /* The plain line reader: what the line at a place does. A `+ ` line without fault leaves its identifiers in `names` (255 places suffice), after those
- * of the lines before it; no other line changes `names`. With fewer places than satellites the row of one that found no place is 10. Refused: 1 where no LF
- * is left. */
+ * of the lines before it; no other line changes `names`, which is lent to the next line as this one left it. Refused: 1 where no LF is left; 12 at the
+ * `+ ` line without fault that brings more identifiers than there are places for, and `names` is then as it was. Never 11 or 13. */
 sp3_line_answer_t sp3_read_line(const uint8_t *file, size_t length, sp3_place_t place, uint64_t *names, size_t name_room);
 
-/* The walker's step, where all identifiers of the header are known (sp3_begin): what the line at its place does. Refused: as sp3_read_line. */
+/* The line reader where all identifiers of the header are known (sp3_begin): what the line at a place does. Refused: as sp3_read_line, but never 12. */
 sp3_line_answer_t sp3_next_line(const uint8_t *file, size_t length, const uint64_t *names, size_t name_count, sp3_place_t place);
 
-/* The place so many lines further; it stays at a line that is refused, and at the one that ends the file. Every step costs a line, also one that stays.
- * Has no refusal. */
-sp3_place_t sp3_after_lines(const uint8_t *file, size_t length, const uint64_t *names, size_t name_count, sp3_place_t place, size_t lines);
+/* The walker's steps: the place so many lines further, each line read as by sp3_read_line. Afterwards `names` (255 places suffice) holds the identifiers
+ * of the `+ ` lines that were passed; to go on from there lend it as it is. The place stays at a line that is refused, with 12 too, and at the one that
+ * ends the file. Every step costs a line, also one that stays. Has no refusal. */
+sp3_place_t sp3_after_lines(const uint8_t *file, size_t length, uint64_t *names, size_t name_room, sp3_place_t place, size_t lines);
 
 /* ---- A file row by row, for the adjustment's loop ---- */
 

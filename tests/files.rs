@@ -253,7 +253,7 @@ pub(crate) struct Table {
     pub(crate) rows: Vec<Row>,
     /// Taken for the identifiers of the header, where others are lent.
     lent: Option<Vec<u64>>,
-    /// How many identifiers are kept, where there is not room for all.
+    /// How many identifiers there is room for, where a list is lent for them.
     room: Option<usize>,
 }
 
@@ -262,12 +262,10 @@ impl Table {
         self.identifiers.len()
     }
 
-    /// The identifiers so far, as far as they are kept, or as many of those
-    /// lent for them.
+    /// The identifiers so far, or as many of those lent for them.
     fn known(&self) -> &[u64] {
         let names = self.lent.as_ref().unwrap_or(&self.identifiers);
-        let kept = self.room.unwrap_or(usize::MAX);
-        &names[..names.len().min(self.satellites()).min(kept)]
+        &names[..names.len().min(self.satellites())]
     }
 
     /// Identifiers, exponents, bytes of comments, numbers of rows.
@@ -315,17 +313,28 @@ fn all_new(known: &[u64], line: &lines::Satellites) -> bool {
     (known.len()..all.len()).all(|place| !all[..place].contains(&all[place]))
 }
 
+/// Lays the identifiers of a line behind those before it: "lent room is too
+/// small" where they don't fit, "after all other checks".
+fn keep(lines: &Lines, table: &mut Table, line: &lines::Satellites) -> Result<(), Refusal> {
+    let needed = table.satellites() + line.identifiers.len();
+    if table.room.is_some_and(|room| room < needed) {
+        return lines.refuse(NO_ROOM.number);
+    }
+    table.identifiers.extend(line.identifiers.iter().map(code));
+    Ok(())
+}
+
 /// Rule 3: identifiers.
 fn take_identifiers(lines: &mut Lines, table: &mut Table) -> Result<usize, Refusal> {
     let first = |r: &mut Reader| lines::read_first_satellites(r);
     let line = lines.checked(first, DISAGREES, |line| all_new(&[], line))?;
     let n = line.number.unwrap_or_default() as usize;
-    table.identifiers.extend(line.identifiers.iter().map(code));
+    keep(lines, table, &line)?;
     for _ in 1..satellite_lines(n) {
         let left = n - table.satellites();
         let further = |r: &mut Reader| lines::read_further_satellites(r, left);
         let line = lines.checked(further, DISAGREES, |line| all_new(table.known(), line))?;
-        table.identifiers.extend(line.identifiers.iter().map(code));
+        keep(lines, table, &line)?;
     }
     Ok(n)
 }
@@ -462,7 +471,8 @@ pub(crate) fn follow(bytes: &[u8], names: Option<&[u64]>) -> Followed {
     follow_with(bytes, Table { lent, ..Table::default() })
 }
 
-/// The records in order, of whose identifiers only so many are kept.
+/// The records in order, whose identifiers are kept in a list of so many
+/// places: 12 at the `+ ` line that brings more than fit.
 pub(crate) fn follow_keeping(bytes: &[u8], room: usize) -> Followed {
     follow_with(bytes, Table { room: Some(room), ..Table::default() })
 }
@@ -2166,7 +2176,7 @@ fn another_spelling(draft: &mut Draft, _: &Plan, random: &mut Random) {
 
 fn another_character(draft: &mut Draft, _: &Plan, random: &mut Random) {
     let line = choose_line(draft, random);
-    let length = draft.0.get(line - 1).map_or(1, Vec::len);
+    let length = draft.0.get(line - 1).map_or(1, |text| text.len().max(1));
     let column =
         if once_in(random, 6) { 1 + random.below(80) } else { 1 + random.below(length.min(80)) };
     draft.put(line, column, &[*random.pick(b"0123456789 -.xcGRPVEM+*/#%")]);
@@ -3429,8 +3439,8 @@ fn test_plans(tally: &mut Tally) {
     }
 }
 
-/// Files, and the column of the refusal; room for identifiers, and the refusal
-/// and line where no more of them are kept.
+/// Files, and the column of the refusal; files with room for identifiers, and
+/// the refusal and line where they are kept there.
 const COLUMNS: &[(Base, &[Edit], usize)] = &[
     (Paper, &[], 0),
     (Paper, &[Keep(24)], 0),
@@ -3450,13 +3460,20 @@ const COLUMNS: &[(Base, &[Edit], usize)] = &[
 ];
 const KEPT: &[(Base, &[Edit], usize, u8, usize)] = &[
     (Paper, &[], 1, 0, 0),
-    (Paper, &[], 0, 10, 24),
+    (Paper, &[], 0, 12, 3),
     (Night, &[], 300, 0, 0),
-    (Night, &[], 1, 10, 25),
+    (Night, &[], 1, 12, 3),
+    (Many(20), &[], 20, 0, 0),
+    (Many(20), &[], 19, 12, 4),
+    (Many(20), &[], 17, 12, 4),
+    (Many(20), &[], 16, 12, 3),
+    (Many(86), &[], 85, 12, 8),
+    (Many(86), &[], 84, 12, 7),
+    // "12 comes after all other checks" of its line; a later line isn't read.
     (Many(20), &[Put(4, 10, "G17")], 17, 8, 4),
-    (Many(20), &[Put(4, 10, "G17")], 16, 10, 40),
+    (Many(20), &[Put(4, 10, "G17")], 16, 12, 3),
     (Many(20), &[Put(4, 13, "E19"), Put(13, 4, "G ")], 20, 8, 13),
-    (Many(20), &[Put(4, 13, "E19"), Put(13, 4, "G ")], 18, 10, 42),
+    (Many(20), &[Put(4, 13, "E19"), Put(13, 4, "G ")], 18, 12, 4),
 ];
 
 fn test_columns(tally: &mut Tally) {

@@ -1,11 +1,12 @@
 //! A divider of stretches and a walker of SP3-d files, written from the
 //! documents. Where they are silent it follows the definitions: in what the
 //! state of a place between two lines is (the kind of line due, satellites and
-//! epochs still to come), in what names other than the file's do, or fewer, and
-//! in the column of a refusal.
+//! epochs still to come), in what names other than the file's do in a walk over
+//! rows, and in the column of a refusal.
 //!
 //! It says how a stretch of bytes divides into files, which rows a walk of one
-//! file gives, and where the walk stands after so many lines. It also makes the
+//! file gives, and where a walker stands after so many lines, which learns the
+//! identifiers from the lines that it passes. It also makes the
 //! stretches on which another implementation is compared with it. It shares no
 //! code with that implementation; single files are judged by `files.rs`, from
 //! the same documents.
@@ -29,10 +30,10 @@
 //! `ROOM WALK I N LENGTH` and N names, and directly after its LF the LENGTH
 //! bytes of a stretch. ROOM is the room lent for lengths; WALK is 1 where the
 //! bytes are walked as one file, with room for I identifiers; the names (G07 is
-//! 7107) stand for the identifiers of its header where it is refused. WALK is 2
-//! where they are read line by line, with room for I identifiers (the program of
-//! crates/ has no such cases). Lent places hold a mark before. The answer to a
-//! case:
+//! 7107) stand for the identifiers of its header in the walk over rows where it
+//! is refused. WALK is 2 where they are read line by line, with room for I
+//! identifiers (the program of crates/ has no such cases). Lent places hold a
+//! mark before. The answer to a case:
 //!
 //! ```text
 //! case LENGTH
@@ -48,6 +49,9 @@
 //! end                           or  refused R line LINE
 //! place K AT DUE LEFT EPOCHS    after K lines, or as many as may be passed
 //! then K AT DUE LEFT EPOCHS     the same after half of the lines and the others
+//! short K AT DUE LEFT EPOCHS    after all lines, with room for I identifiers
+//! name G07                      each identifier that they left there
+//! kept
 //! (and this only where WALK is 2)
 //! line K AT DUE LEFT EPOCHS     after line K, each that is without fault
 //! finished K AT                 line K ends the file; AT is the byte after it
@@ -55,10 +59,11 @@
 //! names NAME ..                 all places of the room, filled or not
 //! ```
 //!
-//! At `place` and `then` K is 0, 1, 3, half of the lines, all (`then` before `place`), five more. AT
-//! is the byte, DUE the record that must stand there (1 `#d` to 14 `EOF` in
-//! their order), LEFT how many satellites have their slot, or their rows of
-//! this epoch, still to come, EPOCHS how many epochs are still to come.
+//! At `place` and `then` K is 0, 1, 3, half of the lines, all (`then` before
+//! `place`), five more, and there is room for 255 identifiers. AT is the byte,
+//! DUE the record that must stand there (1 `#d` to 14 `EOF` in their order),
+//! LEFT how many satellites have their slot, or their rows of this epoch, still
+//! to come, EPOCHS how many epochs are still to come.
 //!
 //! "The paper" is 01-scope.md, "000" is the SP3-d document.
 
@@ -124,20 +129,31 @@ fn begin(file: &[u8], room: usize) -> Result<(Table, usize), Refusal> {
     Ok((table, length))
 }
 
-/// What a walk of some bytes meets, in order: P rows, then the refused line or
-/// EOF. Bytes after EOF are not met.
-struct Walk<'a> {
-    bytes: &'a [u8],
+/// What a walk over rows meets, where these names are known, in order: P rows,
+/// then the refused line or EOF. Bytes after EOF are not met.
+struct RowWalk {
     rows: Vec<Row>,
     refusal: Option<Refusal>,
-    /// Lines before EOF or the refused one.
-    passed: usize,
 }
 
-fn walk<'a>(bytes: &'a [u8], names: &[u64]) -> Walk<'a> {
+fn walk_rows(bytes: &[u8], names: &[u64]) -> RowWalk {
     let read = files::follow(bytes, Some(names));
     let rows = read.table.rows.into_iter().filter(|row| row.letter == 'P').collect();
-    Walk { bytes, rows, refusal: read.refusal, passed: read.taken - 1 }
+    RowWalk { rows, refusal: read.refusal }
+}
+
+/// A walk over lines, up to EOF or the refused one; each `+ ` line that it passes
+/// leaves its identifiers in the lent list.
+struct Walk<'a> {
+    bytes: &'a [u8],
+    read: files::Followed,
+}
+
+/// "at most 255 satellites": so much room is never too small.
+const MOST_SATELLITES: usize = 255;
+
+fn walk(bytes: &[u8], room: usize) -> Walk<'_> {
+    Walk { bytes, read: files::follow_keeping(bytes, room) }
 }
 
 /// Where a walk stands between two lines.
@@ -232,10 +248,20 @@ impl Passed<'_> {
 }
 
 impl Walk<'_> {
+    /// How many lines stand before EOF or the refused one.
+    fn passed(&self) -> usize {
+        self.read.taken - 1
+    }
+
+    /// The identifiers that the passed lines brought.
+    fn names(&self) -> &[u64] {
+        &self.read.table.identifiers
+    }
+
     /// Where the walk stands after so many lines; "a line that is refused, or
     /// that ends the file" isn't passed.
     fn after(&self, lines: usize) -> Standing {
-        let passed = Passed::of(self.bytes, lines.min(self.passed));
+        let passed = Passed::of(self.bytes, lines.min(self.passed()));
         let due = SYMBOLS.iter().position(|&record| record == passed.due());
         Standing {
             at: passed.length(),
@@ -317,24 +343,33 @@ impl Case {
     fn show_walked(&self) -> String {
         let begun = begin(&self.stretch, self.identifiers);
         let names = begun.as_ref().map_or(&self.names, |(table, _)| &table.identifiers);
-        show_begun(&begun) + &show_walk(&walk(&self.stretch, names))
+        show_begun(&begun)
+            + &show_rows(&walk_rows(&self.stretch, names))
+            + &show_places(&walk(&self.stretch, MOST_SATELLITES))
+            + &show_short(&walk(&self.stretch, self.identifiers))
     }
 }
 
-/// The lines of a file one by one, of whose identifiers so many are kept.
+/// The lines of a file one by one, whose identifiers are kept in a list of so
+/// many places.
 fn show_read(bytes: &[u8], room: usize) -> String {
-    let read = files::follow_keeping(bytes, room);
-    let (taken, column) = (read.taken, read.column);
-    let walk = Walk { bytes, rows: Vec::new(), refusal: read.refusal, passed: taken - 1 };
+    let walk = walk(bytes, room);
+    let (taken, column) = (walk.read.taken, walk.read.column);
     let mut out: String = (1..taken).map(|k| walk.after(k).show("line", k)).collect();
-    out += &match read.refusal {
-        None => format!("finished {taken} {}\n", read.place),
+    out += &match walk.read.refusal {
+        None => format!("finished {taken} {}\n", walk.read.place),
         Some(Refusal { number, line }) => format!("stopped {number} line {line} column {column}\n"),
     };
     let mut names = vec![7777; room];
-    names.iter_mut().zip(&read.table.identifiers).for_each(|(place, &name)| *place = name);
+    names[..walk.names().len()].copy_from_slice(walk.names());
     let shown: String = names.iter().map(|name| format!(" {name}")).collect();
     out + &format!("names{shown}\n")
+}
+
+/// Identifiers that were left in a list; its other places are as they were.
+fn show_names(names: &[u64]) -> String {
+    let shown = names.iter().map(|&name| format!("name {}\n", files::show_code(name)));
+    shown.collect::<String>() + "kept\n"
 }
 
 fn show_begun(begun: &Result<(Table, usize), Refusal>) -> String {
@@ -342,9 +377,8 @@ fn show_begun(begun: &Result<(Table, usize), Refusal>) -> String {
         Err(Refusal { number, line }) => format!("begin {number} {line} 0 0 0\nkept\n"),
         Ok((table, length)) => {
             let names = &table.identifiers;
-            let shown: String =
-                names.iter().map(|&name| format!("name {}\n", files::show_code(name))).collect();
-            format!("begin 0 0 {length} {} {}\n{shown}kept\n", names.len(), table.epochs)
+            let counts = format!("{} {}", names.len(), table.epochs);
+            format!("begin 0 0 {length} {counts}\n{}", show_names(names))
         }
     }
 }
@@ -355,13 +389,26 @@ fn show_row(row: &Row) -> String {
     format!("row {} {} {word}{place} {}\n", row.epoch, row.satellite, files::show_clock(row))
 }
 
-fn show_walk(walk: &Walk) -> String {
-    let mut out: String = walk.rows.iter().map(show_row).collect();
-    out += &match walk.refusal {
+fn show_rows(walk: &RowWalk) -> String {
+    let rows: String = walk.rows.iter().map(show_row).collect();
+    rows + &match walk.refusal {
         None => "end\n".to_string(),
         Some(Refusal { number, line }) => format!("refused {number} line {line}\n"),
-    };
-    let all = walk.bytes.iter().filter(|&&c| c == b'\n').count();
+    }
+}
+
+fn count_lines(bytes: &[u8]) -> usize {
+    bytes.iter().filter(|&&c| c == b'\n').count()
+}
+
+fn show_short(walk: &Walk) -> String {
+    let all = count_lines(walk.bytes);
+    walk.after(all).show("short", all) + &show_names(walk.names())
+}
+
+fn show_places(walk: &Walk) -> String {
+    let mut out = String::new();
+    let all = count_lines(walk.bytes);
     for lines in [0, 1, 3, all / 2] {
         out += &walk.after(lines).show("place", lines);
     }
@@ -564,6 +611,9 @@ const WALKED: &[Walked] = &[
             "then 25 1211 14 0 0",
             "place 25 1211 14 0 0",
             "place 30 1211 14 0 0",
+            "short 25 1211 14 0 0",
+            "name G07",
+            "kept",
         ],
     ),
     (
@@ -661,22 +711,78 @@ const WALKED: &[Walked] = &[
         &[],
         &["row 0 0 at 1000000 1000000 0 absent", "end"],
     ),
-    // Too little room: 12 with line 0, and the names that are given.
+    // Too little room: 12 with line 0, and the names that are given; the walker
+    // stays at the `+ ` line that brings too many.
     (
         Night,
         &[],
         1,
         &[7107, 8224],
-        &["begin 12 0 0 0 0", "kept", "row 0 0 at 15000000000 -20000500000 0 123456789", "end"],
+        &[
+            "begin 12 0 0 0 0",
+            "kept",
+            "row 0 0 at 15000000000 -20000500000 0 123456789",
+            "end",
+            "then 32 1632 14 0 0",
+            "short 32 122 3 0 3",
+            "kept",
+        ],
     ),
+    (Night, &[], 2, &[], &["end", "short 32 1632 14 0 0", "name G07", "name R24", "kept"]),
+    (Night, &[], 3, &[], &["end", "short 32 1632 14 0 0", "name G07", "name R24", "kept"]),
     (
         Paper,
         &[],
         0,
         &[7107],
-        &["begin 12 0 0 0 0", "kept", "row 0 0 at 5000000001 -500000 0 absent"],
+        &[
+            "begin 12 0 0 0 0",
+            "kept",
+            "row 0 0 at 5000000001 -500000 0 absent",
+            "then 25 1211 14 0 0",
+            "short 25 122 3 0 1",
+            "kept",
+        ],
     ),
-    (Paper, &[], 0, &[7108], &["begin 12 0 0 0 0", "kept", "refused 10 line 24"]),
+    (
+        Paper,
+        &[],
+        0,
+        &[7108],
+        &["begin 12 0 0 0 0", "kept", "refused 10 line 24", "place 30 1211 14 0 0"],
+    ),
+    // 18 satellites, of which 17 have their slots in the first line.
+    (ManyFile(18), &[], 16, &[], &["begin 12 0 0 0 0", "kept", "short 42 122 3 0 1", "kept"]),
+    (
+        ManyFile(18),
+        &[],
+        17,
+        &[],
+        &[
+            "begin 12 0 0 0 0",
+            "kept",
+            "place 42 2248 14 0 0",
+            "short 42 183 3 1 1",
+            "name G01",
+            "name G17",
+            "kept",
+        ],
+    ),
+    (ManyFile(18), &[], 18, &[], &["short 42 2248 14 0 0", "name G17", "name G18", "kept"]),
+    (
+        ManyFile(40),
+        &[Keep(5)],
+        20,
+        &[],
+        &["then 5 305 3 0 1", "short 5 183 3 23 1", "name G17", "kept"],
+    ),
+    (
+        ManyFile(40),
+        &[Keep(5), Put(4, 10, "G01")],
+        20,
+        &[],
+        &["begin 8 4 0 0 0", "then 5 183 3 23 1", "short 5 183 3 23 1", "name G17", "kept"],
+    ),
     (Paper, &[Join(25)], 0, &[7107], &["begin 1 25 0 0 0", "kept", "refused 1 line 25"]),
     // No bytes, a byte, an empty line.
     (
@@ -728,7 +834,8 @@ const WALKED: &[Walked] = &[
             "place 65 1601 14 0 0",
         ],
     ),
-    // Other names than the header's: none, another, of another letter, more.
+    // Other names than the header's: none, another, of another letter, more; the
+    // walker has the file's own.
     (Paper, &[After(b"x")], 1, &[], &["begin 11 26 0 0 0", "refused 10 line 24"]),
     (Paper, &[After(b"x")], 1, &[7108], &["begin 11 26 0 0 0", "refused 10 line 24"]),
     (
@@ -736,7 +843,7 @@ const WALKED: &[Walked] = &[
         &[After(b"x")],
         1,
         &[8207],
-        &["begin 11 26 0 0 0", "refused 8 line 13", "place 12 732 5 0 1", "then 25 732 5 0 1"],
+        &["begin 11 26 0 0 0", "refused 8 line 13", "place 12 732 5 0 1", "then 25 1211 14 0 0"],
     ),
     (
         Paper,
@@ -959,9 +1066,75 @@ const READ: &[ReadFile] = &[
         20,
         &["line 3 183 3 3 1", "line 4 244 3 0 1", "line 7 427 4 20 1", "line 8 488 4 3 1"],
     ),
-    // Too little room: the rows past it have no name.
-    (Night, &[], 1, &["line 24 1211 10 1 2", "stopped 10 line 25 column 0", "names 7107"]),
-    (Paper, &[], 0, &["line 23 1150 10 1 0", "stopped 10 line 24 column 0", "names"]),
+    // Room for n - 1, n and n + 1: "lent room is too small" at the `+ ` line that
+    // brings more than fit, and the list is as it was.
+    (Paper, &[], 0, &["line 2 122 3 0 1", "stopped 12 line 3 column 0", "names"]),
+    (Paper, &[], 2, &["finished 25 1215", "names 7107 7777"]),
+    (Night, &[], 1, &["line 2 122 3 0 3", "stopped 12 line 3 column 0", "names 7777"]),
+    (Night, &[], 2, &["finished 32 1636", "names 7107 8224"]),
+    (Night, &[], 3, &["finished 32 1636", "names 7107 8224 7777"]),
+    // Two `+ ` lines of which the first fits and the second not, or both, or none.
+    (
+        ManyFile(18),
+        &[],
+        17,
+        &[
+            "line 3 183 3 1 1",
+            "stopped 12 line 4 column 0",
+            "names 7101 7102 7103 7104 7105 7106 7107 7108 7109 7110 \
+             7111 7112 7113 7114 7115 7116 7117",
+        ],
+    ),
+    (
+        ManyFile(18),
+        &[],
+        18,
+        &[
+            "line 4 244 3 0 1",
+            "finished 42 2252",
+            "names 7101 7102 7103 7104 7105 7106 7107 7108 7109 7110 \
+             7111 7112 7113 7114 7115 7116 7117 7118",
+        ],
+    ),
+    (
+        ManyFile(18),
+        &[],
+        16,
+        &[
+            "line 2 122 3 0 1",
+            "stopped 12 line 3 column 0",
+            "names 7777 7777 7777 7777 7777 7777 7777 7777 7777 7777 7777 7777 7777 7777 7777 7777",
+        ],
+    ),
+    (ManyFile(18), &[], 0, &["line 2 122 3 0 1", "stopped 12 line 3 column 0", "names"]),
+    // What a line that doesn't fit would bring is not laid in part.
+    (
+        ManyFile(40),
+        &[],
+        20,
+        &[
+            "line 3 183 3 23 1",
+            "stopped 12 line 4 column 0",
+            "names 7101 7102 7103 7104 7105 7106 7107 7108 7109 7110 \
+             7111 7112 7113 7114 7115 7116 7117 7777 7777 7777",
+        ],
+    ),
+    (ManyFile(86), &[], 85, &["line 7 427 3 1 1", "stopped 12 line 8 column 0"]),
+    (ManyFile(255), &[], 254, &["line 16 976 3 17 1", "stopped 12 line 17 column 0"]),
+    (ManyFile(255), &[], 255, &["line 17 1037 4 255 1", "finished 299 17929"]),
+    // "12 comes after all other checks": a `+ ` line's own fault comes first.
+    (Paper, &[Byte(3, 80, 0x80)], 0, &["stopped 2 line 3 column 80", "names"]),
+    (Paper, &[Put(3, 81, " ")], 0, &["stopped 3 line 3 column 81", "names"]),
+    (Paper, &[Put(3, 2, "+")], 0, &["stopped 4 line 3 column 0", "names"]),
+    (Paper, &[Put(3, 9, "x")], 0, &["stopped 5 line 3 column 9", "names"]),
+    (Paper, &[Put(3, 10, "G 7")], 0, &["stopped 6 line 3 column 10", "names"]),
+    (Paper, &[Put(3, 11, "00")], 0, &["stopped 7 line 3 column 10", "names"]),
+    (Paper, &[Put(3, 13, "G08")], 0, &["stopped 8 line 3 column 0", "names"]),
+    (Night, &[Put(3, 13, "G07")], 1, &["stopped 8 line 3 column 0", "names 7777"]),
+    (ManyFile(18), &[Put(4, 10, "G17")], 17, &["line 3 183 3 1 1", "stopped 8 line 4 column 0"]),
+    (ManyFile(18), &[Put(4, 10, "G17")], 16, &["line 2 122 3 0 1", "stopped 12 line 3 column 0"]),
+    // A line without its LF is 1, whatever it brings.
+    (Paper, &[Keep(3), Join(3)], 0, &["line 2 122 3 0 1", "stopped 1 line 3 column 0", "names"]),
     // Refused lines; a `+ ` line that is refused leaves no name.
     (Nothing, &[], 2, &["stopped 1 line 1 column 0", "names 7777 7777"]),
     (Paper, &[Keep(24)], 1, &["line 24 1211 14 0 0", "stopped 1 line 25 column 0", "names 7107"]),
@@ -1203,6 +1376,22 @@ fn test_read(tally: &mut Tally) {
     }
 }
 
+/// With less room than satellites a walk stays at the first `+ ` line that the
+/// list is too short for: each brings 17, the last those that are left.
+fn test_rooms(tally: &mut Tally) {
+    for n in [1, 2, 16, 17, 18, 34, 35, 85, 86, 254, 255] {
+        let file = files::hand_made(ManyFile(n), &[]);
+        for room in 0..=n + 1 {
+            let short = room < n;
+            let refusal = short.then_some(Refusal { number: 12, line: 3 + room / 17 });
+            let kept = if short { room / 17 * 17 } else { n };
+            let found = walk(&file, room);
+            let same = found.read.refusal == refusal && found.names().len() == kept;
+            tally.holds(same, || format!("{n}, room for {room}: {:?}", found.read.refusal));
+        }
+    }
+}
+
 /// Every cut of two files: the first is found as soon as it is whole, and what
 /// is left of the second is refused with 1 in its unfinished line.
 fn test_cuts(tally: &mut Tally) {
@@ -1236,26 +1425,30 @@ fn test_joined(tally: &mut Tally) {
 }
 
 /// A walk of an accepted file gives what the row question gives for each epoch
-/// and satellite, in order; with its own names it is refused as the file is;
-/// and places go on from one to the next.
+/// and satellite, in order; with its own names it is refused as the file is, and
+/// so is a walk over lines that learns them; and places go on from one to the
+/// next.
 fn test_walks(tally: &mut Tally) {
     for number in 1..=1500 {
         let stretch = generated(generate_case, files::STORED_SEED + 3, number).stretch;
         let front = files::judge_front(&stretch);
         let own = files::follow(&stretch, None).table.identifiers;
-        let walk = walk(&stretch, &own);
+        let (rows, walk) = (walk_rows(&stretch, &own), walk(&stretch, MOST_SATELLITES));
         let refused = front.as_ref().err().copied();
-        tally.holds(walk.refusal == refused, || format!("walk {number}: {:?}", walk.refusal));
+        tally.holds(rows.refusal == refused, || format!("rows {number}: {:?}", rows.refusal));
+        let stopped = walk.read.refusal;
+        tally.holds(stopped == refused, || format!("walk {number}: {stopped:?}"));
+        tally.holds(walk.names() == own, || format!("walk {number}: its names"));
         if let Ok((table, length)) = front {
             let pairs =
                 |epoch| (0..table.identifiers.len()).map(move |satellite| (epoch, satellite));
             let asked = (0..table.epochs).flat_map(pairs).map(|(epoch, satellite)| {
                 files::row(&stretch[..length], epoch, satellite).map(|row| show_row(&row))
             });
-            let same = asked.eq(walk.rows.iter().map(|row| Ok(show_row(row))));
-            tally.holds(same, || format!("walk {number}: its rows"));
+            let same = asked.eq(rows.rows.iter().map(|row| Ok(show_row(row))));
+            tally.holds(same, || format!("rows {number}: the rows"));
         }
-        let all = walk.passed;
+        let all = walk.passed();
         let ends: Vec<usize> = (0..=all).map(|lines| walk.after(lines).at).collect();
         let is_line = |pair: &[usize]| {
             let line = &stretch[pair[0]..pair[1]];
@@ -1273,6 +1466,7 @@ fn self_test() {
     test_walked(&mut tally);
     test_read(&mut tally);
     let by_hand = tally.made;
+    test_rooms(&mut tally);
     test_cuts(&mut tally);
     test_joined(&mut tally);
     test_walks(&mut tally);

@@ -7,8 +7,10 @@
 #include <stdlib.h>
 #include <string.h>
 
-/* What the paper's file needs; room for more than its bytes; how far its row stands before its end (61 bytes with its LF, `EOF` 4). */
-enum { NAMES = 1, COMMENTS = 4, TEXT = COMMENTS * SP3_COMMENT_WIDTH, NUMBERS = SP3_ROW_WIDTH, LENGTH = 1215, ROOM = 2 * LENGTH, ROW_FROM_END = 65 };
+/* What the paper's file needs; room for more than its bytes; how far its row stands before its end (61 bytes with its LF, `EOF` 4); where its first
+ * `+ ` line begins (two lines of 61 bytes stand before it), and more lines than it has. */
+enum { NAMES = 1, COMMENTS = 4, TEXT = COMMENTS * SP3_COMMENT_WIDTH, NUMBERS = SP3_ROW_WIDTH, LENGTH = 1215, ROOM = 2 * LENGTH, ROW_FROM_END = 65,
+       NAMES_LINE = 122, ALL_LINES = 99 };
 
 /* What is changed in the paper's table before it is written. */
 enum { AS_READ, EXPONENT_1000, NAME_00, THREE_COMMENTS, CLOCK_LARGE, FLAG_2, PAST_2099 };
@@ -75,6 +77,14 @@ static stretch_t damaged(stretch_t paper)
 {
     stretch_t file = followed_by(paper, "", 0);
     file.bytes[file.length - ROW_FROM_END + 3] = '8';
+    return file;
+}
+
+/* The `+ ` line has `G 7`. */
+static stretch_t unnamed(stretch_t paper)
+{
+    stretch_t file = followed_by(paper, "", 0);
+    file.bytes[NAMES_LINE + 10] = ' ';
     return file;
 }
 
@@ -215,6 +225,14 @@ static answer_t line_at(stretch_t file, const size_t *with)
     return alone(sp3_read_line(file.bytes, file.length, place, identifiers, NAMES).refusal);
 }
 
+/* with: how many lines the walker may pass before the line is read, identifiers */
+static answer_t line_after(stretch_t file, const size_t *with)
+{
+    uint64_t identifiers[NAMES] = {0};
+    sp3_place_t place = sp3_after_lines(file.bytes, file.length, identifiers, with[1], sp3_first_place(), with[0]);
+    return alone(sp3_read_line(file.bytes, file.length, place, identifiers, with[1]).refusal);
+}
+
 /* with: the identifier that the walk takes for the file's */
 static answer_t walk_with(stretch_t file, const size_t *with)
 {
@@ -270,6 +288,10 @@ static const struct {
     {"divide-rest", with_more, divide_into, {1}},
     {"divide-refused-first", damaged, divide_into, {0}},
     {"walk-line-at-end", itself, line_at, {LENGTH}},
+    {"walk-names-exact", itself, line_after, {2, NAMES}},
+    {"walk-names-short", itself, line_after, {ALL_LINES, NAMES - 1}},
+    {"walk-names-faulty-short", unnamed, line_after, {ALL_LINES, NAMES - 1}},
+    {"walk-other-row", damaged, line_after, {ALL_LINES, NAMES}},
     {"walk-other-names", itself, walk_with, {'G' * 100 + 8}},
 };
 

@@ -119,15 +119,18 @@ void dates_case(bytes_t *batch);
 /* A file read line by line by the plain line reader, with room for so many names. */
 void lines_shown(bytes_t file, size_t room);
 
-/* Where a walk by lines with these names ends: the refusal (0 at the EOF line) and the number of that line. */
+/* Where the lines end that are read with these names known: the refusal (0 at the EOF line) and the number of that line. */
 typedef struct {
     size_t refusal;
     uint64_t line;
 } line_end_t;
 
-line_end_t walked_lines(bytes_t file, const uint64_t *names, size_t count);
+line_end_t known_lines(bytes_t file, const uint64_t *names, size_t count);
 
 /* A place after k lines: its byte, the kind of line due there, and the satellites and epochs still to come. */
 void place_out(const char *word, uint64_t k, sp3_place_t place);
+
+/* How many identifiers the lines before a place have brought. */
+size_t brought(sp3_place_t place);
 
 #endif

@@ -1,12 +1,26 @@
-/* A file line by line: the plain line reader and the walker's step. */
+/* A file line by line: the plain line reader, the same where the names are known, and the walker. */
 #include <inttypes.h>
 #include <stdio.h>
+#include <string.h>
 
 #include "doors.h"
 
 void place_out(const char *word, uint64_t k, sp3_place_t place) {
     printf("%s %" PRIu64 " %zu %" PRIu64 " %" PRIu64 " %" PRIu64 "\n", word, k, place.at, place.state.due, place.state.left,
            place.state.epochs);
+}
+
+/* The number of the kind `+ `. */
+enum { NAMES_DUE = 3 };
+
+size_t brought(sp3_place_t place) {
+    return place.state.satellites - (place.state.due == NAMES_DUE ? place.state.left : 0);
+}
+
+static bool same_names(const uint64_t *one, const uint64_t *other, size_t count) { return memcmp(one, other, count * sizeof *one) == 0; }
+
+static sp3_line_answer_t read_at(bytes_t file, sp3_place_t at, uint64_t *names, size_t room) {
+    return sp3_read_line(file.bytes, file.length, at, names, room);
 }
 
 /* What line k, at this place, was found to do; whether it is the last that is read. */
@@ -32,20 +46,21 @@ static void check_no_line(bytes_t file, size_t at, uint64_t *names, size_t room)
     sp3_place_t place = sp3_first_place();
     place.at = at;
     sp3_line_answer_t none = {1, 0, false, place};
-    check(same_line(sp3_read_line(file.bytes, file.length, place, names, room), none), "a line read past the end");
-    check(same_line(sp3_next_line(file.bytes, file.length, names, room, place), none), "a line walked past the end");
+    check(same_line(read_at(file, place, names, room), none), "a line read past the end");
+    check(same_line(sp3_next_line(file.bytes, file.length, names, room, place), none), "a line known past the end");
+    check(same_place(sp3_after_lines(file.bytes, file.length, names, room, place, 3), place), "lines walked past the end");
 }
 
-/* With all names known the walker's step finds at each line what the line reader found. */
+/* Where the names are known each line does what the line reader found, but needs no room. */
 static void check_known(bytes_t file, const uint64_t *names, size_t count) {
     const uint64_t *known = shown(names, count * sizeof *known);
     uint64_t *again = lent_numbers(count, NUMBER_MARK);
     sp3_place_t at = sp3_first_place();
     bool last = false;
     while (!last) {
-        sp3_line_answer_t read = sp3_read_line(file.bytes, file.length, at, again, count);
-        sp3_line_answer_t walked = sp3_next_line(file.bytes, file.length, known, count, at);
-        check(same_line(read, walked), "a line read and walked");
+        sp3_line_answer_t read = read_at(file, at, again, count);
+        sp3_line_answer_t line = sp3_next_line(file.bytes, file.length, known, count, at);
+        check(read.refusal == 12 ? line.refusal == 0 && !line.finished : same_line(read, line), "a line read and known");
         last = read.refusal != 0 || read.finished;
         at = read.next;
     }
@@ -58,37 +73,92 @@ static void check_judged(bytes_t file, uint64_t k, sp3_line_answer_t last) {
     check(same, "a file read by lines and judged");
 }
 
+/* A `+ ` line without fault read once more, with the names before it in a list of so many places: 12 where those after it do not fit. */
+static void check_room(bytes_t file, sp3_place_t at, sp3_line_answer_t line, const uint64_t *names, size_t room) {
+    uint64_t *list = lent_numbers(room, NUMBER_MARK), *before = lent_numbers(room, NUMBER_MARK);
+    size_t known = brought(at) < room ? brought(at) : room, needed = brought(line.next);
+    memcpy(list, names, known * sizeof *list);
+    memcpy(before, names, known * sizeof *list);
+    sp3_line_answer_t short_of_room = {12, 0, false, at}, found = read_at(file, at, list, room);
+    if (room < needed) {
+        check(same_line(found, short_of_room) && same_names(list, before, room), "a line that needs more room");
+    } else {
+        check(same_line(found, line) && same_names(list, names, needed), "a line that has just the room");
+    }
+}
+
+/* A line that is refused where a `+ ` line is due is refused the same with room for the names before it alone: its own fault comes before 12. */
+static void check_fault(bytes_t file, sp3_place_t at, sp3_line_answer_t line, const uint64_t *names) {
+    size_t room = brought(at);
+    uint64_t *list = lent_numbers(room, NUMBER_MARK);
+    memcpy(list, names, room * sizeof *list);
+    check(same_line(read_at(file, at, list, room), line) && same_names(list, names, room), "a line refused without room for its names");
+}
+
+/* A line that was read: one that brings no names leaves them as they were; a `+ ` line needs room for just its own and those before it. */
+static void check_line(bytes_t file, sp3_place_t at, sp3_line_answer_t line, const uint64_t *before, const uint64_t *names, size_t room) {
+    bool names_due = at.state.due == NAMES_DUE, brings = names_due && line.refusal == 0;
+    check(brings || same_names(before, names, room), "the names after a line that brings none");
+    if (names_due && !brings) check_fault(file, at, line, names);
+    if (!brings) return;
+    size_t needed = brought(line.next);
+    check_room(file, at, line, names, needed);
+    check_room(file, at, line, names, needed - 1);
+    check_room(file, at, line, names, 0);
+}
+
+/* So many lines from the first place on, at once and in two parts with one list, lead to this place and leave these names. */
+static void check_walk(bytes_t file, size_t lines, sp3_place_t place, const uint64_t *names, size_t room) {
+    uint64_t *once = lent_numbers(room, NUMBER_MARK), *twice = lent_numbers(room, NUMBER_MARK);
+    sp3_place_t first = sp3_first_place();
+    sp3_place_t at = sp3_after_lines(file.bytes, file.length, once, room, first, lines);
+    check(same_place(at, place) && same_names(once, names, room), "lines walked and read");
+    sp3_place_t half = sp3_after_lines(file.bytes, file.length, twice, room, first, lines / 2);
+    at = sp3_after_lines(file.bytes, file.length, twice, room, half, lines - lines / 2);
+    check(same_place(at, place) && same_names(twice, names, room), "lines walked in two parts and read");
+}
+
+/* Whether the walk over so many lines is held to the lines read one by one: the header's, and some of the others. */
+static bool is_walked(uint64_t lines) { return lines <= 25 || lines % 50 == 0; }
+
 static void names_out(const uint64_t *names, size_t count) {
     fputs("names", stdout);
     for (size_t i = 0; i < count; i++) value(names[i]);
     putchar('\n');
 }
 
-void lines_shown(bytes_t file, size_t room) {
-    uint64_t *names = lent_numbers(room, NUMBER_MARK), k = 1;
+/* The lines up to the last that is read, each shown and checked; gives its number, and what it does. */
+static uint64_t each_line(bytes_t file, uint64_t *names, size_t room, sp3_line_answer_t *last) {
+    uint64_t *before = lent_numbers(room, NUMBER_MARK);
     sp3_place_t at = sp3_first_place();
-    sp3_line_answer_t line = sp3_read_line(file.bytes, file.length, at, names, room);
-    while (!line_out(k, line, at)) {
-        at = line.next;
-        line = sp3_read_line(file.bytes, file.length, at, names, room);
-        k++;
+    for (uint64_t k = 1;; k++) {
+        memcpy(before, names, room * sizeof *before);
+        *last = read_at(file, at, names, room);
+        bool ends = line_out(k, *last, at);
+        check_line(file, at, *last, before, names, room);
+        if (ends) check_walk(file, k + 5, at, names, room);
+        if (ends) return k;
+        if (is_walked(k)) check_walk(file, k, last->next, names, room);
+        at = last->next;
     }
+}
+
+void lines_shown(bytes_t file, size_t room) {
+    uint64_t *names = lent_numbers(room, NUMBER_MARK);
+    sp3_line_answer_t last;
+    uint64_t k = each_line(file, names, room, &last);
     names_out(names, room);
     check_known(file, names, room);
-    if (room >= 255) check_judged(file, k, line);
+    if (room >= 255) check_judged(file, k, last);
     check_no_line(file, file.length, names, room);
     check_no_line(file, SIZE_MAX, names, room);
 }
 
-line_end_t walked_lines(bytes_t file, const uint64_t *names, size_t count) {
+line_end_t known_lines(bytes_t file, const uint64_t *names, size_t count) {
     sp3_place_t at = sp3_first_place();
     for (uint64_t k = 1;; k++) {
         sp3_line_answer_t line = sp3_next_line(file.bytes, file.length, names, count, at);
-        if (line.refusal != 0 || line.finished) {
-            sp3_place_t stays = sp3_after_lines(file.bytes, file.length, names, count, sp3_first_place(), k + 5);
-            check(same_place(stays, at), "the place after more lines than there are");
-            return (line_end_t){line.refusal, k};
-        }
+        if (line.refusal != 0 || line.finished) return (line_end_t){line.refusal, k};
         at = line.next;
     }
 }

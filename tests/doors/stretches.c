@@ -1,8 +1,12 @@
 /* The format of tests/stretches.rs: stretches divided, files walked and read line by line. */
 #include <inttypes.h>
 #include <stdio.h>
+#include <string.h>
 
 #include "doors.h"
+
+/* So much room for identifiers is never too small. */
+enum { MOST_SATELLITES = 255 };
 
 /* The identifiers of a header, or others in their place. */
 typedef struct {
@@ -48,7 +52,7 @@ static void walk_end_out(bytes_t file, names_t names, sp3_row_step_t step, sp3_r
     bool stays = same_place(step.next.place, from.place) && step.next.passed == from.passed;
     check(stays && step.epoch == 0 && step.satellite == 0 && is_no_row(step.row), "a row beside the end of a walk");
     check(step.end ? step.refusal == 0 && step.line == 0 : step.refusal != 0, "an end beside a refusal");
-    line_end_t lines = walked_lines(file, names.list, names.count);
+    line_end_t lines = known_lines(file, names.list, names.count);
     check(lines.refusal == step.refusal && (step.end || lines.line == step.line), "a walk over rows and over lines");
 }
 
@@ -82,24 +86,55 @@ static size_t line_count(bytes_t bytes) {
     return count;
 }
 
-static sp3_place_t after(bytes_t file, names_t names, sp3_place_t place, size_t lines) {
-    return sp3_after_lines(file.bytes, file.length, names.list, names.count, place, lines);
+/* The place after so many lines, with a list of the walker's own. */
+static void after_out(bytes_t file, size_t lines) {
+    uint64_t *names = lent_numbers(MOST_SATELLITES, NUMBER_MARK);
+    place_out("place", lines, sp3_after_lines(file.bytes, file.length, names, MOST_SATELLITES, sp3_first_place(), lines));
 }
 
-/* The places after no line, one, three, half of them, all of them in two steps and in one, and five more. */
-static void places_out(bytes_t file, names_t names) {
-    size_t all = line_count(file);
-    sp3_place_t first = sp3_first_place(), half = after(file, names, first, all / 2);
-    place_out("place", 0, after(file, names, first, 0));
-    place_out("place", 1, after(file, names, first, 1));
-    place_out("place", 3, after(file, names, first, 3));
+/* The places after half of the lines and after the others, with the same list; gives it. */
+static const uint64_t *halves_out(bytes_t file, size_t all) {
+    uint64_t *names = lent_numbers(MOST_SATELLITES, NUMBER_MARK);
+    sp3_place_t half = sp3_after_lines(file.bytes, file.length, names, MOST_SATELLITES, sp3_first_place(), all / 2);
     place_out("place", all / 2, half);
-    place_out("then", all, after(file, names, half, all - all / 2));
-    place_out("place", all, after(file, names, first, all));
-    place_out("place", all + 5, after(file, names, first, all + 5));
+    place_out("then", all, sp3_after_lines(file.bytes, file.length, names, MOST_SATELLITES, half, all - all / 2));
+    return names;
 }
 
-/* A file walked with the identifiers that sp3_begin leaves; with the given names where it is refused. */
+/* The places after no line, one, three, half of them, all of them in two steps and in one, and five more. Of an accepted file the walker learns the
+ * identifiers that sp3_begin leaves. */
+static void places_out(bytes_t file, names_t own) {
+    size_t all = line_count(file);
+    after_out(file, 0);
+    after_out(file, 1);
+    after_out(file, 3);
+    const uint64_t *names = halves_out(file, all);
+    check(memcmp(names, own.list, own.count * sizeof *names) == 0, "the identifiers of a walk and of sp3_begin");
+    after_out(file, all);
+    after_out(file, all + 5);
+}
+
+/* The identifiers of which a list has so many, and whether its other places are as they were. */
+static void identifiers_out(const uint64_t *list, size_t count, size_t room) {
+    size_t filled = count <= room ? count : room;
+    for (size_t i = 0; i < filled; i++) {
+        fputs("name ", stdout);
+        identifier_out(list[i]);
+        putchar('\n');
+    }
+    kept_out(list, filled, room);
+}
+
+/* The place after all lines with room for so many identifiers, and those that they brought. */
+static void short_out(bytes_t file, size_t room) {
+    uint64_t *names = lent_numbers(room, NUMBER_MARK);
+    size_t all = line_count(file);
+    sp3_place_t at = sp3_after_lines(file.bytes, file.length, names, room, sp3_first_place(), all);
+    place_out("short", all, at);
+    identifiers_out(names, brought(at), room);
+}
+
+/* A file walked over rows with the identifiers that sp3_begin leaves, or with the given names where it is refused; and over lines. */
 static void walk_out(bytes_t file, size_t room, names_t given) {
     uint64_t *identifiers = lent_numbers(room, NUMBER_MARK);
     sp3_reading_t reading = sp3_begin(file.bytes, file.length, identifiers, room);
@@ -107,17 +142,11 @@ static void walk_out(bytes_t file, size_t room, names_t given) {
     printf("begin %zu %" PRIu64 " %zu %" PRIu64 " %" PRIu64 "\n", reading.refusal, reading.line, reading.length, header.satellites,
            header.epochs);
     check_reading(reading);
-    size_t filled = header.satellites <= room ? header.satellites : room;
-    for (size_t i = 0; i < filled; i++) {
-        fputs("name ", stdout);
-        identifier_out(identifiers[i]);
-        putchar('\n');
-    }
-    kept_out(identifiers, filled, room);
+    identifiers_out(identifiers, header.satellites, room);
     names_t own = {shown(identifiers, room * sizeof *identifiers), room};
-    names_t names = reading.refusal == 0 ? own : given;
-    rows_out(file, names, header);
-    places_out(file, names);
+    rows_out(file, reading.refusal == 0 ? own : given, header);
+    places_out(file, (names_t){own.list, header.satellites});
+    short_out(file, room);
 }
 
 void stretches_case(bytes_t *batch) {

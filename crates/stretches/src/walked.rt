@@ -177,7 +177,27 @@ fn places(file: &[u8]) {
     stands(b"place", more(n), after(file, more(n)));
 }
 
-// A walk with these names for those of the header.
+// How many identifiers the lines before a place have brought: where `+ ` lines are still due, those of the satellites that have had their slot.
+fn brought(at: Place) -> u64 {
+    let state = at.state;
+    if state.due != 3 {
+        return state.satellites;
+    }
+    if state.satellites < state.left {
+        return 0;
+    }
+    state.satellites - state.left
+}
+
+// The place after all lines with no more room for identifiers than this, and those that they brought.
+fn short(file: &[u8], names: &mut [u64]) {
+    let n = line_count(file);
+    let at = walker::after_lines(file, walker::first_place(), n, names);
+    stands(b"short", n, at);
+    lent::shown(true, names, brought(at));
+}
+
+// A walk over rows with these names for those of the header, and over lines.
 fn walk_with<'a>(file: &'a [u8], header: &'a [u64]) {
     rows(file, header);
     places(file);
@@ -207,4 +227,6 @@ pub(crate) fn shown<'a>(file: &'a [u8], size: u64, given: &'a [u64]) {
     let mut identifiers = [lent::MARK; 300];
     let n = at_most(size, 300);
     into(file, &mut identifiers[0..n], given);
+    let mut names = [lent::MARK; 300];
+    short(file, &mut names[0..n]);
 }

@@ -44,7 +44,7 @@ module _ (rules : Rules) (bytes : List ℕ) (at : ℕ) (s : State) (names : List
 
   module _ (l : List ℕ) (ls : List (List ℕ)) (stands : linesOf (drop at bytes) ≡ l ∷ ls) where
     -- a line by what the machine says of it, by whether a `+ ` line is due, and by the room
-    Parts : Verdict → Bool → Bool → Type 0
+    abbrev Parts : Verdict → Bool → Bool → Type 0
     Parts v due room = (stepOf rules s names l ≡ v) × (eqb (s .due) 3 ≡ due) × (hasRoom rules s names (padded l) ≡ room)
 
     too-many : (next : State) → Parts (verdict.Next next) true false → Overfull rules bytes at s names

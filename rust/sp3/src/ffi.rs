@@ -363,8 +363,8 @@ unsafe extern "C" {
     pub fn sp3_after_lines(
         file: *const u8,
         length: usize,
-        names: *const u64,
-        name_count: usize,
+        names: *mut u64,
+        name_room: usize,
         place: Place,
         lines: usize,
     ) -> Place;

@@ -40,9 +40,10 @@ pub fn first_place() -> Place {
 }
 
 /// What the line at a place does. A `+ ` line without fault leaves its identifiers in `names` (255 places suffice), after those of the lines
-/// before it; no other line changes `names`.
+/// before it; no other line changes `names`, which is lent to the next line as this one left it.
 ///
-/// Refused: 1 where no LF is left, 10 for a row of a satellite for which `names` had no place; `names` is then as it was.
+/// Refused: 1 where no LF is left, 12 at the `+ ` line without fault that brings more identifiers than `names` has places for; `names` is then
+/// as it was.
 ///
 /// ```
 /// let file = include_bytes!("../../../samples/paper.sp3");
@@ -57,6 +58,10 @@ pub fn first_place() -> Place {
 ///
 /// let refusal = sp3::read_line(b"#dP2013", sp3::first_place(), &mut names).unwrap_err();
 /// assert_eq!(refusal.number, 1);
+///
+/// let satellites = sp3::after_lines(file, &mut [], sp3::first_place(), 2);
+/// let refusal = sp3::read_line(file, satellites, &mut []).unwrap_err();
+/// assert_eq!(refusal, sp3::LineRefusal { number: 12, column: 0 });
 /// # Ok::<(), sp3::LineRefusal>(())
 /// ```
 pub fn read_line(file: &[u8], place: Place, names: &mut [u64]) -> Result<Line, LineRefusal> {
@@ -69,11 +74,11 @@ pub fn read_line(file: &[u8], place: Place, names: &mut [u64]) -> Result<Line, L
 
 /// What the line at a place does, where all identifiers of the header are known (as [`begin`](crate::begin) leaves them).
 ///
-/// Refused: as [`read_line`]; 10 for a row of a satellite that `names` does not have here.
+/// Refused: as [`read_line`], but never 12; 10 for a row of a satellite that `names` does not have here.
 ///
 /// ```
 /// let file = include_bytes!("../../../samples/paper.sp3");
-/// let row = sp3::after_lines(file, &[7107], sp3::first_place(), 23);
+/// let row = sp3::after_lines(file, &mut [0; 255], sp3::first_place(), 23);
 /// assert!(file[row.at()..].starts_with(b"PG07"));
 /// assert!(sp3::next_line(file, &[7107], row).is_ok());
 /// assert_eq!(sp3::next_line(file, &[7108], row).unwrap_err().number, 10);
@@ -86,16 +91,22 @@ pub fn next_line(file: &[u8], names: &[u64], place: Place) -> Result<Line, LineR
     answer.told()
 }
 
-/// The place so many lines further, where all identifiers of the header are known. It stays at a line that is refused, and at the EOF line.
+/// The place so many lines further, each line read as by [`read_line`]. Afterwards `names` (255 places suffice) holds the identifiers of the
+/// `+ ` lines that were passed; to go on from there lend it as it is. The place stays at a line that is refused, with 12 too, and at the EOF
+/// line.
 ///
 /// ```
 /// let file = include_bytes!("../../../samples/paper.sp3");
-/// let end = sp3::after_lines(file, &[7107], sp3::first_place(), 1000);
+/// let mut names = [0; 255];
+/// let end = sp3::after_lines(file, &mut names, sp3::first_place(), 1000);
 /// assert_eq!(&file[end.at()..], b"EOF\n");
+/// assert_eq!(names[0], 7107);
+///
+/// let satellites = sp3::after_lines(file, &mut [], sp3::first_place(), 1000);
+/// assert!(file[satellites.at()..].starts_with(b"+    1   G07"));
 /// ```
-pub fn after_lines(file: &[u8], names: &[u64], place: Place, lines: usize) -> Place {
-    // SAFETY: each pointer and its number are of one slice.
-    unsafe {
-        ffi::sp3_after_lines(file.as_ptr(), file.len(), names.as_ptr(), names.len(), place, lines)
-    }
+pub fn after_lines(file: &[u8], names: &mut [u64], place: Place, lines: usize) -> Place {
+    let (list, room) = (names.as_mut_ptr(), names.len());
+    // SAFETY: each pointer and its number are of one slice; the names are borrowed for this call alone.
+    unsafe { ffi::sp3_after_lines(file.as_ptr(), file.len(), list, room, place, lines) }
 }

@@ -58,7 +58,8 @@ impl fmt::Display for Refusal {
 
 impl Error for Refusal {}
 
-/// Why one line was refused by the line readers: its number, and where in the line.
+/// Why one line was refused by the line readers: its number, and where in the line. Whatever was lent is then as it was before. 12 comes after
+/// all other numbers.
 ///
 /// ```
 /// let refusal = sp3::read_line(b"#dQ\n", sp3::first_place(), &mut []).unwrap_err();
@@ -67,7 +68,7 @@ impl Error for Refusal {}
 /// ```
 #[derive(Clone, Copy, Debug, PartialEq, Eq, Hash)]
 pub struct LineRefusal {
-    /// 1 to 10; [`words`] says what each means.
+    /// 1 to 10, or 12; [`words`] says what each means.
     pub number: u8,
     /// The column, counted from 1; 0 where the refusal names none.
     pub column: usize,

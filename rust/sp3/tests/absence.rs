@@ -2,7 +2,7 @@
 
 mod common;
 
-use common::{motion, night, refused, SAMPLE};
+use common::{many, motion, night, refused, SAMPLE};
 use sp3::{Exponent, Flags, Row, StoredRow, Table};
 
 const ALL_FLAGS: Flags =
@@ -239,7 +239,9 @@ fn lines_one_after_the_other() {
     let mut names = [77_777; 4];
     let mut place = sp3::first_place();
     for (k, text) in night().0.iter().enumerate() {
-        assert_eq!(place, sp3::after_lines(&file, &[7107, 8224], sp3::first_place(), k));
+        let mut learnt = [77_777; 4];
+        assert_eq!(place, sp3::after_lines(&file, &mut learnt, sp3::first_place(), k));
+        assert_eq!(learnt, names);
         assert_eq!(
             sp3::next_line(&file, &[7107, 8224], place),
             sp3::read_line(&file, place, &mut names)
@@ -253,25 +255,46 @@ fn lines_one_after_the_other() {
     assert_eq!(names, [7107, 8224, 77_777, 77_777]);
 }
 
-/// Without a place for its identifier a satellite's row is another's.
+/// Where a `+ ` line brings more identifiers than there are places for, the reader refuses it and the walker stays at it.
 #[test]
 fn fewer_names_than_satellites() {
     let file = night().bytes();
     let mut names = [77_777; 1];
     let mut place = sp3::first_place();
-    for _ in 0..24 {
+    for _ in 0..2 {
         place = sp3::read_line(&file, place, &mut names).unwrap().next;
     }
-    assert_eq!(sp3::read_line(&file, place, &mut names).unwrap_err().number, 10);
-    assert_eq!(names, [7107]);
+    let refusal = sp3::LineRefusal { number: 12, column: 0 };
+    assert_eq!(sp3::read_line(&file, place, &mut names), Err(refusal));
+    assert_eq!(sp3::after_lines(&file, &mut names, sp3::first_place(), 99), place);
+    assert_eq!(names, [77_777]);
+    assert!(sp3::next_line(&file, &names, place).is_ok());
+    assert!(sp3::read_line(&file, place, &mut [0; 2]).is_ok());
+}
+
+/// A walk in two parts, with one list, is the walk at once.
+#[test]
+fn walks_in_two_parts() {
+    let file = many(18).write().unwrap();
+    for (room, end) in [(16, 2), (17, 3), (18, 41), (255, 41)] {
+        let mut once = vec![77_777; room];
+        let place = sp3::after_lines(&file, &mut once, sp3::first_place(), end);
+        assert_eq!(sp3::after_lines(&file, &mut once, place, 1), place, "room for {room}");
+        for half in 0..=end {
+            let mut twice = vec![77_777; room];
+            let middle = sp3::after_lines(&file, &mut twice, sp3::first_place(), half);
+            assert_eq!(sp3::after_lines(&file, &mut twice, middle, 99), place);
+            assert_eq!(twice, once);
+        }
+    }
 }
 
 /// A place that was found in one file means nothing in another, and does no harm there.
 #[test]
 fn places_of_another_file() {
-    let place = sp3::after_lines(&night().bytes(), &[7107, 8224], sp3::first_place(), 30);
+    let place = sp3::after_lines(&night().bytes(), &mut [0; 2], sp3::first_place(), 30);
     assert_eq!(sp3::next_line(b"", &[], place).unwrap_err().number, 1);
     assert_eq!(sp3::read_line(b"EOF\n", place, &mut []).unwrap_err().number, 1);
     assert!(sp3::next_line(SAMPLE, &[7107], place).is_err());
-    assert_eq!(sp3::after_lines(b"\n\n", &[], place, 5), place);
+    assert_eq!(sp3::after_lines(b"\n\n", &mut [], place, 5), place);
 }
