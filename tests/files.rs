@@ -57,7 +57,7 @@ use lines::{fail, without_trailing_blanks};
 use lines::{Exponent, Identifier, Line, Moment, Random, Reader, Tally};
 use std::collections::{BTreeMap, HashSet};
 use std::io::{Read, Write};
-use std::ops::Range;
+use std::ops::{Range, RangeInclusive};
 use std::process::{exit, Command, ExitStatus, Stdio};
 
 // ---------------------------------------------------------------------------
@@ -2744,16 +2744,21 @@ const EDGES: &[u8] = &[
     b'E', b'G', b'M', b'P', b'V', b'Z', b'[', b'a', b'e', b'p', b'z', b'~', 127, 128, 255,
 ];
 const FEW: &[u8] = b"\n -0EP";
+const BESIDE_FLAGS: &[u8] = b"DFLNOQ";
+/// The columns of a row, and the first that a line hasn't.
+const COLUMNS_OF_ROW: RangeInclusive<usize> = 1..=81;
 
-/// Files, a line with a row, and the bytes that each of its columns is given.
-const ALTERED: &[(Base, usize, &[u8])] = &[
-    (Rows, 24, EDGES),
-    (Rows, 25, EDGES),
-    (Rows, 27, EDGES),
-    (Rows, 28, FEW),
-    (MovingRows, 24, FEW),
-    (MovingRows, 25, FEW),
-    (MovingRows, 32, FEW),
+/// Files, a line with a row, columns of it, and the bytes that each is given.
+const ALTERED: &[(Base, usize, RangeInclusive<usize>, &[u8])] = &[
+    (Rows, 24, COLUMNS_OF_ROW, EDGES),
+    (Rows, 25, COLUMNS_OF_ROW, EDGES),
+    (Rows, 27, COLUMNS_OF_ROW, FEW),
+    (Rows, 28, COLUMNS_OF_ROW, FEW),
+    (MovingRows, 24, COLUMNS_OF_ROW, FEW),
+    (MovingRows, 25, COLUMNS_OF_ROW, FEW),
+    (MovingRows, 32, COLUMNS_OF_ROW, FEW),
+    (Rows, 24, 74..=80, BESIDE_FLAGS),
+    (Rows, 25, 74..=80, BESIDE_FLAGS),
 ];
 
 /// The numbers of a row: their first column and the last that a blank may
@@ -2771,31 +2776,35 @@ fn ask_for_row(base: Base, line: usize, edit: impl FnOnce(&mut Draft)) -> Case {
     Case { file: draft.bytes(), rooms: [2, 2, 308, 96], asked: [0, place / 2, place % 2, 7107] }
 }
 
-/// One byte in each column of a row, and in the first that a line hasn't.
 fn single_bytes() -> Vec<Case> {
     let mut cases = Vec::new();
-    for &(base, line, bytes) in ALTERED {
-        for column in 1..=lines::WIDTH + 1 {
-            let put = |&byte| ask_for_row(base, line, |draft| draft.put(line, column, &[byte]));
+    for (base, line, columns, bytes) in ALTERED {
+        for column in columns.clone() {
+            let put = |&byte| ask_for_row(*base, *line, |draft| draft.put(*line, column, &[byte]));
             cases.extend(bytes.iter().map(put));
         }
     }
     cases
 }
 
-/// Two bytes side by side in a row of digits; a number in whose front they
-/// stand has only blanks before them.
+/// What stands side by side in two columns.
+fn pairs() -> Vec<[u8; 2]> {
+    let beside = |one: u8| if one == b' ' { EDGES } else { b" 1-.EPM" };
+    let pairs_of = |&one: &u8| beside(one).iter().map(move |&other| [one, other]);
+    b" 1-.E".iter().flat_map(pairs_of).collect()
+}
+
+/// A pair in a row of digits; a number in whose front it begins has only blanks
+/// before it.
 fn pairs_of_bytes() -> Vec<Case> {
     let mut cases = Vec::new();
     for column in 4..lines::WIDTH {
         let number = NUMBERS.iter().find(|&&(first, last)| (first..=last).contains(&column));
         let first = number.map_or(column, |&(first, _)| first);
         let blanks = vec![b' '; column - first];
-        for &one in b" 1-.E" {
-            let front = [&blanks[..], &[one]].concat();
-            let put = |&other| [&front[..], &[other]].concat();
-            let pairs = b" 1-.EPM".iter().map(put);
-            cases.extend(pairs.map(|p| ask_for_row(Rows, 24, |draft| draft.put(24, first, &p))));
+        for pair in pairs() {
+            let bytes = [&blanks[..], &pair].concat();
+            cases.push(ask_for_row(Rows, 24, |draft| draft.put(24, first, &bytes)));
         }
     }
     cases
