@@ -11,11 +11,12 @@
 # was the answer fewer than 50 times.
 #
 #   tests/compare.sh case FORMAT SEED NUMBER       shows one of these inputs and what both sides answer
+#
 #   tests/compare.sh columns
 #   tests/compare.sh case columns NUMBER
 #
-# compares the doors on some 12,000 files that differ from an accepted one in one row: in each of its columns every class of bytes, pairs of bytes side
-# by side, identifiers that make the same number, and a row once more. The second shows one of these; a difference is shown at once.
+# compares the doors on some 12,000 files that differ from an accepted one in one row: every class of bytes in each of its columns, pairs of bytes side
+# by side, identifiers that make the same number, and a line once more. They are always the same. A difference is shown at once; the second shows any.
 #
 #   tests/compare.sh tables|forms|stretches [SEED [COUNT]]
 #
@@ -79,8 +80,9 @@ run() {
     ${x86_emulator:+"$x86_emulator"} "$made/doors" "$1"
 }
 
-# a folder that is gone at the end
-make_work() {
+# builds what is missing, and makes a folder that is gone at the end
+begin() {
+    build
     work=$(mktemp -d)
     trap 'rm -rf "$work"' EXIT
 }
@@ -114,8 +116,7 @@ compare_doors() {
     numbers "$@"
     seed=${1:-1}
     count=${2:-20000}
-    build
-    make_work
+    begin
     echo "doors, seed $seed, $count inputs"
     compare_format tables any compare "$seed" $((count * 8 / 20))
     compare_format forms any compare "$seed" $((count * 5 / 20))
@@ -126,8 +127,7 @@ compare_doors() {
 }
 
 compare_columns() {
-    build
-    make_work
+    begin
     echo "doors, rows with other bytes in their columns"
     compare_format tables columns compare && return
     number=$(sed -n 's/^columns case \([0-9]*\):.*/\1/p' "$work/said")
@@ -144,7 +144,7 @@ compare_program() {
     exec "$made/$(oracle_of "$1")" compare "${2:-1}" "${3:-2000}" "$root/tests/program.sh" built "$1"
 }
 
-# the input of a format that the words after it ask its oracle for
+# the input of a format that the words after it ask its oracle for, and what both sides answer
 show_case() {
     format=$1
     shift
@@ -162,19 +162,20 @@ show_case() {
     fi
 }
 
-# builds what is missing and shows an input; the words after the format are those for its oracle
-show_only() {
-    build
-    make_work
-    show_case "$@"
-}
-
 case "$# ${1:-} ${2:-}" in
 "2 run "*) run "$2" ;;
 "1 build ") build ;;
 "1 columns ") compare_columns ;;
-"3 case columns") numbers "$3" && show_only tables columns case "$3" ;;
-"4 case tables" | "4 case forms" | "4 case stretches" | "4 case dates") numbers "$3" "$4" && show_only "$2" any case "$3" "$4" ;;
+"3 case columns")
+    numbers "$3"
+    begin
+    show_case tables columns case "$3"
+    ;;
+"4 case tables" | "4 case forms" | "4 case stretches" | "4 case dates")
+    numbers "$3" "$4"
+    begin
+    show_case "$2" any case "$3" "$4"
+    ;;
 [1-3]" tables "* | [1-3]" forms "* | [1-3]" stretches "*) compare_program "$@" ;;
 [0-2]" "*) compare_doors "$@" ;;
 *) usage ;;
