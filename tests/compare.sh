@@ -11,9 +11,16 @@
 # was the answer fewer than 50 times.
 #
 #   tests/compare.sh case FORMAT SEED NUMBER       shows one of these inputs and what both sides answer
+#
+#   tests/compare.sh columns
+#   tests/compare.sh case columns NUMBER
+#
+# compares the doors on some 12,000 files that differ from an accepted one in one row: every class of bytes in each of its columns, pairs of bytes side
+# by side, identifiers that make the same number, and a line once more. They are always the same. A difference is shown at once; the second shows any.
+#
 #   tests/compare.sh tables|forms|stretches [SEED [COUNT]]
 #
-# The last compares the proved program of crates/ with that name in the same way, on inputs that it has room for: 2,000 of them, or COUNT.
+# compares the proved program of crates/ with that name in the same way, on inputs that it has room for: 2,000 of them, or COUNT.
 #
 # What is missing is built first, in target/: the archive (`rt staticlib abi` proves it), the driver, the oracles. `tests/compare.sh build` does that
 # alone; `tests/compare.sh run FORMAT < BATCH` runs the driver.
@@ -73,13 +80,22 @@ run() {
     ${x86_emulator:+"$x86_emulator"} "$made/doors" "$1"
 }
 
-# one format of the doors, so many inputs; what is printed is kept for the sum
+# builds what is missing, and makes a folder that is gone at the end
+begin() {
+    build
+    work=$(mktemp -d)
+    trap 'rm -rf "$work"' EXIT
+}
+
+# one format of the doors, on the inputs that the words after it ask its oracle for; what is printed is kept for the sum
 compare_format() {
-    echo "$1"
-    if ! "$made/$(oracle_of "$1")" any compare "$seed" "$2" ${x86_emulator:+"$x86_emulator"} "$made/doors" "$1" >"$work/said"; then
+    format=$1
+    shift
+    echo "$format"
+    if ! "$made/$(oracle_of "$format")" "$@" ${x86_emulator:+"$x86_emulator"} "$made/doors" "$format" >"$work/said"; then
         cat "$work/said"
-        sed -n "s/^seed \([0-9]*\) case \([0-9]*\):.*/tests\/compare.sh case $1 \1 \2 shows it/p" "$work/said"
-        exit 1
+        sed -n "s/^seed \([0-9]*\) case \([0-9]*\):.*/tests\/compare.sh case $format \1 \2 shows it/p" "$work/said"
+        return 1
     fi
     tee -a "$work/all" <"$work/said"
 }
@@ -100,16 +116,23 @@ compare_doors() {
     numbers "$@"
     seed=${1:-1}
     count=${2:-20000}
-    build
-    work=$(mktemp -d)
-    trap 'rm -rf "$work"' EXIT
+    begin
     echo "doors, seed $seed, $count inputs"
-    compare_format tables $((count * 8 / 20))
-    compare_format forms $((count * 5 / 20))
-    compare_format dates $((count / 20))
-    compare_format stretches $((count - count * 8 / 20 - count * 5 / 20 - count / 20))
+    compare_format tables any compare "$seed" $((count * 8 / 20))
+    compare_format forms any compare "$seed" $((count * 5 / 20))
+    compare_format dates any compare "$seed" $((count / 20))
+    compare_format stretches any compare "$seed" $((count - count * 8 / 20 - count * 5 / 20 - count / 20))
     sum_up "$count"
     echo "doors, seed $seed: $count inputs agree"
+}
+
+compare_columns() {
+    begin
+    echo "doors, rows with other bytes in their columns"
+    compare_format tables columns compare && return
+    number=$(sed -n 's/^columns case \([0-9]*\):.*/\1/p' "$work/said")
+    [ -z "$number" ] || show_case tables columns case "$number"
+    exit 1
 }
 
 compare_program() {
@@ -121,15 +144,14 @@ compare_program() {
     exec "$made/$(oracle_of "$1")" compare "${2:-1}" "${3:-2000}" "$root/tests/program.sh" built "$1"
 }
 
+# the input of a format that the words after it ask its oracle for, and what both sides answer
 show_case() {
-    numbers "$2" "$3"
-    build
-    work=$(mktemp -d)
-    trap 'rm -rf "$work"' EXIT
-    oracle=$made/$(oracle_of "$1")
-    "$oracle" any case "$2" "$3" | tee "$work/case"
+    format=$1
+    shift
+    oracle=$made/$(oracle_of "$format")
+    "$oracle" "$@" | tee "$work/case"
     "$oracle" answer <"$work/case" >"$work/wanted"
-    run "$1" <"$work/case" >"$work/found" || echo "doors ended with $?"
+    run "$format" <"$work/case" >"$work/found" || echo "doors ended with $?"
     echo
     if cmp -s "$work/wanted" "$work/found"; then
         echo "both answer:"
@@ -143,7 +165,17 @@ show_case() {
 case "$# ${1:-} ${2:-}" in
 "2 run "*) run "$2" ;;
 "1 build ") build ;;
-"4 case tables" | "4 case forms" | "4 case stretches" | "4 case dates") show_case "$2" "$3" "$4" ;;
+"1 columns ") compare_columns ;;
+"3 case columns")
+    numbers "$3"
+    begin
+    show_case tables columns case "$3"
+    ;;
+"4 case tables" | "4 case forms" | "4 case stretches" | "4 case dates")
+    numbers "$3" "$4"
+    begin
+    show_case "$2" any case "$3" "$4"
+    ;;
 [1-3]" tables "* | [1-3]" forms "* | [1-3]" stretches "*) compare_program "$@" ;;
 [0-2]" "*) compare_doors "$@" ;;
 *) usage ;;

@@ -16,6 +16,9 @@
 //! * `BIN kinds SEED COUNT`    counts of what kinds the files of such cases are;
 //! * `BIN file MODE SATELLITES EPOCHS` prints a plain file, mode P or V;
 //! * `BIN bytes SEED COUNT`    prints so many bytes of any kind;
+//! * `BIN columns`             prints a batch of files with other bytes in the
+//!   columns of a row; `BIN columns case NUMBER` and `BIN columns compare
+//!   PROGRAM [ARGS..]` are as below;
 //! * `BIN cases`               prints the stored batch;
 //! * `BIN check CRATE_DIR`     compares `CRATE_DIR/stdin` with the stored batch
 //!   and `CRATE_DIR/stdout` with the answers to it;
@@ -54,7 +57,7 @@ use lines::{fail, without_trailing_blanks};
 use lines::{Exponent, Identifier, Line, Moment, Random, Reader, Tally};
 use std::collections::{BTreeMap, HashSet};
 use std::io::{Read, Write};
-use std::ops::Range;
+use std::ops::{Range, RangeInclusive};
 use std::process::{exit, Command, ExitStatus, Stdio};
 
 // ---------------------------------------------------------------------------
@@ -997,6 +1000,41 @@ fn motion_file() -> Draft {
     Draft::of(&lines)
 }
 
+/// Two satellites and two epochs, 29 lines. The rows: every column that has a
+/// use is filled; nothing is known; minus signs and some exponents; zeros
+/// before the digits.
+fn rows_file() -> Draft {
+    let mut lines = header([
+        "#dP2013  4  3  0  0  0.00000000       2 ORBIT WGS84 BCT PORT",
+        "## 1734 259200.00000000   900.00000000 56385 0.0000000000000",
+        "+    2   G07R20  0  0  0  0  0  0  0  0  0  0  0  0  0  0  0",
+        NO_ACCURACIES,
+        "%c M  cc GPS ccc cccc cccc cccc cccc ccccc ccccc ccccc ccccc",
+    ]);
+    lines.extend([
+        "*  2013  4  3  0  0  0.00000000",
+        "PG07 123456.789012 234567.890123 999999.999999 987654.321098 18 99 07 219 EP  MP",
+        "PR20      0.000000      0.000000      0.000000 999999.999999",
+        "*  2013  4  3  0 15  0.00000000",
+        "PG07 -00012.500000 -23456.789012  -3456.789012     -0.000001  5    99   7  P",
+        "PR20 000012.500000      1.000000     -0.500000 999999.999999  0  1 10  12      P",
+        "EOF",
+    ]);
+    Draft::of(&lines)
+}
+
+/// The same in mode V, 33 lines: each P has the V of its columns after it.
+fn moving_rows_file() -> Draft {
+    let mut draft = rows_file();
+    draft.put(1, 3, b"V");
+    for line in draft.lines_of("P").into_iter().rev() {
+        let row = &draft.0[line - 1];
+        let columns = row[1..row.len().min(73)].trim_ascii_end();
+        draft.insert(line + 1, &[b"V", columns].concat());
+    }
+    draft
+}
+
 /// The paper's file with `n` satellites, of which any number may be asked for.
 fn many_file(n: usize) -> Draft {
     let identifier =
@@ -1043,6 +1081,8 @@ pub(crate) enum Base {
     Paper,
     Night,
     Motion,
+    Rows,
+    MovingRows,
     Many(usize),
     Talkative(usize),
 }
@@ -1074,6 +1114,8 @@ pub(crate) fn base_file(base: Base) -> Draft {
         Base::Paper => paper_file(),
         Base::Night => night_file(),
         Base::Motion => motion_file(),
+        Base::Rows => rows_file(),
+        Base::MovingRows => moving_rows_file(),
         Base::Many(n) => many_file(n),
         Base::Talkative(count) => talkative_file(count),
     }
@@ -1111,7 +1153,7 @@ pub(crate) fn hand_made(base: Base, edits: &[Edit]) -> Vec<u8> {
 // Answers worked out by hand
 // ---------------------------------------------------------------------------
 
-use Base::{Many, Motion, Night, Nothing, Paper, Talkative};
+use Base::{Many, Motion, MovingRows, Night, Nothing, Paper, Rows, Talkative};
 use Edit::{
     After, AfterItself, AfterMany, Byte, CarriageReturns, Double, Drop, Insert, Join, Keep,
     Line as Whole, Put, Swap,
@@ -2703,6 +2745,112 @@ fn stored_cases() -> Vec<Case> {
 }
 
 // ---------------------------------------------------------------------------
+// Rows with other bytes in their columns
+// ---------------------------------------------------------------------------
+
+/// Of every class of bytes both ends, and those with a use in a row.
+const EDGES: &[u8] = &[
+    0, 9, 10, 13, 31, 32, 33, b'+', b',', b'-', b'.', b'/', b'0', b'1', b'9', b':', b'@', b'A',
+    b'E', b'G', b'M', b'P', b'V', b'Z', b'[', b'a', b'e', b'p', b'z', b'~', 127, 128, 255,
+];
+const FEW: &[u8] = b"\n -0EP";
+const BESIDE_FLAGS: &[u8] = b"DFLNOQ";
+/// The columns of a row, and the first that a line hasn't.
+const COLUMNS_OF_ROW: RangeInclusive<usize> = 1..=81;
+
+/// Files, a line with a row, columns of it, and the bytes that each is given.
+const ALTERED: &[(Base, usize, RangeInclusive<usize>, &[u8])] = &[
+    (Rows, 24, COLUMNS_OF_ROW, EDGES),
+    (Rows, 25, COLUMNS_OF_ROW, EDGES),
+    (Rows, 27, COLUMNS_OF_ROW, FEW),
+    (Rows, 28, COLUMNS_OF_ROW, FEW),
+    (MovingRows, 24, COLUMNS_OF_ROW, FEW),
+    (MovingRows, 25, COLUMNS_OF_ROW, FEW),
+    (MovingRows, 32, COLUMNS_OF_ROW, FEW),
+    (Rows, 24, 74..=80, BESIDE_FLAGS),
+    (Rows, 25, 74..=80, BESIDE_FLAGS),
+];
+
+/// The numbers of a row: their first column and the last that a blank may
+/// stand before.
+const NUMBERS: [(usize, usize); 8] =
+    [(5, 11), (19, 25), (33, 39), (47, 53), (62, 63), (65, 66), (68, 69), (71, 73)];
+
+/// A file with an edit in line `line`, asked for the P row that stood there or
+/// last before it.
+fn ask_for_row(base: Base, line: usize, edit: impl FnOnce(&mut Draft)) -> Case {
+    let mut draft = base_file(base);
+    let rows = draft.lines_of("P").into_iter().filter(|&row| row <= line).count();
+    let place = rows.saturating_sub(1);
+    edit(&mut draft);
+    Case { file: draft.bytes(), rooms: [2, 2, 308, 96], asked: [0, place / 2, place % 2, 7107] }
+}
+
+fn single_bytes() -> Vec<Case> {
+    let mut cases = Vec::new();
+    for (base, line, columns, bytes) in ALTERED {
+        for column in columns.clone() {
+            let put = |&byte| ask_for_row(*base, *line, |draft| draft.put(*line, column, &[byte]));
+            cases.extend(bytes.iter().map(put));
+        }
+    }
+    cases
+}
+
+/// What stands side by side in two columns.
+fn pairs() -> Vec<[u8; 2]> {
+    let beside = |one: u8| if one == b' ' { EDGES } else { b" 1-.EPM" };
+    let pairs_of = |&one: &u8| beside(one).iter().map(move |&other| [one, other]);
+    b" 1-.E".iter().flat_map(pairs_of).collect()
+}
+
+/// A pair in a row of digits; a number in whose front it begins has only blanks
+/// before it.
+fn pairs_of_bytes() -> Vec<Case> {
+    let mut cases = Vec::new();
+    for column in 4..lines::WIDTH {
+        let number = NUMBERS.iter().find(|&&(first, last)| (first..=last).contains(&column));
+        let first = number.map_or(column, |&(first, _)| first);
+        let blanks = vec![b' '; column - first];
+        for pair in pairs() {
+            let bytes = [&blanks[..], &pair].concat();
+            cases.push(ask_for_row(Rows, 24, |draft| draft.put(24, first, &bytes)));
+        }
+    }
+    cases
+}
+
+/// Three bytes for the identifier that make its number: `F:7` for G07.
+fn names_alike() -> Vec<Case> {
+    let mut cases = Vec::new();
+    for (line, code) in [(24, 7107), (25, 8220)] {
+        for (letter, tens) in (32..=126).flat_map(|letter| (32..=126).map(move |c| (letter, c))) {
+            let ones = code - 100 * letter - 10 * (tens - 48) + 48;
+            if (32..=126).contains(&ones) {
+                let name = [letter as u8, tens as u8, ones as u8];
+                cases.push(ask_for_row(Rows, line, |draft| draft.put(line, 2, &name)));
+            }
+        }
+    }
+    cases
+}
+
+/// A line of the epochs once more, where it may not stand.
+fn lines_doubled() -> Vec<Case> {
+    let files = [(Rows, 23..=28), (MovingRows, 23..=32)].into_iter();
+    let lines = files.flat_map(|(base, lines)| lines.map(move |line| (base, line)));
+    lines.map(|(base, line)| ask_for_row(base, line, |draft| draft.double_line(line))).collect()
+}
+
+/// All of them, each once.
+fn altered_rows() -> Vec<Case> {
+    let mut cases = [single_bytes(), pairs_of_bytes(), names_alike(), lines_doubled()].concat();
+    let mut files = HashSet::new();
+    cases.retain(|case| files.insert(case.file.clone()));
+    cases
+}
+
+// ---------------------------------------------------------------------------
 // Counting and comparing
 // ---------------------------------------------------------------------------
 
@@ -2886,9 +3034,9 @@ fn case_of_line(answers: &[String], line: usize) -> usize {
 
 /// Cases from `first` on, one at least and as many as a batch may hold and
 /// `last` allows.
-fn next_batch<C: Compared>(generate: Generate<C>, seed: u64, first: u64, last: u64) -> Vec<C> {
+fn next_batch<C: Compared>(case_of: &impl Fn(u64) -> C, first: u64, last: u64) -> Vec<C> {
     let mut length = 0;
-    let cases = (first..=last).map(|number| generated(generate, seed, number));
+    let cases = (first..=last).map(case_of);
     let fits = |case: &C| {
         let alone = length == 0;
         length += case.show().len();
@@ -2897,9 +3045,10 @@ fn next_batch<C: Compared>(generate: Generate<C>, seed: u64, first: u64, last: u
     cases.take_while(fits).collect()
 }
 
+/// Cases 1 to `number` of those that have this name.
 fn compare<C: Compared>(
-    generate: Generate<C>,
-    seed: u64,
+    name: &str,
+    case_of: impl Fn(u64) -> C,
     number: u64,
     program: &str,
     arguments: &[&str],
@@ -2907,7 +3056,7 @@ fn compare<C: Compared>(
     let mut counts = Counts::of(C::COUNTED);
     let mut done = 0;
     while done < number {
-        let cases = next_batch(generate, seed, done + 1, number);
+        let cases = next_batch(&case_of, done + 1, number);
         let answers: Vec<String> = cases.iter().map(C::answer).collect();
         let (output, status) = run(program, arguments, show_batch(&cases))
             .unwrap_or_else(|error| fail(&format!("{program}: {error}")));
@@ -2915,11 +3064,11 @@ fn compare<C: Compared>(
         {
             let line = if found.starts_with("\"wrong: ") { line.saturating_sub(1) } else { line };
             let case = done + 1 + case_of_line(&answers, line) as u64;
-            println!("seed {seed} case {case}: wanted {wanted}, found {found} ({status})");
+            println!("{name} case {case}: wanted {wanted}, found {found} ({status})");
             exit(1);
         }
         if !status.success() {
-            println!("seed {seed} cases {} and on: {status}", done + 1);
+            println!("{name} cases {} and on: {status}", done + 1);
             exit(1);
         }
         answers.iter().for_each(|answer| counts.add(answer));
@@ -3333,6 +3482,150 @@ const ASKED: &[Asked] = &[
     ),
 ];
 
+/// Rows with other bytes in their columns; these aren't stored.
+const ROWS_BY_HAND: &[Hand] = &[
+    (Rows, &[], 0, 0),
+    (MovingRows, &[], 0, 0),
+    // Column 1 tells the kind.
+    (Rows, &[Put(24, 1, "V")], 4, 24),
+    (Rows, &[Put(24, 1, "E")], 4, 24),
+    (Rows, &[Put(24, 1, "p")], 4, 24),
+    (Rows, &[Put(25, 1, " ")], 4, 25),
+    (MovingRows, &[Put(24, 1, "V")], 4, 24),
+    (MovingRows, &[Put(25, 1, "P")], 4, 25),
+    // 2-4: a capital letter and two digits, not 00, the satellite of the header.
+    (Rows, &[Put(24, 2, "g")], 6, 24),
+    (Rows, &[Put(24, 3, ":")], 6, 24),
+    (Rows, &[Put(24, 3, " ")], 6, 24),
+    (Rows, &[Put(24, 2, "F:7")], 6, 24),
+    (Rows, &[Put(25, 4, "/")], 6, 25),
+    (Rows, &[Put(24, 4, "0")], 7, 24),
+    (Rows, &[Put(24, 4, "8")], 10, 24),
+    (Rows, &[Put(24, 2, "R20")], 10, 24),
+    // The first column of a number: a digit makes 10^12 or more of 123456, not of 12.5.
+    (Rows, &[Put(24, 5, "-")], 0, 0),
+    (Rows, &[Put(24, 5, "1")], 7, 24),
+    (Rows, &[Put(24, 5, "+")], 6, 24),
+    (Rows, &[Put(25, 5, "-")], 6, 25),
+    (Rows, &[Put(28, 5, "0")], 0, 0),
+    // Blanks, a minus, digits: in this order.
+    (Rows, &[Put(24, 8, " ")], 6, 24),
+    (Rows, &[Put(24, 8, "-")], 6, 24),
+    (Rows, &[Put(24, 6, "  ")], 0, 0),
+    (Rows, &[Put(24, 6, "--")], 6, 24),
+    (Rows, &[Put(24, 6, "- ")], 6, 24),
+    (Rows, &[Put(25, 10, "-")], 0, 0),
+    (Rows, &[Put(25, 9, "-")], 6, 25),
+    (Rows, &[Put(25, 9, "1")], 6, 25),
+    (Rows, &[Put(25, 11, " ")], 6, 25),
+    (Rows, &[Put(25, 11, "-")], 6, 25),
+    (Rows, &[Put(24, 53, "e")], 6, 24),
+    (Rows, &[Put(24, 39, ":")], 6, 24),
+    // The point and the six digits after it.
+    (Rows, &[Put(24, 12, "0")], 6, 24),
+    (Rows, &[Put(24, 26, ",")], 6, 24),
+    (Rows, &[Put(24, 13, " ")], 6, 24),
+    (Rows, &[Put(24, 46, " ")], 6, 24),
+    (Rows, &[Put(24, 60, ":")], 6, 24),
+    (Rows, &[Put(25, 57, "-")], 6, 25),
+    // Unused columns.
+    (Rows, &[Put(24, 61, "0")], 5, 24),
+    (Rows, &[Put(24, 64, "-")], 5, 24),
+    (Rows, &[Put(24, 67, ".")], 5, 24),
+    (Rows, &[Put(24, 70, "1")], 5, 24),
+    (Rows, &[Put(24, 74, "E")], 5, 24),
+    (Rows, &[Put(24, 77, "P")], 5, 24),
+    (Rows, &[Put(25, 78, "M")], 5, 25),
+    (Rows, &[Put(28, 61, "x")], 5, 28),
+    // Exponents: blanks and then digits, or blank.
+    (Rows, &[Put(24, 62, " ")], 0, 0),
+    (Rows, &[Put(24, 63, " ")], 6, 24),
+    (Rows, &[Put(24, 62, "  ")], 0, 0),
+    (Rows, &[Put(24, 65, "-")], 6, 24),
+    (Rows, &[Put(27, 65, "9")], 6, 27),
+    (Rows, &[Put(27, 66, "0")], 0, 0),
+    (Rows, &[Put(24, 72, " ")], 6, 24),
+    (Rows, &[Put(24, 73, "E")], 6, 24),
+    (MovingRows, &[Put(32, 63, "x")], 6, 32),
+    // Flags: each its own letter or blank; V has none.
+    (Rows, &[Put(24, 75, " ")], 0, 0),
+    (Rows, &[Put(25, 75, "E")], 0, 0),
+    (Rows, &[Put(27, 79, "M")], 0, 0),
+    (Rows, &[Put(24, 75, "P")], 6, 24),
+    (Rows, &[Put(24, 76, "E")], 6, 24),
+    (Rows, &[Put(24, 79, "P")], 6, 24),
+    (Rows, &[Put(24, 79, "m")], 6, 24),
+    (Rows, &[Put(28, 80, "M")], 6, 28),
+    (MovingRows, &[Put(25, 75, "E")], 5, 25),
+    (MovingRows, &[Put(32, 80, "P")], 5, 32),
+    // 81 characters; bytes that aren't characters.
+    (Rows, &[Put(24, 81, " ")], 3, 24),
+    (Rows, &[Put(25, 81, "P")], 3, 25),
+    (Rows, &[Byte(24, 81, 127)], 2, 24),
+    (Rows, &[Byte(24, 30, 0)], 2, 24),
+    (Rows, &[Byte(24, 61, 31)], 2, 24),
+    (Rows, &[Byte(25, 80, 128)], 2, 25),
+    // LF ends the line: what follows it is a line of no kind.
+    (Rows, &[Byte(24, 1, 10)], 4, 24),
+    (Rows, &[Byte(24, 12, 10)], 6, 24),
+    (Rows, &[Byte(24, 61, 10)], 4, 25),
+    (Rows, &[Byte(24, 80, 10)], 4, 25),
+    (Rows, &[Byte(25, 70, 10)], 4, 26),
+    // The lowest number decides.
+    (Rows, &[Put(24, 8, " "), Put(24, 61, "x")], 5, 24),
+    (Rows, &[Put(24, 1, "V"), Byte(24, 80, 127)], 2, 24),
+];
+
+const ROWS_ASKED: &[Asked] = &[
+    (
+        Rows,
+        &[],
+        [2, 2, 308, 48],
+        [0, 1, 0, 8220],
+        &[
+            "P 0 G07 123456789012 234567890123 999999999999 987654321098 18 large 7 219 EPMP",
+            "P 0 R20 absent absent unknown unknown unknown unknown ....",
+            "P 1 G07 -12500000 -23456789012 -3456789012 -1 5 unknown large 7 .P..",
+            "P 1 R20 12500000 1000000 -500000 absent 0 1 10 12 ...P",
+            "rows 4 known 3 absent 1",
+            "satellite 0 0 1",
+            "row 0 0 -12500000 -23456789012 -3456789012 -1",
+        ],
+    ),
+    (
+        Rows,
+        &[Put(24, 6, "  -"), Put(24, 62, " "), Put(24, 71, "   "), Put(24, 75, " ")],
+        [2, 2, 308, 48],
+        [0, 0, 0, 7107],
+        &[
+            "P 0 G07 -456789012 234567890123 999999999999 987654321098 8 large 7 unknown .PMP",
+            "row 0 0 -456789012 234567890123 999999999999 987654321098",
+        ],
+    ),
+    (
+        Rows,
+        &[Put(25, 10, "-"), Put(25, 60, "8"), Put(25, 73, "0"), Put(25, 79, "M")],
+        [2, 2, 308, 48],
+        [0, 0, 1, 7107],
+        &[
+            "P 0 R20 absent 999999999998 unknown unknown unknown 0 ..M.",
+            "row 0 0 absent 999999999998",
+        ],
+    ),
+    (
+        MovingRows,
+        &[Put(25, 5, "-"), Put(27, 63, "9")],
+        [2, 2, 308, 96],
+        [0, 0, 0, 7107],
+        &[
+            "P 0 G07 123456789012 234567890123 999999999999 987654321098 18 large 7 219 EPMP",
+            "V 0 G07 -123456789012 234567890123 999999999999 987654321098 18 large 7 219 ....",
+            "V 0 R20 absent absent 9 unknown unknown unknown ....",
+            "row 0 0 123456789012 234567890123 999999999999 987654321098",
+        ],
+    ),
+];
+
 // ---------------------------------------------------------------------------
 // Self-test
 // ---------------------------------------------------------------------------
@@ -3342,8 +3635,8 @@ fn numbers<T>(answer: &Result<T, Refusal>) -> (u8, usize) {
     answer.as_ref().map_or_else(|refusal| (refusal.number, refusal.line), |_| (0, 0))
 }
 
-fn test_hand(tally: &mut Tally) {
-    for &(base, edits, number, line) in HAND {
+fn test_hand(tally: &mut Tally, list: &[Hand]) {
+    for &(base, edits, number, line) in list {
         let file = hand_made(base, edits);
         let (whole, front) = (numbers(&judge(&file)), numbers(&judge_front(&file)));
         let wanted_front = if number == BYTES_AFTER { (0, 0) } else { (number, line) };
@@ -3360,8 +3653,8 @@ pub(crate) fn missing_line<'a>(answer: &str, wanted: &[&'a str]) -> Option<&'a s
     wanted.iter().copied().find(|wanted| !lines.any(|line| line == *wanted))
 }
 
-fn test_asked(tally: &mut Tally) {
-    for &(base, edits, rooms, asked, wanted) in ASKED {
+fn test_asked(tally: &mut Tally, list: &[Asked]) {
+    for &(base, edits, rooms, asked, wanted) in list {
         let case = Case { file: hand_made(base, edits), rooms, asked };
         let answer = case.answer();
         let missing = missing_line(&answer, wanted);
@@ -3519,8 +3812,10 @@ fn test_days(tally: &mut Tally) {
 
 fn self_test() {
     let mut tally = Tally::default();
-    test_hand(&mut tally);
-    test_asked(&mut tally);
+    test_hand(&mut tally, HAND);
+    test_hand(&mut tally, ROWS_BY_HAND);
+    test_asked(&mut tally, ASKED);
+    test_asked(&mut tally, ROWS_ASKED);
     test_types(&mut tally);
     test_days(&mut tally);
     test_columns(&mut tally);
@@ -3572,7 +3867,26 @@ pub(crate) fn obey<C: Compared>(
         ["check", directory] => check(directory, &stored_cases()),
         ["count"] => count(&parse_batch(&standard_input())),
         ["compare", seed, count, program, ref rest @ ..] => {
-            compare(generate, number(seed), number(count), program, rest);
+            let (name, seed) = (format!("seed {seed}"), number(seed));
+            let case_of = |place| generated(generate, seed, place);
+            compare(&name, case_of, number(count), program, rest);
+        }
+        _ => fail(usage),
+    }
+}
+
+/// The same of the rows with other bytes.
+fn obey_columns(words: &[&str], usage: &str) {
+    let cases = altered_rows();
+    let case_of = |place: u64| match cases.get((place as usize).wrapping_sub(1)) {
+        Some(case) => case.clone(),
+        None => fail(&format!("there are {} cases", cases.len())),
+    };
+    match *words {
+        [] => print(&show_batch(&cases)),
+        ["case", place] => print(&case_of(number(place)).show()),
+        ["compare", program, ref rest @ ..] => {
+            compare("columns", case_of, cases.len() as u64, program, rest);
         }
         _ => fail(usage),
     }
@@ -3584,7 +3898,8 @@ fn main() {
     let usage =
         "usage: answer | generate SEED COUNT | case SEED NUMBER | cases | check CRATE_DIR\n\
          | self-test | count | compare SEED COUNT PROGRAM [ARGS..] | any .. | kinds SEED COUNT\n\
-         | file MODE SATELLITES EPOCHS | bytes SEED COUNT";
+         | file MODE SATELLITES EPOCHS | bytes SEED COUNT\n\
+         | columns [case NUMBER | compare PROGRAM [ARGS..]]";
     match words[..] {
         ["self-test"] => self_test(),
         ["kinds", seed, count] => tell_kinds(number(seed), number(count)),
@@ -3596,6 +3911,7 @@ fn main() {
             let mut random = Random(number(seed));
             print(&(0..number(count)).map(|_| random.next() as u8).collect::<Vec<u8>>());
         }
+        ["columns", ref rest @ ..] => obey_columns(rest, usage),
         ["any", ref rest @ ..] => {
             obey(rest, parse_batch, generate_any_case, stored_cases, usage);
         }
