@@ -77,7 +77,7 @@ module _ (rules : Rules) (bytes : List ℕ) (at : ℕ) (s : State) (names : List
     where
       go : (ls : List (List ℕ)) → linesOf (drop at bytes) ≡ ls → readFirst (stepWithin rules s names) at ls ≡ found.Fault 12 0 → Overfull rules bytes at s names
       go [] is x = let z : _≡_ {A = ℕ} 0 1 = cc in absurd (omega arith)
-      go (l ∷ ls) is x = only-there l ls is (stepOf rules s names l) (eqb (s .due) 3) (hasRoom rules s names (padded l)) (refl, (refl, refl)) x
+      go (l ∷ ls) is x = only-there l ls is (stepOf rules s names l) (eqb (s .due) 3) (hasRoom rules s names (padded l)) (refl, refl, refl) x
 
   -- 12 EXACTLY where more identifiers are brought than fit;
   pub twelve-exactly : (lineRead rules bytes at s names ≡ found.Fault 12 0) ↔ Overfull rules bytes at s names
@@ -90,7 +90,7 @@ module _ (rules : Rules) (bytes : List ℕ) (at : ℕ) (s : State) (names : List
     where
       go : (ls : List (List ℕ)) → linesOf (drop at bytes) ≡ ls → readFirst (stepWithin rules s names) at ls ≡ readFirst (stepOf rules s names) at ls
       go [] is = refl
-      go (l ∷ ls) is = same-there l ls is (stepOf rules s names l) (eqb (s .due) 3) (hasRoom rules s names (padded l)) (refl, (refl, refl)) none
+      go (l ∷ ls) is = same-there l ls is (stepOf rules s names l) (eqb (s .due) 3) (hasRoom rules s names (padded l)) (refl, refl, refl) none
 
 -- THE JUDGE'S LIST IS NEVER SHORT: at no line that its run reaches are more identifiers brought than fit.
 pub judge-room : (bytes : List ℕ) (k : ℕ) → AllGoOn bytes k → k ≤ length (linesOf bytes)
