@@ -1,7 +1,7 @@
 -- Where a line ends: at the end of the bytes, at an LF, past a byte that is none, and past a block that has none.
 -- Assumes nothing.
 use mathlib.Core.Path.{_≡_, refl, sym, ap, _∙_}
-use mathlib.Core.Bool.{Bool, true, false, not, _&&_, _||_, true≢false}
+use mathlib.Core.Bool.{Bool, true, false, not, _&&_, _||_, or-false, true≢false}
 use mathlib.Core.List.{List, [], _∷_, _++_}
 use Prim.Native.Nat.{ℕ, zero, suc, _+_, _-_, _≤_, _<_}
 use native.Mathlib.Nat.{add-zero, zero-add, add-suc, suc-add, not-suc-le-zero, le-of-suc-le-suc}
@@ -10,7 +10,7 @@ use native.Mathlib.Omega.{arith}
 use borrow.Author.Tests.{ltb-true, lt-ltb, le-ltb}
 use lib.Dec.{ltb}
 use lib.ListN.{length, getD, take, drop, length-drop}
-use lib.Seq.{drop-drop, take-suc, getD-drop}
+use lib.Seq.{drop-drop, take-add, take-suc, getD-drop}
 use Rattle.laws.proofs.Bools.{and-left, and-right}
 use Rattle.laws.proofs.Lists.{rest-step, rest-none}
 use Rattle.lines.specs.Lines.{isLf, lineLength, hasLf, isFullLine, onFirst, linesOf}
@@ -36,19 +36,19 @@ module _ (l : List ℕ) (i : ℕ) where
       rw (rest-step l i h, e)
       (add-suc i _ ∙ sym (suc-add i _) ∙ ap (λ (k : ℕ). k + lineLength (drop (i + 1) l)) (sym (add-one i)))
 
--- one byte more at the end of a stretch
-has-more : (s : List ℕ) (b : ℕ) → hasLf (s ++ (b ∷ [])) ≡ (hasLf s || isLf b)
+-- two stretches one after the other; one byte more at the end
+has-parts : (s t : List ℕ) → hasLf (s ++ t) ≡ (hasLf s || hasLf t)
 unfolding hasLf
-has-more [] b = or-false (isLf b)
-  where
-    or-false : (t : Bool) → (t || false) ≡ t
-    or-false true = refl
-    or-false false = refl
-has-more (x ∷ s) b = ap (λ (t : Bool). isLf x || t) (has-more s b) ∙ or-assoc (isLf x) (hasLf s) (isLf b)
+has-parts [] t = refl
+has-parts (x ∷ s) t = ap (λ (p : Bool). isLf x || p) (has-parts s t) ∙ or-assoc (isLf x) (hasLf s) (hasLf t)
   where
     or-assoc : (p q r : Bool) → (p || (q || r)) ≡ ((p || q) || r)
     or-assoc true q r = refl
     or-assoc false q r = refl
+
+has-more : (s : List ℕ) (b : ℕ) → hasLf (s ++ (b ∷ [])) ≡ (hasLf s || isLf b)
+unfolding hasLf
+has-more s b = has-parts s (b ∷ []) ∙ ap (λ (p : Bool). hasLf s || p) (or-false (isLf b))
 
 -- a flag over the stretch from `at` on: before the first byte, one byte more, and the whole
 pub flag-none : (l : List ℕ) → false ≡ hasLf (take 0 l)
@@ -87,9 +87,25 @@ module _ (l : List ℕ) (at : ℕ) where
   unfolding isFullLine
   no-full-end h = rw (le-ltb 80 (length (drop at l)) (omega (arith, length-drop at l)))
 
-  pub full-so : at + 80 < length l → isLf (getD l (at + 80) 0) ≡ true → (found : Bool) → found ≡ hasLf (take 80 (drop at l)) → not found ≡ isFullLine (drop at l)
-  unfolding isFullLine
-  full-so h e found f = rw (lt-ltb 80 (length (drop at l)) (omega (arith, length-drop at l)), getD-drop at l 80 0, e, f)
+  -- its 80 columns are looked at in two stretches
+  in-two : hasLf (take 80 (drop at l)) ≡ (hasLf (take 16 (drop at l)) || hasLf (take 64 (drop (at + 16) l)))
+  in-two =
+      ap hasLf (take-add 16 64 (drop at l))
+      ∙ has-parts (take 16 (drop at l)) (take 64 (drop 16 (drop at l)))
+      ∙ ap (λ (s : List ℕ). hasLf (take 16 (drop at l)) || hasLf (take 64 s)) (drop-drop 16 at l)
+
+  module _ (long : at + 80 < length l) (lf : isLf (getD l (at + 80) 0) ≡ true) where
+    -- by the first of them, and by the second
+    full-by : isFullLine (drop at l) ≡ not (hasLf (take 16 (drop at l)) || hasLf (take 64 (drop (at + 16) l)))
+    unfolding isFullLine
+    full-by = rw (lt-ltb 80 (length (drop at l)) (omega (arith, length-drop at l)), getD-drop at l 80 0, lf, in-two)
+
+    pub no-full-first : (found : Bool) → found ≡ hasLf (take 16 (drop at l)) → found ≡ true → false ≡ isFullLine (drop at l)
+    no-full-first found e is = sym (full-by ∙ rw (sym e ∙ is) refl)
+
+    pub full-second : (found other : Bool) → found ≡ hasLf (take 16 (drop at l)) → found ≡ false → other ≡ hasLf (take 64 (drop (at + 16) l))
+        → not other ≡ isFullLine (drop at l)
+    full-second found other e is f = sym (full-by ∙ rw (sym e ∙ is, f) refl)
 
   pub no-full-lf : at + 80 < length l → isLf (getD l (at + 80) 0) ≡ false → false ≡ isFullLine (drop at l)
   unfolding isFullLine

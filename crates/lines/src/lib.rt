@@ -32,7 +32,10 @@ fn is_full_line(bytes: &[u8], at: usize) -> bool
     if bytes[at + 80] != 10 {
         return false;
     }
-    !lf_in(bytes, at, 80)
+    if lf_in(bytes, at, 16) {
+        return false;
+    }
+    !lf_in(bytes, at + 16, 64)
 }
 
 // The end of the line at `at`, byte by byte.
