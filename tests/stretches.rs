@@ -838,6 +838,15 @@ const WALKED: &[Walked] = &[
     // walker has the file's own.
     (Paper, &[After(b"x")], 1, &[], &["begin 11 26 0 0 0", "refused 10 line 24"]),
     (Paper, &[After(b"x")], 1, &[7108], &["begin 11 26 0 0 0", "refused 10 line 24"]),
+    // A row of number 00 or of a small letter is faulty, also where such a name is given.
+    (Paper, &[Put(24, 2, "G00")], 1, &[7100], &["begin 7 24 0 0 0", "refused 7 line 24"]),
+    (
+        Paper,
+        &[Put(13, 4, "M"), Put(24, 2, "g07")],
+        1,
+        &[10307],
+        &["begin 6 24 0 0 0", "refused 6 line 24"],
+    ),
     (
         Paper,
         &[After(b"x")],
