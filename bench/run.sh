@@ -3,8 +3,8 @@
 # For judge, read, write, rewrite (read, then write) and divide, each on a file of 96 epochs of 32 satellites and on one of 288 of 120, in mode P with
 # rows of 80 columns: the instructions for a byte (of the file; of what is written, for write), beside plain scalar C (reader.c, writer.c) at -O2 and
 # at -O3, and the time as a ratio, ours / C, of the least of 15 turns in one run (on another processor than x86-64 it would be the emulator's, and is
-# left out). Walk is the library alone: a file begun, then all its rows. Then the instructions at 1, 4 and 16 times the size, and how much of its
-# stack each side touches. Ours is target/staticlib/libabi.a, what include/sp3.h is linked with (LLVM, -O3), proved and built first as far as that
+# left out). Walk is the library alone: a file begun, then all its rows. Then the instructions for a row, of 80 columns, with its trailing blanks cut, and
+# of a kind that has no picture (E in column 75 beside a blank); those at 1, 4 and 16 times the size; and how much of its stack each side touches. Ours is target/staticlib/libabi.a, what include/sp3.h is linked with (LLVM, -O3), proved and built first as far as that
 # is not done; the C is gcc's; both are for plain x86-64. This ends with 1 where the sides do not answer the same, on the files themselves or with
 # one byte or one number altered, or where a byte of ours costs over a tenth more at 16 times the size. Time decides nothing.
 set -euo pipefail
@@ -17,15 +17,20 @@ for level in 2 3; do
 done
 harness run reader2.o reader3.o writer2.o writer3.o
 
-# measure LABEL EPOCHS SATELLITES COPIES: what was counted, with its label
+cut_blanks() { sed 's/ *$//'; }
+unusual() { sed '/^P/s/^\(.\{74\}\)../\1E /'; }
+
+# measure LABEL EPOCHS SATELLITES COPIES ROWS: what was counted, with its label
 measure() {
-    awk -v epochs="$2" -v satellites="$3" -f "$bench/file.awk" >"$1.sp3"
+    awk -v epochs="$2" -v satellites="$3" -f "$bench/file.awk" | "$5" >"$1.sp3"
     counted run count "$1.sp3" "$4"
     sed "s/^/count $1 /" counts >>all
     sed -n "s/^bytes /bytes $1 /p" said >>all
 }
-while read -r label epochs satellites copies; do measure "$label" "$epochs" "$satellites" "$copies"; done <<END
+while read -r label epochs satellites copies rows; do measure "$label" "$epochs" "$satellites" "$copies" "${rows:-cat}"; done <<END
 96x32 96 32 1
+cut 96 32 1 cut_blanks
+unusual 96 32 1 unusual
 288x120 288 120 1
 1x 24 32 1
 4x 96 32 1
@@ -73,6 +78,11 @@ awk '$1 == "bytes" { bytes[$2, $3] = $4; next }
          }
          printf "\n"
      }
+     function kind(title, size, i) {
+         printf "  %-26s", title
+         for (i = 1; i <= 3; i++) cell(sprintf("%.0f", value["count", size, asked[i], 0] / (96 * 32)))
+         printf "\n"
+     }
      function stack(what, side) {
          printf "  %-26s", what
          for (side = 0; side < sides[what]; side++) {
@@ -87,6 +97,11 @@ awk '$1 == "bytes" { bytes[$2, $3] = $4; next }
          printf "%-28s %26s   %17s   %17s\n", "", "instructions a byte", "ours / C", "time, ours / C"
          beside_c("96x32", "96 x 32")
          beside_c("288x120", "288 x 120")
+         split("judge read walk", asked)
+         printf "\n%-28s %8s %8s %8s\n", "instructions a row, ours", asked[1], asked[2], asked[3]
+         kind("of 80 columns", "96x32")
+         kind("trailing blanks cut", "cut")
+         kind("of an unusual kind", "unusual")
          printf "\n%-28s %35s   %35s\n", "instructions a byte", "ours", "C -O2"
          printf "%-28s", "24, 96, 384 epochs x 32"
          for (i = 0; i < 2; i++) printf "%s %8s %8s %8s %8s", i ? "  " : "", "1x", "4x", "16x", "16x/1x"
