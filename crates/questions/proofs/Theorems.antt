@@ -9,6 +9,7 @@ use native.Mathlib.Omega.{arith}
 use borrow.Author.Tests.{lt-ltb, le-ltb}
 use lib.ListN.{length, getD, take, drop}
 use lib.Seq.{take-append-le, drop-append-le, drop-drop}
+use borrow.Fn.Kinds.{Out}
 use denote.Ref.{now}
 use Rattle.laws.specs.Places.{PartAt}
 use Rattle.lines.specs.Lines.{linesOf, nth, placeFrom}
@@ -34,6 +35,7 @@ use Rattle.plain.proofs.Counts.{count-is, identifiers-are}
 use Rattle.plain.proofs.Rule.{EpochAt, the-rule, place-at}
 use Rattle.questions.proofs.Asking.{epochs-are}
 use Rattle.questions.proofs.comments.comment.Reads as comment
+use Rattle.questions.proofs.comments.comment.Kinds as kinds
 
 -- a text that begins at column 4 of a line, or at its end, is found there
 text-in-line : (line rest : List ℕ) → take (length (textIn line)) (drop (min 3 (length line)) (line ++ rest)) ≡ textIn line
@@ -113,6 +115,10 @@ module _ (bytes : List ℕ) (t : Tally) (e : fileOf d bytes ≡ front.File t) wh
           among = by-header ∙ the-rule p epoch in-time .places .numbered satellite in-header;
         }
 
+-- what the contract of `comment` promises of a result r
+abbrev pub CommentPost : Out 1 kinds.ps kinds.r
+CommentPost = comment.Post
+
 -- THE TEXT HANDED BACK is the part of the lent file that `comment_answer` names, for every file and every number.
 handed : (bytes : List ℕ) (k : ℕ) (f : Front) → fileOf d bytes ≡ f
     → take (commentAnswer d bytes (fileOf d bytes) k .length) (drop (commentAnswer d bytes (fileOf d bytes) k .at) bytes) ≡ commentWords d bytes (fileOf d bytes) k
@@ -124,6 +130,6 @@ handed bytes k (front.File t) e = go (decLt k (t .comments))
     go (no h) = rw (e, le-ltb k (t .comments) (omega arith))
 handed bytes k (front.Refused number line column) e = rw e
 
-pub comment-part : (κs : _) (a : _) (r : _) (s : _) → comment.Post κs a r s
+pub comment-part : (κs : _) (a : _) (r : _) (s : _) → CommentPost κs a r s
     → PartAt (a .0) (commentAnswer d (now (a .0)) (fileOf d (now (a .0))) (a .1 .0) .at) (commentAnswer d (now (a .0)) (fileOf d (now (a .0))) (a .1 .0) .length) r
 comment-part κs a r s p = (p .0 ∙ sym (handed (now (a .0)) (a .1 .0) (fileOf d (now (a .0))) refl), p .1)

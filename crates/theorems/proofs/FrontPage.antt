@@ -13,6 +13,7 @@ use contract.Fact.{fact}
 use contract.Lifetimes.{Lfts}
 use contract.Monad.{Fun}
 use denote.Ref.{RefT, now}
+use denote.Slice.{slice-vals}
 use denote.Triple.Clauses.{AtExit}
 use denote.Triple.Entry.{Args, Res}
 use ghost.Atoms.{Atoms}
@@ -46,6 +47,11 @@ use Rattle.plain.proofs.Exact.{exactSigned}
 use Rattle.plain.proofs.Notes.{SameTable}
 use Rattle.plain.proofs.Rule.{absentIn}
 use Rattle.accepted.proofs.Stepping.{Stands}
+use Rattle.laws.specs.Places.{PartAt}
+use Rattle.laws.proofs.Places as places
+use Rattle.questions.specs.Questions.{commentAnswer}
+use Rattle.questions.proofs.Theorems as asking
+use Rattle.questions.proofs.Theorems.{CommentPost}
 use Rattle.theorems.proofs.Judging as judging
 use Rattle.theorems.proofs.Judging.{FirstFault, after, AllGoOn}
 use Rattle.theorems.proofs.Reading as reading
@@ -100,10 +106,6 @@ pub use Rattle.stored.proofs.Determined.{place-of-determined, clock-of-determin
 pub use Rattle.machine.proofs.Determined.{read-line-determined}
 pub use Rattle.walker.proofs.Determined.{new-determined, next-determined, moved-determined, after-lines-determined}
 pub use Rattle.walk.proofs.Determined.{begin-determined, next-row-determined}
--- A comment's text is handed back as the part of the lent file that `comment_answer` names: those bytes at that address. Two such references are one
--- machine value.
-pub use Rattle.questions.proofs.Theorems.{comment-part}
-pub use Rattle.laws.proofs.Places.{same-value}
 -- The doors for C promise the same definitions under their own names, and leave nothing open either. A place or clock that a door does not mark absent is
 -- there; beside the mark stands a number that no field of a file can hold.
 pub use Rattle.abi.proofs.Determined.{sp3-judge-determined, sp3-judge-front-determined, sp3-read-determined, sp3-read-front-determined, sp3-write-determined, sp3-form-length-determined, sp3-divide-determined, sp3-comment-determined, sp3-identifier-determined, sp3-satellite-of-determined, sp3-row-determined, sp3-date-determined, sp3-moment-determined, sp3-header-determined, sp3-place-of-determined, sp3-clock-of-determined, sp3-exponent-of-determined, sp3-flag-of-determined, sp3-first-place-determined, sp3-read-line-determined, sp3-next-line-determined, sp3-after-lines-determined, sp3-begin-determined, sp3-first-row-determined, sp3-next-row-determined}
@@ -207,6 +209,15 @@ module _ (bytes : List ℕ) (accepted : IsFile d bytes) where
       × Exactly (asked bytes k j .row .y) (exactSigned (held bytes accepted k j there .y))
       × Exactly (asked bytes k j .row .z) (exactSigned (held bytes accepted k j there .z))
   place-exact k j there = floats.asked-place bytes accepted k j there
+
+-- A comment's text is handed back as that stretch of the lent file: for every file and every number it is the part that `comment_answer` names, those
+-- bytes at that address. So any two outcomes are one machine value, a pointer and a count.
+pub comment-part : (κs : _) (a : _) (r : _) (s : _) → CommentPost κs a r s
+    → let answer = commentAnswer d (now (a .0)) (fileOf d (now (a .0))) (a .1 .0) in PartAt (a .0) (answer .at) (answer .length) r
+comment-part κs a r s promised = asking.comment-part κs a r s promised
+
+pub comment-one : (κs : _) (a : _) (r r′ : _) (s s′ : _) → CommentPost κs a r s → CommentPost κs a r′ s′ → slice-vals r ≡ slice-vals r′
+comment-one κs a r r′ s s′ p q = places.same-value r r′ (comment-determined κs a r r′ s s′ p q)
 
 -- Files that differ only after column 2 of EP and EV lines have the same table.
 pub same-table : (a b : List ℕ) → OnlyAfterTwo a b → SameTable d (linesOf a) (linesOf b)
