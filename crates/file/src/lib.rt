@@ -1,5 +1,6 @@
 // The lines of a file by their kind: which kind a line is, and where the k-th line of a kind begins.
 ghost use mathlib.Core.Path.{_≡_};
+ghost use mathlib.Core.List.{[]};
 ghost use Prim.Native.Nat.{min};
 ghost use lib.ListN.{length, getD, drop};
 ghost use denote.Ref.{ptr};
@@ -59,15 +60,23 @@ pub fn place_of(rules: Rules, bytes: &[u8], kind: u64, k: u64) -> usize
     }
 }
 
+// No bytes, at a place of some bytes, or at their end where they are fewer.
+pub fn nothing_at(bytes: &[u8], at: usize) -> &[u8]
+    ensures result { λ r. ⌜ now r ≡ [] ⌝ }
+    ensures place { λ r. ⌜ ptr r ≡ byteOf (bytes .entry) (min at (length (now (bytes .entry)))) ⌝ }
+{
+    let here = laws::fewer(at, bytes.len());
+    &bytes[here..here]
+}
+
 // The line of some bytes that begins at a place, without its LF; nothing where there is no line. It lies there, or at the end of the bytes.
 pub fn line_at(bytes: &[u8], at: usize) -> &[u8]
     ensures result { λ r. ⌜ now r ≡ nth 0 (linesOf (drop at (now (bytes .entry)))) ⌝ }
     ensures place { λ r. ⌜ ptr r ≡ byteOf (bytes .entry) (min at (length (now (bytes .entry)))) ⌝ }
 {
     let end = lines::line_end(bytes, at);
-    if end >= bytes.len() {
-        let here = laws::fewer(at, bytes.len());
-        return &bytes[here..here];
+    if bytes.len() <= end {
+        return nothing_at(bytes, at);
     }
     &bytes[at..end]
 }

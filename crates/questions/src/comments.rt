@@ -18,7 +18,7 @@ fn text_of(line: &[u8]) -> &[u8]
     ensures place { λ r. ⌜ ptr r ≡ byteOf (line .entry) (min 3 (length (now (line .entry)))) ⌝ }
 {
     if line.len() < 3 {
-        return &line[line.len()..];
+        return file::nothing_at(line, line.len());
     }
     let words = &line[3..];
     let n = layout::trimmed_length(words);
@@ -85,13 +85,13 @@ pub fn comment(file: &[u8], k: u64) -> &[u8]
             number: _,
             line: _,
             column: _,
-        } => &file[0..0],
+        } => file::nothing_at(file, 0),
         Front::File(tally) => {
             if k < tally.comments {
                 let end = tally.end;
                 return text_of(file::line_of(rules, &file[0..end], 8, k));
             }
-            &file[0..0]
+            file::nothing_at(file, 0)
         }
     }
 }

@@ -1,9 +1,11 @@
 -- `questions::comments::comment` meets its contract: what was found says which case holds.
 -- Assumes nothing.
-use mathlib.Core.Path.{_≡_, refl, ap}
-use mathlib.Core.List.{[]}
+use mathlib.Core.Path.{_≡_, refl, ap, _∙_}
+use mathlib.Core.List.{List}
+use Prim.Native.Nat.{ℕ, min}
 use native.Mathlib.Omega.{arith}
 use borrow.Author.Needs.{needs}
+use lib.ListN.{length}
 use Rattle.scan.proofs.Told.{toldFront-one}
 use denote.Ref.{now}
 use Rattle.header.specs.Rules.{d}
@@ -41,6 +43,10 @@ returns c =
           (c .before .line-of .ensures .0) (c .before .line-of .ensures .1) (c .text-of .ensures .0) (c .text-of .ensures .1),
     )
 
+-- nothing lies at the first byte
+first-byte : (bytes : List ℕ) → min 0 (length bytes) ≡ 0
+first-byte bytes = omega arith
+
 returns-2 : tie.Need-returns-2
 unfolding commentAnswer commentWords
 returns-2 c =
@@ -49,8 +55,8 @@ returns-2 c =
     let start = ran .before .before .before in (
       words-as (start .args .file .now) _
           (found-as (ran .before .d .result) (start .args .file .now) (ran .scan-whole .result) _ (ran .before .d .ensures) (toldFront-one _ _ (ran .scan-whole .ensures)) (known .enum-told .given .1))
-          (start .args .k) [] refl,
-      ap (λ (a : CommentAnswer). byteOf (start .args .file) (a .at))
+          (start .args .k) (now (c .nothing-at .result)) (c .nothing-at .ensures .0),
+      c .nothing-at .ensures .1 ∙ ap (byteOf (start .args .file)) (first-byte (start .args .file .now)) ∙ ap (λ (a : CommentAnswer). byteOf (start .args .file) (a .at))
           (comment-as (start .args .file .now) _
           (found-as (ran .before .d .result) (start .args .file .now) (ran .scan-whole .result) _ (ran .before .d .ensures) (toldFront-one _ _ (ran .scan-whole .ensures)) (known .enum-told .given .1))
           (start .args .k) (noComment _ _) refl),
@@ -61,9 +67,9 @@ returns-3 c =
     let known = c .before .before .before .before in
     let start = known .before .before .before .before .before in
     let t = known .tally .given .0 .0 in (
-      words-as (start .args .file .now) (front.File t) (found-file known) (start .args .k) []
-          (no-words-there (start .args .file .now) t (start .args .k) (c .before .if1 .left)),
-      ap (λ (a : CommentAnswer). byteOf (start .args .file) (a .at))
+      words-as (start .args .file .now) (front.File t) (found-file known) (start .args .k) (now (c .nothing-at2 .result))
+          (c .nothing-at2 .ensures .0 ∙ no-words-there (start .args .file .now) t (start .args .k) (c .before .if1 .left)),
+      c .nothing-at2 .ensures .1 ∙ ap (byteOf (start .args .file)) (first-byte (start .args .file .now)) ∙ ap (λ (a : CommentAnswer). byteOf (start .args .file) (a .at))
           (comment-as (start .args .file .now) (front.File t) (found-file known) (start .args .k) (noComment 13 0)
           (no-comment-there (start .args .file .now) t (start .args .k) (noComment 13 0) (c .before .if1 .left) refl)),
     )
@@ -75,9 +81,7 @@ comment-spec =
     (λ c κs. search needs)
     (λ c κs. search needs)
     (λ c. search needs)
-    (λ c. search needs)
-    (λ c. search needs)
-    (λ c. search needs)
+    (λ c κs. search needs)
     (λ c. search needs)
     (λ c. search needs)
     (λ c. search needs)
@@ -85,8 +89,6 @@ comment-spec =
     (λ c κs. search needs)
     (λ c κs. search needs)
     returns
-    (λ c. search needs)
-    (λ c. search needs)
-    (λ c. search needs)
+    (λ c κs. search needs)
     returns-2
     returns-3)

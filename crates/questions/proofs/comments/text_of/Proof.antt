@@ -1,10 +1,10 @@
 -- `questions::comments::text_of` meets its contract.
 -- Assumes nothing.
 use mathlib.Core.Path.{_≡_, sym, ap, _∙_}
-use Prim.Native.Nat.{ℕ, _+_, _-_, min}
+use Prim.Native.Nat.{ℕ, _+_, min}
 use native.Mathlib.Omega.{arith}
 use borrow.Author.Needs.{needs}
-use lib.ListN.{length, take, drop}
+use lib.ListN.{length}
 use Rattle.laws.specs.Places.{byteOf}
 use Rattle.layout.specs.Line.{trimmed}
 use Rattle.laws.proofs.Lists.{rest-none}
@@ -16,14 +16,11 @@ returns : tie.Need-returns
 returns c =
     let line = c .before .before .before .args .line in
     let n = length (line .now) in
-    let none : n - n ≡ 0 = omega arith in
-    let here : n ≡ min 3 n = omega arith in (
-      ap (λ (k : ℕ). take k (drop n (line .now))) none ∙ ap trimmed (sym (rest-none (line .now) 3 (omega arith))),
-      ap (byteOf line) here,
-    )
+    let here : min n n ≡ min 3 n = omega arith in
+    (c .nothing-at .ensures .0 ∙ ap trimmed (sym (rest-none (line .now) 3 (omega arith))), c .nothing-at .ensures .1 ∙ ap (byteOf line) here)
 
-part-result-end-2 : tie.Need-part-result-end-2
-part-result-end-2 c = omega (arith, text-fits (c .before .before .before .before .args .line .now) (c .trimmed-length .result) (c .trimmed-length .ensures))
+part-result-end : tie.Need-part-result-end
+part-result-end c = omega (arith, text-fits (c .before .before .before .before .args .line .now) (c .trimmed-length .result) (c .trimmed-length .ensures))
 
 returns-2 : tie.Need-returns-2
 returns-2 c =
@@ -38,9 +35,7 @@ pub text-of-spec : {M : Type 1} → statement M
 text-of-spec =
     tie.close
     (tie.spec
-    (λ c. search needs)
-    (λ c. search needs)
-    (λ c. search needs)
+    (λ c κs. search needs)
     returns
     (λ c. search needs)
     (λ c. search needs)
@@ -48,5 +43,5 @@ text-of-spec =
     (λ c κs. search needs)
     (λ c. search needs)
     (λ c. search needs)
-    part-result-end-2
+    part-result-end
     returns-2)
