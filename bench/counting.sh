@@ -1,5 +1,5 @@
 # Sourced by the counts of this folder, which work in a temporary folder: nothing of it stands in the repository but target/.
-#   archive             proves and builds target/staticlib/libabi.a, what include/sp3.h is linked with, and goes to the temporary folder
+#   archive             proves and builds target/staticlib/libsp3.a, what include/sp3.h is linked with, and goes to the temporary folder
 #   doors NAME CRATE..  goes there and builds doors of its own, NAME.rt.txt over these crates, for what sp3.h does not show
 #   harness NAME WORD.. compiles NAME.c of this folder to NAME, for x86-64, with these words for the compiler, and links it with what was built
 #   counted NAME WORD.. runs it on these words and puts what it printed into said and, of each run that it counted (count.h), a line
@@ -35,7 +35,7 @@ tools() {
 archive() {
     tools
     "$root/tests/archive.sh"
-    built=$root/target/staticlib/libabi.a
+    built=$root/target/staticlib/libsp3.a
     cd "$work"
 }
 

@@ -4,7 +4,7 @@
 # above it; `16x/1x` is `a byte` at 16 times the size over `a byte` at once the size: about 1 where the cost is linear, and far below where
 # a refusal came before the end. Where that, or the last `more` over the one before it, is above 1.1, the cost is not linear and this ends with 1;
 # only the satellites of a header, at most 255, may cost their number squared (*), since their identifiers are compared with each other.
-# Nothing is timed. The library is target/staticlib/libabi.a, what include/sp3.h is linked with, proved and built first as far as that is not done.
+# Nothing is timed. The library is target/staticlib/libsp3.a, what include/sp3.h is linked with, proved and built first as far as that is not done.
 set -euo pipefail
 . "$(dirname "$0")/counting.sh"
 

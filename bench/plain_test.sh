@@ -1,5 +1,5 @@
 #!/usr/bin/env bash
-# Compares the plain C of reader.c and writer.c with tests/files.rs (reading), tests/forms.rs (tables written) and tests/stretches.rs (dividing), on
+# Compares the plain C of reader.c and writer.c with tests/files.rs (reading), tests/forms.rs (tables written) and tests/divide.rs (dividing), on
 # their stored cases and on generated ones: plain_test.sh [SEED [COUNT]]. Needs gcc and rustc.
 set -euo pipefail
 bench=$(cd "$(dirname "$0")" && pwd -P)
@@ -34,8 +34,8 @@ kept() {
 }
 same files ./reader files
 
-kept() { ./stretches answer | awk '/^case / { on = 1 } on; /^kept$/ { on = 0 }'; }
-same stretches ./reader stretches
+kept() { ./divide answer | awk '/^case / { on = 1 } on; /^kept$/ { on = 0 }'; }
+same divide ./reader divide
 
 kept() { ./forms answer-tables; }
 same forms ./writer

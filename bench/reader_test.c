@@ -1,6 +1,6 @@
 // Answers a batch from standard input with the reader and divider of reader.c, as far as it asks for them:
 //   BIN files < batch        a batch of tests/files.rs: the lines case, front, whole, read, sums and those of the header, of each case
-//   BIN stretches < batch    a batch of tests/stretches.rs: the lines case, divide, length and the first kept, of each case
+//   BIN divide < batch       a batch of tests/divide.rs: the lines case, divide, length and the first kept, of each case
 #include <inttypes.h>
 #include <stdio.h>
 #include <stdlib.h>
@@ -90,7 +90,7 @@ static bool stretch_case(void) {
 }
 
 int main(int count, char **words) {
-    bool (*answer)(void) = count == 2 && strcmp(words[1], "stretches") == 0 ? stretch_case : file_case;
+    bool (*answer)(void) = count == 2 && strcmp(words[1], "divide") == 0 ? stretch_case : file_case;
     while (answer()) {}
     return 0;
 }

@@ -4,7 +4,7 @@
 # rows of 80 columns: the instructions for a byte (of the file; of what is written, for write), beside plain scalar C (reader.c, writer.c) at -O2 and
 # at -O3, and the time as a ratio, ours / C, of the least of 15 turns in one run (on another processor than x86-64 it would be the emulator's, and is
 # left out). Walk is the library alone: a file begun, then all its rows. Then the instructions for a row, of 80 columns, with its trailing blanks cut, and
-# of a kind that has no picture (E in column 75 beside a blank); those at 1, 4 and 16 times the size; and how much of its stack each side touches. Ours is target/staticlib/libabi.a, what include/sp3.h is linked with (LLVM, -O3), proved and built first as far as that
+# of a kind that has no picture (E in column 75 beside a blank); those at 1, 4 and 16 times the size; and how much of its stack each side touches. Ours is target/staticlib/libsp3.a, what include/sp3.h is linked with (LLVM, -O3), proved and built first as far as that
 # is not done; the C is gcc's; both are for plain x86-64. This ends with 1 where the sides do not answer the same, on the files themselves or with
 # one byte or one number altered, or where a byte of ours costs over a tenth more at 16 times the size. Time decides nothing.
 set -euo pipefail

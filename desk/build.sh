@@ -12,7 +12,7 @@ cd "$root"
 . tests/x86.sh
 tests/archive.sh
 
-archive=target/staticlib/libabi.a
+archive=target/staticlib/libsp3.a
 made=target/desk
 mkdir -p "$made"
 x86_cc -std=c11 -Wall -Wextra -O2 -o "$made/sp3.new" desk/*.c "$archive"

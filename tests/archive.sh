@@ -1,5 +1,5 @@
 #!/bin/sh
-# Proves the library and builds its archive for C, target/staticlib/libabi.a, where that is not done:
+# Proves the library and builds its archive for C, target/staticlib/libsp3.a, where that is not done:
 #
 #   tests/archive.sh
 #
@@ -9,7 +9,7 @@ set -eu
 
 cd "$(dirname "$0")/.."
 command -v rt >/dev/null || { echo "rt is missing: install the Rattle kit and put its bin/ into PATH" >&2; exit 2; }
-archive=target/staticlib/libabi.a
+archive=target/staticlib/libsp3.a
 made=target/archive
 mkdir -p "$made"
 
@@ -24,7 +24,7 @@ sum_of() {
 
 if [ -f "$archive" ] && [ -f "$made/sum" ] && [ "$(sum_of)" = "$(cat "$made/sum")" ]; then exit 0; fi
 echo "proving and building the library; where nothing is proved yet this takes minutes:" >&2
-{ rt staticlib abi 2>&1 </dev/null && echo built; } | tee "$made/log" | sed -n 's/^rt: /  /p' >&2
+{ rt staticlib sp3 2>&1 </dev/null && echo built; } | tee "$made/log" | sed -n 's/^rt: /  /p' >&2
 [ "$(tail -n 1 "$made/log")" = built ] || {
     grep -v '^rt: .* proved' "$made/log" | tail -n 20 >&2
     exit 1

@@ -1,11 +1,11 @@
 #!/bin/sh
-# Compares the library with an implementation that shares no code with it (tests/files.rs, forms.rs, stretches.rs and dates.rs, written from the
+# Compares the library with an implementation that shares no code with it (tests/files.rs, forms.rs, divide.rs and dates.rs, written from the
 # documents) on generated inputs, valid and damaged, batch by batch and byte for byte.
 #
 #   tests/compare.sh [SEED [COUNT]]
 #
-# compares the doors for C (tests/doors.c over target/staticlib/libabi.a) in all four formats; without arguments seed 1 and 20,000 inputs, of which
-# 8,000 are files (`tables`), 5,000 files and tables to be written (`forms`), 6,000 stretches to be divided, walked and read by lines (`stretches`)
+# compares the doors for C (tests/doors.c over target/staticlib/libsp3.a) in all four formats; without arguments seed 1 and 20,000 inputs, of which
+# 8,000 are files (`tables`), 5,000 files and tables to be written (`forms`), 6,000 stretches to be divided, walked and read by lines (`divide`)
 # and 1,000 dates, instants and identifiers (`dates`). A seed always makes the same inputs. Prints the seed, how often each number of the paper's
 # table was the answer to each question, and in all. Ends with 1 at a difference, and, for 20,000 inputs or more, where one of the numbers 1 to 13
 # was the answer fewer than 50 times.
@@ -18,16 +18,16 @@
 # compares the doors on some 12,000 files that differ from an accepted one in one row: every class of bytes in each of its columns, pairs of bytes side
 # by side, identifiers that make the same number, and a line once more. They are always the same. A difference is shown at once; the second shows any.
 #
-#   tests/compare.sh tables|forms|stretches [SEED [COUNT]]
+#   tests/compare.sh tables|forms|divide [SEED [COUNT]]
 #
-# compares the proved program of crates/ with that name in the same way, on inputs that it has room for: 2,000 of them, or COUNT.
+# compares the proved program `cases_..` of that name in the same way, on inputs that it has room for: 2,000 of them, or COUNT.
 #
-# What is missing is built first, in target/: the archive (`rt staticlib abi` proves it), the driver, the oracles. `tests/compare.sh build` does that
+# What is missing is built first, in target/: the archive (`rt staticlib sp3` proves it), the driver, the oracles. `tests/compare.sh build` does that
 # alone; `tests/compare.sh run FORMAT < BATCH` runs the driver.
 set -eu
 
 root=$(cd "$(dirname "$0")/.." && pwd -P)
-archive=$root/target/staticlib/libabi.a
+archive=$root/target/staticlib/libsp3.a
 made=$root/target/compare
 
 . "$root/tests/x86.sh"
@@ -73,7 +73,7 @@ build() {
     mkdir -p "$made"
     "$root/tests/archive.sh"
     build_driver
-    for oracle in files forms stretches dates; do build_oracle "$oracle"; done
+    for oracle in files forms divide dates; do build_oracle "$oracle"; done
 }
 
 run() {
@@ -121,7 +121,7 @@ compare_doors() {
     compare_format tables any compare "$seed" $((count * 8 / 20))
     compare_format forms any compare "$seed" $((count * 5 / 20))
     compare_format dates any compare "$seed" $((count / 20))
-    compare_format stretches any compare "$seed" $((count - count * 8 / 20 - count * 5 / 20 - count / 20))
+    compare_format divide any compare "$seed" $((count - count * 8 / 20 - count * 5 / 20 - count / 20))
     sum_up "$count"
     echo "doors, seed $seed: $count inputs agree"
 }
@@ -139,9 +139,9 @@ compare_program() {
     numbers "${2:-1}" "${3:-1}"
     mkdir -p "$made"
     build_oracle "$(oracle_of "$1")"
-    "$root/tests/program.sh" "$1" </dev/null
+    "$root/tests/program.sh" "cases_$1" </dev/null
     echo "$1, seed ${2:-1}"
-    exec "$made/$(oracle_of "$1")" compare "${2:-1}" "${3:-2000}" "$root/tests/program.sh" built "$1"
+    exec "$made/$(oracle_of "$1")" compare "${2:-1}" "${3:-2000}" "$root/tests/program.sh" built "cases_$1"
 }
 
 # the input of a format that the words after it ask its oracle for, and what both sides answer
@@ -171,12 +171,12 @@ case "$# ${1:-} ${2:-}" in
     begin
     show_case tables columns case "$3"
     ;;
-"4 case tables" | "4 case forms" | "4 case stretches" | "4 case dates")
+"4 case tables" | "4 case forms" | "4 case divide" | "4 case dates")
     numbers "$3" "$4"
     begin
     show_case "$2" any case "$3" "$4"
     ;;
-[1-3]" tables "* | [1-3]" forms "* | [1-3]" stretches "*) compare_program "$@" ;;
+[1-3]" tables "* | [1-3]" forms "* | [1-3]" divide "*) compare_program "$@" ;;
 [0-2]" "*) compare_doors "$@" ;;
 *) usage ;;
 esac

@@ -4,7 +4,7 @@
 #   tests/conformance.sh            all cases of tests/conformance/cases.txt (files) and calls.txt (calls)
 #   tests/conformance.sh NAME       prints the file of one case, to be tried by hand
 #
-# Needs GNU sed, awk and a C compiler for x86-64; target/staticlib/libabi.a is built where that is not done.
+# Needs GNU sed, awk and a C compiler for x86-64; target/staticlib/libsp3.a is built where that is not done.
 set -eu
 LC_ALL=C
 export LC_ALL
@@ -12,7 +12,7 @@ export LC_ALL
 root=$(cd "$(dirname "$0")/.." && pwd -P)
 here=$root/tests/conformance
 paper=$root/samples/paper.sp3
-archive=$root/target/staticlib/libabi.a
+archive=$root/target/staticlib/libsp3.a
 work=$(mktemp -d)
 trap 'rm -rf "$work"' EXIT
 

@@ -28,8 +28,8 @@ else
 fi
 x86_cc -std=c11 -Wall -Wextra -Werror -O2 -c -o "$made/failing.o" tests/desk/failing.c
 x86_cc -std=c11 -Wall -Wextra -Werror -O2 -Dread=tested_read -Dmalloc=tested_malloc -Drealloc=tested_realloc -o "$made/failing" desk/*.c \
-    "$made/failing.o" target/staticlib/libabi.a
-for oracle in files forms stretches; do
+    "$made/failing.o" target/staticlib/libsp3.a
+for oracle in files forms divide; do
     rustc -O --edition 2021 -o "$made/$oracle" "tests/$oracle.rs"
 done
 python3 samples/make.py check

@@ -1,9 +1,9 @@
 /* Answers batches of cases by the doors of the archive (include/sp3.h), in the formats of the oracles:
  *
- *   doors tables|forms|stretches|dates < BATCH
+ *   doors tables|forms|divide|dates < BATCH
  *
- * The formats stand at the head of tests/files.rs, tests/forms.rs, tests/stretches.rs and tests/dates.rs, which make the batches and say what must be
- * printed. For `tables`, `forms` and `stretches` it is what the programs of crates/ print, but for cases of every size.
+ * The formats stand at the head of tests/files.rs, tests/forms.rs, tests/divide.rs and tests/dates.rs, which make the batches and say what must be
+ * printed. For `tables`, `forms` and `divide` it is what the programs of crates/ print, but for cases of every size.
  *
  * Beside that it prints a `?` or a line `wrong: ..`, which no oracle prints, where an answer breaks a promise of the header that the formats do not
  * show: a number beside a mark of absence, something beside a refusal, two doors that must agree and do not, memory touched that was not lent.
@@ -21,7 +21,7 @@ typedef struct {
 static const format_t formats[] = {
     {"tables", tables_case},
     {"forms", forms_case},
-    {"stretches", stretches_case},
+    {"divide", divide_case},
     {"dates", dates_case},
 };
 
@@ -34,7 +34,7 @@ static const format_t *format_of(const char *name) {
 
 int main(int argc, char **argv) {
     const format_t *format = argc == 2 ? format_of(argv[1]) : NULL;
-    if (format == NULL) stop("usage: doors tables|forms|stretches|dates < BATCH");
+    if (format == NULL) stop("usage: doors tables|forms|divide|dates < BATCH");
     bytes_t batch = standard_input();
     while (!is_empty(&batch)) {
         format->answer(&batch);

@@ -58,7 +58,7 @@ compare_input() {
     both forms forms
     answered write
     { echo "8000 1 255 1 $bytes $name"; cat input; } >batch
-    both stretches stretches
+    both divide divide
     answered 'divide|begin|refused'
 }
 

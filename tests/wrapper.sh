@@ -54,7 +54,7 @@ says() {
 find_archive() {
     library=${SP3_LIB_DIR:-$root/target/staticlib}
     if [ -n "${SP3_LIB_DIR:-}" ]; then
-        [ -f "$library/libabi.a" ] || fail "no file $library/libabi.a"
+        [ -f "$library/libsp3.a" ] || fail "no file $library/libsp3.a"
         return 0
     fi
     "$root/tests/archive.sh"
@@ -213,7 +213,7 @@ wrapper_tests() {
 }
 
 c_example() {
-    x86_cc $words "$@" -I "$root/include" -o "$made/rows" "$root/examples/c/rows.c" "$library/libabi.a" || fail 'examples/c/rows.c'
+    x86_cc $words "$@" -I "$root/include" -o "$made/rows" "$root/examples/c/rows.c" "$library/libsp3.a" || fail 'examples/c/rows.c'
     run_example rows "$root/examples/c/rows.out" 'rows FILE' x86_run "$made/rows"
     printf 'epoch 0 G07 place absent clock 0\nrows 1 known 0 absent 1\n' >"$made/withdrawn.out"
     answers 'rows, a place that is absent' 0 "$made/withdrawn.out" x86_run "$made/rows" "$made/withdrawn.sp3"

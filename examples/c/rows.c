@@ -1,6 +1,6 @@
 /* Walks the rows of an SP3-d file in order and prints them: places in mm, clocks in ps, absent as a word. In the repository:
  *
- *   gcc -std=c11 -Wall -Wextra -O2 -I include -o target/rows examples/c/rows.c target/staticlib/libabi.a
+ *   gcc -std=c11 -Wall -Wextra -O2 -I include -o target/rows examples/c/rows.c target/staticlib/libsp3.a
  *   target/rows samples/paper.sp3
  *
  * Ends with 0 for an accepted file, with 1 for a refused one, with 2 where there is no file to read or nowhere to print. */

@@ -111,7 +111,7 @@ void check_reading(sp3_reading_t reading);
 
 void tables_case(bytes_t *batch);
 void forms_case(bytes_t *batch);
-void stretches_case(bytes_t *batch);
+void divide_case(bytes_t *batch);
 void dates_case(bytes_t *batch);
 
 /* ---- lines.c ---- */

@@ -39,10 +39,10 @@ use Rattle.laws.proofs.Lists.{rest-step, rest-none, rest-part}
 use Rattle.layout.proofs.Lines.{trimmed-front, trimmed-shorter}
 use Rattle.lines.proofs.Picking.{nth-past, place-past, placed}
 use Rattle.lines.proofs.Split.{bytes-in, parted, first}
-use Rattle.accepted.proofs.Files.{front-plain}
-use Rattle.accepted.proofs.Local.{whole-ends}
-use Rattle.plain.proofs.Selected.{satellites, epochs, kind-1}
-use Rattle.plain.proofs.Counts.{count-is, satellites-bounds, epochs-bounds, identifiers-room}
+use Rattle.scan_laws.proofs.Files.{front-plain}
+use Rattle.scan_laws.proofs.Local.{whole-ends}
+use Rattle.file_laws.proofs.Selected.{satellites, epochs, kind-1}
+use Rattle.file_laws.proofs.Counts.{count-is, satellites-bounds, epochs-bounds, identifiers-room}
 
 -- a comment's text by the length that is told of what stands from column 4 on
 abbrev wordsOf : List ℕ → List ℕ

@@ -27,12 +27,12 @@ use Rattle.layout.proofs.Lines.{trimmed-front, trimmed-shorter}
 use Rattle.lines.proofs.Picking.{placed}
 use Rattle.lines.proofs.Split.{first}
 use Rattle.file.proofs.Finding.{line-at-place}
-use Rattle.accepted.proofs.Files.{whole-taken, file-plain}
-use Rattle.accepted.proofs.Used.{accepted-front}
-use Rattle.accepted.proofs.Local.{whole-ends}
-use Rattle.plain.proofs.Selected.{satellites}
-use Rattle.plain.proofs.Counts.{count-is, identifiers-are}
-use Rattle.plain.proofs.Rule.{EpochAt, the-rule, place-at}
+use Rattle.scan_laws.proofs.Files.{whole-taken, file-plain}
+use Rattle.scan_laws.proofs.Used.{accepted-front}
+use Rattle.scan_laws.proofs.Local.{whole-ends}
+use Rattle.file_laws.proofs.Selected.{satellites}
+use Rattle.file_laws.proofs.Counts.{count-is, identifiers-are}
+use Rattle.file_laws.proofs.Rule.{EpochAt, the-rule, place-at}
 use Rattle.questions.proofs.Asking.{epochs-are}
 use Rattle.questions.proofs.comments.comment.Reads as comment
 use Rattle.questions.proofs.comments.comment.Kinds as kinds

@@ -61,7 +61,7 @@ fn satellite_among(rules: Rules, bytes: &[u8], name: u64) -> SatelliteAnswer
 {
     let mut names = [0u64; 255];
     let n = file::count_of(rules, bytes);
-    store::fill_slots(rules, bytes, false, n, &mut names);
+    fill::fill_slots(rules, bytes, false, n, &mut names);
     let all = &names[..];
     if n < 255 {
         let few = n as usize;

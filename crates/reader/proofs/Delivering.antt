@@ -19,7 +19,7 @@ use Rattle.lines.proofs.Laying.{laid-fits}
 use Rattle.lines.proofs.Picking.{length-flat}
 use Rattle.file.specs.Kinds.{ofKind}
 use Rattle.file.specs.Table.{countOf, slotNumbers, slotKind, slotsIn, commentText, commentsIn, rowWidth, rowLines, numbersOfRows, rowsIn}
-use Rattle.plain.proofs.Counts.{comment-wide}
+use Rattle.file_laws.proofs.Counts.{comment-wide}
 use Rattle.header.specs.declared.types.Rules.{Rules}
 use Rattle.scan.specs.declared.Tally.{Tally}
 use Rattle.scan.specs.declared.Front.{Front}

@@ -9,8 +9,8 @@ use lib.ListN.{length, take}
 use Rattle.lines.specs.Lines.{linesOf}
 use Rattle.file.specs.Table.{headerWith, headerIn}
 use Rattle.scan.specs.Run.{scanOf, wholeOf}
-use Rattle.accepted.proofs.Used.{accepted-front}
-use Rattle.accepted.proofs.Local.{whole-ends}
+use Rattle.scan_laws.proofs.Used.{accepted-front}
+use Rattle.scan_laws.proofs.Local.{whole-ends}
 use Rattle.header.specs.declared.types.Header.{Header}
 use Rattle.header.specs.declared.types.Rules.{Rules}
 use Rattle.scan.specs.declared.Tally.{Tally}

@@ -21,7 +21,7 @@ fn has_room(n: u64, tally: Tally, i: usize, x: usize, c: usize, r: usize) -> boo
     ensures { λ s. ⌜ s ≡ roomFor n tally i x c r ⌝ }
 {
     ((n <= i as u64) & (n <= x as u64))
-        & ((tally.comments <= (c / 77) as u64) & (tally.rows <= (r / stored::ROW_WIDTH) as u64))
+        & ((tally.comments <= (c / 77) as u64) & (tally.rows <= (r / stored_row::ROW_WIDTH) as u64))
 }
 
 // Fills each list with what fits of a file's n satellites, so many comments and rows, where there is room enough; else leaves it as it was.
@@ -44,10 +44,10 @@ fn fill_lists(
     if !enough {
         return;
     }
-    store::fill_slots(rules, bytes, false, n, identifiers);
-    store::fill_slots(rules, bytes, true, n, exponents);
-    store::fill_comments(rules, bytes, count, comments);
-    store::fill_rows(rules, bytes, rows);
+    fill::fill_slots(rules, bytes, false, n, identifiers);
+    fill::fill_slots(rules, bytes, true, n, exponents);
+    fill::fill_comments(rules, bytes, count, comments);
+    fill::fill_rows(rules, bytes, rows);
 }
 
 // Fills the lists from a file that was judged, where they have room.

@@ -18,7 +18,7 @@ use Rattle.canon.specs.Table.{Table}
 use Rattle.canon.specs.Canonical.{canonical}
 use Rattle.canon.specs.Measured.{measured, refusedAs}
 use Rattle.writer.specs.Writing.{outAfter}
-use Rattle.written.specs.Held.{rewritten}
+use Rattle.canon_laws.specs.Held.{rewritten}
 use Rattle.theorems.proofs.Reading.{header}
 use Rattle.theorems.proofs.Room.{found-numbered}
 use Rattle.theorems.proofs.RewriteRoom.{rewriteReading, few-comments, many-comments}

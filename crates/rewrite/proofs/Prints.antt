@@ -10,10 +10,10 @@ use lib.ListN.{length}
 use Rattle.header.specs.Rules.{d}
 use Rattle.scan.specs.Run.{IsFile}
 use Rattle.reader.specs.Reading.{fileOf}
-use Rattle.accepted.proofs.Files.{d-exactly}
-use Rattle.written.specs.Held.{rewritten}
-use Rattle.written.proofs.Versions.{d-proper}
-use Rattle.written.proofs.Rewriting as rewriting
+use Rattle.scan_laws.proofs.Files.{d-exactly}
+use Rattle.canon_laws.specs.Held.{rewritten}
+use Rattle.canon_laws.proofs.Versions.{d-proper}
+use Rattle.canon_laws.proofs.Rewriting as rewriting
 use Rattle.theorems.proofs.Reading.{header}
 use Rattle.header.specs.declared.types.Header.{Header}
 use Rattle.scan.specs.declared.Front.the-variants as front

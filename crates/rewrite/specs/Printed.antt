@@ -11,7 +11,7 @@ use Rattle.header.specs.Rules.{d}
 use Rattle.lines.specs.Lines.{linesOf}
 use Rattle.file.specs.Table.{headerIn}
 use Rattle.reader.specs.Reading.{fileOf}
-use Rattle.written.specs.Held.{rewritten}
+use Rattle.canon_laws.specs.Held.{rewritten}
 use Rattle.scan.specs.declared.Front.{Front}
 use Rattle.scan.specs.declared.Front.the-variants as front
 

@@ -7,8 +7,8 @@ use lib.ListN.{length}
 use Rattle.header.specs.Rules.{d}
 use Rattle.file.specs.Plain.{Plain}
 use Rattle.file.specs.Table.{headerIn}
-use Rattle.plain.proofs.Counts.{header-is}
-use Rattle.plain.proofs.Selected.{satellites, velocities, start8, interval8, epochs}
+use Rattle.file_laws.proofs.Counts.{header-is}
+use Rattle.file_laws.proofs.Selected.{satellites, velocities, start8, interval8, epochs}
 use Rattle.header.specs.declared.types.Header.{Header}
 
 module _ {lines : List (List ℕ)} (p : Plain d lines) where

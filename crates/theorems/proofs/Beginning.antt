@@ -14,8 +14,8 @@ use Rattle.lines.specs.Lines.{linesOf}
 use Rattle.lines.specs.Lent.{over}
 use Rattle.file.specs.Table.{headerIn}
 use Rattle.reader.specs.Reading.{refusedWith, linesTo, acceptedAs, fileOf, judged, identifiersOf}
-use Rattle.walk.specs.Begin.{begunAs, namesBegun}
-use Rattle.accepted.proofs.Files.{whole-taken}
+use Rattle.row_walk.specs.Begin.{begunAs, namesBegun}
+use Rattle.scan_laws.proofs.Files.{whole-taken}
 use Rattle.questions.proofs.Asking.{identifiers-counted}
 use Rattle.theorems.proofs.Reading.{header}
 use Rattle.theorems.proofs.Room.{found-numbered}

@@ -8,9 +8,9 @@ use Rattle.header.specs.Rules.{d}
 use Rattle.lines.specs.Lines.{linesOf, joinLines}
 use Rattle.file.specs.Table.{countOf, headerIn, slotsIn, commentsIn, rowsIn}
 use Rattle.scan.specs.Run.{IsFile}
-use Rattle.accepted.proofs.Files.{plain-accepts, d-sound, file-plain}
-use Rattle.plain.proofs.Notes.{AfterTwo, SameBut, SameTable, after-two}
-use Rattle.plain.proofs.Skipped.{same-plain}
+use Rattle.scan_laws.proofs.Files.{plain-accepts, d-sound, file-plain}
+use Rattle.file_laws.proofs.Notes.{AfterTwo, SameBut, SameTable, after-two}
+use Rattle.file_laws.proofs.Skipped.{same-plain}
 use Rattle.header.specs.declared.types.Header.{Header}
 
 -- the lines of two files are the same but for what stands after column 2 of EP and EV lines

@@ -16,8 +16,8 @@ use Rattle.lines.specs.Lent.{over}
 use Rattle.scan.specs.Run.{IsFile}
 use Rattle.reader.specs.Reading.{frontOf}
 use Rattle.scan.specs.declared.Front.the-variants as front
-use Rattle.stretch.specs.Dividing.{Divides, none, one, Cuts, cutsOf, sum, division, divisionFrom, noRoom, divideOf, lengthsAfter}
-use Rattle.stretch.specs.declared.Division.{Division}
+use Rattle.divide.specs.Dividing.{Divides, none, one, Cuts, cutsOf, sum, division, divisionFrom, noRoom, divideOf, lengthsAfter}
+use Rattle.divide.specs.declared.Division.{Division}
 use Rattle.theorems.proofs.EndToEnd.{files-first, divided, lengths-sum, lengths-some, file-numbered, Left, parts}
 use Rattle.theorems.proofs.Judging.{refused-numbers}
 

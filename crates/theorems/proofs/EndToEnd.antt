@@ -13,10 +13,10 @@ use Rattle.scan.specs.Run.{scanOf, IsFile}
 use Rattle.scan.specs.declared.Tally.{Tally}
 use Rattle.scan.specs.declared.Front.{Front}
 use Rattle.scan.specs.declared.Front.the-variants as front
-use Rattle.accepted.proofs.Local.{scan-local, whole-ends, front-whole}
-use Rattle.accepted.proofs.Used.{accepted-front}
-use Rattle.stretch.specs.Dividing.{Divides, none, one, Cuts, noCuts, after, cuts, cutsOf, sum}
-use Rattle.stretch.proofs.Cutting.{takes-byte, cut-end, cut-file}
+use Rattle.scan_laws.proofs.Local.{scan-local, whole-ends, front-whole}
+use Rattle.scan_laws.proofs.Used.{accepted-front}
+use Rattle.divide.specs.Dividing.{Divides, none, one, Cuts, noCuts, after, cuts, cutsOf, sum}
+use Rattle.divide.proofs.Cutting.{takes-byte, cut-end, cut-file}
 
 -- files of these lengths before some cuts
 abbrev pub before : List ℕ → Cuts → Cuts

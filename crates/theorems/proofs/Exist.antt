@@ -14,7 +14,7 @@ use Rattle.scan.specs.Run.{IsFile}
 use Rattle.machine.specs.Checks.{repeats, typeAgrees}
 use Rattle.canon.specs.Table.{Table, tableOf, rowsOf}
 use Rattle.canon.specs.Valid.{isInstant, textsFit, timesValid, countsValid, wordsValid, headerValid, listsLong, namesValid, exponentsValid, commentValid, commentsValid, rowValid, cellValid, rowsValid, countsHold, valid}
-use Rattle.written.specs.Held.{Holds}
+use Rattle.canon_laws.specs.Held.{Holds}
 use Rattle.theorems.proofs.Rewritten.{valid-exactly}
 use Rattle.header.specs.declared.types.Header.{Header}
 

@@ -12,7 +12,7 @@ use Rattle.lines.specs.Lines.{linesOf}
 use Rattle.file.specs.Table.{headerIn, commentsIn, rowsIn}
 use Rattle.scan.specs.Run.{IsFile}
 use Rattle.reader.specs.Reading.{fileOf, acceptedAs, linesIn, filled, identifiersOf, exponentsOf, readAnswer, fills, identifiersAfter, exponentsAfter, commentsAfter, rowsAfter}
-use Rattle.accepted.proofs.Files.{whole-taken}
+use Rattle.scan_laws.proofs.Files.{whole-taken}
 use Rattle.theorems.proofs.Judging.{file-then-anything}
 use Rattle.theorems.proofs.Room.{answer-decides, fills-exactly, room-accepted}
 use Rattle.reader.specs.declared.types.Reading.{Reading}

@@ -25,16 +25,16 @@ use Rattle.file.proofs.Finding.{line-at-place}
 use Rattle.scan.specs.Run.{IsFile}
 use Rattle.reader.specs.Reading.{fileOf}
 use Rattle.questions.specs.Questions.{rowPlace}
-use Rattle.adjust.specs.Floats.{floatUnless, floatRow, absentRow, rowAnswer}
-use Rattle.accepted.proofs.Files.{whole-taken}
+use Rattle.float_row.specs.Floats.{floatUnless, floatRow, absentRow, rowAnswer}
+use Rattle.scan_laws.proofs.Files.{whole-taken}
 use Rattle.file.proofs.Exact.{stored-exact}
-use Rattle.plain.proofs.Exact.{exactSigned, Bounded, row-bounded}
+use Rattle.file_laws.proofs.Exact.{exactSigned, Bounded, row-bounded}
 use Rattle.theorems.proofs.Room.{found-numbered}
 use Rattle.theorems.proofs.Reading.{header, identifier, rowsOf, rowAt, There, the-row}
 use Rattle.record.specs.declared.types.Row.{Row}
 use Rattle.record.specs.declared.types.Signed.{Signed}
-use Rattle.adjust.specs.declared.FloatRow.{FloatRow}
-use Rattle.adjust.specs.declared.RowAnswer.{RowAnswer}
+use Rattle.float_row.specs.declared.FloatRow.{FloatRow}
+use Rattle.float_row.specs.declared.RowAnswer.{RowAnswer}
 use Rattle.scan.specs.declared.Front.the-variants as front
 
 -- a float is exactly a whole number: its sign and its size

@@ -39,14 +39,14 @@ use Rattle.canon.specs.Valid.{valid}
 use Rattle.canon.specs.Canonical.{canonical}
 use Rattle.canon.specs.Measured.{measured}
 use Rattle.writer.specs.Writing.{outAfter}
-use Rattle.written.proofs.Rewriting as rewriting
-use Rattle.written.specs.Held.{Holds, rewritten as formOf}
-use Rattle.stretch.specs.Dividing.{Divides, sum, division, divideOf, lengthsAfter}
-use Rattle.walker.specs.Places.{firstPlace}
-use Rattle.plain.proofs.Exact.{exactSigned}
-use Rattle.plain.proofs.Notes.{SameTable}
-use Rattle.plain.proofs.Rule.{absentIn}
-use Rattle.accepted.proofs.Stepping.{Stands}
+use Rattle.canon_laws.proofs.Rewriting as rewriting
+use Rattle.canon_laws.specs.Held.{Holds, rewritten as formOf}
+use Rattle.divide.specs.Dividing.{Divides, sum, division, divideOf, lengthsAfter}
+use Rattle.line_walk.specs.Places.{firstPlace}
+use Rattle.file_laws.proofs.Exact.{exactSigned}
+use Rattle.file_laws.proofs.Notes.{SameTable}
+use Rattle.file_laws.proofs.Rule.{absentIn}
+use Rattle.scan_laws.proofs.Stepping.{Stands}
 use Rattle.laws.specs.Places.{PartAt}
 use Rattle.laws.proofs.Places as places
 use Rattle.questions.specs.Questions.{commentAnswer}
@@ -71,10 +71,10 @@ use Rattle.theorems.proofs.Dividing.{AtFront, TooMany}
 use Rattle.theorems.proofs.LineRoom as lent-list
 use Rattle.theorems.proofs.Walks as walks
 use Rattle.theorems.proofs.Walks.{goingAt, walkedFrom, overLines, After}
-use Rattle.walker.proofs.Promised as promised
-use Rattle.walker.proofs.Promised.{Begins, Moves}
-use Rattle.walker.proofs.new as new
-use Rattle.walker.proofs.moved as moved
+use Rattle.line_walk.proofs.Promised as promised
+use Rattle.line_walk.proofs.Promised.{Begins, Moves}
+use Rattle.line_walk.proofs.new as new
+use Rattle.line_walk.proofs.moved as moved
 use Rattle.theorems.proofs.WalkedRows as walked
 use Rattle.theorems.proofs.WalkedRows.{Identified, walkStep}
 use Rattle.theorems.proofs.Beginning as beginning
@@ -84,32 +84,32 @@ use Rattle.theorems.proofs.Cases as cases
 use Rattle.theorems.proofs.Cases.{Case}
 use Rattle.scan.specs.declared.Tally.{Tally}
 use Rattle.scan.specs.declared.Front.the-variants as front
-use Rattle.stretch.specs.declared.Division.{Division}
-use Rattle.walker.specs.declared.Walker.{Walker}
-use Rattle.walk.specs.declared.types.RowWalk.{RowWalk}
-use Rattle.walk.specs.declared.types.RowStep.the-variants as step
+use Rattle.divide.specs.declared.Division.{Division}
+use Rattle.line_walk.specs.declared.Walker.{Walker}
+use Rattle.row_walk.specs.declared.types.RowWalk.{RowWalk}
+use Rattle.row_walk.specs.declared.types.RowStep.the-variants as step
 -- SAID ONCE. What holds for a number field holds at every width and number of places; for a line, of every layout; for a file, by the rules of every
 -- version: a number that is shown reads back, a line that is shown reads back, and the machine accepts exactly the plain files.
 pub use Rattle.field.proofs.Back.{whole-back, signed-back, exponent-back, decimal-back}
 pub use Rattle.layout.proofs.Layouts.{reads-back}
-pub use Rattle.accepted.proofs.Files.{accepts-exactly}
+pub use Rattle.scan_laws.proofs.Files.{accepts-exactly}
 -- NOTHING LEFT OPEN. Any two outcomes that a contract allows agree, in the answer and in every lent place; so of each function that a user calls, and
 -- of every other public function in its crate's `Determined`.
 pub use Rattle.reader.proofs.Determined.{judge-determined, judge-front-determined, read-determined, read-front-determined}
 pub use Rattle.writer.proofs.Determined.{write-determined}
-pub use Rattle.stretch.proofs.Determined.{divide-determined}
+pub use Rattle.divide.proofs.Determined.{divide-determined}
 pub use Rattle.questions.proofs.Determined.{comment-determined, comment-answer-determined, satellite-of-determined}
-pub use Rattle.adjust.proofs.Determined.{row-determined}
+pub use Rattle.float_row.proofs.Determined.{row-determined}
 pub use Rattle.calendar.proofs.Determined.{date-determined}
 pub use Rattle.header.proofs.Determined.{header-new-determined}
-pub use Rattle.stored.proofs.Determined.{place-of-determined, clock-of-determined, exponent-of-determined, flag-of-determined}
+pub use Rattle.stored_row.proofs.Determined.{place-of-determined, clock-of-determined, exponent-of-determined, flag-of-determined}
 pub use Rattle.machine.proofs.Determined.{read-line-determined}
-pub use Rattle.walker.proofs.Determined.{new-determined, next-determined, moved-determined, after-lines-determined}
-pub use Rattle.walk.proofs.Determined.{begin-determined, next-row-determined}
+pub use Rattle.line_walk.proofs.Determined.{new-determined, next-determined, moved-determined, after-lines-determined}
+pub use Rattle.row_walk.proofs.Determined.{begin-determined, next-row-determined}
 -- The doors for C promise the same definitions under their own names, and leave nothing open either. A place or clock that a door does not mark absent is
 -- there; beside the mark stands a number that no field of a file can hold.
-pub use Rattle.abi.proofs.Determined.{sp3-judge-determined, sp3-judge-front-determined, sp3-read-determined, sp3-read-front-determined, sp3-write-determined, sp3-form-length-determined, sp3-divide-determined, sp3-comment-determined, sp3-identifier-determined, sp3-satellite-of-determined, sp3-row-determined, sp3-date-determined, sp3-moment-determined, sp3-header-determined, sp3-place-of-determined, sp3-clock-of-determined, sp3-exponent-of-determined, sp3-flag-of-determined, sp3-first-place-determined, sp3-read-line-determined, sp3-next-line-determined, sp3-after-lines-determined, sp3-begin-determined, sp3-first-row-determined, sp3-next-row-determined}
-pub use Rattle.abi.proofs.Marks.{place-unmarked, place-marked, clock-unmarked, clock-marked, no-field, no-row}
+pub use Rattle.sp3.proofs.Determined.{sp3-judge-determined, sp3-judge-front-determined, sp3-read-determined, sp3-read-front-determined, sp3-write-determined, sp3-form-length-determined, sp3-divide-determined, sp3-comment-determined, sp3-identifier-determined, sp3-satellite-of-determined, sp3-row-determined, sp3-date-determined, sp3-moment-determined, sp3-header-determined, sp3-place-of-determined, sp3-clock-of-determined, sp3-exponent-of-determined, sp3-flag-of-determined, sp3-first-place-determined, sp3-read-line-determined, sp3-next-line-determined, sp3-after-lines-determined, sp3-begin-determined, sp3-first-row-determined, sp3-next-row-determined}
+pub use Rattle.sp3.proofs.Marks.{place-unmarked, place-marked, clock-unmarked, clock-marked, no-field, no-row}
 
 -- DEMAND 1. Bytes of every kind and length, every table, room of every size are answered, since no public function asks anything of its caller. A
 -- refusal has a number, a refused reading its line too, and changes nothing that was lent.

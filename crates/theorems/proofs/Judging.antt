@@ -18,13 +18,13 @@ use Rattle.file.specs.Plain.{Accepted}
 use Rattle.machine.specs.Step.{stepOf, lineRead}
 use Rattle.scan.specs.Run.{wholeOf, IsFile, Going, atFirst}
 use Rattle.reader.specs.Reading.{linesTo, frontOf, fileOf, linesIn, judged, enough, delivered, filled}
-use Rattle.accepted.proofs.Files.{d-sound, d-exactly}
-use Rattle.accepted.proofs.Local as local
-use Rattle.accepted.proofs.Lowest.{Earns, lowest, none}
-use Rattle.accepted.proofs.Refused as stop
-use Rattle.accepted.proofs.Refused.{EndsAfter, accepted-steps, reads-end, refusal-numbered}
-use Rattle.accepted.proofs.Stepping.{GoesOn, GoOn, behind, Stands, stands-behind}
-use Rattle.accepted.proofs.Used.{accepted-front}
+use Rattle.scan_laws.proofs.Files.{d-sound, d-exactly}
+use Rattle.scan_laws.proofs.Local as local
+use Rattle.scan_laws.proofs.Lowest.{Earns, lowest, none}
+use Rattle.scan_laws.proofs.Refused as stop
+use Rattle.scan_laws.proofs.Refused.{EndsAfter, accepted-steps, reads-end, refusal-numbered}
+use Rattle.scan_laws.proofs.Stepping.{GoesOn, GoOn, behind, Stands, stands-behind}
+use Rattle.scan_laws.proofs.Used.{accepted-front}
 use Rattle.machine.specs.declared.types.State.{State}
 use Rattle.machine.specs.declared.types.Verdict.{Verdict}
 use Rattle.machine.specs.declared.types.Verdict.the-variants as verdict

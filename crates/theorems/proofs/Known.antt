@@ -14,11 +14,11 @@ use Rattle.file.specs.Table.{countOf, slotsIn}
 use Rattle.scan.specs.Run.{scanOf, atFirst}
 use Rattle.scan.specs.declared.Tally.{Tally}
 use Rattle.scan.specs.declared.Front.the-variants as front
-use Rattle.plain.proofs.Counts.{count-is, identifiers-are}
-use Rattle.accepted.proofs.Used.{frontLines}
-use Rattle.accepted.proofs.Stepping.{behind}
-use Rattle.accepted.proofs.Files.{plain-front}
-use Rattle.accepted.proofs.KnownSteps.{known-plain}
+use Rattle.file_laws.proofs.Counts.{count-is, identifiers-are}
+use Rattle.scan_laws.proofs.Used.{frontLines}
+use Rattle.scan_laws.proofs.Stepping.{behind}
+use Rattle.scan_laws.proofs.Files.{plain-front}
+use Rattle.scan_laws.proofs.KnownSteps.{known-plain}
 
 -- the first entries are the identifiers of the file at the front of some bytes
 abbrev pub Knows : Rules → List ℕ → Tally → List ℕ → Type 0

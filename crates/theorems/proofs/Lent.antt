@@ -17,15 +17,15 @@ use Rattle.record.specs.Rows.{rowOf}
 use Rattle.file.specs.Plain.{isRowLine}
 use Rattle.file.specs.Table.{rowNumbers, rowsIn}
 use Rattle.scan.specs.Run.{IsFile}
-use Rattle.stored.specs.Stored.{placeIn, clockIn}
+use Rattle.stored_row.specs.Stored.{placeIn, clockIn}
 use Rattle.reader.specs.Reading.{fileOf, readAnswer, rowsAfter}
-use Rattle.plain.proofs.Exact.{exactSigned, exactNumbers, Bounded, row-bounded, row-in, row-exact}
-use Rattle.stored.proofs.Theorems.{place-back, clock-back}
+use Rattle.file_laws.proofs.Exact.{exactSigned, exactNumbers, Bounded, row-bounded, row-in, row-exact}
+use Rattle.stored_row.proofs.Theorems.{place-back, clock-back}
 use Rattle.theorems.proofs.Reading.{header, identifier, rowsOf, rowAt, There, the-row, the-motion, row-holds, row-holds-both, motion-holds}
 use Rattle.theorems.proofs.Filled.{rows-filled}
 use Rattle.record.specs.declared.types.Row.{Row}
-use Rattle.stored.specs.declared.types.Place.the-variants as place
-use Rattle.stored.specs.declared.types.ClockRead.the-variants as clock
+use Rattle.stored_row.specs.declared.types.Place.the-variants as place
+use Rattle.stored_row.specs.declared.types.ClockRead.the-variants as clock
 
 -- a part of twelve that is there ends before the list does
 module _ (numbers : List ℤ) (m : ℕ) (part : List ℤ) (wide : length part ≡ 12) (stored : take 12 (drop m numbers) ≡ part) where

@@ -15,10 +15,10 @@ use Rattle.lines.specs.Lines.{linesOf}
 use Rattle.machine.specs.State.{hasRoom}
 use Rattle.machine.specs.Step.{stepOf, ifRoom, stepWithin, readAs, readFirst, namesFirst, lineAt, lineRead, lineNames, Overfull}
 use Rattle.machine.proofs.Stepping.{kept-within}
-use Rattle.accepted.proofs.Files.{d-sound}
-use Rattle.accepted.proofs.Numbered.{step-numbered}
-use Rattle.accepted.proofs.Room.{ready-first, never-short}
-use Rattle.accepted.proofs.Stepping.{ready-behind}
+use Rattle.scan_laws.proofs.Files.{d-sound}
+use Rattle.scan_laws.proofs.Numbered.{step-numbered}
+use Rattle.scan_laws.proofs.Room.{ready-first, never-short}
+use Rattle.scan_laws.proofs.Stepping.{ready-behind}
 use Rattle.scan.specs.Run.{atFirst}
 use Rattle.theorems.proofs.Judging.{after, AllGoOn}
 use Rattle.header.specs.declared.types.Rules.{Rules}

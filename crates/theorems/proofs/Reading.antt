@@ -17,15 +17,15 @@ use Rattle.file.specs.Table.{headerIn, rowLines, rowsIn}
 use Rattle.scan.specs.Run.{IsFile}
 use Rattle.reader.specs.Reading.{identifiersOf}
 use Rattle.file.proofs.Finding.{lines-within}
-use Rattle.accepted.proofs.Files.{file-plain}
-use Rattle.plain.proofs.Bytes.{bytes-enough}
-use Rattle.plain.proofs.Counts.{identifiers-are, rows-many, rows-many-both, places-known-and-absent}
-use Rattle.plain.proofs.Different.{one-of-each}
-use Rattle.plain.proofs.Exact.{exactNumbers}
-use Rattle.plain.proofs.Places.{rowNumber}
-use Rattle.plain.proofs.Rule.{InOrder, EpochAt, the-rule, absentIn, places-many, motions-many, no-motions}
-use Rattle.plain.proofs.Selected.{satellites, epochs, start8, interval8}
-use Rattle.plain.proofs.Stored.{place-stored, place-stored-both, motion-stored}
+use Rattle.scan_laws.proofs.Files.{file-plain}
+use Rattle.file_laws.proofs.Bytes.{bytes-enough}
+use Rattle.file_laws.proofs.Counts.{identifiers-are, rows-many, rows-many-both, places-known-and-absent}
+use Rattle.file_laws.proofs.Different.{one-of-each}
+use Rattle.file_laws.proofs.Exact.{exactNumbers}
+use Rattle.file_laws.proofs.Places.{rowNumber}
+use Rattle.file_laws.proofs.Rule.{InOrder, EpochAt, the-rule, absentIn, places-many, motions-many, no-motions}
+use Rattle.file_laws.proofs.Selected.{satellites, epochs, start8, interval8}
+use Rattle.file_laws.proofs.Stored.{place-stored, place-stored-both, motion-stored}
 use Rattle.theorems.proofs.Accepting.{says-satellites, says-epochs, says-start, says-interval, says-velocity, says-comments}
 use Rattle.header.specs.declared.types.Header.{Header}
 

@@ -16,8 +16,8 @@ use Rattle.lines.specs.Lines.{linesOf}
 use Rattle.file.specs.Table.{rowLines}
 use Rattle.scan.specs.Run.{IsFile}
 use Rattle.reader.specs.Reading.{refusedWith, acceptedAs}
-use Rattle.accepted.proofs.Files.{file-plain, whole-taken}
-use Rattle.plain.proofs.Counts.{satellites-bounds}
+use Rattle.scan_laws.proofs.Files.{file-plain, whole-taken}
+use Rattle.file_laws.proofs.Counts.{satellites-bounds}
 use Rattle.theorems.proofs.Accepting.{says-satellites}
 use Rattle.theorems.proofs.Reading.{header, file-bytes, table-rows, table-rows-both}
 use Rattle.theorems.proofs.Room.{Room, Short, rowsNeeded, answer, room-accepted, short-refused}

@@ -16,18 +16,18 @@ use Rattle.lines.specs.Lines.{linesOf}
 use Rattle.file.specs.Table.{headerIn}
 use Rattle.scan.specs.Run.{IsFile}
 use Rattle.reader.specs.Reading.{fileOf, linesTo, readAnswer, identifiersAfter, exponentsAfter, commentsAfter, rowsAfter}
-use Rattle.accepted.proofs.Files.{d-exactly, file-plain, whole-taken}
+use Rattle.scan_laws.proofs.Files.{d-exactly, file-plain, whole-taken}
 use Rattle.canon.specs.Table.{Table, tableOf, commentWidth, cellWidth, cellsIn, namesOf, exponentsOf, commentsOf, rowsOf}
 use Rattle.canon.specs.Valid.{valid}
 use Rattle.canon.specs.Canonical.{canonical}
 use Rattle.canon.specs.Measured.{measured}
 use Rattle.writer.specs.Writing.{outAfter}
-use Rattle.written.proofs.Versions.{d-proper}
+use Rattle.canon_laws.proofs.Versions.{d-proper}
 use Rattle.canon.proofs.Parts.{parts}
-use Rattle.written.specs.Held.{Holds, tableIn, rewritten}
-use Rattle.written.proofs.Trips.{form-accepted, form-holds}
-use Rattle.written.proofs.ValidTables.{held-valid}
-use Rattle.written.proofs.Rewriting as rewriting
+use Rattle.canon_laws.specs.Held.{Holds, tableIn, rewritten}
+use Rattle.canon_laws.proofs.Trips.{form-accepted, form-holds}
+use Rattle.canon_laws.proofs.ValidTables.{held-valid}
+use Rattle.canon_laws.proofs.Rewriting as rewriting
 use Rattle.theorems.proofs.Filled.{length-told, identifiers-filled, exponents-filled, comments-filled, rows-filled, header-told}
 use Rattle.theorems.proofs.Room.{Room, room-accepted}
 use Rattle.theorems.proofs.Writing.{written-0, valid-table, out-is, written-form, written-length}

@@ -21,37 +21,37 @@ use Rattle.file.specs.Kinds.{isKind, ofKind}
 use Rattle.machine.specs.Faults.{longest, placeFault}
 use Rattle.machine.specs.Next.{nextOf}
 use Rattle.machine.specs.Step.{onKey, judgedLine, printedLine, stepOf, readFirst}
-use Rattle.adjust.specs.Floats.{floatRow, lineFrom}
+use Rattle.float_row.specs.Floats.{floatRow, lineFrom}
 use Rattle.reader.specs.Reading.{frontOf, fileOf, identifiersOf}
 use Rattle.file.specs.Table.{countOf, headerIn}
 use Rattle.scan.specs.Run.{steppedOver, atFirst}
 use Rattle.questions.proofs.Asking.{bounded}
-use Rattle.accepted.proofs.Files.{d-sound, whole-taken}
-use Rattle.accepted.proofs.Local.{whole-ends}
-use Rattle.accepted.proofs.Refused.{EndsAfter, accepted-steps}
-use Rattle.accepted.proofs.Stepping.{judged, behind-next, next-line, stepped-on}
-use Rattle.accepted.proofs.Used.{frontLines, accepted-front}
+use Rattle.scan_laws.proofs.Files.{d-sound, whole-taken}
+use Rattle.scan_laws.proofs.Local.{whole-ends}
+use Rattle.scan_laws.proofs.Refused.{EndsAfter, accepted-steps}
+use Rattle.scan_laws.proofs.Stepping.{judged, behind-next, next-line, stepped-on}
+use Rattle.scan_laws.proofs.Used.{frontLines, accepted-front}
 use Rattle.theorems.proofs.Judging.{after}
 use Rattle.theorems.proofs.Known.{Knows, known-steps}
 use Rattle.theorems.proofs.Reading.{header, rowsOf, rowAt, There, rows-number}
 use Rattle.theorems.proofs.Floats.{asked, row-asked}
 use Rattle.theorems.proofs.Walks.{placeOf}
-use Rattle.walker.specs.Places.{firstPlace}
-use Rattle.walk.specs.Rows.{firstWalk, toRow, epochOf, satelliteOf, shown, stepAt, stepFrom, rowStep}
-use Rattle.walk.proofs.Going.{passed}
-use Rattle.stretch.proofs.Ending.{ends-or-on}
+use Rattle.line_walk.specs.Places.{firstPlace}
+use Rattle.row_walk.specs.Rows.{firstWalk, toRow, epochOf, satelliteOf, shown, stepAt, stepFrom, rowStep}
+use Rattle.row_walk.proofs.Going.{passed}
+use Rattle.divide.proofs.Ending.{ends-or-on}
 use Rattle.record.specs.declared.types.LineKind.{LineKind}
 use Rattle.machine.specs.declared.types.State.{State}
 use Rattle.machine.specs.declared.types.Verdict.{Verdict}
 use Rattle.machine.specs.declared.types.Verdict.the-variants as verdict
-use Rattle.adjust.specs.declared.FloatRow.{FloatRow}
-use Rattle.adjust.specs.declared.RowAnswer.{RowAnswer}
+use Rattle.float_row.specs.declared.FloatRow.{FloatRow}
+use Rattle.float_row.specs.declared.RowAnswer.{RowAnswer}
 use Rattle.scan.specs.declared.Tally.{Tally}
 use Rattle.scan.specs.declared.Front.the-variants as front
-use Rattle.walker.specs.declared.Place.{Place}
-use Rattle.walk.specs.declared.types.RowWalk.{RowWalk}
-use Rattle.walk.specs.declared.types.RowStep.{RowStep}
-use Rattle.walk.specs.declared.types.RowStep.the-variants as step
+use Rattle.line_walk.specs.declared.Place.{Place}
+use Rattle.row_walk.specs.declared.types.RowWalk.{RowWalk}
+use Rattle.row_walk.specs.declared.types.RowStep.{RowStep}
+use Rattle.row_walk.specs.declared.types.RowStep.the-variants as step
 
 -- a line that ends the file is no P line
 past-test : (b : Bool) (v : Verdict) (m c : ℕ) → cond b v (verdict.Fault m c) ≡ verdict.Finished → v ≡ verdict.Finished

@@ -17,12 +17,12 @@ use Rattle.machine.proofs.Stepping.{kept-within}
 use Rattle.file.specs.Plain.{Sound}
 use Rattle.scan.specs.Run.{Going, stepped, steppedOver, atFirst}
 use Rattle.reader.specs.Reading.{frontOf}
-use Rattle.walker.specs.Places.{firstPlace, placeAfter, placesAfter, identifiersAfter}
-use Rattle.walker.proofs.Promised.{Begins, Moves}
-use Rattle.accepted.proofs.Files.{d-sound}
-use Rattle.accepted.proofs.Refused.{EndsAfter, accepted-steps}
-use Rattle.accepted.proofs.Room.{Ready, ready-first, ready-next, never-short}
-use Rattle.accepted.proofs.Stepping.{judged, behind, GoOn, next-line, go-first, go-later, stepped-on, ready-behind}
+use Rattle.line_walk.specs.Places.{firstPlace, placeAfter, placesAfter, identifiersAfter}
+use Rattle.line_walk.proofs.Promised.{Begins, Moves}
+use Rattle.scan_laws.proofs.Files.{d-sound}
+use Rattle.scan_laws.proofs.Refused.{EndsAfter, accepted-steps}
+use Rattle.scan_laws.proofs.Room.{Ready, ready-first, ready-next, never-short}
+use Rattle.scan_laws.proofs.Stepping.{judged, behind, GoOn, next-line, go-first, go-later, stepped-on, ready-behind}
 use Rattle.theorems.proofs.LineRoom.{overfull-twelve}
 use Rattle.theorems.proofs.Judging.{after}
 use Rattle.header.specs.declared.types.Rules.{Rules}
@@ -31,8 +31,8 @@ use Rattle.machine.specs.declared.types.Verdict.{Verdict}
 use Rattle.machine.specs.declared.types.Verdict.the-variants as verdict
 use Rattle.scan.specs.declared.Tally.{Tally}
 use Rattle.scan.specs.declared.Front.the-variants as front
-use Rattle.walker.specs.declared.Place.{Place}
-use Rattle.walker.specs.declared.Walker.{Walker}
+use Rattle.line_walk.specs.declared.Place.{Place}
+use Rattle.line_walk.specs.declared.Walker.{Walker}
 
 -- where one is, without the identifiers
 abbrev pub placeOf : Going → Place

@@ -1,0 +1,262 @@
+-- The line of a valid row: its columns can show the row, it is a P or V line of its satellite, and what is stored of it are the numbers of the
+-- row.
+-- Assumes nothing.
+use mathlib.Core.Path.{_≡_, refl, ap, _∙_}
+use mathlib.Core.Bool.{Bool, true, false, cond, not, _&&_, _||_, false≢true}
+use mathlib.Core.List.{List, [], _∷_, _++_, append-nil}
+use Prim.Native.Nat.{ℕ, zero, suc, _+_, _≤_}
+use native.Mathlib.Omega.{arith}
+use borrow.Author.Tests.{eq-eqb, eqb-true, eqb-false, lt-ltb, leb-true}
+use lib.Dec.{leb, eqb, ltb}
+use lib.IntN.{ℤ, pos, negsuc, natAbs}
+use lib.ListN.{length, take, drop}
+use lib.Seq.{drop-cons}
+use Rattle.field.specs.Show.{fitsInteger, fitsWhole, fitsDecimal}
+use Rattle.field.specs.Sign.{largest, isNegative, signedInt}
+use Rattle.layout.specs.Kind.{unknown, isName, canAmount, nameCode}
+use Rattle.layout.specs.Fault.{clean}
+use Rattle.layout.specs.Kind.Kind.{unused}
+use Rattle.layout.specs.Layout.{Item, Values, columns, canShow, showLine}
+use Rattle.layout.specs.Line.{padded, lineOf}
+use Rattle.record.specs.Absence.{largestExponent}
+use Rattle.record.specs.LineKinds.{kindOf}
+use Rattle.record.specs.Rows.{bodyItems, flagItems, bodyValues, flagValues, rowItems, rowValues, rowFault, rowLine, rowTaken, rowOf, cut}
+use Rattle.machine.specs.Faults.{longest}
+use Rattle.header.specs.declared.types.Rules.{Rules}
+use Rattle.record.specs.declared.types.Row.{Row}
+use Rattle.file.specs.Plain.{rowKind, isRecord, isRowLine}
+use Rattle.file.specs.Table.{rowIn, storedInt, storedCount, markNumber, storedMark, rowNumbers}
+use Rattle.canon.specs.Valid.{entry, amountValid, exponentValid, mostFlag, flagValid, fourValid, rowValid}
+use Rattle.canon.specs.Canonical.{flagShown, rowShown}
+use Rattle.laws.proofs.Bools.{and-left, and-right, and-both}
+use Rattle.record.proofs.Tiled.{rows-tiled}
+use Rattle.record.proofs.RoundTrips.{flagless, row-back}
+use Rattle.file.proofs.Exact.{stored-exact}
+use Rattle.file_laws.proofs.Exact.{count-exact, mark-exact, row-in}
+use Rattle.canon.proofs.Inked as inked
+use Rattle.canon_laws.proofs.Bare.{EndsLine, bare-ended, bare-record}
+
+-- One number. A place or clock within the bound fits its columns, and is stored as it is.
+pub amount-fits : (v : ℤ) → amountValid v ≡ true → canAmount 14 6 (isNegative v) (natAbs v) ≡ true
+amount-fits v e =
+    and-both (leb (natAbs v) largest) _ e
+    (and-both (fitsDecimal 14 6 (isNegative v) (natAbs v)) _ (inked.amount-fits (isNegative v) (natAbs v) (leb-true (natAbs v) largest e)) (no-minus-zero v))
+  where
+    no-minus-zero : (u : ℤ) → (not (isNegative u) || ltb 0 (natAbs u)) ≡ true
+    no-minus-zero (pos n) = refl
+    no-minus-zero (negsuc n) = lt-ltb 0 (suc n) (omega arith)
+
+pub amount-stored : (v : ℤ) → amountValid v ≡ true → storedInt (isNegative v) (natAbs v) ≡ v
+unfolding signedInt
+amount-stored (pos n) e = stored-exact false n (leb-true n largest e)
+amount-stored (negsuc n) e = stored-exact true (suc n) (leb-true (suc n) largest e)
+
+-- a number that is not negative is its magnitude
+plain-is : (v : ℤ) → not (isNegative v) ≡ true → pos (natAbs v) ≡ v
+plain-is (pos n) e = refl
+plain-is (negsuc n) e = absurd (false≢true e)
+
+-- An exponent within its bound, or unknown: at most 1000, and in its columns or blank.
+abbrev exponentWidth : Bool → ℕ
+exponentWidth true = 3
+exponentWidth false = 2
+
+exponent-columns : (clock : Bool) (n : ℕ) → leb n (largestExponent clock) ≡ true → fitsWhole (exponentWidth clock) n ≡ true
+unfolding fitsInteger
+exponent-columns true n e = lt-ltb n 1000 (omega (arith, leb-true n 999 e))
+exponent-columns false n e = lt-ltb n 100 (omega (arith, leb-true n 99 e))
+
+exponent-most : (clock : Bool) (n : ℕ) → leb n (largestExponent clock) ≡ true → n ≤ 1000
+exponent-most true n e = omega (arith, leb-true n 999 e)
+exponent-most false n e = omega (arith, leb-true n 99 e)
+
+module _ (clock : Bool) (v : ℤ) (valid : exponentValid clock v ≡ true) where
+  either : (leb (natAbs v) (largestExponent clock) || eqb (natAbs v) unknown) ≡ true
+  either = and-right (not (isNegative v)) _ valid
+
+  pub exponent-fits : (eqb (natAbs v) unknown || fitsWhole (exponentWidth clock) (natAbs v)) ≡ true
+  exponent-fits = go (leb (natAbs v) (largestExponent clock)) (eqb (natAbs v) unknown) refl either
+    where
+      go : (t u : Bool) → leb (natAbs v) (largestExponent clock) ≡ t → (t || u) ≡ true → (u || fitsWhole (exponentWidth clock) (natAbs v)) ≡ true
+      go t true e h = refl
+      go true false e h = exponent-columns clock (natAbs v) e
+      go false false e h = absurd (false≢true h)
+
+  pub exponent-stored : storedCount (natAbs v) ≡ v
+  exponent-stored =
+      count-exact (natAbs v) (omega (arith, go (leb (natAbs v) (largestExponent clock)) (eqb (natAbs v) unknown) refl refl either))
+      ∙ plain-is v (and-left (not (isNegative v)) _ valid)
+    where
+      go : (t u : Bool) → leb (natAbs v) (largestExponent clock) ≡ t → eqb (natAbs v) unknown ≡ u → (t || u) ≡ true → natAbs v ≤ 1000
+      go true u e f h = exponent-most clock (natAbs v) e
+      go false true e f h = omega (arith, eqb-true (natAbs v) unknown f)
+      go false false e f h = absurd (false≢true h)
+
+-- A flag: 0, or in P 1.
+module _ (velocity : Bool) (v : ℤ) (valid : flagValid velocity v ≡ true) where
+  flag-most : natAbs v ≤ mostFlag velocity
+  flag-most = leb-true (natAbs v) (mostFlag velocity) (and-right (not (isNegative v)) _ valid)
+
+  pub flag-stored : storedMark (flagShown v) ≡ v
+  flag-stored = mark-exact (flagShown v) ∙ ap pos (go velocity (eqb (natAbs v) 0) refl flag-most) ∙ plain-is v (and-left (not (isNegative v)) _ valid)
+    where
+      go : (w t : Bool) → eqb (natAbs v) 0 ≡ t → natAbs v ≤ mostFlag w → markNumber (cond t false true) ≡ natAbs v
+      go w true e h = omega (arith, eqb-true (natAbs v) 0 e)
+      go true false e h = omega (arith, eqb-false (natAbs v) 0 e)
+      go false false e h = omega (arith, eqb-false (natAbs v) 0 e)
+
+  pub flag-unset : velocity ≡ true → not (flagShown v) ≡ true
+  flag-unset is =
+      let none : natAbs v ≡ 0 = omega (arith, flag-most, ap mostFlag is) in
+      rw (eq-eqb (natAbs v) 0 none)
+
+-- The numbers of a valid row, four of each kind.
+pub record Four (test last : ℤ → Bool) (at : ℕ) (row : List ℤ) : Type 0 where
+  pub first : test (entry row at) ≡ true
+  pub second : test (entry row (at + 1)) ≡ true
+  pub third : test (entry row (at + 2)) ≡ true
+  pub fourth : last (entry row (at + 3)) ≡ true
+
+four : (test last : ℤ → Bool) (at : ℕ) (row : List ℤ) → fourValid test last at row ≡ true → Four test last at row
+four test last at row e =
+    let front = and-left (test (entry row at) && test (entry row (at + 1))) _ e in
+    let back = and-right (test (entry row at) && test (entry row (at + 1))) _ e in
+    record {
+      first = and-left (test (entry row at)) _ front;
+      second = and-right (test (entry row at)) _ front;
+      third = and-left (test (entry row (at + 2))) _ back;
+      fourth = and-right (test (entry row (at + 2))) _ back;
+    }
+
+-- numbers of a list from a place on, by its entries
+listed : ℕ → ℕ → List ℤ → List ℤ
+listed zero at row = []
+listed (suc n) at row = entry row at ∷ listed n (suc at) row
+
+by-entries : (n at : ℕ) (row : List ℤ) → at + n ≤ length row → listed n at row ≡ take n (drop at row)
+unfolding listed
+by-entries zero at row h = refl
+by-entries (suc n) at row h =
+    ap (λ (more : List ℤ). entry row at ∷ more) (by-entries n (suc at) row (omega arith)) ∙ rw (drop-cons row at (pos 0) (omega arith))
+
+-- the line of a row of a satellite, without its LF
+abbrev pub rowText : Bool → ℕ → List ℤ → List ℕ
+rowText velocity name row = lineOf (rowLine velocity (rowShown name row))
+
+-- A valid row of a satellite.
+module _ (velocity : Bool) (name : ℕ) (row : List ℤ) (valid : rowValid velocity row ≡ true) where
+  amounts : Four amountValid amountValid 0 row
+  unfolding rowValid
+  amounts = four amountValid amountValid 0 row (and-left (fourValid amountValid amountValid 0 row) _ valid)
+
+  rest : (fourValid (exponentValid false) (exponentValid true) 4 row && fourValid (flagValid velocity) (flagValid velocity) 8 row) ≡ true
+  unfolding rowValid
+  rest = and-right (fourValid amountValid amountValid 0 row) _ valid
+
+  exponents : Four (exponentValid false) (exponentValid true) 4 row
+  exponents = four (exponentValid false) (exponentValid true) 4 row (and-left (fourValid (exponentValid false) (exponentValid true) 4 row) _ rest)
+
+  flags : Four (flagValid velocity) (flagValid velocity) 8 row
+  flags = four (flagValid velocity) (flagValid velocity) 8 row (and-right (fourValid (exponentValid false) (exponentValid true) 4 row) _ rest)
+
+  -- columns 2 to 73 can show it, and what stands after them decides
+  body-shows : isName name ≡ true → (items : List Item) (vs : Values) → canShow (bodyItems ++ items) (bodyValues (rowShown name row) ++ vs) ≡ canShow items vs
+  unfolding rowShown
+  body-shows named items vs =
+      let a = amounts in
+      let x = exponents in
+      rw (
+        named,
+        amount-fits (entry row 0) (a .first),
+        amount-fits (entry row 1) (a .second),
+        amount-fits (entry row 2) (a .third),
+        amount-fits (entry row 3) (a .fourth),
+        exponent-fits false (entry row 4) (x .first),
+        exponent-fits false (entry row 5) (x .second),
+        exponent-fits false (entry row 6) (x .third),
+        exponent-fits true (entry row 7) (x .fourth),
+      )
+
+  pub row-can-show : isName name ≡ true → canShow (rowItems velocity) (rowValues velocity (rowShown name row)) ≡ true
+  row-can-show named = go velocity
+    where
+      go : (v : Bool) → canShow (rowItems v) (rowValues v (rowShown name row)) ≡ true
+      go true = body-shows named (columns 74 80 unused ∷ []) []
+      go false = body-shows named flagItems (flagValues (rowShown name row))
+
+  -- a row of V has no flags
+  pub row-flagless : velocity ≡ true → flagless (rowShown name row) ≡ true
+  unfolding rowShown
+  row-flagless is =
+      let f = flags in
+      rw (
+        flag-unset velocity (entry row 8) (f .first) is,
+        flag-unset velocity (entry row 9) (f .second) is,
+        flag-unset velocity (entry row 10) (f .third) is,
+        flag-unset velocity (entry row 11) (f .fourth) is,
+      )
+
+  -- what is stored of it are its numbers
+  pub row-stored : 12 ≤ length row → rowNumbers (rowShown name row) ≡ take 12 row
+  unfolding rowShown rowNumbers listed
+  row-stored wide =
+      let a = amounts in
+      let x = exponents in
+      let f = flags in
+      rw (
+        amount-stored (entry row 0) (a .first),
+        amount-stored (entry row 1) (a .second),
+        amount-stored (entry row 2) (a .third),
+        amount-stored (entry row 3) (a .fourth),
+        exponent-stored false (entry row 4) (x .first),
+        exponent-stored false (entry row 5) (x .second),
+        exponent-stored false (entry row 6) (x .third),
+        exponent-stored true (entry row 7) (x .fourth),
+        flag-stored velocity (entry row 8) (f .first),
+        flag-stored velocity (entry row 9) (f .second),
+        flag-stored velocity (entry row 10) (f .third),
+        flag-stored velocity (entry row 11) (f .fourth),
+      )
+      (by-entries 12 0 row wide)
+
+  -- its line is read as the row
+  module _ (named : isName name ≡ true) where
+    read : (rowFault velocity (padded (rowText velocity name row)) ≡ clean) × (rowOf velocity (rowText velocity name row) ≡ rowShown name row)
+    read = rw append-nil at (row-back velocity (rowShown name row) [] row-flagless (row-can-show named))
+
+    pub row-of : rowOf velocity (rowText velocity name row) ≡ rowShown name row
+    row-of = read .1
+
+    -- with its LF it ends so
+    pub row-ends : EndsLine (rowLine velocity (rowShown name row))
+    unfolding rowLine
+    row-ends = bare-ended (rowItems velocity) (rowValues velocity (rowShown name row)) (rows-tiled velocity) (row-can-show named)
+
+    module _ (rules : Rules) where
+      is-record : isRecord rules (rowKind velocity) (rowFault velocity (padded (rowText velocity name row))) (rowText velocity name row) ≡ true
+      unfolding rowLine kindOf
+      is-record =
+          bare-record (rowItems velocity) (rowValues velocity (rowShown name row)) (rows-tiled velocity) (row-can-show named) rules (rowKind velocity)
+          (rowFault velocity (padded (rowText velocity name row)))
+          (wide velocity)
+          (begins velocity)
+          (read .0)
+        where
+          wide : (v : Bool) → longest rules (rowKind v) ≡ 80
+          wide true = refl
+          wide false = refl
+
+          begins : (v : Bool) → kindOf rules (showLine (rowItems v) (rowValues v (rowShown name row))) ≡ rowKind v
+          begins true = refl
+          begins false = refl
+
+      -- it is a P or V line of its satellite
+      pub row-is : isRowLine rules velocity name (rowText velocity name row) ≡ true
+      unfolding rowTaken rowShown
+      row-is =
+          and-both (isRecord rules (rowKind velocity) (rowFault velocity (padded (rowText velocity name row))) (rowText velocity name row)) _ is-record
+          (eq-eqb (nameCode (cut 2 4 (padded (rowText velocity name row)))) name (ap (λ (p : Row). p .satellite) row-of))
+
+      -- and what is stored of it are the numbers of the row
+      pub row-numbers : 12 ≤ length row → rowNumbers (rowIn rules (rowText velocity name row)) ≡ take 12 row
+      row-numbers wide = ap rowNumbers (row-in rules velocity name (rowText velocity name row) row-is ∙ row-of) ∙ row-stored wide

@@ -1,0 +1,232 @@
+// One file walked: what `begin` answers and leaves, the rows in order, and the places after some lines.
+ghost use Prim.Native.Nat.{_≤_};
+use crate::input::at_most;
+use crate::lent;
+use crate::print;
+use float_row::FloatRow;
+use line_walk::Place;
+use row_walk::RowStep;
+
+// The epoch and the satellite of a row.
+fn head(epoch: u64, satellite: u64) {
+    print::text(b"row");
+    print::value(epoch);
+    print::value(satellite);
+}
+
+// A place, whose mark must not be set.
+fn known_place(row: FloatRow) {
+    print::text(b" at");
+    print::float(row.x);
+    print::float(row.y);
+    print::float(row.z);
+    print::mark(row.place_absent);
+}
+
+// No place: its mark must be set, and no coordinate is a number.
+fn no_place(row: FloatRow) {
+    print::text(b" absent");
+    print::mark(row.x == row.x);
+    print::mark(row.y == row.y);
+    print::mark(row.z == row.z);
+    print::mark(!row.place_absent);
+}
+
+// A clock, or none, which is no number.
+fn clock(row: FloatRow) {
+    if row.clock_absent {
+        print::text(b" absent");
+        print::mark(row.clock == row.clock);
+    } else {
+        print::float(row.clock);
+    }
+    print::text(b"\n");
+}
+
+// A row with a place.
+fn row_at(epoch: u64, satellite: u64, row: FloatRow) {
+    head(epoch, satellite);
+    known_place(row);
+    clock(row);
+}
+
+// A row without one.
+fn row_absent(epoch: u64, satellite: u64, row: FloatRow) {
+    head(epoch, satellite);
+    no_place(row);
+    clock(row);
+}
+
+// The line at which a walk is refused.
+fn refused(number: usize, line: u64) {
+    print::text(b"refused");
+    print::value(number as u64);
+    print::text(b" line");
+    print::value(line);
+    print::text(b"\n");
+}
+
+// The rows of a file in order, and how the walk ends. A file has no more rows than bytes.
+fn rows<'a>(file: &'a [u8], header: &'a [u64]) {
+    let mut from = row_walk::first();
+    let mut left = file.len();
+    loop {
+        match row_walk::next_row(file, header, from) {
+            RowStep::At {
+                epoch,
+                satellite,
+                row,
+                next,
+            } => {
+                row_at(epoch, satellite, row);
+                from = next;
+            }
+            RowStep::Absent {
+                epoch,
+                satellite,
+                row,
+                next,
+            } => {
+                row_absent(epoch, satellite, row);
+                from = next;
+            }
+            RowStep::End => {
+                print::text(b"end\n");
+                return;
+            }
+            RowStep::Refused { number, line } => {
+                refused(number, line);
+                return;
+            }
+        }
+        if left == 0 {
+            print::text(b"more rows than bytes\n");
+            return;
+        }
+        left -= 1;
+    }
+}
+
+// 1 for an LF, 0 for another byte.
+fn is_end(b: u8) -> usize
+    ensures { λ r. ⌜ r ≤ 1 ⌝ }
+{
+    if b == b'\n' {
+        return 1;
+    }
+    0
+}
+
+// How many lines some bytes have.
+fn line_count(bytes: &[u8]) -> usize {
+    let mut count = 0;
+    let mut i = 0;
+    while i < bytes.len() {
+        count += is_end(bytes[i]);
+        i += 1;
+    }
+    count
+}
+
+// Five more.
+fn more(n: usize) -> usize {
+    if n < 1_000_000_000 {
+        return n + 5;
+    }
+    n
+}
+
+// A place after so many lines: its byte, the kind of line due there, and the satellites and epochs still to come.
+fn stands(word: &[u8], k: usize, at: Place) {
+    let state = at.state;
+    print::text(word);
+    print::value(k as u64);
+    print::value(at.at as u64);
+    print::value(state.due);
+    print::value(state.left);
+    print::value(state.epochs);
+    print::text(b"\n");
+}
+
+// The place after the first k lines.
+fn after(file: &[u8], k: usize) -> Place {
+    let mut names = [0; 255];
+    line_walk::after_lines(file, line_walk::first_place(), k, &mut names)
+}
+
+// The place after n lines, half of them first.
+fn in_two(file: &[u8], n: usize) {
+    let mut names = [0; 255];
+    let half = line_walk::after_lines(file, line_walk::first_place(), n / 2, &mut names);
+    stands(b"place", n / 2, half);
+    stands(
+        b"then",
+        n,
+        line_walk::after_lines(file, half, n - n / 2, &mut names),
+    );
+}
+
+// The places after no line, one, three, half of them, all of them and more.
+fn places(file: &[u8]) {
+    let n = line_count(file);
+    stands(b"place", 0, after(file, 0));
+    stands(b"place", 1, after(file, 1));
+    stands(b"place", 3, after(file, 3));
+    in_two(file, n);
+    stands(b"place", n, after(file, n));
+    stands(b"place", more(n), after(file, more(n)));
+}
+
+// How many identifiers the lines before a place have brought: where `+ ` lines are still due, those of the satellites that have had their slot.
+fn brought(at: Place) -> u64 {
+    let state = at.state;
+    if state.due != 3 {
+        return state.satellites;
+    }
+    if state.satellites < state.left {
+        return 0;
+    }
+    state.satellites - state.left
+}
+
+// The place after all lines with no more room for identifiers than this, and those that they brought.
+fn short(file: &[u8], names: &mut [u64]) {
+    let n = line_count(file);
+    let at = line_walk::after_lines(file, line_walk::first_place(), n, names);
+    stands(b"short", n, at);
+    lent::shown(true, names, brought(at));
+}
+
+// A walk over rows with these names for those of the header, and over lines.
+fn walk_with<'a>(file: &'a [u8], header: &'a [u64]) {
+    rows(file, header);
+    places(file);
+}
+
+// A file walked with the identifiers that `begin` fills; with the given names where it is refused.
+fn into<'a>(file: &'a [u8], identifiers: &mut [u64], given: &'a [u64]) {
+    let reading = row_walk::begin(file, identifiers);
+    let header = reading.header;
+    print::text(b"begin");
+    print::value(reading.refusal as u64);
+    print::value(reading.line);
+    print::value(reading.length as u64);
+    print::value(header.satellites);
+    print::value(header.epochs);
+    print::text(b"\n");
+    lent::shown(true, identifiers, header.satellites);
+    if reading.refusal == 0 {
+        walk_with(file, identifiers);
+    } else {
+        walk_with(file, given);
+    }
+}
+
+// A file walked with room for `size` identifiers, 300 at most.
+pub(crate) fn shown<'a>(file: &'a [u8], size: u64, given: &'a [u64]) {
+    let mut identifiers = [lent::MARK; 300];
+    let n = at_most(size, 300);
+    into(file, &mut identifiers[0..n], given);
+    let mut names = [lent::MARK; 300];
+    short(file, &mut names[0..n]);
+}

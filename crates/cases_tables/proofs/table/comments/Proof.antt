@@ -1,0 +1,25 @@
+-- `tables::table::comments` is safe and ends.
+-- Assumes nothing.
+use Prim.Native.Nat.{_≤_, _-_}
+use borrow.Author.Needs.{needs}
+use Rattle.cases_tables.proofs.table.comments.Statement.{statement}
+use Rattle.cases_tables.proofs.table.comments.Tie as tie
+
+abbrev Inv-loop : tie.InvT-loop
+Inv-loop n bytes k₀ k = k ≤ n
+
+abbrev μ-loop : tie.MeasureT-loop
+μ-loop n bytes k₀ k = n - k
+
+pub comments-spec : {M : Type 1} → statement M
+comments-spec =
+    tie.close
+    (tie.spec
+    Inv-loop
+    μ-loop
+    (λ c. search needs)
+    (λ c κs. search needs)
+    (λ c. search needs)
+    (λ c. search needs)
+    (λ c. search needs)
+    (λ c. search needs))

@@ -1,0 +1,90 @@
+-- The division of a stretch. 01, "The canonical form": "Dividing writes the lengths of the accepted files at the front and gives their number,
+-- the byte where the rest begins, and the refusal and line there, counted from that byte. A rest that is refused is part of this result, and
+-- the lengths are written all the same. When nothing is left, as with an empty stretch, refusal and line are both 0. 11 never occurs in it. If
+-- there are more lengths than room, it gives 12 only, every other part of its answer being 0, and nothing is written."
+use mathlib.Core.Bool.{cond}
+use mathlib.Core.List.{List, [], _∷_, _++_}
+use mathlib.Core.Path.{_≡_}
+use Prim.Native.Nat.{ℕ, zero, suc, _+_}
+use lib.Dec.{leb}
+use lib.ListN.{length, drop}
+use Rattle.lines.specs.Lent.{over}
+use Rattle.header.specs.declared.types.Rules.{Rules}
+use Rattle.scan.specs.Run.{scanOf, IsFile}
+use Rattle.scan.specs.declared.Tally.{Tally}
+use Rattle.scan.specs.declared.Front.{Front}
+use Rattle.scan.specs.declared.Front.the-variants as front
+use Rattle.divide.specs.declared.Division.{Division}
+
+-- a stretch divides into accepted files laid end to end, by their lengths
+pub data Divides (rules : Rules) : List ℕ → List ℕ → Type 0 where
+  none : Divides rules [] []
+  one : (a : List ℕ) {b ls : List ℕ} → IsFile rules a → Divides rules b ls → Divides rules (a ++ b) (length a ∷ ls)
+
+-- the lengths of the accepted files at the front, and the refusal and line of the rest
+pub record Cuts : Type 0 where
+  pub lengths : List ℕ
+  pub refusal : ℕ
+  pub line : ℕ
+
+-- nothing is left
+abbrev pub noCuts : Cuts
+noCuts = record { lengths = []; refusal = 0; line = 0 }
+
+-- a rest that is refused
+abbrev pub refusedCuts : ℕ → ℕ → Cuts
+refusedCuts number line = record { lengths = []; refusal = number; line = line }
+
+-- one file before what follows it
+abbrev pub after : ℕ → Cuts → Cuts
+after end c = record { lengths = end ∷ c .lengths; refusal = c .refusal; line = c .line }
+
+-- what stands at the front: a file, and then what follows it; or a refusal
+abbrev pub cutFront : Front → (ℕ → Cuts) → Cuts
+cutFront (front.File t) more = after (t .end) (more (t .end))
+cutFront (front.Refused number line column) more = refusedCuts number line
+
+abbrev pub unlessEmpty : List ℕ → Cuts → Cuts
+unlessEmpty [] c = noCuts
+unlessEmpty (b ∷ bs) c = c
+
+-- at most so many files
+unfoldable pub cuts : Rules → ℕ → List ℕ → Cuts
+cuts rules zero bytes = noCuts
+cuts rules (suc most) bytes = unlessEmpty bytes (cutFront (scanOf rules bytes) (λ end. cuts rules most (drop end bytes)))
+
+-- a file takes a byte at least, so a stretch has no more files than bytes
+abbrev pub cutsOf : Rules → List ℕ → Cuts
+cutsOf rules bytes = cuts rules (length bytes) bytes
+
+unfoldable pub sum : List ℕ → ℕ
+sum [] = 0
+sum (n ∷ ns) = n + sum ns
+
+abbrev pub division : ℕ → ℕ → ℕ → ℕ → Division
+division count rest number line = record { count = count; rest = rest; refusal = number; line = line }
+
+-- the number of the files, the byte where the rest begins, the refusal and line there; so many files and bytes stand before
+abbrev pub divisionFrom : ℕ → ℕ → Cuts → Division
+divisionFrom count rest c = division (count + length (c .lengths)) (rest + sum (c .lengths)) (c .refusal) (c .line)
+
+-- 12 only, every other part being 0
+abbrev pub noRoom : Division
+noRoom = division 0 0 12 0
+
+unfoldable pub divideOf : Rules → List ℕ → ℕ → Division
+divideOf rules bytes room =
+    cond (leb (length (cutsOf rules bytes .lengths)) room) (divisionFrom 0 0 (cutsOf rules bytes)) noRoom
+
+-- the lengths over what was lent; nothing is written where there are more than room
+unfoldable pub lengthsAfter : Rules → List ℕ → List ℕ → List ℕ
+lengthsAfter rules bytes old =
+    cond (leb (length (cutsOf rules bytes .lengths)) (length old)) (over (cutsOf rules bytes .lengths) old) old
+
+-- an accepted file stands at the front, and where it ends
+abbrev pub FileHere : Rules → List ℕ → Type 0
+FileHere rules bytes = (t : Tally) × (scanOf rules bytes ≡ front.File t)
+
+abbrev pub endOf : Front → ℕ
+endOf (front.File t) = t .end
+endOf (front.Refused number line column) = 0

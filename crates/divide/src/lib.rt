@@ -1,0 +1,95 @@
+// A stretch divided into the accepted files that stand at its front, one after another.
+ghost use mathlib.Core.Path.{_≡_};
+ghost use Prim.Native.Nat.{_≤_};
+ghost use lib.ListN.{length, take};
+ghost use Rattle.lines.specs.Lent.{over};
+ghost use Rattle.header.specs.Rules.{d};
+ghost use Rattle.scan.specs.Run.{scanOf};
+ghost use Rattle.divide.specs.Dividing.{FileHere, endOf, cutsOf, division, divideOf, lengthsAfter};
+use header::Rules;
+use scan::Front;
+
+// What a stretch divides into: the number of accepted files at its front, the byte where the rest begins, and the refusal and line there, counted
+// from that byte; both 0 where nothing is left.
+#[repr(C)]
+pub struct Division {
+    pub count: u64,
+    pub rest: usize,
+    pub refusal: usize,
+    pub line: u64,
+}
+
+// The parts of an answer.
+fn answer(count: u64, rest: usize, refusal: usize, line: u64) -> Division
+    ensures { λ r. ⌜ r ≡ division count rest refusal line ⌝ }
+{
+    Division {
+        count,
+        rest,
+        refusal,
+        line,
+    }
+}
+
+// Counts the files at the front, as many as there is room for: one more is 12 alone.
+fn count_files(rules: Rules, stretch: &[u8], room: u64) -> Division
+    ensures { λ r. ⌜ r ≡ divideOf rules (now (stretch .entry)) room ⌝ }
+{
+    let mut count: u64 = 0;
+    let mut rest: usize = 0;
+    while rest < stretch.len() {
+        match scan::scan_front(rules, &stretch[rest..]) {
+            Front::Refused {
+                number,
+                line,
+                column: _,
+            } => {
+                return answer(count, rest, number, line);
+            }
+            Front::File(tally) => {
+                count += 1;
+                if count > room {
+                    return answer(0, 0, 12, 0);
+                }
+                rest += tally.end;
+            }
+        }
+    }
+    answer(count, rest, 0, 0)
+}
+
+// The length of the file at the front, which is known to be accepted: it ends with its first EOF line.
+fn file_length(rules: Rules, bytes: &[u8]) -> usize
+    requires { ⌜ FileHere rules (now bytes) ⌝ }
+    ensures { λ r. ⌜ r ≡ endOf (scanOf rules (now (bytes .entry))) ⌝ }
+{
+    let last = file::place_of(rules, bytes, 14, 0);
+    lines::line_end(bytes, last) + 1
+}
+
+// Stores the lengths of the first files in the first places of `lengths`. The files have been judged, and are not judged again.
+fn store_lengths(rules: Rules, stretch: &[u8], count: usize, lengths: &mut [u64])
+    requires { ⌜ (count ≤ length (cutsOf rules (now stretch) .lengths)) × (count ≤ length (now lengths)) ⌝ }
+    ensures { λ _. ⌜ now (lengths .exit) ≡ over (take count (cutsOf rules (now (stretch .entry)) .lengths)) (now (lengths .entry)) ⌝ }
+{
+    let mut stored: usize = 0;
+    let mut rest: usize = 0;
+    while stored < count {
+        let size = file_length(rules, &stretch[rest..]);
+        lengths[stored] = size as u64;
+        stored += 1;
+        rest += size;
+    }
+}
+
+// Divides a stretch into the accepted files at its front: their lengths go to the first places of `lengths`. More lengths than places are 12
+// alone, and nothing is written.
+pub fn divide(stretch: &[u8], lengths: &mut [u64]) -> Division
+    ensures result { λ r. ⌜ r ≡ divideOf d (now (stretch .entry)) (length (now (lengths .entry))) ⌝ }
+    ensures lent { λ _. ⌜ now (lengths .exit) ≡ lengthsAfter d (now (stretch .entry)) (now (lengths .entry)) ⌝ }
+{
+    let rules = Rules::d();
+    let division = count_files(rules, stretch, lengths.len() as u64);
+    store_lengths(rules, stretch, division.count as usize, lengths);
+    division
+}

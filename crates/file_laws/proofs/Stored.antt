@@ -1,0 +1,100 @@
+-- Where a row, a comment stands in the table: row r has the twelve numbers from 12 * r on, comment c the 77 bytes from 77 * c on. So the row of
+-- epoch k and satellite j is found by its number alone.
+-- Assumes nothing.
+use mathlib.Core.Path.{_≡_, sym, ap, _∙_}
+use mathlib.Core.Bool.{Bool, true, false}
+use mathlib.Core.List.{List, [], _∷_, _++_, map}
+use Prim.Native.Nat.{ℕ, zero, suc, _+_, _*_, _<_}
+use native.Mathlib.Nat.{zero-mul, suc-mul, mul-comm, mul-le-mul, le-refl, le-of-suc-le-suc, not-suc-le-zero}
+use native.Mathlib.Omega.{arith}
+use lib.ListN.{length, getD, take, drop}
+use lib.Seq.{take-at, drop-append-add, getD-take, getD-drop}
+use Rattle.lines.specs.Lent.{flat}
+use Rattle.lines.specs.Lines.{nth}
+use Rattle.record.specs.Rows.{rowOf}
+use Rattle.header.specs.declared.types.Rules.{Rules}
+use Rattle.file.specs.Kinds.{ofKind}
+use Rattle.file.specs.Plain.{Plain}
+use Rattle.file.specs.Table.{slotNumbers, slotKind, slotsIn, commentText, commentsIn, rowIn, rowNumbers, numbersOfRows, rowLines, rowsIn}
+use Rattle.file_laws.proofs.Selected.{satellites, names, velocities, epochs}
+use Rattle.file_laws.proofs.Slots.{slots-wide}
+use Rattle.file_laws.proofs.Rule.{place-at, motion-at, rows-are-places, row-place, row-motion}
+use Rattle.file_laws.proofs.Counts.{comment-wide, row-wide, rows-many, rows-many-both}
+use Rattle.file_laws.proofs.Exact.{exactNumbers, row-exact}
+
+-- parts of one length, one after another: the k-th begins at k times that length
+module _ {A : Type 0} (w : ℕ) (f : List ℕ → List A) (wide : (l : List ℕ) → length (f l) ≡ w) where
+  pub part-stored : (ls : List (List ℕ)) (k : ℕ) → k < length ls → take w (drop (k * w) (flat (map f ls))) ≡ f (nth k ls)
+  unfolding flat nth
+  part-stored [] k h = absurd (not-suc-le-zero h)
+  part-stored (l ∷ ls) zero h =
+      ap (λ (m : ℕ). take w (drop m (f l ++ flat (map f ls)))) (zero-mul w) ∙ take-at (f l) (flat (map f ls)) w (wide l)
+  part-stored (l ∷ ls) (suc k) h =
+      let place : suc k * w ≡ length (f l) + k * w = omega (arith, suc-mul k w, wide l) in
+      ap (λ (m : ℕ). take w (drop m (f l ++ flat (map f ls)))) place
+      ∙ ap (take w) (drop-append-add (f l) (flat (map f ls)) (k * w))
+      ∙ part-stored ls k (le-of-suc-le-suc h)
+
+module _ (rules : Rules) (lines : List (List ℕ)) where
+  -- the row r of any lines, and the comment c
+  pub row-stored : (r : ℕ) → r < length (rowLines rules lines) → take 12 (drop (12 * r) (rowsIn rules lines)) ≡ rowNumbers (rowIn rules (nth r (rowLines rules lines)))
+  unfolding numbersOfRows
+  row-stored r h =
+      ap (λ (m : ℕ). take 12 (drop m (rowsIn rules lines))) (mul-comm 12 r)
+      ∙ part-stored 12 (λ (l : List ℕ). rowNumbers (rowIn rules l)) (row-wide rules) (rowLines rules lines) r h
+
+  pub comment-stored : (c : ℕ) → c < length (ofKind rules 8 lines) → take 77 (drop (77 * c) (commentsIn rules lines)) ≡ commentText (nth c (ofKind rules 8 lines))
+  unfolding commentsIn
+  comment-stored c h =
+      ap (λ (m : ℕ). take 77 (drop m (commentsIn rules lines))) (mul-comm 77 c)
+      ∙ part-stored 77 commentText comment-wide (ofKind rules 8 lines) c h
+
+  -- identifier or exponent 17 * k + i stands in slot i of the k-th line of its kind
+  pub slot-stored : (accuracies : Bool) (n k i : ℕ) → k < length (ofKind rules (slotKind accuracies) lines) → i < 17 → 17 * k + i < n
+      → getD (slotsIn rules accuracies n lines) (17 * k + i) 0 ≡ getD (slotNumbers accuracies (nth k (ofKind rules (slotKind accuracies) lines))) i 0
+  unfolding slotsIn
+  slot-stored accuracies n k i hk hi h =
+      let of = ofKind rules (slotKind accuracies) lines in
+      let all = flat (map (slotNumbers accuracies) of) in
+      let place : 17 * k + i ≡ k * 17 + i = omega arith in
+      getD-take n all (17 * k + i) 0 h
+      ∙ ap (λ (m : ℕ). getD all m 0) place
+      ∙ sym (getD-drop (k * 17) all i 0)
+      ∙ sym (getD-take 17 (drop (k * 17) all) i 0 hi)
+      ∙ ap (λ (s : List ℕ). getD s i 0) (part-stored 17 (slotNumbers accuracies) (slots-wide accuracies) of k hk)
+
+-- The row of epoch k and satellite j.
+below : (k e n j : ℕ) → k < e → j < n → k * n + j < n * e
+below k e n j hk hj = omega (arith, mul-le-mul hk (le-refl n), suc-mul k n, mul-comm e n)
+
+module _ {rules : Rules} {lines : List (List ℕ)} (p : Plain rules lines) (k j : ℕ) (hk : k < epochs p) (hj : j < satellites p) where
+  -- its number, and the P line and V line that it is read of
+  abbrev pub rowAt : ℕ
+  rowAt = k * satellites p + j
+
+  abbrev pub placeLine : List ℕ
+  placeLine = nth rowAt (ofKind rules 10 lines)
+
+  abbrev pub motionLine : List ℕ
+  motionLine = nth rowAt (ofKind rules 11 lines)
+
+  -- without velocities: its twelve numbers stand at 12 * (k * n + j), and are those of its P line
+  pub place-stored : velocities p ≡ false → take 12 (drop (12 * rowAt) (rowsIn rules lines)) ≡ exactNumbers (rowOf false placeLine)
+  place-stored alone =
+      row-stored rules lines rowAt (omega (arith, rows-many p alone, below k (epochs p) (satellites p) j hk hj))
+      ∙ ap (λ (ls : List (List ℕ)). rowNumbers (rowIn rules (nth rowAt ls))) (rows-are-places p alone)
+      ∙ row-exact rules false (getD (names p) j 0) placeLine (place-at p k j hk hj)
+
+  -- with velocities: those of its P line at 12 * (2 * (k * n + j)), those of its V line after them
+  module _ (both : velocities p ≡ true) where
+    pub place-stored-both : take 12 (drop (12 * (2 * rowAt)) (rowsIn rules lines)) ≡ exactNumbers (rowOf false placeLine)
+    place-stored-both =
+        row-stored rules lines (2 * rowAt) (omega (arith, rows-many-both p both, below k (epochs p) (satellites p) j hk hj))
+        ∙ ap (λ (l : List ℕ). rowNumbers (rowIn rules l)) (row-place p both k j hk hj)
+        ∙ row-exact rules false (getD (names p) j 0) placeLine (place-at p k j hk hj)
+
+    pub motion-stored : take 12 (drop (12 * (2 * rowAt + 1)) (rowsIn rules lines)) ≡ exactNumbers (rowOf true motionLine)
+    motion-stored =
+        row-stored rules lines (2 * rowAt + 1) (omega (arith, rows-many-both p both, below k (epochs p) (satellites p) j hk hj))
+        ∙ ap (λ (l : List ℕ). rowNumbers (rowIn rules l)) (row-motion p both k j hk hj)
+        ∙ row-exact rules true (getD (names p) j 0) motionLine (motion-at p both k j hk hj)

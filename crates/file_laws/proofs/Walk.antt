@@ -1,0 +1,101 @@
+-- Every line of an accepted file: what holds of each P, V, epoch and comment line that passes its test, and of each line of another kind, holds
+-- of all.
+-- Assumes nothing.
+use mathlib.Core.Path.{_≡_, refl, sym, ap, subst, _∙_}
+use mathlib.Core.Bool.{Bool, true, false, _||_, false≢true}
+use mathlib.Core.List.{List, [], _∷_, _++_}
+use Prim.Native.Nat.{ℕ, zero, suc, _+_}
+use borrow.Author.Tests.{ne-eqb}
+use lib.Dec.{leb, eqb}
+use lib.ListN.{length}
+use Rattle.laws.specs.Tests.{within}
+use Rattle.record.specs.LineKinds.{toldKind}
+use Rattle.header.specs.declared.types.Rules.{Rules}
+use Rattle.record.specs.declared.types.LineKind.{LineKind}
+use Rattle.record.specs.declared.types.LineKind.the-variants as kind
+use Rattle.file.specs.Kinds.{kindIn}
+use Rattle.file.specs.Plain.{isLine, everyLine, isCommentLine, isEpochLine, isRowLine, Noted, Rest, Rows, Epochs, Plain}
+use Rattle.laws.proofs.Bools.{and-left, and-right}
+use Rattle.lines.proofs.Each.{Each, each-append, each-weaken}
+use Rattle.file_laws.proofs.Sorting.{lines-kind, Of}
+use Rattle.file_laws.proofs.Selected.{velocities, names, interval8, epochs, start8, first-kind, second-kind, names-kind, accuracies-kind, characters-kind, floats-kind, integers-kind, last-kind}
+
+-- the kinds of the other lines: the header without its comments, EP and EV, EOF
+abbrev pub isOther : ℕ → Bool
+isOther k = within 1 7 k || within 12 14 k
+
+pub other-apart : (k i : ℕ) → isOther k ≡ true → isOther i ≡ false → eqb k i ≡ false
+other-apart k i e t = ne-eqb k i (λ same. false≢true (sym t ∙ ap isOther (sym same) ∙ e))
+
+-- what holds of each line that may stand in an accepted file
+pub record Covers (rules : Rules) (holds : List ℕ → Type 0) : Type 0 where
+  pub row : (v : Bool) (name : ℕ) (l : List ℕ) → isRowLine rules v name l ≡ true → holds l
+  pub epoch : (at8 : ℕ) (l : List ℕ) → isEpochLine rules at8 l ≡ true → holds l
+  pub comment : (l : List ℕ) → isCommentLine rules l ≡ true → holds l
+  pub other : (l : List ℕ) → isOther (kindIn rules l) ≡ true → holds l
+
+module _ (rules : Rules) (holds : List ℕ → Type 0) (c : Covers rules holds) where
+  of-other : (k : ℕ) (ls : List (List ℕ)) → isOther k ≡ true → Of rules k ls → Each holds ls
+  of-other k ls t p = each-weaken (λ (l : List ℕ). kindIn rules l ≡ k) holds (λ l e. c .other l (ap isOther e ∙ t)) ls p
+
+  comments-hold : (ls : List (List ℕ)) → everyLine (isCommentLine rules) ls ≡ true → Each holds ls
+  unfolding everyLine
+  comments-hold [] e = tt
+  comments-hold (l ∷ ls) e = (
+    c .comment l (and-left (isCommentLine rules l) (everyLine (isCommentLine rules) ls) e),
+    comments-hold ls (and-right (isCommentLine rules l) (everyLine (isCommentLine rules) ls) e),
+  )
+
+  noted-hold : (v : Bool) (note : LineKind) (name : ℕ) (ls : List (List ℕ)) → isOther (toldKind note) ≡ true → Noted rules v note name ls → Each holds ls
+  noted-hold v note name ls t s =
+      let notes = lines-kind rules note (s .notes) (and-right (leb (length (s .notes)) 1) (everyLine (isLine rules note) (s .notes)) (s .are-notes)) in
+      let both : Each holds (s .row ∷ s .notes) = (c .row v name (s .row) (s .is-row), of-other (toldKind note) (s .notes) t notes) in
+      subst (Each holds) (sym (s .lines-are)) both
+
+  rest-hold : (v : Bool) (name : ℕ) (ls : List (List ℕ)) → Rest rules v name ls → Each holds ls
+  rest-hold true name ls r = noted-hold true kind.VelocityCorrelation name ls refl r
+  rest-hold false name ls r = subst (Each holds) (sym r) tt
+
+  rows-hold : (velocity : Bool) (names : List ℕ) (ls : List (List ℕ)) → Rows rules velocity names ls → Each holds ls
+  rows-hold velocity [] ls r = subst (Each holds) (sym r) tt
+  rows-hold velocity (name ∷ names) ls r =
+      let s = r .3 in
+      let own : Each holds (s .position ++ s .rest) =
+      each-append holds (s .position) (s .rest)
+      (noted-hold false kind.PositionCorrelation name (s .position) refl (s .is-position))
+      (rest-hold velocity name (s .rest) (s .is-rest)) in
+      let more = rows-hold velocity names (r .1) (r .4) in
+      subst (Each holds) (sym (r .2)) (each-append holds (r .0) (r .1) (subst (Each holds) (sym (s .lines-are)) own) more)
+
+  epochs-hold : (velocity : Bool) (names : List ℕ) (interval8 n at8 : ℕ) (ls : List (List ℕ)) → Epochs rules velocity names interval8 n at8 ls → Each holds ls
+  epochs-hold velocity names interval8 zero at8 ls e = subst (Each holds) (sym e) tt
+  epochs-hold velocity names interval8 (suc n) at8 ls e =
+      let rest : Each holds (e .1 ++ e .2) =
+      each-append holds (e .1) (e .2) (rows-hold velocity names (e .1) (e .5)) (epochs-hold velocity names interval8 n (at8 + interval8) (e .2) (e .6)) in
+      let all : Each holds (e .0 ∷ (e .1 ++ e .2)) = (c .epoch at8 (e .0) (e .4), rest) in
+      subst (Each holds) (sym (e .3)) all
+
+  -- the law of every accepted file
+  pub every-line : (lines : List (List ℕ)) → Plain rules lines → Each holds lines
+  every-line lines p =
+      let l9 = p .epochs ++ (p .last ∷ []) in
+      let l8 = p .comments ++ l9 in
+      let l7 = p .integers ∷ p .integers′ ∷ l8 in
+      let l6 = p .bases ∷ p .floats ∷ l7 in
+      let l5 = p .descriptor ∷ p .characters ∷ l6 in
+      let l4 = p .accuracies ++ l5 in
+      let l3 = p .count ∷ (p .slots ++ l4) in
+      let e9 = join (p .epochs) (p .last ∷ [])
+      (epochs-hold (velocities p) (names p) (interval8 p) (epochs p) (start8 p) (p .epochs) (p .are-epochs))
+      (of-other 14 (p .last ∷ []) refl (last-kind p)) in
+      let e8 = join (p .comments) l9 (comments-hold (p .comments) (p .are-comments)) e9 in
+      let e7 = join (p .integers ∷ p .integers′ ∷ []) l8 (of-other 7 (p .integers ∷ p .integers′ ∷ []) refl (integers-kind p)) e8 in
+      let e6 = join (p .bases ∷ p .floats ∷ []) l7 (of-other 6 (p .bases ∷ p .floats ∷ []) refl (floats-kind p)) e7 in
+      let e5 = join (p .descriptor ∷ p .characters ∷ []) l6 (of-other 5 (p .descriptor ∷ p .characters ∷ []) refl (characters-kind p)) e6 in
+      let e4 = join (p .accuracies) l5 (of-other 4 (p .accuracies) refl (accuracies-kind p)) e5 in
+      let e3 = join (p .count ∷ p .slots) l4 (of-other 3 (p .count ∷ p .slots) refl (names-kind p)) e4 in
+      let e2 = join (p .second ∷ []) l3 (of-other 2 (p .second ∷ []) refl (second-kind p)) e3 in
+      subst (Each holds) (sym (p .lines-are)) (join (p .first ∷ []) (p .second ∷ l3) (of-other 1 (p .first ∷ []) refl (first-kind p)) e2)
+    where
+      join : (a b : List (List ℕ)) → Each holds a → Each holds b → Each holds (a ++ b)
+      join = each-append holds

@@ -1,0 +1,186 @@
+// A walk over the rows of a file whose identifiers are known.
+ghost use mathlib.Core.Path.{_≡_};
+ghost use Prim.Native.Nat.{_+_, _%_, _^_};
+ghost use lib.Dec.{eqb};
+ghost use lib.ListN.{length, getD, take, drop};
+ghost use Rattle.lines.specs.Lines.{linesOf};
+ghost use Rattle.header.specs.Rules.{d};
+ghost use Rattle.machine.specs.Step.{lineAt};
+ghost use Rattle.machine.specs.Told.{toldRead};
+ghost use Rattle.row_walk.specs.Rows.{firstWalk, placePast, rowAhead, epochOf, satelliteOf, rowGiven, rowStep};
+ghost use Rattle.row_walk.specs.Told.{toldStep};
+use crate::types::RowStep;
+use crate::types::RowWalk;
+use header::Rules;
+use line_walk::Place;
+use machine::LineRead;
+
+// Before the first line of a file.
+pub fn first() -> RowWalk
+    ensures result { λ r. ⌜ r ≡ firstWalk ⌝ }
+{
+    RowWalk {
+        place: line_walk::first_place(),
+        passed: 0,
+    }
+}
+
+// Whether a P line begins at a place.
+fn is_row_at(file: &[u8], at: usize) -> bool
+    ensures { λ r. ⌜ r ≡ eqb (getD (now (file .entry)) at 0) 80 ⌝ }
+{
+    if at < file.len() {
+        return file[at] == b'P';
+    }
+    false
+}
+
+// The plain line reader where the identifiers of the header are known: what the line at a place does, and where the next begins.
+pub fn read_known<'a>(file: &'a [u8], names: &'a [u64], place: Place) -> LineRead
+    ensures result { λ r. ⌜ toldRead r ≡ toldRead (lineAt d (now (file .entry)) (place .at) (place .state) (now (names .entry))) ⌝ }
+{
+    let state = place.state;
+    machine::line_at(Rules::d(), file, place.at, state, names)
+}
+
+// The place after the line at a place; the same place where no line is left, where the line is refused and where it ends the file.
+fn place_past<'a>(file: &'a [u8], names: &'a [u64], place: Place) -> Place
+    ensures { λ r. ⌜ r ≡ placePast d (now (file .entry)) (now (names .entry)) place ⌝ }
+{
+    match read_known(file, names, place) {
+        LineRead::Next { at, state } => Place { at, state },
+        LineRead::NoLine => place,
+        LineRead::Fault {
+            number: _,
+            column: _,
+        } => place,
+        LineRead::Finished { at: _ } => place,
+    }
+}
+
+// The place of the next P line; or of the line before it that is refused or ends the file.
+fn at_row<'a>(file: &'a [u8], names: &'a [u64], from: Place) -> Place
+    ensures { λ r. ⌜ r ≡ rowAhead d (now (file .entry)) (now (names .entry)) from ⌝ }
+{
+    let mut place = from;
+    loop {
+        let at = place.at;
+        if is_row_at(file, at) {
+            return place;
+        }
+        let next = place_past(file, names, place);
+        if next.at == at {
+            return place;
+        }
+        place = next;
+    }
+}
+
+// The number of the line that begins at a place, counted from 1.
+fn line_number(file: &[u8], at: usize) -> u64
+    ensures { λ r. ⌜ r ≡ length (linesOf (take at (now (file .entry)))) + 1 ⌝ }
+{
+    let before = front_of(file, at);
+    let mut from: usize = 0;
+    let mut number: u64 = 1;
+    loop {
+        let end = lines::line_end(before, from);
+        if end >= before.len() {
+            return number;
+        }
+        number += 1;
+        from = end + 1;
+    }
+}
+
+// The first bytes, as many as there are.
+fn front_of(file: &[u8], n: usize) -> &[u8]
+    ensures { λ r. ⌜ now r ≡ take n (now (file .entry)) ⌝ }
+{
+    if n < file.len() {
+        return &file[0..n];
+    }
+    file
+}
+
+// The epoch and the satellite of a row, by how many rows stand before it.
+fn epoch_of(passed: u64, satellites: u64) -> u64
+    ensures { λ r. ⌜ r ≡ epochOf passed satellites ⌝ }
+{
+    if satellites == 0 {
+        return 0;
+    }
+    passed / satellites
+}
+
+fn satellite_of(passed: u64, satellites: u64) -> u64
+    ensures { λ r. ⌜ r ≡ satelliteOf passed satellites ⌝ }
+{
+    if satellites == 0 {
+        return 0;
+    }
+    passed % satellites
+}
+
+// The row of the P line at a place.
+fn row_given(file: &[u8], at: usize, satellites: u64, passed: u64, next: RowWalk) -> RowStep
+    ensures { λ r. ⌜ r ≡ rowGiven (now (file .entry)) at satellites passed next ⌝ }
+{
+    let line = file::line_at(file, at);
+    let row = float_row::float_row(record::rows::row_of(line, false));
+    let epoch = epoch_of(passed, satellites);
+    let satellite = satellite_of(passed, satellites);
+    if row.place_absent {
+        return RowStep::Absent {
+            epoch,
+            satellite,
+            row,
+            next,
+        };
+    }
+    RowStep::At {
+        epoch,
+        satellite,
+        row,
+        next,
+    }
+}
+
+// The next P row of a file in order, in mode V too, where `names` are the identifiers of its header; each line on the way is judged. A file
+// that `begin` accepted gives all its rows and then the end.
+pub fn next_row<'a>(file: &'a [u8], names: &'a [u64], from: RowWalk) -> RowStep
+    ensures result { λ r. ⌜ toldStep r ≡ toldStep (rowStep d (now (file .entry)) (now (names .entry)) from) ⌝ }
+{
+    let start = from.place;
+    let passed = from.passed;
+    let place = at_row(file, names, start);
+    let at = place.at;
+    let state = place.state;
+    match read_known(file, names, place) {
+        LineRead::NoLine => RowStep::Refused {
+            number: 1,
+            line: line_number(file, at),
+        },
+        LineRead::Fault { number, column: _ } => RowStep::Refused {
+            number,
+            line: line_number(file, at),
+        },
+        LineRead::Finished { at: _ } => RowStep::End,
+        LineRead::Next {
+            at: end,
+            state: after,
+        } => row_given(
+            file,
+            at,
+            state.satellites,
+            passed,
+            RowWalk {
+                place: Place {
+                    at: end,
+                    state: after,
+                },
+                passed: std::num::wrapping_add_u64(passed, 1),
+            },
+        ),
+    }
+}

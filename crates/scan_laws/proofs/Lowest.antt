@@ -1,0 +1,279 @@
+-- In a line the lowest number decides: a line is refused with the lowest of the numbers that it earns, each by a test of its own, and it is
+-- refused exactly when it earns one. Assumes nothing.
+use mathlib.Core.Path.{_≡_, refl, sym, ap, _∙_, subst}
+use mathlib.Core.Logic.{_⊎_, inl, inr, _↔_}
+use mathlib.Core.Bool.{Bool, true, false, cond, not, false≢true}
+use mathlib.Core.List.{List, [], _∷_, _++_, map}
+use Prim.Native.Nat.{ℕ, _+_, _≤_, _<_}
+use native.Mathlib.Omega.{arith}
+use borrow.Author.Tests.{eqb-true, eqb-false}
+use lib.Dec.{eqb, leb}
+use lib.ListN.{length, take}
+use Rattle.laws.specs.Texts.{every, isPrintable}
+use Rattle.layout.specs.Fault.{clean, keyed, numberOf, columnOf, lowerOf}
+use Rattle.layout.specs.Kind.{unless, nameCode}
+use Rattle.layout.specs.Layout.{Item, faultAt, faultOf}
+use Rattle.layout.specs.Line.{padded}
+use Rattle.record.specs.LineKinds.{kindOf}
+use Rattle.record.specs.Times.{dateFault}
+use Rattle.record.specs.Opening.{firstItems, firstOf, secondItems, secondOf, epochItems, epochOf}
+use Rattle.record.specs.SlotLines.{satelliteItems, countIn, moreItems}
+use Rattle.record.specs.Descriptors.{descriptorItems, descriptorOf, characterItems, baseItems, floatItems, integerItems}
+use Rattle.record.specs.Plain.{commentItems, correlationItems, endItems}
+use Rattle.record.specs.Rows.{rowItems, cut}
+use Rattle.header.specs.declared.types.Rules.{Rules}
+use Rattle.record.specs.declared.types.LineKind.{LineKind}
+use Rattle.record.specs.declared.types.LineKind.the-variants as kind
+use Rattle.machine.specs.Checks.{firstUnprintable, instantIn, secondAgrees, repeats, typeAgrees}
+use Rattle.machine.specs.State.{stands, knownNames, nameDue, isFirst, namesIn}
+use Rattle.machine.specs.Faults.{longest, secondFault, satellitesFault, charactersFault, floatsFault, epochFault, namedFault, recordFault, placeFault}
+use Rattle.machine.specs.Next.{nextOf}
+use Rattle.machine.specs.Step.{onKey, judgedLine, printedLine, stepOf}
+use Rattle.machine.specs.declared.types.State.{State}
+use Rattle.machine.specs.declared.types.Verdict.{Verdict}
+use Rattle.machine.specs.declared.types.Verdict.the-variants as verdict
+use Rattle.scan_laws.proofs.LeastKey.{Among, lowestOf, Lowest, lowest-is, items-lowest, number-monotone}
+
+-- What a line earns. Its columns, as the record of its kind lists them at this place:
+abbrev pub itemsAt : LineKind → Rules → State → List ℕ → List Item
+itemsAt kind.Other rules s line = []
+itemsAt kind.First rules s line = firstItems rules
+itemsAt kind.Second rules s line = secondItems
+itemsAt kind.Satellites rules s line = cond (isFirst s) (satelliteItems rules (countIn rules line)) (moreItems false (s .left))
+itemsAt kind.Accuracies rules s line = moreItems true (s .left)
+itemsAt kind.Characters rules s line = cond (eqb (s .lines) 2) descriptorItems characterItems
+itemsAt kind.Floats rules s line = cond (eqb (s .lines) 2) baseItems floatItems
+itemsAt kind.Integers rules s line = integerItems
+itemsAt kind.Comment rules s line = commentItems
+itemsAt kind.Epoch rules s line = epochItems
+itemsAt kind.Position rules s line = rowItems false
+itemsAt kind.Velocity rules s line = rowItems true
+itemsAt kind.PositionCorrelation rules s line = correlationItems false
+itemsAt kind.VelocityCorrelation rules s line = correlationItems true
+itemsAt kind.EndOfFile rules s line = endItems
+
+-- what it must agree with besides, and the number that it earns where it does not
+abbrev pub checksAt : LineKind → Rules → State → List ℕ → List ℕ → List ℕ
+checksAt kind.Other rules s names line = keyed 4 0 ∷ []
+checksAt kind.First rules s names line = dateFault (firstOf rules line .start) ∷ []
+checksAt kind.Second rules s names line = unless (secondAgrees (s .at8) (secondOf line)) 8 0 ∷ []
+checksAt kind.Satellites rules s names line = unless (not (repeats (knownNames s names) (namesIn rules s line))) 8 0 ∷ []
+checksAt kind.Accuracies rules s names line = []
+checksAt kind.Characters rules s names line =
+    cond (eqb (s .lines) 2) (unless (typeAgrees (descriptorOf line .«file_type») (take (s .satellites) names)) 8 0 ∷ []) []
+checksAt kind.Floats rules s names line = []
+checksAt kind.Integers rules s names line = []
+checksAt kind.Comment rules s names line = []
+checksAt kind.Epoch rules s names line =
+    dateFault (epochOf line .moment) ∷ unless (eqb (instantIn (epochOf line .moment)) (s .at8 + s .gap8)) 9 0 ∷ []
+checksAt kind.Position rules s names line = unless (eqb (nameCode (cut 2 4 line)) (nameDue s names)) 10 0 ∷ []
+checksAt kind.Velocity rules s names line = unless (eqb (nameCode (cut 2 4 line)) (nameDue s names)) 10 0 ∷ []
+checksAt kind.PositionCorrelation rules s names line = []
+checksAt kind.VelocityCorrelation rules s names line = []
+checksAt kind.EndOfFile rules s names line = []
+
+-- the faults of the parts of a line of 80 columns, each by itself; 0 is none
+abbrev pub partsAt : LineKind → Rules → State → List ℕ → List ℕ → List ℕ
+partsAt kind rules s names line = map (λ (item : Item). faultAt item line) (itemsAt kind rules s line) ++ checksAt kind rules s names line
+
+abbrev pub kindAt : Rules → List ℕ → LineKind
+kindAt rules line = kindOf rules (padded line)
+
+-- its record is looked at: it has only characters 32 to 126, is not too long, and its kind may stand here
+pub record LookedAt (rules : Rules) (s : State) (line : List ℕ) : Type 0 where
+  pub plain : every isPrintable line ≡ true
+  pub short : leb (length line) (longest rules (kindAt rules line)) ≡ true
+  pub placed : stands s (kindAt rules line) ≡ true
+
+-- The numbers that a line earns: 2 by a byte outside 32 to 126, 3 by its length, 4 by its place, and where its record is looked at the number
+-- of any of its parts.
+pub data Earns (rules : Rules) (s : State) (names line : List ℕ) (m : ℕ) : Type 0 where
+  by-byte : every isPrintable line ≡ false → m ≡ 2 → Earns rules s names line m
+  by-length : leb (length line) (longest rules (kindAt rules line)) ≡ false → m ≡ 3 → Earns rules s names line m
+  by-place : stands s (kindAt rules line) ≡ false → m ≡ 4 → Earns rules s names line m
+  by-part : LookedAt rules s line → (key : ℕ) → Among key (partsAt (kindAt rules line) rules s names (padded line)) → 0 < key → numberOf key ≡ m → Earns rules s names line m
+
+-- the fault of a record is the lowest of its parts'
+record-lowest : (k : LineKind) (rules : Rules) (s : State) (names line : List ℕ)
+    → recordFault k rules s names line ≡ lowestOf (faultOf (itemsAt k rules s line) line) (checksAt k rules s names line)
+unfolding secondFault satellitesFault charactersFault floatsFault epochFault namedFault lowerOf
+record-lowest kind.Other rules s names line = refl
+record-lowest kind.First rules s names line = refl
+record-lowest kind.Second rules s names line = refl
+record-lowest kind.Satellites rules s names line = go (isFirst s) refl
+  where
+    go : (t : Bool) → isFirst s ≡ t
+        → satellitesFault rules s names line ≡ lowestOf (faultOf (itemsAt kind.Satellites rules s line) line) (checksAt kind.Satellites rules s names line)
+    go true e = rw e refl
+    go false e = rw e refl
+record-lowest kind.Accuracies rules s names line = refl
+record-lowest kind.Characters rules s names line = go (eqb (s .lines) 2) refl
+  where
+    go : (t : Bool) → eqb (s .lines) 2 ≡ t
+        → charactersFault s names line ≡ lowestOf (faultOf (itemsAt kind.Characters rules s line) line) (checksAt kind.Characters rules s names line)
+    go true e = rw e refl
+    go false e = rw e refl
+record-lowest kind.Floats rules s names line = go (eqb (s .lines) 2) refl
+  where
+    go : (t : Bool) → eqb (s .lines) 2 ≡ t → floatsFault s line ≡ faultOf (itemsAt kind.Floats rules s line) line
+    go true e = rw e refl
+    go false e = rw e refl
+record-lowest kind.Integers rules s names line = refl
+record-lowest kind.Comment rules s names line = refl
+record-lowest kind.Epoch rules s names line = refl
+record-lowest kind.Position rules s names line = refl
+record-lowest kind.Velocity rules s names line = refl
+record-lowest kind.PositionCorrelation rules s names line = refl
+record-lowest kind.VelocityCorrelation rules s names line = refl
+record-lowest kind.EndOfFile rules s names line = refl
+
+-- a line that is not refused has no fault
+isFault : Verdict → Bool
+isFault (verdict.Fault number column) = true
+isFault (verdict.Next s) = false
+isFault verdict.Finished = false
+
+abbrev NotRefused : Verdict → Type 0
+NotRefused v = (m c : ℕ) → v ≡ verdict.Fault m c → ⊥
+
+next-passes : (k : LineKind) (rules : Rules) (s : State) (line : List ℕ) → isFault (nextOf k rules s line) ≡ false
+unfolding isFault
+next-passes kind.Other rules s line = refl
+next-passes kind.First rules s line = refl
+next-passes kind.Second rules s line = refl
+next-passes kind.Satellites rules s line = refl
+next-passes kind.Accuracies rules s line = refl
+next-passes kind.Characters rules s line = refl
+next-passes kind.Floats rules s line = refl
+next-passes kind.Integers rules s line = refl
+next-passes kind.Comment rules s line = refl
+next-passes kind.Epoch rules s line = refl
+next-passes kind.Position rules s line = refl
+next-passes kind.Velocity rules s line = refl
+next-passes kind.PositionCorrelation rules s line = refl
+next-passes kind.VelocityCorrelation rules s line = refl
+next-passes kind.EndOfFile rules s line = refl
+
+not-refused : (v : Verdict) → isFault v ≡ false → NotRefused v
+unfolding isFault
+not-refused v e m c f = false≢true (sym e ∙ ap isFault f)
+
+-- what a verdict on a line says of the numbers that it earns
+data Decides (rules : Rules) (s : State) (names line : List ℕ) (v : Verdict) : Type 0 where
+  refused : (m c : ℕ) → v ≡ verdict.Fault m c → Earns rules s names line m → ((m′ : ℕ) → Earns rules s names line m′ → m ≤ m′) → Decides rules s names line v
+  passed : NotRefused v → ((m : ℕ) → Earns rules s names line m → ⊥) → Decides rules s names line v
+
+both : {b : Bool} → b ≡ true → b ≡ false → ⊥
+both p q = false≢true (sym q ∙ p)
+
+module _ (rules : Rules) (s : State) (names line : List ℕ) where
+  abbrev Short : Bool
+  Short = leb (length line) (longest rules (kindAt rules line))
+
+  abbrev parts : List ℕ
+  parts = partsAt (kindAt rules line) rules s names (padded line)
+
+  abbrev key : ℕ
+  key = lowestOf clean parts
+
+  -- a byte outside 32 to 126
+  decides-two : every isPrintable line ≡ false → Decides rules s names line (stepOf rules s names line)
+  unfolding stepOf
+  decides-two b = refused 2 (firstUnprintable line) (rw b refl) (by-byte b refl) least
+    where
+      least : (m : ℕ) → Earns rules s names line m → 2 ≤ m
+      least m (by-byte p e) = omega arith
+      least m (by-length p e) = omega arith
+      least m (by-place p e) = omega arith
+      least m (by-part l k a h e) = absurd (both (l .plain) b)
+
+  -- a line that is too long
+  decides-three : every isPrintable line ≡ true → Short ≡ false → Decides rules s names line (stepOf rules s names line)
+  unfolding stepOf printedLine
+  decides-three b n = refused 3 (longest rules (kindAt rules line) + 1) (rw (b, n) refl) (by-length n refl) least
+    where
+      least : (m : ℕ) → Earns rules s names line m → 3 ≤ m
+      least m (by-byte p e) = absurd (both b p)
+      least m (by-length p e) = omega arith
+      least m (by-place p e) = omega arith
+      least m (by-part l k a h e) = absurd (both (l .short) n)
+
+  -- a line that may not stand here
+  decides-four : every isPrintable line ≡ true → Short ≡ true → stands s (kindAt rules line) ≡ false → Decides rules s names line (stepOf rules s names line)
+  unfolding stepOf printedLine judgedLine onKey placeFault
+  decides-four b n p = refused 4 0 (rw (b, n, p) refl) (by-place p refl) least
+    where
+      least : (m : ℕ) → Earns rules s names line m → 4 ≤ m
+      least m (by-byte q e) = absurd (both b q)
+      least m (by-length q e) = absurd (both n q)
+      least m (by-place q e) = omega arith
+      least m (by-part l k a h e) = absurd (both (l .placed) p)
+
+  -- a line whose record is looked at
+  module _ (l : LookedAt rules s line) where
+    step-key : stepOf rules s names line ≡ onKey key (nextOf (kindAt rules line) rules s (padded line))
+    unfolding stepOf printedLine judgedLine placeFault
+    step-key =
+        let k = kindAt rules line in
+        let record-key : recordFault k rules s names (padded line) ≡ key =
+        record-lowest k rules s names (padded line)
+        ∙ sym (items-lowest (itemsAt k rules s (padded line)) (padded line) clean (checksAt k rules s names (padded line))) in
+        rw (l .plain, l .short, l .placed, record-key) refl
+
+    earned : (r : ℕ) → Lowest clean parts r → 0 < r → Among r parts
+    earned r low h = go (low .one)
+      where
+        go : (r ≡ clean) ⊎ Among r parts → Among r parts
+        go (inl e) = absurd (omega arith)
+        go (inr a) = a
+
+    least : (r : ℕ) → Lowest clean parts r → (m : ℕ) → Earns rules s names line m → (0 < r) × (numberOf r ≤ m)
+    least r low m (by-byte p e) = absurd (both (l .plain) p)
+    least r low m (by-length p e) = absurd (both (l .short) p)
+    least r low m (by-place p e) = absurd (both (l .placed) p)
+    least r low m (by-part _ k a h e) =
+        let below = low .each k a h in
+        (below .0, omega (arith, number-monotone r k (below .1), e))
+
+    decides-part : Decides rules s names line (stepOf rules s names line)
+    unfolding onKey
+    decides-part = go (eqb key 0) refl (lowest-is parts clean)
+      where
+        go : (t : Bool) → eqb key 0 ≡ t → Lowest clean parts key → Decides rules s names line (stepOf rules s names line)
+        go true e low =
+            let none : key ≡ 0 = eqb-true key 0 e in
+            let next : stepOf rules s names line ≡ nextOf (kindAt rules line) rules s (padded line) = step-key ∙ rw e refl in
+            passed (not-refused (stepOf rules s names line) (ap isFault next ∙ next-passes (kindAt rules line) rules s (padded line)))
+            (λ m e. omega (arith, none, least key low m e .0))
+        go false e low =
+            let some : 0 < key = omega (arith, eqb-false key 0 e) in
+            refused (numberOf key) (columnOf key) (step-key ∙ rw e refl) (by-part l key (earned key low some) some refl) (λ m e. least key low m e .1)
+
+  decides : Decides rules s names line (stepOf rules s names line)
+  decides = go (every isPrintable line) Short (stands s (kindAt rules line)) refl refl refl
+    where
+      go : (b n p : Bool) → every isPrintable line ≡ b → Short ≡ n → stands s (kindAt rules line) ≡ p → Decides rules s names line (stepOf rules s names line)
+      go false n p eb en ep = decides-two eb
+      go true false p eb en ep = decides-three eb en
+      go true true false eb en ep = decides-four eb en ep
+      go true true true eb en ep = decides-part (record { plain = eb; short = en; placed = ep })
+
+  -- A line is refused with a number that it earns, and it earns none below that.
+  pub lowest : (m c : ℕ) → stepOf rules s names line ≡ verdict.Fault m c
+      → Earns rules s names line m × ((m′ : ℕ) → Earns rules s names line m′ → m ≤ m′)
+  lowest m c e = go decides
+    where
+      go : Decides rules s names line (stepOf rules s names line) → Earns rules s names line m × ((m′ : ℕ) → Earns rules s names line m′ → m ≤ m′)
+      go (passed none nothing) = absurd (none m c e)
+      go (refused n d f earns least) =
+          let faults : verdict.Fault n d ≡ verdict.Fault m c = sym f ∙ e in
+          let same : n ≡ m = cc in
+          (subst (Earns rules s names line) same earns, λ m′ a. subst (λ (k : ℕ). k ≤ m′) same (least m′ a))
+
+  -- A line is not refused exactly when it earns no number.
+  pub none : ((m : ℕ) → Earns rules s names line m → ⊥) ↔ ((m c : ℕ) → stepOf rules s names line ≡ verdict.Fault m c → ⊥)
+  none = (λ nothing m c e. nothing m (lowest m c e .0), go decides)
+    where
+      go : Decides rules s names line (stepOf rules s names line) → NotRefused (stepOf rules s names line) → (m : ℕ) → Earns rules s names line m → ⊥
+      go (passed n nothing) h = nothing
+      go (refused m c f earns least) h = absurd (h m c f)

@@ -1,0 +1,230 @@
+-- The rows of an epoch: lines as the plain definition has them take the machine from the first satellite to after the last, and a run to a
+-- file has read such lines.
+-- Assumes nothing.
+use mathlib.Core.Path.{_≡_, refl, sym, ap, _∙_, subst}
+use mathlib.Core.Bool.{Bool, true, false, cond}
+use mathlib.Core.List.{List, [], _∷_, _++_, append-assoc, append-nil}
+use Prim.Native.Nat.{ℕ, suc, _+_, _-_}
+use native.Mathlib.Omega.{arith}
+use lib.Dec.{eqb}
+use lib.ListN.{length, getD}
+use lib.Seq.{getD-at}
+use borrow.Author.Tests.{eqb-true, ne-eqb}
+use Rattle.laws.proofs.Bools.{and-left, and-right}
+use Rattle.laws.proofs.Lists.{one-less, snoc-length}
+use Rattle.layout.specs.Kind.{nameCode, unless}
+use Rattle.layout.specs.Line.{padded}
+use Rattle.layout.proofs.Again.{lower-clean, passed}
+use Rattle.record.specs.LineKinds.{toldKind}
+use Rattle.record.specs.Rows.{rowFault, cut}
+use Rattle.header.specs.declared.types.Rules.{Rules}
+use Rattle.record.specs.declared.types.LineKind.the-variants as kind
+use Rattle.machine.specs.State.{nameDue}
+use Rattle.machine.specs.Faults.{namedFault, recordFault}
+use Rattle.machine.specs.Next.{expect, allow, leave, rowDue, satelliteDone, afterPosition, nextOf}
+use Rattle.machine.specs.Step.{namesBrought}
+use Rattle.machine.specs.declared.types.State.{State}
+use Rattle.machine.specs.declared.types.Verdict.the-variants as verdict
+use Rattle.file.specs.Plain.{isLine, isRecord, rowKind, isRowLine, Noted, Satellite, Rows}
+use Rattle.scan.specs.Run.{run, counted}
+use Rattle.scan.specs.declared.Tally.{Tally}
+use Rattle.scan.specs.declared.Front.the-variants as front
+use Rattle.scan_laws.proofs.Reaching.{countedOver, Reach, reach-none, reach-append, reach-one, names-kept, due-line, Read, split-on, goes-on}
+use Rattle.scan_laws.proofs.Notes.{noteKind, notes-reach, notes-read}
+
+-- where so many satellites have their rows still to come
+abbrev pub rowsLeft : ℕ → ℕ → State → State
+rowsLeft also left s = leave left (allow also (expect (rowDue left (s .epochs)) 1 s))
+
+-- no identifiers are brought by rows
+row-not-names : (velocity : Bool) → eqb (toldKind (rowKind velocity)) 3 ≡ false
+row-not-names true = refl
+row-not-names false = refl
+
+left-not-names : (left epochs : ℕ) → eqb (rowDue left epochs) 3 ≡ false
+left-not-names left epochs = go (eqb left 0) (eqb epochs 0)
+  where
+    go : (a b : Bool) → eqb (cond a (cond b 14 9) 10) 3 ≡ false
+    go true true = refl
+    go true false = refl
+    go false b = refl
+
+-- a satellite is left
+row-due : (k epochs : ℕ) → rowDue (suc k) epochs ≡ 10
+row-due k epochs = rw (ne-eqb (suc k) 0 (λ e. omega arith))
+
+-- the fault of a row of 80 columns is that of its columns and of its identifier
+row-fault : (velocity : Bool) (rules : Rules) (s : State) (names p : List ℕ) → recordFault (rowKind velocity) rules s names p ≡ namedFault velocity s names p
+row-fault true rules s names p = refl
+row-fault false rules s names p = refl
+
+named-clean : (velocity : Bool) (s : State) (names p : List ℕ) → rowFault velocity p ≡ 0 → eqb (nameCode (cut 2 4 p)) (nameDue s names) ≡ true
+    → namedFault velocity s names p ≡ 0
+unfolding namedFault
+named-clean velocity s names p fault name = rw (name, fault)
+
+clean-named : (velocity : Bool) (s : State) (names p : List ℕ) → namedFault velocity s names p ≡ 0
+    → (rowFault velocity p ≡ 0) × (eqb (nameCode (cut 2 4 p)) (nameDue s names) ≡ true)
+unfolding namedFault
+clean-named velocity s names p e =
+    let same = eqb (nameCode (cut 2 4 p)) (nameDue s names) in
+    let parts = lower-clean (rowFault velocity p) (unless same 10 0) e in
+    (parts .0, passed same 10 0 (omega arith) (parts .1))
+
+module _ (rules : Rules) (names : List ℕ) where
+  -- P or V with what may stand after it
+  module _ (velocity : Bool) (s next : State) (name : ℕ) (due : s .due ≡ toldKind (rowKind velocity)) (name-due : nameDue s names ≡ name)
+      (nexts : (p : List ℕ) → nextOf (rowKind velocity) rules s p ≡ verdict.Next next) (also : next .also ≡ toldKind (noteKind velocity))
+      (other : eqb (next .due) 3 ≡ false) where
+    kept : (l : List ℕ) → namesBrought rules s names l ≡ names
+    kept l = names-kept rules s names l (ap (λ (d : ℕ). eqb d 3) due ∙ row-not-names velocity)
+
+    row-reach : (l : List ℕ) → isRowLine rules velocity name l ≡ true → Reach rules s names (l ∷ []) next names
+    row-reach l is =
+        let p = padded l in
+        let whole = and-left (isRecord rules (rowKind velocity) (rowFault velocity p) l) _ is in
+        let named : eqb (nameCode (cut 2 4 p)) name ≡ true = and-right (isRecord rules (rowKind velocity) (rowFault velocity p) l) _ is in
+        let fault : rowFault velocity p ≡ 0 = eqb-true (rowFault velocity p) 0 (and-right (isLine rules (rowKind velocity) l) _ whole) in
+        reach-one rules (rowKind velocity) s next names names l due (and-left (isLine rules (rowKind velocity) l) _ whole)
+        (row-fault velocity rules s names p ∙ named-clean velocity s names p fault (ap (eqb (nameCode (cut 2 4 p))) name-due ∙ named)) (nexts p) (kept l)
+
+    pub noted-reach : (ls : List (List ℕ)) → Noted rules velocity (noteKind velocity) name ls → (a : ℕ) × Reach rules s names ls (allow a next) names
+    noted-reach ls n =
+        let after = notes-reach rules next names velocity (n .notes) also other (n .are-notes) in (
+          after .0,
+          subst (λ (x : List (List ℕ)). Reach rules s names x (allow (after .0) next) names) (sym (n .lines-are))
+              (reach-append rules s next (allow (after .0) next) names names names (n .row ∷ []) (n .notes) (row-reach (n .row) (n .is-row)) (after .1)),
+        )
+
+    -- and what a run to a file has read
+    pub noted-read : (t t′ : Tally) (ls : List (List ℕ)) → s .also ≡ 0 → run rules s names t ls ≡ front.File t′
+        → Read rules (Noted rules velocity (noteKind velocity) name) (allow 0 next) names t t′ ls
+    unfolding countedOver
+    noted-read t t′ ls none e =
+        let x = due-line rules (rowKind velocity) s names t t′ ls due none e in
+        let p = padded (x .line) in
+        let parts = clean-named velocity s names p (sym (row-fault velocity rules s names p) ∙ x .clean) in
+        let goes : run rules next names (counted rules t (x .line)) (x .others) ≡ front.File t′ = rw (nexts p, kept (x .line)) at (x .goes) in
+        let y = notes-read rules next names velocity (counted rules t (x .line)) t′ (x .others) also other goes in
+        record {
+          used = x .line ∷ y .used;
+          more = y .more;
+          split = x .split ∙ ap (λ (r : List (List ℕ)). x .line ∷ r) (y .split);
+          holds = record {
+            row = x .line;
+            notes = y .used;
+            lines-are = refl;
+            is-row = rw (x .is-kind, parts .0, sym (ap (eqb (nameCode (cut 2 4 p))) name-due) ∙ parts .1);
+            are-notes = y .holds;
+          };
+          goes = y .goes;
+        }
+
+  -- the state of a satellite whose P has been read, in mode V
+  abbrev rowDone : ℕ → ℕ → State → State
+  rowDone also left s = allow also (expect 11 1 (rowsLeft 0 left s))
+
+  module _ (s : State) where
+    done-position : (a k : ℕ) → s .velocity ≡ false → afterPosition (rowsLeft a (suc k) s) ≡ rowsLeft 12 k s
+    unfolding afterPosition satelliteDone
+    done-position a k v = rw (v, one-less k)
+
+    half-position : (a k : ℕ) → s .velocity ≡ true → afterPosition (rowsLeft a (suc k) s) ≡ rowDone 12 (suc k) s
+    unfolding afterPosition
+    half-position a k v = rw v
+
+    done-velocity : (a k : ℕ) → satelliteDone 13 (rowDone a (suc k) s) ≡ rowsLeft 13 k s
+    unfolding satelliteDone
+    done-velocity a k = rw (one-less k)
+
+    -- the lines of one satellite
+    satellite-reach : (velocity : Bool) (a k name : ℕ) (ls : List (List ℕ)) → s .velocity ≡ velocity → nameDue (rowsLeft a (suc k) s) names ≡ name
+        → Satellite rules velocity name ls → (b : ℕ) × Reach rules (rowsLeft a (suc k) s) names ls (rowsLeft b k s) names
+    satellite-reach false a k name ls v name-due sat =
+        let p =
+        noted-reach false (rowsLeft a (suc k) s) (rowsLeft 12 k s) name (row-due k (s .epochs)) name-due (λ p. ap verdict.Next (done-position a k v)) refl
+        (left-not-names k (s .epochs)) (sat .position) (sat .is-position) in
+        let none : ls ≡ sat .position = sat .lines-are ∙ ap (λ (r : List (List ℕ)). sat .position ++ r) (sat .is-rest) ∙ append-nil (sat .position) in
+        (p .0, subst (λ (x : List (List ℕ)). Reach rules (rowsLeft a (suc k) s) names x (rowsLeft (p .0) k s) names) (sym none) (p .1))
+    satellite-reach true a k name ls v name-due sat =
+        let p =
+        noted-reach false (rowsLeft a (suc k) s) (rowDone 12 (suc k) s) name (row-due k (s .epochs)) name-due (λ p. ap verdict.Next (half-position a k v)) refl
+        refl (sat .position) (sat .is-position) in
+        let q =
+        noted-reach true (rowDone (p .0) (suc k) s) (rowsLeft 13 k s) name refl name-due (λ q. ap verdict.Next (done-velocity (p .0) k)) refl
+        (left-not-names k (s .epochs)) (sat .rest) (sat .is-rest) in (
+          q .0,
+          subst (λ (x : List (List ℕ)). Reach rules (rowsLeft a (suc k) s) names x (rowsLeft (q .0) k s) names) (sym (sat .lines-are))
+              (reach-append rules (rowsLeft a (suc k) s) (rowDone (p .0) (suc k) s) (rowsLeft (q .0) k s) names names names (sat .position) (sat .rest) (p .1) (q .1)),
+        )
+
+    satellite-read : (velocity : Bool) (k name : ℕ) (t t′ : Tally) (ls : List (List ℕ)) → s .velocity ≡ velocity → nameDue (rowsLeft 0 (suc k) s) names ≡ name
+        → run rules (rowsLeft 0 (suc k) s) names t ls ≡ front.File t′ → Read rules (Satellite rules velocity name) (rowsLeft 0 k s) names t t′ ls
+    satellite-read false k name t t′ ls v name-due e =
+        let p =
+        noted-read false (rowsLeft 0 (suc k) s) (rowsLeft 12 k s) name (row-due k (s .epochs)) name-due (λ p. ap verdict.Next (done-position 0 k v)) refl
+        (left-not-names k (s .epochs)) t t′ ls refl e in
+        record {
+          used = p .used;
+          more = p .more;
+          split = p .split;
+          holds = record { position = p .used; rest = []; lines-are = sym (append-nil (p .used)); is-position = p .holds; is-rest = refl };
+          goes = p .goes;
+        }
+    satellite-read true k name t t′ ls v name-due e =
+        let p =
+        noted-read false (rowsLeft 0 (suc k) s) (rowDone 12 (suc k) s) name (row-due k (s .epochs)) name-due (λ p. ap verdict.Next (half-position 0 k v)) refl
+        refl t t′ ls refl e in
+        let q =
+        noted-read true (rowDone 0 (suc k) s) (rowsLeft 13 k s) name refl name-due (λ q. ap verdict.Next (done-velocity 0 k)) refl
+        (left-not-names k (s .epochs)) (countedOver rules t (p .used)) t′ (p .more) refl (p .goes) in
+        record {
+          used = p .used ++ q .used;
+          more = q .more;
+          split = split-on rules ls (p .used) (q .used) (p .more) (q .more) (p .split) (q .split);
+          holds = record { position = p .used; rest = q .used; lines-are = refl; is-position = p .holds; is-rest = q .holds };
+          goes = goes-on rules (rowsLeft 0 k s) names t t′ (p .used) (q .used) (q .more) (q .goes);
+        }
+
+    -- the identifier of the satellite whose row comes next
+    next-name : (a : ℕ) (before after : List ℕ) (name : ℕ) (rest : List ℕ) → names ≡ before ++ (name ∷ (after ++ rest))
+        → s .satellites ≡ length before + suc (length after) → nameDue (rowsLeft a (suc (length after)) s) names ≡ name
+    next-name a before after name rest are many =
+        ap (λ (x : List ℕ). getD x (s .satellites - suc (length after)) 0) are
+        ∙ getD-at before name (after ++ rest) 0 (s .satellites - suc (length after)) (omega (arith, many))
+
+    one-on : (before after : List ℕ) (name : ℕ) (rest : List ℕ) → names ≡ before ++ (name ∷ (after ++ rest)) → names ≡ (before ++ (name ∷ [])) ++ (after ++ rest)
+    one-on before after name rest are = are ∙ sym (append-assoc before (name ∷ []) (after ++ rest))
+
+    many-on : (before after : List ℕ) (name : ℕ) → s .satellites ≡ length before + suc (length after) → s .satellites ≡ length (before ++ (name ∷ [])) + length after
+    many-on before after name many = omega (arith, many, snoc-length before name)
+
+    -- the lines of each satellite in header order
+    pub rows-reach : (after before rest : List ℕ) (a : ℕ) (ls : List (List ℕ)) → names ≡ before ++ (after ++ rest) → s .satellites ≡ length before + length after
+        → Rows rules (s .velocity) after ls → (b : ℕ) × Reach rules (rowsLeft a (length after) s) names ls (rowsLeft b 0 s) names
+    rows-reach [] before rest a ls are many rows =
+        (a, subst (λ (x : List (List ℕ)). Reach rules (rowsLeft a 0 s) names x (rowsLeft a 0 s) names) (sym rows) (reach-none rules (rowsLeft a 0 s) names))
+    rows-reach (name ∷ after) before rest a ls are many (own, more, lines-are, sat, rows) =
+        let p = satellite-reach (s .velocity) a (length after) name own refl (next-name a before after name rest are many) sat in
+        let q = rows-reach after (before ++ (name ∷ [])) rest (p .0) more (one-on before after name rest are) (many-on before after name many) rows in (
+          q .0,
+          subst (λ (x : List (List ℕ)). Reach rules (rowsLeft a (suc (length after)) s) names x (rowsLeft (q .0) 0 s) names) (sym lines-are)
+              (reach-append rules (rowsLeft a (suc (length after)) s) (rowsLeft (p .0) (length after) s) (rowsLeft (q .0) 0 s) names names names own more (p .1) (q .1)),
+        )
+
+    pub rows-read : (after before rest : List ℕ) (t t′ : Tally) (ls : List (List ℕ)) → names ≡ before ++ (after ++ rest) → s .satellites ≡ length before + length after
+        → run rules (rowsLeft 0 (length after) s) names t ls ≡ front.File t′ → Read rules (Rows rules (s .velocity) after) (rowsLeft 0 0 s) names t t′ ls
+    unfolding countedOver
+    rows-read [] before rest t t′ ls are many e = record { used = []; more = ls; split = refl; holds = refl; goes = e }
+    rows-read (name ∷ after) before rest t t′ ls are many e =
+        let p = satellite-read (s .velocity) (length after) name t t′ ls refl (next-name 0 before after name rest are many) e in
+        let q =
+        rows-read after (before ++ (name ∷ [])) rest (countedOver rules t (p .used)) t′ (p .more) (one-on before after name rest are)
+        (many-on before after name many) (p .goes) in
+        record {
+          used = p .used ++ q .used;
+          more = q .more;
+          split = split-on rules ls (p .used) (q .used) (p .more) (q .more) (p .split) (q .split);
+          holds = (p .used, q .used, refl, p .holds, q .holds);
+          goes = goes-on rules (rowsLeft 0 0 s) names t t′ (p .used) (q .used) (q .more) (q .goes);
+        }

@@ -1,0 +1,172 @@
+// A file line by line, and row by row.
+ghost use mathlib.Core.Path.{_≡_};
+ghost use lib.ListN.{length};
+ghost use Rattle.header.specs.Rules.{d};
+ghost use Rattle.machine.specs.Step.{lineAt, lineRead, lineNames};
+ghost use Rattle.reader.specs.Reading.{fileOf, judged};
+ghost use Rattle.line_walk.specs.Places.{firstPlace, placesAfter, identifiersAfter};
+ghost use Rattle.row_walk.specs.Begin.{begunAs, namesBegun};
+ghost use Rattle.row_walk.specs.Rows.{firstWalk, rowStep};
+ghost use Rattle.sp3.specs.Doors.{lineParts, lineDoor, noRow, rowFound, rowDoor};
+use crate::types::LineAnswer;
+use crate::types::RowStepAnswer;
+use float_row::FloatRow;
+use header::Rules;
+use line_walk::Place;
+use machine::LineRead;
+use reader::Reading;
+use row_walk::RowStep;
+use row_walk::RowWalk;
+
+// Before the first line of a file.
+#[no_mangle]
+pub extern "C" fn sp3_first_place() -> Place
+    ensures result { λ r. ⌜ r ≡ firstPlace ⌝ }
+{
+    line_walk::first_place()
+}
+
+// The parts of what a line does.
+fn line_parts(refusal: usize, column: usize, finished: bool, next: Place) -> LineAnswer
+    ensures { λ r. ⌜ r ≡ lineParts refusal column finished next ⌝ }
+{
+    LineAnswer {
+        refusal,
+        column,
+        finished,
+        next,
+    }
+}
+
+// What a line was found to do at a place, for C.
+fn line_answer(found: LineRead, place: Place) -> LineAnswer
+    ensures { λ r. ⌜ r ≡ lineDoor place found ⌝ }
+{
+    let before = place.state;
+    match found {
+        LineRead::NoLine => line_parts(1, 0, false, place),
+        LineRead::Fault { number, column } => line_parts(number, column, false, place),
+        LineRead::Next { at, state } => line_parts(0, 0, false, Place { at, state }),
+        LineRead::Finished { at } => line_parts(0, 0, true, Place { at, state: before }),
+    }
+}
+
+// The plain line reader: what the line at a place does. A `+ ` line leaves its identifiers in `names`; 12 where they are more than fit.
+#[no_mangle]
+pub extern "C" fn sp3_read_line(bytes: &[u8], place: Place, names: &mut [u64]) -> LineAnswer
+    ensures result { λ r. ⌜ r ≡ lineDoor place (lineRead d (now (bytes .entry)) (place .at) (place .state) (now (names .entry))) ⌝ }
+    ensures lent { λ _. ⌜ now (names .exit) ≡ lineNames d (now (bytes .entry)) (place .at) (place .state) (now (names .entry)) ⌝ }
+{
+    let at = place.at;
+    let state = place.state;
+    let found = machine::read_line(Rules::d(), bytes, at, state, names);
+    line_answer(found, place)
+}
+
+// The same where the identifiers of the header are known.
+#[no_mangle]
+pub extern "C" fn sp3_next_line<'a>(file: &'a [u8], names: &'a [u64], place: Place) -> LineAnswer
+    ensures result { λ r. ⌜ r ≡ lineDoor place (lineAt d (now (file .entry)) (place .at) (place .state) (now (names .entry))) ⌝ }
+{
+    let found = row_walk::read_known(file, names, place);
+    line_answer(found, place)
+}
+
+// A walk: the place so many lines further. A `+ ` line leaves its identifiers in `names`.
+#[no_mangle]
+pub extern "C" fn sp3_after_lines(
+    file: &[u8],
+    names: &mut [u64],
+    place: Place,
+    lines: usize,
+) -> Place
+    ensures result { λ r. ⌜ r ≡ placesAfter d (now (file .entry)) (now (names .entry)) place lines ⌝ }
+    ensures lent { λ _. ⌜ now (names .exit) ≡ identifiersAfter d (now (file .entry)) (now (names .entry)) place lines ⌝ }
+{
+    line_walk::after_lines(file, place, lines, names)
+}
+
+// Before a walk over rows: the file judged, the identifiers of its header left in `identifiers`.
+#[no_mangle]
+pub extern "C" fn sp3_begin(file: &[u8], identifiers: &mut [u64]) -> Reading
+    ensures result { λ r. ⌜ r ≡ begunAs (judged d (now (file .entry)) (fileOf d (now (file .entry)))) (length (now (identifiers .entry))) ⌝ }
+    ensures lent { λ _. ⌜ now (identifiers .exit) ≡ namesBegun (judged d (now (file .entry)) (fileOf d (now (file .entry)))) (now (file .entry)) (now (identifiers .entry)) ⌝ }
+{
+    row_walk::begin(file, identifiers)
+}
+
+// Before the first row.
+#[no_mangle]
+pub extern "C" fn sp3_first_row() -> RowWalk
+    ensures result { λ r. ⌜ r ≡ firstWalk ⌝ }
+{
+    row_walk::first()
+}
+
+// No row: both parts absent.
+fn no_row(refusal: usize, line: u64, end: bool, from: RowWalk) -> RowStepAnswer
+    ensures { λ r. ⌜ r ≡ noRow refusal line end from ⌝ }
+{
+    let none = 0.0 / 0.0;
+    RowStepAnswer {
+        refusal,
+        line,
+        end,
+        epoch: 0,
+        satellite: 0,
+        row: FloatRow {
+            x: none,
+            y: none,
+            z: none,
+            clock: none,
+            place_absent: true,
+            clock_absent: true,
+        },
+        next: from,
+    }
+}
+
+// A row.
+fn row_found(epoch: u64, satellite: u64, row: FloatRow, next: RowWalk) -> RowStepAnswer
+    ensures { λ r. ⌜ r ≡ rowFound epoch satellite row next ⌝ }
+{
+    RowStepAnswer {
+        refusal: 0,
+        line: 0,
+        end: false,
+        epoch,
+        satellite,
+        row,
+        next,
+    }
+}
+
+// The step of a walk, for C.
+fn row_answer(found: RowStep, from: RowWalk) -> RowStepAnswer
+    ensures { λ r. ⌜ r ≡ rowDoor from found ⌝ }
+{
+    match found {
+        RowStep::At {
+            epoch,
+            satellite,
+            row,
+            next,
+        } => row_found(epoch, satellite, row, next),
+        RowStep::Absent {
+            epoch,
+            satellite,
+            row,
+            next,
+        } => row_found(epoch, satellite, row, next),
+        RowStep::End => no_row(0, 0, true, from),
+        RowStep::Refused { number, line } => no_row(number, line, false, from),
+    }
+}
+
+// The next row of a file in order.
+#[no_mangle]
+pub extern "C" fn sp3_next_row<'a>(file: &'a [u8], names: &'a [u64], from: RowWalk) -> RowStepAnswer
+    ensures result { λ r. ⌜ r ≡ rowDoor from (rowStep d (now (file .entry)) (now (names .entry)) from) ⌝ }
+{
+    row_answer(row_walk::next_row(file, names, from), from)
+}

@@ -1,0 +1,86 @@
+-- Each answer is known by its number and values: two that are told alike are one.
+-- Assumes nothing.
+use mathlib.Core.Path.{_≡_, refl}
+use lib.IntN.{ℤ, pos, negsuc, natAbs}
+use Rattle.field.specs.Sign.{isNegative}
+use Rattle.stored_row.specs.Stored.{signNumber, toldPlace, toldClock, toldDeviation, toldFlag}
+use Rattle.stored_row.specs.declared.types.Place.{Place}
+use Rattle.stored_row.specs.declared.types.Place.the-variants as place
+use Rattle.stored_row.specs.declared.types.ClockRead.{ClockRead}
+use Rattle.stored_row.specs.declared.types.ClockRead.the-variants as clock
+use Rattle.stored_row.specs.declared.types.Deviation.{Deviation}
+use Rattle.stored_row.specs.declared.types.Deviation.the-variants as deviation
+use Rattle.stored_row.specs.declared.types.Flag.{Flag}
+use Rattle.stored_row.specs.declared.types.Flag.the-variants as flag
+
+-- a signed number is known by its sign and its magnitude
+int-one : (v u : ℤ) → signNumber (isNegative v) ≡ signNumber (isNegative u) → natAbs v ≡ natAbs u → v ≡ u
+int-one (pos n) (pos m) s e = cc
+int-one (pos n) (negsuc m) s e = cc
+int-one (negsuc n) (pos m) s e = cc
+int-one (negsuc n) (negsuc m) s e = cc
+
+pub toldPlace-one : (a b : Place) → toldPlace a ≡ toldPlace b → a ≡ b
+toldPlace-one (place.At x y z) (place.At x′ y′ z′) e =
+    let sx : signNumber (isNegative x) ≡ signNumber (isNegative x′) = cc in
+    let mx : natAbs x ≡ natAbs x′ = cc in
+    let sy : signNumber (isNegative y) ≡ signNumber (isNegative y′) = cc in
+    let my : natAbs y ≡ natAbs y′ = cc in
+    let sz : signNumber (isNegative z) ≡ signNumber (isNegative z′) = cc in
+    let mz : natAbs z ≡ natAbs z′ = cc in
+    let ex : x ≡ x′ = int-one x x′ sx mx in
+    let ey : y ≡ y′ = int-one y y′ sy my in
+    let ez : z ≡ z′ = int-one z z′ sz mz in
+    cc
+toldPlace-one (place.At x y z) place.Absent e = cc
+toldPlace-one (place.At x y z) place.NotThere e = cc
+toldPlace-one place.Absent (place.At x y z) e = cc
+toldPlace-one place.Absent place.Absent e = refl
+toldPlace-one place.Absent place.NotThere e = cc
+toldPlace-one place.NotThere (place.At x y z) e = cc
+toldPlace-one place.NotThere place.Absent e = cc
+toldPlace-one place.NotThere place.NotThere e = refl
+
+pub toldClock-one : (a b : ClockRead) → toldClock a ≡ toldClock b → a ≡ b
+toldClock-one (clock.At v) (clock.At u) e =
+    let s : signNumber (isNegative v) ≡ signNumber (isNegative u) = cc in
+    let m : natAbs v ≡ natAbs u = cc in
+    let same : v ≡ u = int-one v u s m in
+    cc
+toldClock-one (clock.At v) clock.Absent e = cc
+toldClock-one (clock.At v) clock.NotThere e = cc
+toldClock-one clock.Absent (clock.At u) e = cc
+toldClock-one clock.Absent clock.Absent e = refl
+toldClock-one clock.Absent clock.NotThere e = cc
+toldClock-one clock.NotThere (clock.At u) e = cc
+toldClock-one clock.NotThere clock.Absent e = cc
+toldClock-one clock.NotThere clock.NotThere e = refl
+
+pub toldDeviation-one : (a b : Deviation) → toldDeviation a ≡ toldDeviation b → a ≡ b
+toldDeviation-one (deviation.Value n) (deviation.Value m) e = cc
+toldDeviation-one (deviation.Value n) deviation.Unknown e = cc
+toldDeviation-one (deviation.Value n) deviation.TooLarge e = cc
+toldDeviation-one (deviation.Value n) deviation.NotThere e = cc
+toldDeviation-one deviation.Unknown (deviation.Value m) e = cc
+toldDeviation-one deviation.Unknown deviation.Unknown e = refl
+toldDeviation-one deviation.Unknown deviation.TooLarge e = cc
+toldDeviation-one deviation.Unknown deviation.NotThere e = cc
+toldDeviation-one deviation.TooLarge (deviation.Value m) e = cc
+toldDeviation-one deviation.TooLarge deviation.Unknown e = cc
+toldDeviation-one deviation.TooLarge deviation.TooLarge e = refl
+toldDeviation-one deviation.TooLarge deviation.NotThere e = cc
+toldDeviation-one deviation.NotThere (deviation.Value m) e = cc
+toldDeviation-one deviation.NotThere deviation.Unknown e = cc
+toldDeviation-one deviation.NotThere deviation.TooLarge e = cc
+toldDeviation-one deviation.NotThere deviation.NotThere e = refl
+
+pub toldFlag-one : (a b : Flag) → toldFlag a ≡ toldFlag b → a ≡ b
+toldFlag-one flag.Set flag.Set e = refl
+toldFlag-one flag.Set flag.NotSet e = cc
+toldFlag-one flag.Set flag.NotThere e = cc
+toldFlag-one flag.NotSet flag.Set e = cc
+toldFlag-one flag.NotSet flag.NotSet e = refl
+toldFlag-one flag.NotSet flag.NotThere e = cc
+toldFlag-one flag.NotThere flag.Set e = cc
+toldFlag-one flag.NotThere flag.NotSet e = cc
+toldFlag-one flag.NotThere flag.NotThere e = refl

@@ -1,0 +1,87 @@
+-- A stored row, by name: twelve numbers (file, Table). 01: "An absent place or velocity is held as three zeros, an absent clock or rate as its
+-- twelve nines"; "An exponent of 99 (or 999 for the clock) means too large; unknown is apart from 0." A row that is not there is 13.
+use mathlib.Core.Bool.{Bool, true, false, cond, _&&_}
+use mathlib.Core.List.{List, [], _∷_}
+use Prim.Native.Nat.{ℕ, _+_, _*_, _/_}
+use lib.Dec.{eqb, ltb, leb}
+use lib.IntN.{ℤ, pos, natAbs}
+use lib.ListN.{length, getD}
+use Rattle.field.specs.Sign.{isNegative}
+use Rattle.record.specs.Absence.{placeAbsent, clockAbsent, isUnknown, isTooLarge}
+use Rattle.file.specs.Table.{rowWidth}
+use Rattle.stored_row.specs.declared.types.Place.{Place}
+use Rattle.stored_row.specs.declared.types.Place.the-variants as place
+use Rattle.stored_row.specs.declared.types.ClockRead.{ClockRead}
+use Rattle.stored_row.specs.declared.types.ClockRead.the-variants as clock
+use Rattle.stored_row.specs.declared.types.Deviation.{Deviation}
+use Rattle.stored_row.specs.declared.types.Deviation.the-variants as deviation
+use Rattle.stored_row.specs.declared.types.Flag.{Flag}
+use Rattle.stored_row.specs.declared.types.Flag.the-variants as flag
+
+-- whether the lent numbers have a k-th row
+abbrev pub isThere : List ℤ → ℕ → Bool
+isThere rows k = ltb k (length rows / rowWidth)
+
+-- the number at a place of the k-th row
+abbrev pub numberAt : List ℤ → ℕ → ℕ → ℤ
+numberAt rows k i = getD rows (k * rowWidth + i) (pos 0)
+
+-- all three are zero
+abbrev pub isPlaceAbsent : List ℤ → ℕ → Bool
+isPlaceAbsent rows k = placeAbsent (natAbs (numberAt rows k 0)) (natAbs (numberAt rows k 1)) (natAbs (numberAt rows k 2))
+
+unfoldable pub placeIn : List ℤ → ℕ → Place
+placeIn rows k =
+    cond (isThere rows k)
+    (cond (isPlaceAbsent rows k) place.Absent (place.At (numberAt rows k 0) (numberAt rows k 1) (numberAt rows k 2)))
+    place.NotThere
+
+-- twelve nines with no minus
+unfoldable pub clockIn : List ℤ → ℕ → ClockRead
+clockIn rows k =
+    cond (isThere rows k)
+    (cond (clockAbsent (isNegative (numberAt rows k 3)) (natAbs (numberAt rows k 3))) clock.Absent (clock.At (numberAt rows k 3)))
+    clock.NotThere
+
+-- the exponents of x, y, z and clock are asked for by 0 to 3
+abbrev pub deviationOf : ℕ → ℕ → Deviation
+deviationOf which n = cond (isUnknown n) deviation.Unknown (cond (isTooLarge (eqb which 3) n) deviation.TooLarge (deviation.Value n))
+
+unfoldable pub deviationIn : List ℤ → ℕ → ℕ → Deviation
+deviationIn rows k which =
+    cond (isThere rows k && leb which 3) (deviationOf which (natAbs (numberAt rows k (4 + which)))) deviation.NotThere
+
+-- the flags of columns 75, 76, 79 and 80 by 0 to 3
+unfoldable pub flagIn : List ℤ → ℕ → ℕ → Flag
+flagIn rows k which =
+    cond (isThere rows k && leb which 3) (cond (eqb (natAbs (numberAt rows k (8 + which))) 0) flag.NotSet flag.Set) flag.NotThere
+
+-- the paper's number of each answer, and the values beside it as sign and magnitude: 0 and the values, 0 alone for absent, 13 for what is not
+-- there. Each answer is told apart by its second entry.
+abbrev pub signNumber : Bool → ℕ
+signNumber true = 1
+signNumber false = 0
+
+abbrev pub toldInt : ℤ → List ℕ → List ℕ
+toldInt v more = signNumber (isNegative v) ∷ natAbs v ∷ more
+
+abbrev pub toldPlace : Place → List ℕ
+toldPlace (place.At x y z) = 0 ∷ toldInt x (toldInt y (toldInt z []))
+toldPlace place.Absent = 0 ∷ []
+toldPlace place.NotThere = 13 ∷ []
+
+abbrev pub toldClock : ClockRead → List ℕ
+toldClock (clock.At v) = 0 ∷ toldInt v []
+toldClock clock.Absent = 0 ∷ []
+toldClock clock.NotThere = 13 ∷ []
+
+abbrev pub toldDeviation : Deviation → List ℕ
+toldDeviation (deviation.Value n) = 0 ∷ 0 ∷ n ∷ []
+toldDeviation deviation.Unknown = 0 ∷ 1 ∷ []
+toldDeviation deviation.TooLarge = 0 ∷ 2 ∷ []
+toldDeviation deviation.NotThere = 13 ∷ []
+
+abbrev pub toldFlag : Flag → List ℕ
+toldFlag flag.NotSet = 0 ∷ 0 ∷ []
+toldFlag flag.Set = 0 ∷ 1 ∷ []
+toldFlag flag.NotThere = 13 ∷ []

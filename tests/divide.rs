@@ -1,0 +1,1503 @@
+//! A divider of stretches and a walker of SP3-d files, written from the
+//! documents. Where they are silent it follows the definitions: in what the
+//! state of a place between two lines is (the kind of line due, satellites and
+//! epochs still to come), in what names other than the file's do in a walk over
+//! rows, and in the column of a refusal.
+//!
+//! It says how a stretch of bytes divides into files, which rows a walk of one
+//! file gives, and where a walker stands after so many lines, which learns the
+//! identifiers from the lines that it passes. It also makes the
+//! stretches on which another implementation is compared with it. It shares no
+//! code with that implementation; single files are judged by `files.rs`, from
+//! the same documents.
+//!
+//! Build: `rustc -O --edition 2021 -o BIN tests/divide.rs`
+//!
+//! * `BIN answer < batch`      prints the answers to a batch of cases;
+//! * `BIN generate SEED COUNT` prints a batch of that many generated cases;
+//! * `BIN case SEED NUMBER`    prints a generated case, counted from 1;
+//! * `BIN any ..`              the same with cases of any size (`any compare 1 9 ..`);
+//! * `BIN cases`               prints the stored batch;
+//! * `BIN check CRATE_DIR`     compares `CRATE_DIR/stdin` with the stored batch
+//!   and `CRATE_DIR/stdout` with the answers to it;
+//! * `BIN self-test`           compares the divider and the walker with answers
+//!   worked out by hand;
+//! * `BIN count < batch`       counts the answers by their numbers;
+//! * `BIN compare SEED COUNT PROGRAM [ARGS..]` gives generated batches to the
+//!   program and compares what it prints with the answers, byte for byte.
+//!
+//! A batch is cases one after the other. A case is a line of numbers,
+//! `ROOM WALK I N LENGTH` and N names, and directly after its LF the LENGTH
+//! bytes of a stretch. ROOM is the room lent for lengths; WALK is 1 where the
+//! bytes are walked as one file, with room for I identifiers; the names (G07 is
+//! 7107) stand for the identifiers of its header in the walk over rows where it
+//! is refused. WALK is 2 where they are read line by line, with room for I
+//! identifiers (the program of crates/ has no such cases). Lent places hold a
+//! mark before. The answer to a case:
+//!
+//! ```text
+//! case LENGTH
+//! divide R LINE COUNT REST
+//! length L                      of each file
+//! kept                          every lent place past them holds the mark
+//! (the rest only where WALK is 1)
+//! begin R LINE LENGTH SATELLITES EPOCHS
+//! name G07                      each identifier
+//! kept
+//! row E S at X Y Z CLOCK        each P row; `absent` in place of `at X Y Z`
+//! row E S absent CLOCK          or of CLOCK
+//! end                           or  refused R line LINE
+//! place K AT DUE LEFT EPOCHS    after K lines, or as many as may be passed
+//! then K AT DUE LEFT EPOCHS     the same after half of the lines and the others
+//! short K AT DUE LEFT EPOCHS    after all lines, with room for I identifiers
+//! name G07                      each identifier that they left there
+//! kept
+//! (and this only where WALK is 2)
+//! line K AT DUE LEFT EPOCHS     after line K, each that is without fault
+//! finished K AT                 line K ends the file; AT is the byte after it
+//! stopped R line K column C     or line K is refused
+//! names NAME ..                 all places of the room, filled or not
+//! ```
+//!
+//! At `place` and `then` K is 0, 1, 3, half of the lines, all (`then` before
+//! `place`), five more, and there is room for 255 identifiers. AT is the byte,
+//! DUE the record that must stand there (1 `#d` to 14 `EOF` in their order),
+//! LEFT how many satellites have their slot, or their rows of this epoch, still
+//! to come, EPOCHS how many epochs are still to come.
+//!
+//! "The paper" is 01-scope.md, "000" is the SP3-d document.
+
+#[allow(dead_code)]
+#[path = "files.rs"]
+mod files;
+
+use files::lines::{Line, Random, Tally, SYMBOLS};
+use files::{generated, once_in};
+use files::{Base, Compared, Edit, Refusal, Row, Table, NO_ROOM};
+
+// ---------------------------------------------------------------------------
+// Dividing
+// ---------------------------------------------------------------------------
+
+/// "When nothing is left .. refusal and line are both 0."
+const NOTHING_LEFT: Refusal = Refusal { number: 0, line: 0 };
+
+/// "the lengths of the accepted files at the front .., the byte where the rest
+/// begins, and the refusal and line there, counted from that byte"
+struct Division {
+    lengths: Vec<usize>,
+    rest: usize,
+    refusal: Refusal,
+}
+
+fn divide(stretch: &[u8]) -> Division {
+    let mut division = Division { lengths: Vec::new(), rest: 0, refusal: NOTHING_LEFT };
+    while division.rest < stretch.len() {
+        match files::judge_front(&stretch[division.rest..]) {
+            Ok((_, length)) => {
+                division.lengths.push(length);
+                division.rest += length;
+            }
+            Err(refusal) => {
+                division.refusal = refusal;
+                break;
+            }
+        }
+    }
+    division
+}
+
+/// "If there are more lengths than room, it gives 12 only".
+fn divide_into(stretch: &[u8], room: usize) -> Division {
+    let division = divide(stretch);
+    if division.lengths.len() > room {
+        return Division { lengths: Vec::new(), rest: 0, refusal: NO_ROOM };
+    }
+    division
+}
+
+// ---------------------------------------------------------------------------
+// Walking
+// ---------------------------------------------------------------------------
+
+/// A file for a walk: its table and length, the file's own refusal, or 12.
+fn begin(file: &[u8], room: usize) -> Result<(Table, usize), Refusal> {
+    let (table, length) = files::judge(file)?;
+    if table.identifiers.len() > room {
+        return Err(NO_ROOM);
+    }
+    Ok((table, length))
+}
+
+/// What a walk over rows meets, where these names are known, in order: P rows,
+/// then the refused line or EOF. Bytes after EOF are not met.
+struct RowWalk {
+    rows: Vec<Row>,
+    refusal: Option<Refusal>,
+}
+
+fn walk_rows(bytes: &[u8], names: &[u64]) -> RowWalk {
+    let read = files::follow(bytes, Some(names));
+    let rows = read.table.rows.into_iter().filter(|row| row.letter == 'P').collect();
+    RowWalk { rows, refusal: read.refusal }
+}
+
+/// A walk over lines, up to EOF or the refused one; each `+ ` line that it passes
+/// leaves its identifiers in the lent list.
+struct Walk<'a> {
+    bytes: &'a [u8],
+    read: files::Followed,
+}
+
+/// "at most 255 satellites": so much room is never too small.
+const MOST_SATELLITES: usize = 255;
+
+fn walk(bytes: &[u8], room: usize) -> Walk<'_> {
+    Walk { bytes, read: files::follow_keeping(bytes, room) }
+}
+
+/// Where a walk stands between two lines.
+#[derive(PartialEq, Debug)]
+struct Standing {
+    at: usize,
+    due: usize,
+    left: usize,
+    epochs: usize,
+}
+
+impl Standing {
+    fn show(&self, word: &str, lines: usize) -> String {
+        let Standing { at, due, left, epochs } = self;
+        format!("{word} {lines} {at} {due} {left} {epochs}\n")
+    }
+}
+
+/// The number in some columns of a line without fault.
+fn number_in(line: &[u8], first: usize, last: usize) -> usize {
+    files::show_text(&line[first - 1..last]).trim().parse().unwrap_or_default()
+}
+
+/// Lines without fault from the front of a file.
+struct Passed<'a>(Vec<&'a [u8]>);
+
+impl Passed<'_> {
+    fn of(bytes: &[u8], count: usize) -> Passed<'_> {
+        let lines = bytes.split_inclusive(|&c| c == b'\n').take(count);
+        Passed(lines.map(|line| &line[..line.len() - 1]).collect())
+    }
+
+    /// How many of them are this record.
+    fn count(&self, record: &str) -> usize {
+        self.0.iter().filter(|line| Line::padded(line).begins(record)).count()
+    }
+
+    /// Those after the last epoch header; none before the first.
+    fn in_epoch(&self) -> Passed<'_> {
+        let header = self.0.iter().rposition(|line| Line::padded(line).begins("* "));
+        Passed(self.0[header.map_or(self.0.len(), |place| place + 1)..].to_vec())
+    }
+
+    fn length(&self) -> usize {
+        self.0.iter().map(|line| line.len() + 1).sum()
+    }
+
+    /// n, the number of epochs, and whether there are velocities; as far as
+    /// their lines were passed.
+    fn said(&self) -> (usize, usize, bool) {
+        let n = self.0.get(2).map_or(0, |line| number_in(line, 4, 6));
+        let epochs = self.0.first().map_or(0, |line| number_in(line, 33, 39));
+        (n, epochs, self.0.first().is_some_and(|line| line[2] == b'V'))
+    }
+
+    /// Satellites of this epoch of which all rows were passed.
+    fn satellites_done(&self) -> usize {
+        self.in_epoch().count(if self.said().2 { "V" } else { "P" })
+    }
+
+    /// Rules 1 to 10: the first record of which there are too few.
+    fn due(&self) -> &'static str {
+        let (n, epochs, velocities) = self.said();
+        let slots = files::satellite_lines(n);
+        let needed = [1, 1, slots, slots, 2, 2, 2, 4];
+        let mut header = SYMBOLS.into_iter().zip(needed);
+        if let Some((record, _)) = header.find(|&(record, needed)| self.count(record) < needed) {
+            return record;
+        }
+        let here = self.in_epoch();
+        match self.count("* ") {
+            0 => "* ",
+            _ if velocities && here.count("P") > here.count("V") => "V",
+            _ if self.satellites_done() < n => "P",
+            passed if passed < epochs => "* ",
+            _ => "EOF",
+        }
+    }
+
+    /// Satellites of which a slot in the lines of this kind, or a row of this
+    /// epoch, is still to come.
+    fn left(&self) -> usize {
+        let (n, ..) = self.said();
+        let (plus, double) = (self.count("+ "), self.count("++"));
+        match () {
+            _ if self.count("* ") > 0 => n - self.satellites_done(),
+            _ if double > 0 => n.saturating_sub(17 * double),
+            _ if plus == files::satellite_lines(n) => n,
+            _ => n.saturating_sub(17 * plus),
+        }
+    }
+}
+
+impl Walk<'_> {
+    /// How many lines stand before EOF or the refused one.
+    fn passed(&self) -> usize {
+        self.read.taken - 1
+    }
+
+    /// The identifiers that the passed lines brought.
+    fn names(&self) -> &[u64] {
+        &self.read.table.identifiers
+    }
+
+    /// Where the walk stands after so many lines; "a line that is refused, or
+    /// that ends the file" isn't passed.
+    fn after(&self, lines: usize) -> Standing {
+        let passed = Passed::of(self.bytes, lines.min(self.passed()));
+        let due = SYMBOLS.iter().position(|&record| record == passed.due());
+        Standing {
+            at: passed.length(),
+            due: due.map_or(0, |place| place + 1),
+            left: passed.left(),
+            epochs: passed.said().1 - passed.count("* "),
+        }
+    }
+}
+
+// ---------------------------------------------------------------------------
+// Cases and their answers
+// ---------------------------------------------------------------------------
+
+/// What is done with the bytes beside dividing them.
+#[derive(Clone, Copy, PartialEq)]
+enum Way {
+    Divided,
+    Walked,
+    Read,
+}
+
+const WAYS: [Way; 3] = [Way::Divided, Way::Walked, Way::Read];
+
+impl Way {
+    fn walked(walked: bool) -> Way {
+        if walked {
+            Way::Walked
+        } else {
+            Way::Divided
+        }
+    }
+}
+
+#[derive(Clone)]
+struct Case {
+    stretch: Vec<u8>,
+    room: usize,
+    way: Way,
+    identifiers: usize,
+    names: Vec<u64>,
+}
+
+/// The program under test has lists of these lengths.
+const MOST_LENGTHS: usize = 1000;
+const MOST_NAMES: usize = 300;
+
+impl Compared for Case {
+    const COUNTED: &'static [&'static str] = &["divide", "begin", "refused", "stopped"];
+
+    fn show(&self) -> Vec<u8> {
+        let way = WAYS.iter().position(|&way| way == self.way).unwrap_or_default();
+        let front = [self.room, way, self.identifiers, self.names.len(), self.stretch.len()];
+        let words: Vec<String> = front.iter().map(usize::to_string).collect();
+        let names: Vec<String> = self.names.iter().map(u64::to_string).collect();
+        let line = [words, names].concat().join(" ") + "\n";
+        [line.as_bytes(), &self.stretch].concat()
+    }
+
+    fn answer(&self) -> String {
+        let mut out = format!("case {}\n", self.stretch.len());
+        out += &show_division(&divide_into(&self.stretch, self.room));
+        match self.way {
+            Way::Divided => out,
+            Way::Walked => out + &self.show_walked(),
+            Way::Read => out + &show_read(&self.stretch, self.identifiers),
+        }
+    }
+}
+
+fn show_division(division: &Division) -> String {
+    let Division { lengths, rest, refusal } = division;
+    let Refusal { number, line } = refusal;
+    let written: String = lengths.iter().map(|length| format!("length {length}\n")).collect();
+    format!("divide {number} {line} {} {rest}\n{written}kept\n", lengths.len())
+}
+
+impl Case {
+    fn show_walked(&self) -> String {
+        let begun = begin(&self.stretch, self.identifiers);
+        let names = begun.as_ref().map_or(&self.names, |(table, _)| &table.identifiers);
+        show_begun(&begun)
+            + &show_rows(&walk_rows(&self.stretch, names))
+            + &show_places(&walk(&self.stretch, MOST_SATELLITES))
+            + &show_short(&walk(&self.stretch, self.identifiers))
+    }
+}
+
+/// The lines of a file one by one, whose identifiers are kept in a list of so
+/// many places.
+fn show_read(bytes: &[u8], room: usize) -> String {
+    let walk = walk(bytes, room);
+    let (taken, column) = (walk.read.taken, walk.read.column);
+    let mut out: String = (1..taken).map(|k| walk.after(k).show("line", k)).collect();
+    out += &match walk.read.refusal {
+        None => format!("finished {taken} {}\n", walk.read.place),
+        Some(Refusal { number, line }) => format!("stopped {number} line {line} column {column}\n"),
+    };
+    let mut names = vec![7777; room];
+    names[..walk.names().len()].copy_from_slice(walk.names());
+    let shown: String = names.iter().map(|name| format!(" {name}")).collect();
+    out + &format!("names{shown}\n")
+}
+
+/// Identifiers that were left in a list; its other places are as they were.
+fn show_names(names: &[u64]) -> String {
+    let shown = names.iter().map(|&name| format!("name {}\n", files::show_code(name)));
+    shown.collect::<String>() + "kept\n"
+}
+
+fn show_begun(begun: &Result<(Table, usize), Refusal>) -> String {
+    match begun {
+        Err(Refusal { number, line }) => format!("begin {number} {line} 0 0 0\nkept\n"),
+        Ok((table, length)) => {
+            let names = &table.identifiers;
+            let counts = format!("{} {}", names.len(), table.epochs);
+            format!("begin 0 0 {length} {counts}\n{}", show_names(names))
+        }
+    }
+}
+
+fn show_row(row: &Row) -> String {
+    let place = files::show_place(row);
+    let word = if row.place_is_absent() { "" } else { "at " };
+    format!("row {} {} {word}{place} {}\n", row.epoch, row.satellite, files::show_clock(row))
+}
+
+fn show_rows(walk: &RowWalk) -> String {
+    let rows: String = walk.rows.iter().map(show_row).collect();
+    rows + &match walk.refusal {
+        None => "end\n".to_string(),
+        Some(Refusal { number, line }) => format!("refused {number} line {line}\n"),
+    }
+}
+
+fn count_lines(bytes: &[u8]) -> usize {
+    bytes.iter().filter(|&&c| c == b'\n').count()
+}
+
+fn show_short(walk: &Walk) -> String {
+    let all = count_lines(walk.bytes);
+    walk.after(all).show("short", all) + &show_names(walk.names())
+}
+
+fn show_places(walk: &Walk) -> String {
+    let mut out = String::new();
+    let all = count_lines(walk.bytes);
+    for lines in [0, 1, 3, all / 2] {
+        out += &walk.after(lines).show("place", lines);
+    }
+    out += &walk.after(all).show("then", all);
+    for lines in [all, all + 5] {
+        out += &walk.after(lines).show("place", lines);
+    }
+    out
+}
+
+fn parse_batch(bytes: &[u8]) -> Vec<Case> {
+    let length_of = |numbers: &[usize]| match *numbers {
+        [_, way, _, names, length, ref rest @ ..] if way < 3 && rest.len() == names => Some(length),
+        _ => None,
+    };
+    files::parse_cases(bytes, length_of, |numbers, stretch| Case {
+        stretch,
+        room: numbers[0],
+        way: WAYS[numbers[1]],
+        identifiers: numbers[2],
+        names: numbers[5..].iter().map(|&name| name as u64).collect(),
+    })
+}
+
+// ---------------------------------------------------------------------------
+// Stretches made by hand
+// ---------------------------------------------------------------------------
+
+/// A part of a stretch: a file, perhaps altered, or bytes.
+#[derive(Clone, Copy, Debug)]
+enum Part {
+    File(Base, &'static [Edit]),
+    Bytes(&'static [u8]),
+    Many(u8, usize),
+}
+
+use Base::{Many as ManyFile, Motion, Night, Nothing, Paper};
+use Edit::{
+    After, AfterItself, Byte, CarriageReturns, Drop, Insert, Join, Keep, Line as Whole, Put, Swap,
+};
+use Part::{Bytes, File, Many};
+
+fn joined(parts: &[Part]) -> Vec<u8> {
+    let bytes = |part: &Part| match *part {
+        File(base, edits) => files::hand_made(base, edits),
+        Bytes(bytes) => bytes.to_vec(),
+        Many(byte, count) => vec![byte; count],
+    };
+    parts.iter().flat_map(bytes).collect()
+}
+
+/// 1,215 bytes and 25 lines; 1,636 and 32; 1,605 and 30.
+const P: Part = File(Paper, &[]);
+const N: Part = File(Night, &[]);
+const M: Part = File(Motion, &[]);
+/// Refused with 5 at line 24.
+const X: Part = File(Paper, &[Put(24, 61, "x")]);
+
+/// Parts and room; refusal, line, number of files, where the rest begins; lengths.
+type Divided = (&'static [Part], usize, [usize; 4], &'static [usize]);
+
+const DIVIDED: &[Divided] = &[
+    // "When nothing is left, as with an empty stretch".
+    (&[], 0, [0, 0, 0, 0], &[]),
+    (&[], 3, [0, 0, 0, 0], &[]),
+    // One to five files, of both modes.
+    (&[P], 1, [0, 0, 1, 1215], &[1215]),
+    (&[N], 1, [0, 0, 1, 1636], &[1636]),
+    (&[M], 1, [0, 0, 1, 1605], &[1605]),
+    (&[P, P], 2, [0, 0, 2, 2430], &[1215, 1215]),
+    (&[P, N], 2, [0, 0, 2, 2851], &[1215, 1636]),
+    (&[N, P], 2, [0, 0, 2, 2851], &[1636, 1215]),
+    (&[M, M], 2, [0, 0, 2, 3210], &[1605, 1605]),
+    (&[P, N, M], 3, [0, 0, 3, 4456], &[1215, 1636, 1605]),
+    (&[M, P, N, M], 4, [0, 0, 4, 6061], &[1605, 1215, 1636, 1605]),
+    (&[P, N, M, P, N], 5, [0, 0, 5, 7307], &[1215, 1636, 1605, 1215, 1636]),
+    // Room: short by one, none, more than needed.
+    (&[P, N, M, P, N], 4, [12, 0, 0, 0], &[]),
+    (&[P, N, M, P, N], 0, [12, 0, 0, 0], &[]),
+    (&[P, N, M, P, N], 6, [0, 0, 5, 7307], &[1215, 1636, 1605, 1215, 1636]),
+    (&[P, N, M, P, N], 1000, [0, 0, 5, 7307], &[1215, 1636, 1605, 1215, 1636]),
+    (&[P], 0, [12, 0, 0, 0], &[]),
+    (&[P], 2, [0, 0, 1, 1215], &[1215]),
+    (&[P, P], 1, [12, 0, 0, 0], &[]),
+    (&[N, M], 1, [12, 0, 0, 0], &[]),
+    // 12 though the rest is refused; the rest itself needs no room.
+    (&[P, P, X], 1, [12, 0, 0, 0], &[]),
+    (&[P, P, X], 2, [5, 24, 2, 2430], &[1215, 1215]),
+    (&[P, X], 0, [12, 0, 0, 0], &[]),
+    (&[X], 0, [5, 24, 0, 0], &[]),
+    (&[X, P], 0, [5, 24, 0, 0], &[]),
+    (&[Bytes(b"x")], 0, [1, 1, 0, 0], &[]),
+    // A line of 80 characters.
+    (&[File(Paper, &[Put(24, 80, " ")]), P], 2, [0, 0, 2, 2450], &[1235, 1215]),
+    // EP and EV, and files without: their own lengths.
+    (&[File(Motion, &[Drop(27), Drop(25)]), P], 2, [0, 0, 2, 2658], &[1443, 1215]),
+    (&[File(Motion, &[Drop(25)])], 1, [0, 0, 1, 1524], &[1524]),
+    (&[File(Paper, &[Insert(25, "EP")]), M], 2, [0, 0, 2, 2823], &[1218, 1605]),
+    (&[File(Motion, &[Insert(30, "EV")]), P], 2, [0, 0, 2, 2823], &[1608, 1215]),
+    (&[P, File(Paper, &[Insert(25, "EV")])], 2, [4, 25, 1, 1215], &[1215]),
+    // Rests that are no file: half of one, one byte, a lone LF, EOF.
+    (&[P, File(Night, &[Keep(16)])], 2, [1, 17, 1, 1215], &[1215]),
+    (&[P, File(Paper, &[Keep(24), After(b"EO")])], 2, [1, 25, 1, 1215], &[1215]),
+    (&[P, File(Motion, &[Keep(25), After(b"VG01")])], 2, [1, 26, 1, 1215], &[1215]),
+    (&[File(Paper, &[Keep(24)])], 2, [1, 25, 0, 0], &[]),
+    (&[P, Bytes(b"x")], 2, [1, 1, 1, 1215], &[1215]),
+    (&[P, Bytes(b"#")], 2, [1, 1, 1, 1215], &[1215]),
+    (&[P, Bytes(b"\x00")], 1, [1, 1, 1, 1215], &[1215]),
+    (&[P, Bytes(b"\n")], 2, [4, 1, 1, 1215], &[1215]),
+    (&[P, N, Bytes(b"\n\n\n")], 2, [4, 1, 2, 2851], &[1215, 1636]),
+    (&[P, Bytes(b"EOF")], 2, [1, 1, 1, 1215], &[1215]),
+    (&[P, Bytes(b"EOF\n")], 2, [4, 1, 1, 1215], &[1215]),
+    (&[Bytes(b"\n"), P], 2, [4, 1, 0, 0], &[]),
+    (&[P, Bytes(b" "), P], 2, [4, 1, 1, 1215], &[1215]),
+    (&[P, Bytes(b"\n"), P], 2, [4, 1, 1, 1215], &[1215]),
+    (&[P, Bytes(b"EP\n"), P], 2, [4, 1, 1, 1215], &[1215]),
+    (&[P, Bytes(b"#dP\n")], 1, [6, 1, 1, 1215], &[1215]),
+    (&[P, Bytes(b"#cP\n")], 1, [4, 1, 1, 1215], &[1215]),
+    // A last LF that is missing: of the last file, of one before another.
+    (&[File(Paper, &[Join(25)])], 1, [1, 25, 0, 0], &[]),
+    (&[N, File(Paper, &[Join(25)])], 2, [1, 25, 1, 1636], &[1636]),
+    (&[File(Paper, &[Join(25)]), P], 2, [5, 25, 0, 0], &[]),
+    (&[M, File(Night, &[Join(32)]), P], 3, [5, 32, 1, 1605], &[1605]),
+    // Garbage.
+    (&[P, Many(0xff, 300)], 2, [1, 1, 1, 1215], &[1215]),
+    (&[P, Many(0xff, 300), Bytes(b"\n")], 2, [2, 1, 1, 1215], &[1215]),
+    (&[P, Bytes(b"\x00\n")], 2, [2, 1, 1, 1215], &[1215]),
+    (&[Bytes(b"xyz\n"), P], 2, [4, 1, 0, 0], &[]),
+    (&[N, Many(b' ', 80), Bytes(b"\n")], 1, [4, 1, 1, 1636], &[1636]),
+    (&[N, Many(b' ', 81), Bytes(b"\n")], 1, [3, 1, 1, 1636], &[1636]),
+    (&[N, Many(b'x', 5000)], 1, [1, 1, 1, 1636], &[1636]),
+    (&[P, File(Paper, &[CarriageReturns])], 2, [2, 1, 1, 1215], &[1215]),
+    // A second file refused with 1 to 10: the line counted from its first byte.
+    (&[N, File(Paper, &[Drop(25)])], 2, [1, 25, 1, 1636], &[1636]),
+    (&[N, File(Paper, &[Byte(24, 40, 0x80)])], 2, [2, 24, 1, 1636], &[1636]),
+    (&[N, File(Paper, &[Put(24, 81, " ")])], 2, [3, 24, 1, 1636], &[1636]),
+    (&[N, File(Paper, &[Drop(1)])], 2, [4, 1, 1, 1636], &[1636]),
+    (&[N, File(Paper, &[Drop(22)])], 2, [4, 22, 1, 1636], &[1636]),
+    (&[N, X], 2, [5, 24, 1, 1636], &[1636]),
+    (&[N, File(Paper, &[Put(3, 10, "G 7")])], 2, [6, 3, 1, 1636], &[1636]),
+    (&[N, File(Paper, &[Put(24, 5, "1000000.000000")])], 2, [7, 24, 1, 1636], &[1636]),
+    (&[N, File(ManyFile(256), &[Keep(40)])], 2, [7, 3, 1, 1636], &[1636]),
+    (&[N, File(Paper, &[Put(2, 4, "1735")])], 2, [8, 2, 1, 1636], &[1636]),
+    (&[P, File(Night, &[Put(26, 18, "15")])], 2, [9, 26, 1, 1215], &[1215]),
+    (&[P, File(Night, &[Swap(24, 25)])], 2, [10, 24, 1, 1215], &[1215]),
+    // The middle one of three or four damaged, at each kind of line: the files
+    // after it don't count.
+    (&[P, File(Motion, &[Put(1, 61, "x")]), P], 3, [5, 1, 1, 1215], &[1215]),
+    (&[P, File(Motion, &[Put(2, 3, "x")]), P], 3, [5, 2, 1, 1215], &[1215]),
+    (&[P, File(Motion, &[Put(3, 9, "x")]), P], 3, [5, 3, 1, 1215], &[1215]),
+    (&[P, File(Motion, &[Put(4, 6, "0")]), P], 3, [5, 4, 1, 1215], &[1215]),
+    (&[P, File(Motion, &[Put(8, 3, "0")]), P], 3, [5, 8, 1, 1215], &[1215]),
+    (&[P, File(Motion, &[Put(12, 58, "  7")]), P], 3, [8, 12, 1, 1215], &[1215]),
+    (&[P, File(Motion, &[Put(13, 4, "R ")]), P], 3, [8, 13, 1, 1215], &[1215]),
+    (&[P, File(Motion, &[Put(14, 4, "G ")]), P], 3, [5, 14, 1, 1215], &[1215]),
+    (&[P, File(Motion, &[Put(15, 4, "-1.2500000")]), P], 3, [6, 15, 1, 1215], &[1215]),
+    (&[P, File(Motion, &[Put(16, 4, " 1.2500000")]), P], 3, [5, 16, 1, 1215], &[1215]),
+    (&[P, File(Motion, &[Put(17, 4, "   1")]), P], 3, [5, 17, 1, 1215], &[1215]),
+    (&[P, File(Motion, &[Put(18, 2, "I")]), P], 3, [4, 18, 1, 1215], &[1215]),
+    (&[P, File(Motion, &[Put(19, 3, "x")]), P], 3, [5, 19, 1, 1215], &[1215]),
+    (&[P, File(Motion, &[Put(23, 32, "x")]), P], 3, [5, 23, 1, 1215], &[1215]),
+    (&[P, File(Motion, &[Put(24, 2, "G02")]), P], 3, [10, 24, 1, 1215], &[1215]),
+    (&[P, File(Motion, &[Byte(25, 60, 200)]), P], 3, [2, 25, 1, 1215], &[1215]),
+    (&[P, File(Motion, &[Put(26, 75, "E")]), P], 3, [5, 26, 1, 1215], &[1215]),
+    (&[P, File(Motion, &[Put(27, 81, " ")]), P], 3, [3, 27, 1, 1215], &[1215]),
+    (&[P, File(Motion, &[Drop(29)]), P], 3, [4, 29, 1, 1215], &[1215]),
+    (&[P, N, File(Motion, &[Put(30, 4, "X")]), P], 4, [5, 30, 2, 2851], &[1215, 1636]),
+    (&[P, N, X, M], 4, [5, 24, 2, 2851], &[1215, 1636]),
+    (&[X, P, N, M], 4, [5, 24, 0, 0], &[]),
+    // "an epoch too many": a file's rows once more, and then EOF.
+    (&[P, File(Paper, &[Insert(25, "*")]), P], 3, [4, 25, 1, 1215], &[1215]),
+    // The EOF line twice, or with blanks after it.
+    (&[P, Bytes(b"EOF   \n"), P], 3, [4, 1, 1, 1215], &[1215]),
+    (&[File(Paper, &[Whole(25, "EOF   ")]), P], 2, [0, 0, 2, 2433], &[1218, 1215]),
+    // 255 satellites, of 17,929 bytes.
+    (&[File(ManyFile(255), &[]), P], 2, [0, 0, 2, 19144], &[17929, 1215]),
+    (&[P, File(ManyFile(255), &[Join(299)])], 2, [1, 299, 1, 1215], &[1215]),
+];
+
+/// A file, room for identifiers, names that stand for them where it is refused;
+/// lines of the answer in their order.
+type Walked = (Base, &'static [Edit], usize, &'static [u64], &'static [&'static str]);
+
+const WALKED: &[Walked] = &[
+    (
+        Paper,
+        &[],
+        1,
+        &[],
+        &[
+            "begin 0 0 1215 1 1",
+            "name G07",
+            "kept",
+            "row 0 0 at 5000000001 -500000 0 absent",
+            "end",
+            "place 0 0 1 0 0",
+            "place 1 61 2 0 1",
+            "place 3 183 3 0 1",
+            "place 12 732 5 0 1",
+            "then 25 1211 14 0 0",
+            "place 25 1211 14 0 0",
+            "place 30 1211 14 0 0",
+            "short 25 1211 14 0 0",
+            "name G07",
+            "kept",
+        ],
+    ),
+    (
+        Night,
+        &[],
+        9,
+        &[],
+        &[
+            "begin 0 0 1636 2 3",
+            "name G07",
+            "name R24",
+            "kept",
+            "row 0 0 at 15000000000 -20000500000 0 123456789",
+            "row 0 1 absent absent",
+            "row 1 0 absent -1",
+            "row 1 1 at 0 0 1 absent",
+            "row 2 0 at -500000 0 0 999999000000",
+            "row 2 1 at 999999999999 -999999999999 999999999999 -999999999999",
+            "end",
+            "place 3 183 3 0 3",
+            "place 16 976 7 0 3",
+            "place 32 1632 14 0 0",
+        ],
+    ),
+    // Mode V: the P rows alone, past EP, V and EV.
+    (
+        Motion,
+        &[],
+        2,
+        &[],
+        &[
+            "begin 0 0 1605 2 1",
+            "name G01",
+            "name G02",
+            "kept",
+            "row 0 0 at -11044805800 -10475672350 21929418200 189163300",
+            "row 0 1 at -12593593500 10170327650 -20354534400 -55976000",
+            "end",
+            "place 15 915 6 0 1",
+            "then 30 1601 14 0 0",
+        ],
+    ),
+    (
+        Motion,
+        &[Drop(27), Drop(25)],
+        3,
+        &[],
+        &[
+            "begin 0 0 1443 2 1",
+            "row 0 0 at -11044805800 -10475672350 21929418200 189163300",
+            "row 0 1 at -12593593500 10170327650 -20354534400 -55976000",
+            "end",
+        ],
+    ),
+    // Places: absent, alone zero, minus zero; clocks: absent, near it.
+    (
+        Paper,
+        &[Put(24, 5, "      0.000000      0.000000      0.000000 999999.999999")],
+        1,
+        &[],
+        &["row 0 0 absent absent", "end"],
+    ),
+    (
+        Paper,
+        &[Put(24, 5, "      0.000000      0.000000      0.000000     12.734450")],
+        1,
+        &[],
+        &["row 0 0 absent 12734450", "end"],
+    ),
+    (
+        Paper,
+        &[Put(24, 5, "-000000.000000     -0.000000-000000.000000-999999.999999")],
+        1,
+        &[],
+        &["row 0 0 absent -999999999999", "end"],
+    ),
+    (
+        Paper,
+        &[Put(24, 5, "      0.000000      0.000001      0.000000      0.000000")],
+        1,
+        &[],
+        &["row 0 0 at 0 1 0 0", "end"],
+    ),
+    (
+        Paper,
+        &[Put(24, 5, "     -0.000001      0.000000      0.000000 999999.999998")],
+        1,
+        &[],
+        &["row 0 0 at -1 0 0 999999999998", "end"],
+    ),
+    (
+        Paper,
+        &[Put(24, 5, "      1.000000      1.000000      0.0000000999999.999999")],
+        1,
+        &[],
+        &["row 0 0 at 1000000 1000000 0 absent", "end"],
+    ),
+    // Too little room: 12 with line 0, and the names that are given; the walker
+    // stays at the `+ ` line that brings too many.
+    (
+        Night,
+        &[],
+        1,
+        &[7107, 8224],
+        &[
+            "begin 12 0 0 0 0",
+            "kept",
+            "row 0 0 at 15000000000 -20000500000 0 123456789",
+            "end",
+            "then 32 1632 14 0 0",
+            "short 32 122 3 0 3",
+            "kept",
+        ],
+    ),
+    (Night, &[], 2, &[], &["end", "short 32 1632 14 0 0", "name G07", "name R24", "kept"]),
+    (Night, &[], 3, &[], &["end", "short 32 1632 14 0 0", "name G07", "name R24", "kept"]),
+    (
+        Paper,
+        &[],
+        0,
+        &[7107],
+        &[
+            "begin 12 0 0 0 0",
+            "kept",
+            "row 0 0 at 5000000001 -500000 0 absent",
+            "then 25 1211 14 0 0",
+            "short 25 122 3 0 1",
+            "kept",
+        ],
+    ),
+    (
+        Paper,
+        &[],
+        0,
+        &[7108],
+        &["begin 12 0 0 0 0", "kept", "refused 10 line 24", "place 30 1211 14 0 0"],
+    ),
+    // 18 satellites, of which 17 have their slots in the first line.
+    (ManyFile(18), &[], 16, &[], &["begin 12 0 0 0 0", "kept", "short 42 122 3 0 1", "kept"]),
+    (
+        ManyFile(18),
+        &[],
+        17,
+        &[],
+        &[
+            "begin 12 0 0 0 0",
+            "kept",
+            "place 42 2248 14 0 0",
+            "short 42 183 3 1 1",
+            "name G01",
+            "name G17",
+            "kept",
+        ],
+    ),
+    (ManyFile(18), &[], 18, &[], &["short 42 2248 14 0 0", "name G17", "name G18", "kept"]),
+    (
+        ManyFile(40),
+        &[Keep(5)],
+        20,
+        &[],
+        &["then 5 305 3 0 1", "short 5 183 3 23 1", "name G17", "kept"],
+    ),
+    (
+        ManyFile(40),
+        &[Keep(5), Put(4, 10, "G01")],
+        20,
+        &[],
+        &["begin 8 4 0 0 0", "then 5 183 3 23 1", "short 5 183 3 23 1", "name G17", "kept"],
+    ),
+    (Paper, &[Join(25)], 0, &[7107], &["begin 1 25 0 0 0", "kept", "refused 1 line 25"]),
+    // No bytes, a byte, an empty line.
+    (
+        Nothing,
+        &[],
+        1,
+        &[],
+        &[
+            "begin 1 1 0 0 0",
+            "kept",
+            "refused 1 line 1",
+            "place 0 0 1 0 0",
+            "place 1 0 1 0 0",
+            "place 3 0 1 0 0",
+            "place 0 0 1 0 0",
+            "then 0 0 1 0 0",
+            "place 0 0 1 0 0",
+            "place 5 0 1 0 0",
+        ],
+    ),
+    (Nothing, &[After(b"x")], 1, &[], &["begin 1 1 0 0 0", "refused 1 line 1"]),
+    (Nothing, &[After(b"\n")], 1, &[], &["begin 4 1 0 0 0", "refused 4 line 1", "place 1 0 1 0 0"]),
+    // Bytes after EOF: 11 at `begin`, and a walk that ends there.
+    (
+        Paper,
+        &[After(b"x")],
+        1,
+        &[7107],
+        &[
+            "begin 11 26 0 0 0",
+            "kept",
+            "row 0 0 at 5000000001 -500000 0 absent",
+            "end",
+            "place 25 1211 14 0 0",
+        ],
+    ),
+    (
+        Motion,
+        &[AfterItself],
+        2,
+        &[7101, 7102],
+        &[
+            "begin 11 31 0 0 0",
+            "row 0 0 at -11044805800 -10475672350 21929418200 189163300",
+            "row 0 1 at -12593593500 10170327650 -20354534400 -55976000",
+            "end",
+            "place 30 1601 14 0 0",
+            "then 60 1601 14 0 0",
+            "place 65 1601 14 0 0",
+        ],
+    ),
+    // Other names than the header's: none, another, of another letter, more; the
+    // walker has the file's own.
+    (Paper, &[After(b"x")], 1, &[], &["begin 11 26 0 0 0", "refused 10 line 24"]),
+    (Paper, &[After(b"x")], 1, &[7108], &["begin 11 26 0 0 0", "refused 10 line 24"]),
+    // A row of number 00 or of a small letter is faulty, also where such a name is given.
+    (Paper, &[Put(24, 2, "G00")], 1, &[7100], &["begin 7 24 0 0 0", "refused 7 line 24"]),
+    (
+        Paper,
+        &[Put(13, 4, "M"), Put(24, 2, "g07")],
+        1,
+        &[10307],
+        &["begin 6 24 0 0 0", "refused 6 line 24"],
+    ),
+    (
+        Paper,
+        &[After(b"x")],
+        1,
+        &[8207],
+        &["begin 11 26 0 0 0", "refused 8 line 13", "place 12 732 5 0 1", "then 25 1211 14 0 0"],
+    ),
+    (
+        Paper,
+        &[After(b"x")],
+        1,
+        &[7107, 8207, 0],
+        &["begin 11 26 0 0 0", "row 0 0 at 5000000001 -500000 0 absent", "end"],
+    ),
+    (
+        Night,
+        &[After(b"x")],
+        2,
+        &[7107],
+        &["row 0 0 at 15000000000 -20000500000 0 123456789", "refused 10 line 25"],
+    ),
+    (
+        Night,
+        &[After(b"x")],
+        2,
+        &[7107, 8224, 7107],
+        &["row 2 1 at 999999999999 -999999999999 999999999999 -999999999999", "end"],
+    ),
+    (ManyFile(20), &[After(b"x")], 20, &[7118], &["begin 11 45 0 0 0", "refused 8 line 4"]),
+    (ManyFile(20), &[After(b"x")], 20, &[7117], &["begin 11 45 0 0 0", "refused 10 line 24"]),
+    // Refused before the first row.
+    (
+        Paper,
+        &[Put(2, 4, "1735")],
+        1,
+        &[7107],
+        &[
+            "begin 8 2 0 0 0",
+            "kept",
+            "refused 8 line 2",
+            "place 1 61 2 0 1",
+            "place 3 61 2 0 1",
+            "place 12 61 2 0 1",
+            "then 25 61 2 0 1",
+        ],
+    ),
+    (Paper, &[Drop(22)], 1, &[7107], &["refused 4 line 22", "place 24 1115 8 0 1"]),
+    (Paper, &[Drop(23)], 1, &[7107], &["refused 4 line 23", "place 24 1118 9 0 1"]),
+    (Paper, &[Put(24, 61, "x")], 1, &[7107], &["refused 5 line 24", "place 25 1150 10 1 0"]),
+    (Paper, &[Keep(24)], 1, &[7107], &["refused 1 line 25", "place 24 1211 14 0 0"]),
+    (Night, &[Put(3, 13, "G07")], 2, &[7107, 8224], &["begin 8 3 0 0 0", "refused 8 line 3"]),
+    // Refused between rows.
+    (
+        Night,
+        &[Put(29, 18, "30")],
+        2,
+        &[7107, 8224],
+        &[
+            "begin 9 29 0 0 0",
+            "kept",
+            "row 0 0 at 15000000000 -20000500000 0 123456789",
+            "row 0 1 absent absent",
+            "row 1 0 absent -1",
+            "row 1 1 at 0 0 1 absent",
+            "refused 9 line 29",
+            "then 32 1459 9 0 1",
+            "place 37 1459 9 0 1",
+        ],
+    ),
+    (
+        Night,
+        &[Swap(27, 28)],
+        2,
+        &[7107, 8224],
+        &[
+            "begin 10 27 0 0 0",
+            "row 0 1 absent absent",
+            "refused 10 line 27",
+            "place 32 1304 10 2 1",
+        ],
+    ),
+    (
+        Night,
+        &[Insert(26, "EP"), Insert(27, "EP")],
+        2,
+        &[7107, 8224],
+        &["begin 4 27 0 0 0", "row 0 1 absent absent", "refused 4 line 27", "place 34 1275 9 0 2"],
+    ),
+    (
+        Motion,
+        &[Byte(25, 60, 200)],
+        2,
+        &[7101, 7102],
+        &[
+            "begin 2 25 0 0 0",
+            "row 0 0 at -11044805800 -10475672350 21929418200 189163300",
+            "refused 2 line 25",
+            "place 30 1224 11 2 0",
+        ],
+    ),
+    (
+        Motion,
+        &[Put(26, 2, "G02")],
+        2,
+        &[7101, 7102],
+        &[
+            "begin 10 26 0 0 0",
+            "row 0 0 at -11044805800 -10475672350 21929418200 189163300",
+            "refused 10 line 26",
+            "place 30 1305 11 2 0",
+        ],
+    ),
+    (
+        Motion,
+        &[Put(27, 81, " ")],
+        2,
+        &[7101, 7102],
+        &[
+            "begin 3 27 0 0 0",
+            "row 0 0 at -11044805800 -10475672350 21929418200 189163300",
+            "refused 3 line 27",
+            "place 30 1379 10 1 0",
+        ],
+    ),
+    (
+        Motion,
+        &[Put(28, 5, "1000000.000000")],
+        2,
+        &[7101, 7102],
+        &[
+            "begin 7 28 0 0 0",
+            "row 0 0 at -11044805800 -10475672350 21929418200 189163300",
+            "refused 7 line 28",
+            "place 30 1460 10 1 0",
+        ],
+    ),
+    (
+        Motion,
+        &[Put(30, 4, "X")],
+        2,
+        &[7101, 7102],
+        &[
+            "begin 5 30 0 0 0",
+            "row 0 0 at -11044805800 -10475672350 21929418200 189163300",
+            "row 0 1 at -12593593500 10170327650 -20354534400 -55976000",
+            "refused 5 line 30",
+            "place 30 1601 14 0 0",
+        ],
+    ),
+    // Slots: 20 satellites in two lines, 86 in six.
+    (
+        ManyFile(20),
+        &[],
+        20,
+        &[],
+        &[
+            "begin 0 0 2374 20 1",
+            "name G18",
+            "row 0 19 at 19000001 -500000 0 1000000",
+            "place 3 183 3 3 1",
+        ],
+    ),
+    (
+        ManyFile(86),
+        &[Keep(9), After(b"EOF\n")],
+        86,
+        &[],
+        &["begin 4 10 0 0 0", "refused 4 line 10", "place 5 305 3 35 1", "then 10 549 4 69 1"],
+    ),
+    (
+        ManyFile(86),
+        &[Keep(8)],
+        86,
+        &[],
+        &["refused 1 line 9", "place 4 244 3 52 1", "then 8 488 4 86 1"],
+    ),
+    (
+        ManyFile(255),
+        &[],
+        255,
+        &[],
+        &["begin 0 0 17929 255 1", "name E57", "row 0 254 at 254000001 -500000 0 1000000", "end"],
+    ),
+    (
+        ManyFile(255),
+        &[Put(3, 4, "256")],
+        300,
+        &[],
+        &["begin 7 3 0 0 0", "kept", "refused 7 line 3"],
+    ),
+];
+
+/// A file read line by line, room for identifiers; lines of the answer in their
+/// order.
+type ReadFile = (Base, &'static [Edit], usize, &'static [&'static str]);
+
+const READ: &[ReadFile] = &[
+    (
+        Paper,
+        &[],
+        1,
+        &[
+            "line 1 61 2 0 1",
+            "line 2 122 3 0 1",
+            "line 3 183 3 0 1",
+            "line 7 427 4 1 1",
+            "line 8 488 4 0 1",
+            "line 22 1118 9 0 1",
+            "line 23 1150 10 1 0",
+            "line 24 1211 14 0 0",
+            "finished 25 1215",
+            "names 7107",
+        ],
+    ),
+    // Bytes after EOF are not read; places past the names are kept.
+    (Paper, &[After(b"x")], 3, &["finished 25 1215", "names 7107 7777 7777"]),
+    (
+        Motion,
+        &[],
+        2,
+        &["line 24 1224 11 2 0", "line 25 1305 11 2 0", "finished 30 1605", "names 7101 7102"],
+    ),
+    (
+        ManyFile(20),
+        &[],
+        20,
+        &["line 3 183 3 3 1", "line 4 244 3 0 1", "line 7 427 4 20 1", "line 8 488 4 3 1"],
+    ),
+    // Room for n - 1, n and n + 1: "lent room is too small" at the `+ ` line that
+    // brings more than fit, and the list is as it was.
+    (Paper, &[], 0, &["line 2 122 3 0 1", "stopped 12 line 3 column 0", "names"]),
+    (Paper, &[], 2, &["finished 25 1215", "names 7107 7777"]),
+    (Night, &[], 1, &["line 2 122 3 0 3", "stopped 12 line 3 column 0", "names 7777"]),
+    (Night, &[], 2, &["finished 32 1636", "names 7107 8224"]),
+    (Night, &[], 3, &["finished 32 1636", "names 7107 8224 7777"]),
+    // Two `+ ` lines of which the first fits and the second not, or both, or none.
+    (
+        ManyFile(18),
+        &[],
+        17,
+        &[
+            "line 3 183 3 1 1",
+            "stopped 12 line 4 column 0",
+            "names 7101 7102 7103 7104 7105 7106 7107 7108 7109 7110 \
+             7111 7112 7113 7114 7115 7116 7117",
+        ],
+    ),
+    (
+        ManyFile(18),
+        &[],
+        18,
+        &[
+            "line 4 244 3 0 1",
+            "finished 42 2252",
+            "names 7101 7102 7103 7104 7105 7106 7107 7108 7109 7110 \
+             7111 7112 7113 7114 7115 7116 7117 7118",
+        ],
+    ),
+    (
+        ManyFile(18),
+        &[],
+        16,
+        &[
+            "line 2 122 3 0 1",
+            "stopped 12 line 3 column 0",
+            "names 7777 7777 7777 7777 7777 7777 7777 7777 7777 7777 7777 7777 7777 7777 7777 7777",
+        ],
+    ),
+    (ManyFile(18), &[], 0, &["line 2 122 3 0 1", "stopped 12 line 3 column 0", "names"]),
+    // What a line that doesn't fit would bring is not laid in part.
+    (
+        ManyFile(40),
+        &[],
+        20,
+        &[
+            "line 3 183 3 23 1",
+            "stopped 12 line 4 column 0",
+            "names 7101 7102 7103 7104 7105 7106 7107 7108 7109 7110 \
+             7111 7112 7113 7114 7115 7116 7117 7777 7777 7777",
+        ],
+    ),
+    (ManyFile(86), &[], 85, &["line 7 427 3 1 1", "stopped 12 line 8 column 0"]),
+    (ManyFile(255), &[], 254, &["line 16 976 3 17 1", "stopped 12 line 17 column 0"]),
+    (ManyFile(255), &[], 255, &["line 17 1037 4 255 1", "finished 299 17929"]),
+    // "12 comes after all other checks": a `+ ` line's own fault comes first.
+    (Paper, &[Byte(3, 80, 0x80)], 0, &["stopped 2 line 3 column 80", "names"]),
+    (Paper, &[Put(3, 81, " ")], 0, &["stopped 3 line 3 column 81", "names"]),
+    (Paper, &[Put(3, 2, "+")], 0, &["stopped 4 line 3 column 0", "names"]),
+    (Paper, &[Put(3, 9, "x")], 0, &["stopped 5 line 3 column 9", "names"]),
+    (Paper, &[Put(3, 10, "G 7")], 0, &["stopped 6 line 3 column 10", "names"]),
+    (Paper, &[Put(3, 11, "00")], 0, &["stopped 7 line 3 column 10", "names"]),
+    (Paper, &[Put(3, 13, "G08")], 0, &["stopped 8 line 3 column 0", "names"]),
+    (Night, &[Put(3, 13, "G07")], 1, &["stopped 8 line 3 column 0", "names 7777"]),
+    (ManyFile(18), &[Put(4, 10, "G17")], 17, &["line 3 183 3 1 1", "stopped 8 line 4 column 0"]),
+    (ManyFile(18), &[Put(4, 10, "G17")], 16, &["line 2 122 3 0 1", "stopped 12 line 3 column 0"]),
+    // A line without its LF is 1, whatever it brings.
+    (Paper, &[Keep(3), Join(3)], 0, &["line 2 122 3 0 1", "stopped 1 line 3 column 0", "names"]),
+    // Refused lines; a `+ ` line that is refused leaves no name.
+    (Nothing, &[], 2, &["stopped 1 line 1 column 0", "names 7777 7777"]),
+    (Paper, &[Keep(24)], 1, &["line 24 1211 14 0 0", "stopped 1 line 25 column 0", "names 7107"]),
+    (Paper, &[Byte(24, 40, 0x80)], 1, &["stopped 2 line 24 column 40", "names 7107"]),
+    (Paper, &[Put(24, 90, "x")], 1, &["stopped 3 line 24 column 81", "names 7107"]),
+    (
+        Paper,
+        &[Put(3, 13, "G08")],
+        1,
+        &["line 2 122 3 0 1", "stopped 8 line 3 column 0", "names 7777"],
+    ),
+    (ManyFile(20), &[Put(4, 13, "G 9")], 20, &["line 3 183 3 3 1", "stopped 6 line 4 column 13"]),
+    (Night, &[Put(29, 18, "30")], 2, &["stopped 9 line 29 column 0", "names 7107 8224"]),
+    (Night, &[Put(3, 14, "00")], 2, &["stopped 7 line 3 column 13", "names 7777 7777"]),
+];
+
+// ---------------------------------------------------------------------------
+// Generated cases
+// ---------------------------------------------------------------------------
+
+/// Makes a file with the names that it was planned with.
+type MakePart = fn(&mut Random) -> (Vec<u64>, Vec<u8>);
+
+/// A generated file of moderate length.
+fn generate_part(random: &mut Random) -> (Vec<u64>, Vec<u8>) {
+    loop {
+        let (plan, file) = files::generate_file(random);
+        if file.len() <= 6000 || once_in(random, 20) {
+            return (plan.identifiers, file);
+        }
+    }
+}
+
+/// A generated file of any length.
+fn generate_any_part(random: &mut Random) -> (Vec<u64>, Vec<u8>) {
+    let (plan, file) = files::generate_any_file(random);
+    (plan.identifiers, file)
+}
+
+fn generate_accepted(random: &mut Random, part: MakePart) -> (Vec<u64>, Vec<u8>) {
+    loop {
+        let (names, file) = part(random);
+        if files::judge(&file).is_ok() {
+            return (names, file);
+        }
+    }
+}
+
+const SHORT_RESTS: &[&[u8]] = &[
+    b"\n", b"x", b"#", b"#d", b"#d\n", b"#dP", b"EOF", b"EOF\n", b"EOF \n", b"\x00", b"\xff\n",
+    b" \n", b"\n\n", b"EP\n", b"/*\n", b"\r\n", b"\x1a", b"* \n",
+];
+
+/// What may stand after accepted files: nothing, a beginning of one, garbage,
+/// a damaged one.
+fn generate_rest(random: &mut Random, part: MakePart) -> Vec<u8> {
+    match random.below(10) {
+        0..=2 => Vec::new(),
+        3 => random.pick(SHORT_RESTS).to_vec(),
+        4 => (0..random.below(100)).map(|_| random.next() as u8).collect(),
+        5 => {
+            let (_, mut file) = generate_accepted(random, part);
+            let kept = file.len() - 1 - random.below(file.len().min(80));
+            file.truncate(if once_in(random, 2) { kept } else { random.below(file.len()) });
+            file
+        }
+        _ => part(random).1,
+    }
+}
+
+/// One byte another, gone or more; one line gone, twice or exchanged.
+fn spoil(stretch: &mut Vec<u8>, random: &mut Random) {
+    if stretch.is_empty() {
+        return;
+    }
+    let place = random.below(stretch.len());
+    let byte = *random.pick(b"\n\n 09xGP\r\x00\x7f\xff");
+    match random.below(6) {
+        0 => stretch[place] = byte,
+        1 => stretch.insert(place, byte),
+        2 => drop(stretch.remove(place)),
+        kind => {
+            let mut lines: Vec<Vec<u8>> =
+                stretch.split_inclusive(|&c| c == b'\n').map(<[u8]>::to_vec).collect();
+            let (line, other) = (random.below(lines.len()), random.below(lines.len()));
+            match kind {
+                3 => drop(lines.remove(line)),
+                4 => lines.insert(line, lines[line].clone()),
+                _ => lines.swap(line, other),
+            }
+            *stretch = lines.concat();
+        }
+    }
+}
+
+/// Mostly the names of the header; sometimes others, fewer or more.
+fn spoil_names(names: &mut Vec<u64>, random: &mut Random) {
+    let place = random.below(names.len());
+    match random.below(12) {
+        0 => names.truncate(place),
+        1 => names[place] = *random.pick(&[0, 1, 7101, 7107, 8224, 9099, 999_999_999_999]),
+        2 => names.push(*random.pick(&[0, 7101, 7107, 8224])),
+        3 => names.swap(0, place),
+        4 => names[place] += *random.pick(&[1, 100]),
+        _ => {}
+    }
+    names.truncate(MOST_NAMES);
+}
+
+fn generate_files(random: &mut Random, part: MakePart) -> (Vec<u64>, Vec<u8>) {
+    let count = *random.pick(&[1, 1, 1, 2, 2, 3, 4, 5]);
+    let parts: Vec<_> = (0..count).map(|_| generate_accepted(random, part)).collect();
+    let rest = generate_rest(random, part);
+    let bytes = parts.iter().flat_map(|(_, file)| file.clone()).chain(rest).collect();
+    (parts[0].0.clone(), bytes)
+}
+
+fn choose_room(random: &mut Random, needed: usize, most: usize) -> usize {
+    let room = match random.below(10) {
+        0 | 1 => needed.saturating_sub(1),
+        2 => random.below(needed + 1),
+        3 => 0,
+        4 | 5 => needed + 1 + random.below(9),
+        6 => most,
+        _ => needed,
+    };
+    room.min(most)
+}
+
+/// A file alone, or files laid end to end: whether it is one, the names of the
+/// first, and the bytes.
+fn generate_stretch(random: &mut Random, part: MakePart) -> (bool, Vec<u64>, Vec<u8>) {
+    let single = once_in(random, 2);
+    let (names, mut stretch) = if single { part(random) } else { generate_files(random, part) };
+    if once_in(random, if single { 6 } else { 3 }) {
+        spoil(&mut stretch, random);
+    }
+    (single, names, stretch)
+}
+
+/// The stretch with rooms, and names that are the header's or not.
+fn lend(random: &mut Random, single: bool, mut names: Vec<u64>, stretch: Vec<u8>) -> Case {
+    let room = choose_room(random, divide(&stretch).lengths.len(), MOST_LENGTHS);
+    let identifiers = choose_room(random, names.len(), MOST_NAMES);
+    spoil_names(&mut names, random);
+    let way = Way::walked(single || once_in(random, 3));
+    Case { stretch, room, way, identifiers, names }
+}
+
+fn generate_case(random: &mut Random) -> Case {
+    loop {
+        let (single, names, stretch) = generate_stretch(random, generate_part);
+        if stretch.len() <= files::MOST_BYTES {
+            return lend(random, single, names, stretch);
+        }
+    }
+}
+
+/// Stretches of any length; some of those that are not too long are read line
+/// by line.
+fn generate_any_case(random: &mut Random) -> Case {
+    let (single, names, stretch) = generate_stretch(random, generate_any_part);
+    let mut case = lend(random, single, names, stretch);
+    if once_in(random, 12) && !case.names.is_empty() {
+        let far = *random.pick(&[1 << 8, 1 << 16, 1 << 32, u64::MAX]);
+        let place = random.below(case.names.len());
+        case.names[place] = case.names[place].wrapping_add(far);
+    }
+    let read = case.stretch.len() <= 20_000 && once_in(random, 3);
+    Case { way: if read { Way::Read } else { case.way }, ..case }
+}
+
+// ---------------------------------------------------------------------------
+// The stored cases
+// ---------------------------------------------------------------------------
+
+/// Those worked out by hand; every fifth of the stretches is walked too.
+fn hand_cases() -> Vec<Case> {
+    let divided = DIVIDED.iter().enumerate().map(|(place, &(parts, room, ..))| Case {
+        stretch: joined(parts),
+        room,
+        way: Way::walked(place % 5 == 0),
+        identifiers: 2,
+        names: vec![7107, 8224],
+    });
+    let walked = WALKED.iter().map(|&(base, edits, identifiers, names, _)| Case {
+        stretch: files::hand_made(base, edits),
+        room: 1,
+        way: Way::Walked,
+        identifiers,
+        names: names.to_vec(),
+    });
+    divided.chain(walked).collect()
+}
+
+fn stored_cases() -> Vec<Case> {
+    files::filled_up(hand_cases(), generate_case, |case| case.stretch.len() < 5000)
+}
+
+// ---------------------------------------------------------------------------
+// Self-test
+// ---------------------------------------------------------------------------
+
+fn test_divided(tally: &mut Tally) {
+    for &(parts, room, wanted, lengths) in DIVIDED {
+        let found = divide_into(&joined(parts), room);
+        let Refusal { number, line } = found.refusal;
+        let numbers = [number.into(), line, found.lengths.len(), found.rest];
+        tally.holds(numbers == wanted && found.lengths == lengths, || {
+            format!(
+                "{parts:?} {room}\n  wanted {wanted:?}\n  given  {numbers:?} {:?}",
+                found.lengths
+            )
+        });
+    }
+}
+
+fn test_walked(tally: &mut Tally) {
+    for &(base, edits, identifiers, names, wanted) in WALKED {
+        let stretch = files::hand_made(base, edits);
+        let case = Case { stretch, room: 1, way: Way::Walked, identifiers, names: names.to_vec() };
+        let answer = case.show_walked();
+        let missing = files::missing_line(&answer, wanted);
+        tally.holds(missing.is_none(), || {
+            format!("{base:?} {edits:?}\n  wanted {missing:?}\n  given {answer}")
+        });
+        tally.made += wanted.len() - 1;
+    }
+}
+
+fn test_read(tally: &mut Tally) {
+    for &(base, edits, room, wanted) in READ {
+        let answer = show_read(&files::hand_made(base, edits), room);
+        let missing = files::missing_line(&answer, wanted);
+        tally.holds(missing.is_none(), || {
+            format!("{base:?} {edits:?} {room}\n  wanted {missing:?}\n  given {answer}")
+        });
+        tally.made += wanted.len() - 1;
+    }
+}
+
+/// With less room than satellites a walk stays at the first `+ ` line that the
+/// list is too short for: each brings 17, the last those that are left.
+fn test_rooms(tally: &mut Tally) {
+    for n in [1, 2, 16, 17, 18, 34, 35, 85, 86, 254, 255] {
+        let file = files::hand_made(ManyFile(n), &[]);
+        for room in 0..=n + 1 {
+            let short = room < n;
+            let refusal = short.then_some(Refusal { number: 12, line: 3 + room / 17 });
+            let kept = if short { room / 17 * 17 } else { n };
+            let found = walk(&file, room);
+            let same = found.read.refusal == refusal && found.names().len() == kept;
+            tally.holds(same, || format!("{n}, room for {room}: {:?}", found.read.refusal));
+        }
+    }
+}
+
+/// Every cut of two files: the first is found as soon as it is whole, and what
+/// is left of the second is refused with 1 in its unfinished line.
+fn test_cuts(tally: &mut Tally) {
+    let stretch = joined(&[P, M]);
+    for length in 0..=stretch.len() {
+        let found = divide(&stretch[..length]);
+        let first = if length < 1215 { 0 } else { 1215 };
+        let line = 1 + stretch[first..length].iter().filter(|&&c| c == b'\n').count();
+        let wanted = match length {
+            0 | 1215 => (NOTHING_LEFT, usize::from(length > 0), first),
+            2820 => (NOTHING_LEFT, 2, 2820),
+            _ => (Refusal { number: 1, line }, usize::from(first > 0), first),
+        };
+        let found = (found.refusal, found.lengths.len(), found.rest);
+        tally.holds(found == wanted, || format!("cut to {length}: {found:?}"));
+    }
+}
+
+/// Accepted files laid end to end divide into just these.
+fn test_joined(tally: &mut Tally) {
+    for number in 1..=300 {
+        let make = |random: &mut Random| -> Vec<Vec<u8>> {
+            (0..1 + random.below(5)).map(|_| generate_accepted(random, generate_part).1).collect()
+        };
+        let parts = generated(make, files::STORED_SEED + 2, number);
+        let found = divide(&parts.concat());
+        let same = found.lengths == parts.iter().map(Vec::len).collect::<Vec<_>>();
+        let all = found.rest == parts.concat().len() && found.refusal == NOTHING_LEFT;
+        tally.holds(same && all, || format!("files {number}: {:?}", found.lengths));
+    }
+}
+
+/// A walk of an accepted file gives what the row question gives for each epoch
+/// and satellite, in order; with its own names it is refused as the file is, and
+/// so is a walk over lines that learns them; and places go on from one to the
+/// next.
+fn test_walks(tally: &mut Tally) {
+    for number in 1..=1500 {
+        let stretch = generated(generate_case, files::STORED_SEED + 3, number).stretch;
+        let front = files::judge_front(&stretch);
+        let own = files::follow(&stretch, None).table.identifiers;
+        let (rows, walk) = (walk_rows(&stretch, &own), walk(&stretch, MOST_SATELLITES));
+        let refused = front.as_ref().err().copied();
+        tally.holds(rows.refusal == refused, || format!("rows {number}: {:?}", rows.refusal));
+        let stopped = walk.read.refusal;
+        tally.holds(stopped == refused, || format!("walk {number}: {stopped:?}"));
+        tally.holds(walk.names() == own, || format!("walk {number}: its names"));
+        if let Ok((table, length)) = front {
+            let pairs =
+                |epoch| (0..table.identifiers.len()).map(move |satellite| (epoch, satellite));
+            let asked = (0..table.epochs).flat_map(pairs).map(|(epoch, satellite)| {
+                files::row(&stretch[..length], epoch, satellite).map(|row| show_row(&row))
+            });
+            let same = asked.eq(rows.rows.iter().map(|row| Ok(show_row(row))));
+            tally.holds(same, || format!("rows {number}: the rows"));
+        }
+        let all = walk.passed();
+        let ends: Vec<usize> = (0..=all).map(|lines| walk.after(lines).at).collect();
+        let is_line = |pair: &[usize]| {
+            let line = &stretch[pair[0]..pair[1]];
+            line.iter().position(|&c| c == b'\n') == Some(line.len() - 1)
+        };
+        let lines = ends[0] == 0 && ends.windows(2).all(is_line);
+        tally.holds(lines, || format!("walk {number}: its places"));
+        tally.holds(walk.after(all) == walk.after(all + 7), || format!("walk {number}: its end"));
+    }
+}
+
+fn self_test() {
+    let mut tally = Tally::default();
+    test_divided(&mut tally);
+    test_walked(&mut tally);
+    test_read(&mut tally);
+    let by_hand = tally.made;
+    test_rooms(&mut tally);
+    test_cuts(&mut tally);
+    test_joined(&mut tally);
+    test_walks(&mut tally);
+    files::test_batches(&mut tally, stored_cases(), parse_batch);
+    tally.tell(by_hand);
+}
+
+// ---------------------------------------------------------------------------
+// The program
+// ---------------------------------------------------------------------------
+
+fn main() {
+    let arguments: Vec<String> = std::env::args().skip(1).collect();
+    let words: Vec<&str> = arguments.iter().map(String::as_str).collect();
+    let usage =
+        "usage: answer | generate SEED COUNT | case SEED NUMBER | cases | check CRATE_DIR\n\
+         | self-test | count | compare SEED COUNT PROGRAM [ARGS..] | any ..";
+    match words[..] {
+        ["self-test"] => self_test(),
+        ["any", ref rest @ ..] => {
+            files::obey(rest, parse_batch, generate_any_case, stored_cases, usage);
+        }
+        _ => files::obey(&words, parse_batch, generate_case, stored_cases, usage),
+    }
+}

@@ -1,0 +1,164 @@
+/* The format of tests/divide.rs: stretches divided, files walked and read line by line. */
+#include <inttypes.h>
+#include <stdio.h>
+#include <string.h>
+
+#include "doors.h"
+
+/* So much room for identifiers is never too small. */
+enum { MOST_SATELLITES = 255 };
+
+/* The identifiers of a header, or others in their place. */
+typedef struct {
+    const uint64_t *list;
+    size_t count;
+} names_t;
+
+static void kept_out(const uint64_t *list, size_t from, size_t count) { puts(numbers_kept(list, from, count) ? "kept" : "changed"); }
+
+static void divide_out(bytes_t bytes, size_t room) {
+    uint64_t *lengths = lent_numbers(room, NUMBER_MARK);
+    sp3_division_t division = sp3_divide(bytes.bytes, bytes.length, lengths, room);
+    printf("divide %zu %" PRIu64 " %" PRIu64 " %zu\n", division.refusal, division.line, division.count, division.rest);
+    size_t filled = division.count <= room ? division.count : room;
+    check(division.count <= room, "more files than room");
+    for (size_t i = 0; i < filled; i++) printf("length %" PRIu64 "\n", lengths[i]);
+    kept_out(lengths, filled, room);
+}
+
+static void row_out(sp3_row_step_t step) {
+    sp3_row_t row = step.row;
+    printf("row %" PRIu64 " %" PRIu64, step.epoch, step.satellite);
+    if (row.place_absent) {
+        absent_float(row.x);
+        mark(row.y == row.y || row.z == row.z);
+    } else {
+        fputs(" at", stdout);
+        float_value(row.x);
+        float_value(row.y);
+        float_value(row.z);
+    }
+    row.clock_absent ? absent_float(row.clock) : float_value(row.clock);
+    putchar('\n');
+}
+
+/* How a walk over rows ends: the place stays, there is no row, and lines walked one by one end the same way. */
+static void walk_end_out(bytes_t file, names_t names, sp3_row_step_t step, sp3_row_walk_t from) {
+    if (step.end) {
+        puts("end");
+    } else {
+        printf("refused %zu line %" PRIu64 "\n", step.refusal, step.line);
+    }
+    bool stays = same_place(step.next.place, from.place) && step.next.passed == from.passed;
+    check(stays && step.epoch == 0 && step.satellite == 0 && is_no_row(step.row), "a row beside the end of a walk");
+    check(step.end ? step.refusal == 0 && step.line == 0 : step.refusal != 0, "an end beside a refusal");
+    line_end_t lines = known_lines(file, names.list, names.count);
+    check(lines.refusal == step.refusal && (step.end || lines.line == step.line), "a walk over rows and over lines");
+}
+
+/* Each row of a file that was accepted is the one that the row question gives; of many rows some twenty are asked for. */
+static void check_row(bytes_t file, sp3_header_t header, sp3_row_step_t step) {
+    uint64_t count = header.satellites * header.epochs, k = step.epoch * header.satellites + step.satellite;
+    if (header.epochs == 0 || k % (1 + count / 20) != 0) return;
+    sp3_row_answer_t answer = sp3_row(file.bytes, file.length, step.epoch, step.satellite);
+    check(answer.refusal == 0 && answer.line == 0 && same_row(answer.row, step.row), "a row walked and asked for");
+}
+
+/* The rows of a file in order; a file has no more rows than bytes. */
+static void rows_out(bytes_t file, names_t names, sp3_header_t header) {
+    sp3_row_walk_t from = sp3_first_row();
+    for (size_t left = file.length + 1; left > 0; left--) {
+        sp3_row_step_t step = sp3_next_row(file.bytes, file.length, names.list, names.count, from);
+        if (step.refusal != 0 || step.end) {
+            walk_end_out(file, names, step, from);
+            return;
+        }
+        row_out(step);
+        check_row(file, header, step);
+        from = step.next;
+    }
+    puts("more rows than bytes");
+}
+
+static size_t line_count(bytes_t bytes) {
+    size_t count = 0;
+    for (size_t i = 0; i < bytes.length; i++) count += bytes.bytes[i] == '\n';
+    return count;
+}
+
+/* The place after so many lines, with a list of the walker's own. */
+static void after_out(bytes_t file, size_t lines) {
+    uint64_t *names = lent_numbers(MOST_SATELLITES, NUMBER_MARK);
+    place_out("place", lines, sp3_after_lines(file.bytes, file.length, names, MOST_SATELLITES, sp3_first_place(), lines));
+}
+
+/* The places after half of the lines and after the others, with the same list; gives it. */
+static const uint64_t *halves_out(bytes_t file, size_t all) {
+    uint64_t *names = lent_numbers(MOST_SATELLITES, NUMBER_MARK);
+    sp3_place_t half = sp3_after_lines(file.bytes, file.length, names, MOST_SATELLITES, sp3_first_place(), all / 2);
+    place_out("place", all / 2, half);
+    place_out("then", all, sp3_after_lines(file.bytes, file.length, names, MOST_SATELLITES, half, all - all / 2));
+    return names;
+}
+
+/* The places after no line, one, three, half of them, all of them in two steps and in one, and five more. Of an accepted file the walker learns the
+ * identifiers that sp3_begin leaves. */
+static void places_out(bytes_t file, names_t own) {
+    size_t all = line_count(file);
+    after_out(file, 0);
+    after_out(file, 1);
+    after_out(file, 3);
+    const uint64_t *names = halves_out(file, all);
+    check(memcmp(names, own.list, own.count * sizeof *names) == 0, "the identifiers of a walk and of sp3_begin");
+    after_out(file, all);
+    after_out(file, all + 5);
+}
+
+/* The identifiers of which a list has so many, and whether its other places are as they were. */
+static void identifiers_out(const uint64_t *list, size_t count, size_t room) {
+    size_t filled = count <= room ? count : room;
+    for (size_t i = 0; i < filled; i++) {
+        fputs("name ", stdout);
+        identifier_out(list[i]);
+        putchar('\n');
+    }
+    kept_out(list, filled, room);
+}
+
+/* The place after all lines with room for so many identifiers, and those that they brought. */
+static void short_out(bytes_t file, size_t room) {
+    uint64_t *names = lent_numbers(room, NUMBER_MARK);
+    size_t all = line_count(file);
+    sp3_place_t at = sp3_after_lines(file.bytes, file.length, names, room, sp3_first_place(), all);
+    place_out("short", all, at);
+    identifiers_out(names, brought(at), room);
+}
+
+/* A file walked over rows with the identifiers that sp3_begin leaves, or with the given names where it is refused; and over lines. */
+static void walk_out(bytes_t file, size_t room, names_t given) {
+    uint64_t *identifiers = lent_numbers(room, NUMBER_MARK);
+    sp3_reading_t reading = sp3_begin(file.bytes, file.length, identifiers, room);
+    sp3_header_t header = reading.header;
+    printf("begin %zu %" PRIu64 " %zu %" PRIu64 " %" PRIu64 "\n", reading.refusal, reading.line, reading.length, header.satellites,
+           header.epochs);
+    check_reading(reading);
+    identifiers_out(identifiers, header.satellites, room);
+    names_t own = {shown(identifiers, room * sizeof *identifiers), room};
+    rows_out(file, reading.refusal == 0 ? own : given, header);
+    places_out(file, (names_t){own.list, header.satellites});
+    short_out(file, room);
+}
+
+void divide_case(bytes_t *batch) {
+    uint64_t room = take_number(batch), way = take_number(batch), identifiers = take_number(batch), count = take_number(batch);
+    uint64_t length = take_number(batch);
+    if (way > 2) stop("a stretch is divided (0), walked (1) or read by lines (2)");
+    uint64_t *names = lent_numbers(count, 0);
+    for (size_t i = 0; i < count; i++) names[i] = take_number(batch);
+    names_t given = {shown(names, count * sizeof *names), count};
+    bytes_t bytes = shown_bytes(take_bytes(batch, length));
+    printf("case %zu\n", bytes.length);
+    divide_out(bytes, room);
+    if (way == 1) walk_out(bytes, identifiers, given);
+    if (way == 2) lines_shown(bytes, identifiers);
+}
