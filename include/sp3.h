@@ -258,37 +258,37 @@ typedef struct {
 typedef struct {
     size_t at;
     sp3_state_t state;
-} sp3_place_t;
+} sp3_spot_t;
 
-/* What a line does: the refusal, its column (0 where it names none), whether the line ends the file, and the place after it. A line that is refused
- * leaves the place as it was; the state after the EOF line is the one before it. */
+/* What a line does: the refusal, its column (0 where it names none), whether the line ends the file, and the spot after it. A line that is refused
+ * leaves the spot as it was; the state after the EOF line is the one before it. */
 typedef struct {
     size_t refusal, column;
     bool finished;
-    sp3_place_t next;
+    sp3_spot_t next;
 } sp3_line_answer_t;
 
 /* Before the first line. */
-sp3_place_t sp3_first_place(void);
+sp3_spot_t sp3_first_spot(void);
 
-/* The plain line reader: what the line at a place does. A `+ ` line without fault leaves its identifiers in `names` (255 places suffice), after those
+/* The plain line reader: what the line at a spot does. A `+ ` line without fault leaves its identifiers in `names` (255 places suffice), after those
  * of the lines before it; no other line changes `names`, which is lent to the next line as this one left it. Refused: 1 where no LF is left; 12 at the
  * `+ ` line without fault that brings more identifiers than there are places for, and `names` is then as it was. Never 11 or 13. */
-sp3_line_answer_t sp3_read_line(const uint8_t *file, size_t length, sp3_place_t place, uint64_t *names, size_t name_room);
+sp3_line_answer_t sp3_read_line(const uint8_t *file, size_t length, sp3_spot_t spot, uint64_t *names, size_t name_room);
 
-/* The line reader where all identifiers of the header are known (sp3_begin): what the line at a place does. Refused: as sp3_read_line, but never 12. */
-sp3_line_answer_t sp3_next_line(const uint8_t *file, size_t length, const uint64_t *names, size_t name_count, sp3_place_t place);
+/* The line reader where all identifiers of the header are known (sp3_begin): what the line at a spot does. Refused: as sp3_read_line, but never 12. */
+sp3_line_answer_t sp3_next_line(const uint8_t *file, size_t length, const uint64_t *names, size_t name_count, sp3_spot_t spot);
 
-/* The walker's steps: the place so many lines further, each line read as by sp3_read_line. Afterwards `names` (255 places suffice) holds the identifiers
- * of the `+ ` lines that were passed; to go on from there lend it as it is. The place stays at a line that is refused, with 12 too, and at the one that
+/* The walker's steps: the spot so many lines further, each line read as by sp3_read_line. Afterwards `names` (255 places suffice) holds the identifiers
+ * of the `+ ` lines that were passed; to go on from there lend it as it is. The spot stays at a line that is refused, with 12 too, and at the one that
  * ends the file. Every step costs a line, also one that stays. Has no refusal. */
-sp3_place_t sp3_after_lines(const uint8_t *file, size_t length, uint64_t *names, size_t name_room, sp3_place_t place, size_t lines);
+sp3_spot_t sp3_after_lines(const uint8_t *file, size_t length, uint64_t *names, size_t name_room, sp3_spot_t spot, size_t lines);
 
 /* ---- A file row by row, for the adjustment's loop ---- */
 
 /* Between two rows. To be handed on, not altered. */
 typedef struct {
-    sp3_place_t place;
+    sp3_spot_t spot;
     uint64_t passed;
 } sp3_row_walk_t;
 

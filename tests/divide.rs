@@ -1,6 +1,6 @@
 //! A divider of stretches and a walker of SP3-d files, written from the
 //! documents. Where they are silent it follows the definitions: in what the
-//! state of a place between two lines is (the kind of line due, satellites and
+//! state of a spot between two lines is (the kind of line due, satellites and
 //! epochs still to come), in what names other than the file's do in a walk over
 //! rows, and in the column of a refusal.
 //!
@@ -47,7 +47,7 @@
 //! row E S at X Y Z CLOCK        each P row; `absent` in place of `at X Y Z`
 //! row E S absent CLOCK          or of CLOCK
 //! end                           or  refused R line LINE
-//! place K AT DUE LEFT EPOCHS    after K lines, or as many as may be passed
+//! spot K AT  DUE LEFT EPOCHS    after K lines, or as many as may be passed
 //! then K AT DUE LEFT EPOCHS     the same after half of the lines and the others
 //! short K AT DUE LEFT EPOCHS    after all lines, with room for I identifiers
 //! name G07                      each identifier that they left there
@@ -59,8 +59,8 @@
 //! names NAME ..                 all places of the room, filled or not
 //! ```
 //!
-//! At `place` and `then` K is 0, 1, 3, half of the lines, all (`then` before
-//! `place`), five more, and there is room for 255 identifiers. AT is the byte,
+//! At `spot` and `then` K is 0, 1, 3, half of the lines, all (`then` before
+//! `spot`), five more, and there is room for 255 identifiers. AT is the byte,
 //! DUE the record that must stand there (1 `#d` to 14 `EOF` in their order),
 //! LEFT how many satellites have their slot, or their rows of this epoch, still
 //! to come, EPOCHS how many epochs are still to come.
@@ -345,7 +345,7 @@ impl Case {
         let names = begun.as_ref().map_or(&self.names, |(table, _)| &table.identifiers);
         show_begun(&begun)
             + &show_rows(&walk_rows(&self.stretch, names))
-            + &show_places(&walk(&self.stretch, MOST_SATELLITES))
+            + &show_spots(&walk(&self.stretch, MOST_SATELLITES))
             + &show_short(&walk(&self.stretch, self.identifiers))
     }
 }
@@ -406,15 +406,15 @@ fn show_short(walk: &Walk) -> String {
     walk.after(all).show("short", all) + &show_names(walk.names())
 }
 
-fn show_places(walk: &Walk) -> String {
+fn show_spots(walk: &Walk) -> String {
     let mut out = String::new();
     let all = count_lines(walk.bytes);
     for lines in [0, 1, 3, all / 2] {
-        out += &walk.after(lines).show("place", lines);
+        out += &walk.after(lines).show("spot", lines);
     }
     out += &walk.after(all).show("then", all);
     for lines in [all, all + 5] {
-        out += &walk.after(lines).show("place", lines);
+        out += &walk.after(lines).show("spot", lines);
     }
     out
 }
@@ -604,13 +604,13 @@ const WALKED: &[Walked] = &[
             "kept",
             "row 0 0 at 5000000001 -500000 0 absent",
             "end",
-            "place 0 0 1 0 0",
-            "place 1 61 2 0 1",
-            "place 3 183 3 0 1",
-            "place 12 732 5 0 1",
+            "spot 0 0 1 0 0",
+            "spot 1 61 2 0 1",
+            "spot 3 183 3 0 1",
+            "spot 12 732 5 0 1",
             "then 25 1211 14 0 0",
-            "place 25 1211 14 0 0",
-            "place 30 1211 14 0 0",
+            "spot 25 1211 14 0 0",
+            "spot 30 1211 14 0 0",
             "short 25 1211 14 0 0",
             "name G07",
             "kept",
@@ -633,9 +633,9 @@ const WALKED: &[Walked] = &[
             "row 2 0 at -500000 0 0 999999000000",
             "row 2 1 at 999999999999 -999999999999 999999999999 -999999999999",
             "end",
-            "place 3 183 3 0 3",
-            "place 16 976 7 0 3",
-            "place 32 1632 14 0 0",
+            "spot 3 183 3 0 3",
+            "spot 16 976 7 0 3",
+            "spot 32 1632 14 0 0",
         ],
     ),
     // Mode V: the P rows alone, past EP, V and EV.
@@ -652,7 +652,7 @@ const WALKED: &[Walked] = &[
             "row 0 0 at -11044805800 -10475672350 21929418200 189163300",
             "row 0 1 at -12593593500 10170327650 -20354534400 -55976000",
             "end",
-            "place 15 915 6 0 1",
+            "spot 15 915 6 0 1",
             "then 30 1601 14 0 0",
         ],
     ),
@@ -749,7 +749,7 @@ const WALKED: &[Walked] = &[
         &[],
         0,
         &[7108],
-        &["begin 12 0 0 0 0", "kept", "refused 10 line 24", "place 30 1211 14 0 0"],
+        &["begin 12 0 0 0 0", "kept", "refused 10 line 24", "spot 30 1211 14 0 0"],
     ),
     // 18 satellites, of which 17 have their slots in the first line.
     (ManyFile(18), &[], 16, &[], &["begin 12 0 0 0 0", "kept", "short 42 122 3 0 1", "kept"]),
@@ -761,7 +761,7 @@ const WALKED: &[Walked] = &[
         &[
             "begin 12 0 0 0 0",
             "kept",
-            "place 42 2248 14 0 0",
+            "spot 42 2248 14 0 0",
             "short 42 183 3 1 1",
             "name G01",
             "name G17",
@@ -794,17 +794,17 @@ const WALKED: &[Walked] = &[
             "begin 1 1 0 0 0",
             "kept",
             "refused 1 line 1",
-            "place 0 0 1 0 0",
-            "place 1 0 1 0 0",
-            "place 3 0 1 0 0",
-            "place 0 0 1 0 0",
+            "spot 0 0 1 0 0",
+            "spot 1 0 1 0 0",
+            "spot 3 0 1 0 0",
+            "spot 0 0 1 0 0",
             "then 0 0 1 0 0",
-            "place 0 0 1 0 0",
-            "place 5 0 1 0 0",
+            "spot 0 0 1 0 0",
+            "spot 5 0 1 0 0",
         ],
     ),
     (Nothing, &[After(b"x")], 1, &[], &["begin 1 1 0 0 0", "refused 1 line 1"]),
-    (Nothing, &[After(b"\n")], 1, &[], &["begin 4 1 0 0 0", "refused 4 line 1", "place 1 0 1 0 0"]),
+    (Nothing, &[After(b"\n")], 1, &[], &["begin 4 1 0 0 0", "refused 4 line 1", "spot 1 0 1 0 0"]),
     // Bytes after EOF: 11 at `begin`, and a walk that ends there.
     (
         Paper,
@@ -816,7 +816,7 @@ const WALKED: &[Walked] = &[
             "kept",
             "row 0 0 at 5000000001 -500000 0 absent",
             "end",
-            "place 25 1211 14 0 0",
+            "spot 25 1211 14 0 0",
         ],
     ),
     (
@@ -829,9 +829,9 @@ const WALKED: &[Walked] = &[
             "row 0 0 at -11044805800 -10475672350 21929418200 189163300",
             "row 0 1 at -12593593500 10170327650 -20354534400 -55976000",
             "end",
-            "place 30 1601 14 0 0",
+            "spot 30 1601 14 0 0",
             "then 60 1601 14 0 0",
-            "place 65 1601 14 0 0",
+            "spot 65 1601 14 0 0",
         ],
     ),
     // Other names than the header's: none, another, of another letter, more; the
@@ -852,7 +852,7 @@ const WALKED: &[Walked] = &[
         &[After(b"x")],
         1,
         &[8207],
-        &["begin 11 26 0 0 0", "refused 8 line 13", "place 12 732 5 0 1", "then 25 1211 14 0 0"],
+        &["begin 11 26 0 0 0", "refused 8 line 13", "spot 12 732 5 0 1", "then 25 1211 14 0 0"],
     ),
     (
         Paper,
@@ -887,16 +887,16 @@ const WALKED: &[Walked] = &[
             "begin 8 2 0 0 0",
             "kept",
             "refused 8 line 2",
-            "place 1 61 2 0 1",
-            "place 3 61 2 0 1",
-            "place 12 61 2 0 1",
+            "spot 1 61 2 0 1",
+            "spot 3 61 2 0 1",
+            "spot 12 61 2 0 1",
             "then 25 61 2 0 1",
         ],
     ),
-    (Paper, &[Drop(22)], 1, &[7107], &["refused 4 line 22", "place 24 1115 8 0 1"]),
-    (Paper, &[Drop(23)], 1, &[7107], &["refused 4 line 23", "place 24 1118 9 0 1"]),
-    (Paper, &[Put(24, 61, "x")], 1, &[7107], &["refused 5 line 24", "place 25 1150 10 1 0"]),
-    (Paper, &[Keep(24)], 1, &[7107], &["refused 1 line 25", "place 24 1211 14 0 0"]),
+    (Paper, &[Drop(22)], 1, &[7107], &["refused 4 line 22", "spot 24 1115 8 0 1"]),
+    (Paper, &[Drop(23)], 1, &[7107], &["refused 4 line 23", "spot 24 1118 9 0 1"]),
+    (Paper, &[Put(24, 61, "x")], 1, &[7107], &["refused 5 line 24", "spot 25 1150 10 1 0"]),
+    (Paper, &[Keep(24)], 1, &[7107], &["refused 1 line 25", "spot 24 1211 14 0 0"]),
     (Night, &[Put(3, 13, "G07")], 2, &[7107, 8224], &["begin 8 3 0 0 0", "refused 8 line 3"]),
     // Refused between rows.
     (
@@ -913,7 +913,7 @@ const WALKED: &[Walked] = &[
             "row 1 1 at 0 0 1 absent",
             "refused 9 line 29",
             "then 32 1459 9 0 1",
-            "place 37 1459 9 0 1",
+            "spot 37 1459 9 0 1",
         ],
     ),
     (
@@ -925,7 +925,7 @@ const WALKED: &[Walked] = &[
             "begin 10 27 0 0 0",
             "row 0 1 absent absent",
             "refused 10 line 27",
-            "place 32 1304 10 2 1",
+            "spot 32 1304 10 2 1",
         ],
     ),
     (
@@ -933,7 +933,7 @@ const WALKED: &[Walked] = &[
         &[Insert(26, "EP"), Insert(27, "EP")],
         2,
         &[7107, 8224],
-        &["begin 4 27 0 0 0", "row 0 1 absent absent", "refused 4 line 27", "place 34 1275 9 0 2"],
+        &["begin 4 27 0 0 0", "row 0 1 absent absent", "refused 4 line 27", "spot 34 1275 9 0 2"],
     ),
     (
         Motion,
@@ -944,7 +944,7 @@ const WALKED: &[Walked] = &[
             "begin 2 25 0 0 0",
             "row 0 0 at -11044805800 -10475672350 21929418200 189163300",
             "refused 2 line 25",
-            "place 30 1224 11 2 0",
+            "spot 30 1224 11 2 0",
         ],
     ),
     (
@@ -956,7 +956,7 @@ const WALKED: &[Walked] = &[
             "begin 10 26 0 0 0",
             "row 0 0 at -11044805800 -10475672350 21929418200 189163300",
             "refused 10 line 26",
-            "place 30 1305 11 2 0",
+            "spot 30 1305 11 2 0",
         ],
     ),
     (
@@ -968,7 +968,7 @@ const WALKED: &[Walked] = &[
             "begin 3 27 0 0 0",
             "row 0 0 at -11044805800 -10475672350 21929418200 189163300",
             "refused 3 line 27",
-            "place 30 1379 10 1 0",
+            "spot 30 1379 10 1 0",
         ],
     ),
     (
@@ -980,7 +980,7 @@ const WALKED: &[Walked] = &[
             "begin 7 28 0 0 0",
             "row 0 0 at -11044805800 -10475672350 21929418200 189163300",
             "refused 7 line 28",
-            "place 30 1460 10 1 0",
+            "spot 30 1460 10 1 0",
         ],
     ),
     (
@@ -993,7 +993,7 @@ const WALKED: &[Walked] = &[
             "row 0 0 at -11044805800 -10475672350 21929418200 189163300",
             "row 0 1 at -12593593500 10170327650 -20354534400 -55976000",
             "refused 5 line 30",
-            "place 30 1601 14 0 0",
+            "spot 30 1601 14 0 0",
         ],
     ),
     // Slots: 20 satellites in two lines, 86 in six.
@@ -1006,7 +1006,7 @@ const WALKED: &[Walked] = &[
             "begin 0 0 2374 20 1",
             "name G18",
             "row 0 19 at 19000001 -500000 0 1000000",
-            "place 3 183 3 3 1",
+            "spot 3 183 3 3 1",
         ],
     ),
     (
@@ -1014,14 +1014,14 @@ const WALKED: &[Walked] = &[
         &[Keep(9), After(b"EOF\n")],
         86,
         &[],
-        &["begin 4 10 0 0 0", "refused 4 line 10", "place 5 305 3 35 1", "then 10 549 4 69 1"],
+        &["begin 4 10 0 0 0", "refused 4 line 10", "spot 5 305 3 35 1", "then 10 549 4 69 1"],
     ),
     (
         ManyFile(86),
         &[Keep(8)],
         86,
         &[],
-        &["refused 1 line 9", "place 4 244 3 52 1", "then 8 488 4 86 1"],
+        &["refused 1 line 9", "spot 4 244 3 52 1", "then 8 488 4 86 1"],
     ),
     (
         ManyFile(255),

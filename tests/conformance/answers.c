@@ -57,7 +57,7 @@ stretch_t load(const char *path)
 static size_t column_of(stretch_t file, sp3_reading_t judged, const char *path)
 {
     uint64_t names[MOST_SATELLITES] = {0};
-    sp3_place_t place = sp3_first_place();
+    sp3_spot_t place = sp3_first_spot();
     for (uint64_t line = 1;; line++) {
         sp3_line_answer_t answer = sp3_read_line(file.bytes, file.length, place, names, MOST_SATELLITES);
         if (answer.finished && judged.refusal == 11 && judged.line == line + 1)

@@ -220,7 +220,7 @@ static answer_t divide_into(stretch_t stretch, const size_t *with)
 static answer_t line_at(stretch_t file, const size_t *with)
 {
     uint64_t identifiers[NAMES] = {0};
-    sp3_place_t place = sp3_first_place();
+    sp3_spot_t place = sp3_first_spot();
     place.at = with[0];
     return alone(sp3_read_line(file.bytes, file.length, place, identifiers, NAMES).refusal);
 }
@@ -229,7 +229,7 @@ static answer_t line_at(stretch_t file, const size_t *with)
 static answer_t line_after(stretch_t file, const size_t *with)
 {
     uint64_t identifiers[NAMES] = {0};
-    sp3_place_t place = sp3_after_lines(file.bytes, file.length, identifiers, with[1], sp3_first_place(), with[0]);
+    sp3_spot_t place = sp3_after_lines(file.bytes, file.length, identifiers, with[1], sp3_first_spot(), with[0]);
     return alone(sp3_read_line(file.bytes, file.length, place, identifiers, with[1]).refusal);
 }
 

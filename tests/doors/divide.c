@@ -42,14 +42,14 @@ static void row_out(sp3_row_step_t step) {
     putchar('\n');
 }
 
-/* How a walk over rows ends: the place stays, there is no row, and lines walked one by one end the same way. */
+/* How a walk over rows ends: the spot stays, there is no row, and lines walked one by one end the same way. */
 static void walk_end_out(bytes_t file, names_t names, sp3_row_step_t step, sp3_row_walk_t from) {
     if (step.end) {
         puts("end");
     } else {
         printf("refused %zu line %" PRIu64 "\n", step.refusal, step.line);
     }
-    bool stays = same_place(step.next.place, from.place) && step.next.passed == from.passed;
+    bool stays = same_spot(step.next.spot, from.spot) && step.next.passed == from.passed;
     check(stays && step.epoch == 0 && step.satellite == 0 && is_no_row(step.row), "a row beside the end of a walk");
     check(step.end ? step.refusal == 0 && step.line == 0 : step.refusal != 0, "an end beside a refusal");
     line_end_t lines = known_lines(file, names.list, names.count);
@@ -86,24 +86,24 @@ static size_t line_count(bytes_t bytes) {
     return count;
 }
 
-/* The place after so many lines, with a list of the walker's own. */
+/* The spot after so many lines, with a list of the walker's own. */
 static void after_out(bytes_t file, size_t lines) {
     uint64_t *names = lent_numbers(MOST_SATELLITES, NUMBER_MARK);
-    place_out("place", lines, sp3_after_lines(file.bytes, file.length, names, MOST_SATELLITES, sp3_first_place(), lines));
+    spot_out("spot", lines, sp3_after_lines(file.bytes, file.length, names, MOST_SATELLITES, sp3_first_spot(), lines));
 }
 
-/* The places after half of the lines and after the others, with the same list; gives it. */
+/* The spots after half of the lines and after the others, with the same list; gives it. */
 static const uint64_t *halves_out(bytes_t file, size_t all) {
     uint64_t *names = lent_numbers(MOST_SATELLITES, NUMBER_MARK);
-    sp3_place_t half = sp3_after_lines(file.bytes, file.length, names, MOST_SATELLITES, sp3_first_place(), all / 2);
-    place_out("place", all / 2, half);
-    place_out("then", all, sp3_after_lines(file.bytes, file.length, names, MOST_SATELLITES, half, all - all / 2));
+    sp3_spot_t half = sp3_after_lines(file.bytes, file.length, names, MOST_SATELLITES, sp3_first_spot(), all / 2);
+    spot_out("spot", all / 2, half);
+    spot_out("then", all, sp3_after_lines(file.bytes, file.length, names, MOST_SATELLITES, half, all - all / 2));
     return names;
 }
 
-/* The places after no line, one, three, half of them, all of them in two steps and in one, and five more. Of an accepted file the walker learns the
+/* The spots after no line, one, three, half of them, all of them in two steps and in one, and five more. Of an accepted file the walker learns the
  * identifiers that sp3_begin leaves. */
-static void places_out(bytes_t file, names_t own) {
+static void spots_out(bytes_t file, names_t own) {
     size_t all = line_count(file);
     after_out(file, 0);
     after_out(file, 1);
@@ -125,12 +125,12 @@ static void identifiers_out(const uint64_t *list, size_t count, size_t room) {
     kept_out(list, filled, room);
 }
 
-/* The place after all lines with room for so many identifiers, and those that they brought. */
+/* The spot after all lines with room for so many identifiers, and those that they brought. */
 static void short_out(bytes_t file, size_t room) {
     uint64_t *names = lent_numbers(room, NUMBER_MARK);
     size_t all = line_count(file);
-    sp3_place_t at = sp3_after_lines(file.bytes, file.length, names, room, sp3_first_place(), all);
-    place_out("short", all, at);
+    sp3_spot_t at = sp3_after_lines(file.bytes, file.length, names, room, sp3_first_spot(), all);
+    spot_out("short", all, at);
     identifiers_out(names, brought(at), room);
 }
 
@@ -145,7 +145,7 @@ static void walk_out(bytes_t file, size_t room, names_t given) {
     identifiers_out(identifiers, header.satellites, room);
     names_t own = {shown(identifiers, room * sizeof *identifiers), room};
     rows_out(file, reading.refusal == 0 ? own : given, header);
-    places_out(file, (names_t){own.list, header.satellites});
+    spots_out(file, (names_t){own.list, header.satellites});
     short_out(file, room);
 }
 

@@ -97,7 +97,7 @@ bool same_header(sp3_header_t one, sp3_header_t other);
 /* Whether a header is the one that stands beside a refusal. */
 bool is_no_header(sp3_header_t header);
 
-bool same_place(sp3_place_t one, sp3_place_t other);
+bool same_spot(sp3_spot_t one, sp3_spot_t other);
 bool same_line(sp3_line_answer_t one, sp3_line_answer_t other);
 bool same_row(sp3_row_t one, sp3_row_t other);
 
@@ -127,10 +127,10 @@ typedef struct {
 
 line_end_t known_lines(bytes_t file, const uint64_t *names, size_t count);
 
-/* A place after k lines: its byte, the kind of line due there, and the satellites and epochs still to come. */
-void place_out(const char *word, uint64_t k, sp3_place_t place);
+/* A spot after k lines: its byte, the kind of line due there, and the satellites and epochs still to come. */
+void spot_out(const char *word, uint64_t k, sp3_spot_t spot);
 
-/* How many identifiers the lines before a place have brought. */
-size_t brought(sp3_place_t place);
+/* How many identifiers the lines before a spot have brought. */
+size_t brought(sp3_spot_t spot);
 
 #endif

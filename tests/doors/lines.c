@@ -5,57 +5,57 @@
 
 #include "doors.h"
 
-void place_out(const char *word, uint64_t k, sp3_place_t place) {
-    printf("%s %" PRIu64 " %zu %" PRIu64 " %" PRIu64 " %" PRIu64 "\n", word, k, place.at, place.state.due, place.state.left,
-           place.state.epochs);
+void spot_out(const char *word, uint64_t k, sp3_spot_t spot) {
+    printf("%s %" PRIu64 " %zu %" PRIu64 " %" PRIu64 " %" PRIu64 "\n", word, k, spot.at, spot.state.due, spot.state.left,
+           spot.state.epochs);
 }
 
 /* The number of the kind `+ `. */
 enum { NAMES_DUE = 3 };
 
-size_t brought(sp3_place_t place) {
-    return place.state.satellites - (place.state.due == NAMES_DUE ? place.state.left : 0);
+size_t brought(sp3_spot_t spot) {
+    return spot.state.satellites - (spot.state.due == NAMES_DUE ? spot.state.left : 0);
 }
 
 static bool same_names(const uint64_t *one, const uint64_t *other, size_t count) { return memcmp(one, other, count * sizeof *one) == 0; }
 
-static sp3_line_answer_t read_at(bytes_t file, sp3_place_t at, uint64_t *names, size_t room) {
+static sp3_line_answer_t read_at(bytes_t file, sp3_spot_t at, uint64_t *names, size_t room) {
     return sp3_read_line(file.bytes, file.length, at, names, room);
 }
 
-/* What line k, at this place, was found to do; whether it is the last that is read. */
-static bool line_out(uint64_t k, sp3_line_answer_t line, sp3_place_t at) {
+/* What line k, at this spot, was found to do; whether it is the last that is read. */
+static bool line_out(uint64_t k, sp3_line_answer_t line, sp3_spot_t at) {
     if (line.refusal != 0) {
         printf("stopped %zu line %" PRIu64 " column %zu\n", line.refusal, k, line.column);
-        check(!line.finished && same_place(line.next, at), "the place at a line that is refused");
+        check(!line.finished && same_spot(line.next, at), "the spot at a line that is refused");
         return true;
     }
     check(line.column == 0, "a column beside no refusal");
     if (line.finished) {
         printf("finished %" PRIu64 " %zu\n", k, line.next.at);
-        sp3_place_t before = {line.next.at, at.state};
-        check(same_place(line.next, before), "the state after the EOF line");
+        sp3_spot_t before = {line.next.at, at.state};
+        check(same_spot(line.next, before), "the state after the EOF line");
         return true;
     }
-    place_out("line", k, line.next);
+    spot_out("line", k, line.next);
     return false;
 }
 
-/* Where the byte of a place is past the last, no line is left. */
+/* Where the byte of a spot is past the last, no line is left. */
 static void check_no_line(bytes_t file, size_t at, uint64_t *names, size_t room) {
-    sp3_place_t place = sp3_first_place();
-    place.at = at;
+    sp3_spot_t spot = sp3_first_spot();
+    spot.at = at;
     sp3_line_answer_t none = {1, 0, false, place};
     check(same_line(read_at(file, place, names, room), none), "a line read past the end");
     check(same_line(sp3_next_line(file.bytes, file.length, names, room, place), none), "a line known past the end");
-    check(same_place(sp3_after_lines(file.bytes, file.length, names, room, place, 3), place), "lines walked past the end");
+    check(same_spot(sp3_after_lines(file.bytes, file.length, names, room, place, 3), place), "lines walked past the end");
 }
 
 /* Where the names are known each line does what the line reader found, but needs no room. */
 static void check_known(bytes_t file, const uint64_t *names, size_t count) {
     const uint64_t *known = shown(names, count * sizeof *known);
     uint64_t *again = lent_numbers(count, NUMBER_MARK);
-    sp3_place_t at = sp3_first_place();
+    sp3_spot_t at = sp3_first_spot();
     bool last = false;
     while (!last) {
         sp3_line_answer_t read = read_at(file, at, again, count);
@@ -74,7 +74,7 @@ static void check_judged(bytes_t file, uint64_t k, sp3_line_answer_t last) {
 }
 
 /* A `+ ` line without fault read once more, with the names before it in a list of so many places: 12 where those after it do not fit. */
-static void check_room(bytes_t file, sp3_place_t at, sp3_line_answer_t line, const uint64_t *names, size_t room) {
+static void check_room(bytes_t file, sp3_spot_t at, sp3_line_answer_t line, const uint64_t *names, size_t room) {
     uint64_t *list = lent_numbers(room, NUMBER_MARK), *before = lent_numbers(room, NUMBER_MARK);
     size_t known = brought(at) < room ? brought(at) : room, needed = brought(line.next);
     memcpy(list, names, known * sizeof *list);
@@ -88,7 +88,7 @@ static void check_room(bytes_t file, sp3_place_t at, sp3_line_answer_t line, con
 }
 
 /* A line that is refused where a `+ ` line is due is refused the same with room for the names before it alone: its own fault comes before 12. */
-static void check_fault(bytes_t file, sp3_place_t at, sp3_line_answer_t line, const uint64_t *names) {
+static void check_fault(bytes_t file, sp3_spot_t at, sp3_line_answer_t line, const uint64_t *names) {
     size_t room = brought(at);
     uint64_t *list = lent_numbers(room, NUMBER_MARK);
     memcpy(list, names, room * sizeof *list);
@@ -96,7 +96,7 @@ static void check_fault(bytes_t file, sp3_place_t at, sp3_line_answer_t line, co
 }
 
 /* A line that was read: one that brings no names leaves them as they were; a `+ ` line needs room for just its own and those before it. */
-static void check_line(bytes_t file, sp3_place_t at, sp3_line_answer_t line, const uint64_t *before, const uint64_t *names, size_t room) {
+static void check_line(bytes_t file, sp3_spot_t at, sp3_line_answer_t line, const uint64_t *before, const uint64_t *names, size_t room) {
     bool names_due = at.state.due == NAMES_DUE, brings = names_due && line.refusal == 0;
     check(brings || same_names(before, names, room), "the names after a line that brings none");
     if (names_due && !brings) check_fault(file, at, line, names);
@@ -107,15 +107,15 @@ static void check_line(bytes_t file, sp3_place_t at, sp3_line_answer_t line, con
     check_room(file, at, line, names, 0);
 }
 
-/* So many lines from the first place on, at once and in two parts with one list, lead to this place and leave these names. */
-static void check_walk(bytes_t file, size_t lines, sp3_place_t place, const uint64_t *names, size_t room) {
+/* So many lines from the first place on, at once and in two parts with one list, lead to this spot and leave these names. */
+static void check_walk(bytes_t file, size_t lines, sp3_spot_t spot, const uint64_t *names, size_t room) {
     uint64_t *once = lent_numbers(room, NUMBER_MARK), *twice = lent_numbers(room, NUMBER_MARK);
-    sp3_place_t first = sp3_first_place();
-    sp3_place_t at = sp3_after_lines(file.bytes, file.length, once, room, first, lines);
-    check(same_place(at, place) && same_names(once, names, room), "lines walked and read");
-    sp3_place_t half = sp3_after_lines(file.bytes, file.length, twice, room, first, lines / 2);
+    sp3_spot_t first = sp3_first_spot();
+    sp3_spot_t at = sp3_after_lines(file.bytes, file.length, once, room, first, lines);
+    check(same_spot(at, place) && same_names(once, names, room), "lines walked and read");
+    sp3_spot_t half = sp3_after_lines(file.bytes, file.length, twice, room, first, lines / 2);
     at = sp3_after_lines(file.bytes, file.length, twice, room, half, lines - lines / 2);
-    check(same_place(at, place) && same_names(twice, names, room), "lines walked in two parts and read");
+    check(same_spot(at, place) && same_names(twice, names, room), "lines walked in two parts and read");
 }
 
 /* Whether the walk over so many lines is held to the lines read one by one: the header's, and some of the others. */
@@ -130,7 +130,7 @@ static void names_out(const uint64_t *names, size_t count) {
 /* The lines up to the last that is read, each shown and checked; gives its number, and what it does. */
 static uint64_t each_line(bytes_t file, uint64_t *names, size_t room, sp3_line_answer_t *last) {
     uint64_t *before = lent_numbers(room, NUMBER_MARK);
-    sp3_place_t at = sp3_first_place();
+    sp3_spot_t at = sp3_first_spot();
     for (uint64_t k = 1;; k++) {
         memcpy(before, names, room * sizeof *before);
         *last = read_at(file, at, names, room);
@@ -155,7 +155,7 @@ void lines_shown(bytes_t file, size_t room) {
 }
 
 line_end_t known_lines(bytes_t file, const uint64_t *names, size_t count) {
-    sp3_place_t at = sp3_first_place();
+    sp3_spot_t at = sp3_first_spot();
     for (uint64_t k = 1;; k++) {
         sp3_line_answer_t line = sp3_next_line(file.bytes, file.length, names, count, at);
         if (line.refusal != 0 || line.finished) return (line_end_t){line.refusal, k};

@@ -29,10 +29,10 @@ static bool same_state(sp3_state_t one, sp3_state_t other) {
            one.epochs == other.epochs && one.at8 == other.at8 && one.gap8 == other.gap8 && one.interval8 == other.interval8;
 }
 
-bool same_place(sp3_place_t one, sp3_place_t other) { return one.at == other.at && same_state(one.state, other.state); }
+bool same_spot(sp3_spot_t one, sp3_spot_t other) { return one.at == other.at && same_state(one.state, other.state); }
 
 bool same_line(sp3_line_answer_t one, sp3_line_answer_t other) {
-    return one.refusal == other.refusal && one.column == other.column && one.finished == other.finished && same_place(one.next, other.next);
+    return one.refusal == other.refusal && one.column == other.column && one.finished == other.finished && same_spot(one.next, other.next);
 }
 
 /* The same number, or none on both sides. */

@@ -16,7 +16,7 @@ use Rattle.lines.specs.Lent.{flat}
 use Rattle.header.specs.Rules.{slotLines}
 use Rattle.record.specs.Plain.{commentLine, endItems}
 use Rattle.record.specs.Descriptors.{fixedLine}
-use Rattle.canon.specs.Table.{Table, commentWidth, cellsIn, namesOf, exponentsOf, commentsOf, rowsOf}
+use Rattle.canon.specs.Table.{Table, commentWidth, cellsIn, tableIdentifiers, exponentsOf, commentsOf, rowsOf}
 use Rattle.canon.specs.Valid.{textFits, valid}
 use Rattle.canon.specs.Canonical.{slotLinesOf, descriptorShown, basesShown, descriptorLines, linesBefore, commentLines, epochsLines, canonicalLines, canonical}
 use Rattle.canon.specs.Measured.{firstLength, openingLength, commentsLength, rowsLength, formLength}
@@ -89,16 +89,16 @@ unfolding canonical canonicalLines formLength flat
 canonical-length rules t v =
     let g = parts rules t v in
     let h = t .header in
-    let opening = linesBefore rules h (namesOf t) (exponentsOf t) in
+    let opening = linesBefore rules h (tableIdentifiers t) (exponentsOf t) in
     let comments = commentLines (h .comments) (commentsOf t) in
-    let epochs = epochsLines (h .velocity) (namesOf t) (h .interval8) (h .epochs) (h .start8) (rowsOf t) in
+    let epochs = epochsLines (h .velocity) (tableIdentifiers t) (h .interval8) (h .epochs) (h .start8) (rowsOf t) in
     let dated : length (flat epochs) ≡ 32 * h .epochs + rowsLength (h .velocity) (cellsIn h) (rowsOf t) =
-    epochs-length (h .velocity) (namesOf t) (h .interval8) (h .epochs) (h .start8) (rowsOf t) (rw (g .names-many) (g .rows))
+    epochs-length (h .velocity) (tableIdentifiers t) (h .interval8) (h .epochs) (h .start8) (rowsOf t) (rw (g .names-many) (g .rows))
     ∙ ap (λ (n : ℕ). 32 * h .epochs + rowsLength (h .velocity) (n * h .epochs) (rowsOf t)) (g .names-many) in
     omega (
       arith,
       flat-length opening (comments ++ (epochs ++ (fixedLine endItems ∷ []))),
-      opening-length rules h (namesOf t) (exponentsOf t) (g .header) (g .exponents),
+      opening-length rules h (tableIdentifiers t) (exponentsOf t) (g .header) (g .exponents),
       flat-length comments (epochs ++ (fixedLine endItems ∷ [])),
       comments-length (h .comments) (commentsOf t) (g .comments-many),
       flat-length epochs (fixedLine endItems ∷ []),

@@ -13,7 +13,7 @@ use Rattle.laws.proofs.Bools.{and-left, and-right}
 use Rattle.layout.specs.Kind.{isName}
 use Rattle.header.specs.declared.types.Rules.{Rules}
 use Rattle.machine.specs.Checks.{repeats, typeAgrees}
-use Rattle.canon.specs.Table.{Table, commentWidth, cellWidth, cellsIn, namesOf, exponentsOf, commentsOf, rowsOf}
+use Rattle.canon.specs.Table.{Table, commentWidth, cellWidth, cellsIn, tableIdentifiers, exponentsOf, commentsOf, rowsOf}
 use Rattle.canon.specs.Valid.{headerValid, namesValid, exponentsValid, commentsValid, rowsValid, countsHold, valid}
 use Rattle.canon.proofs.Counting.{Long, long}
 use Rattle.canon.proofs.HeaderBounds.{Bounded, bounded}
@@ -21,20 +21,20 @@ use Rattle.canon.proofs.HeaderBounds.{Bounded, bounded}
 pub record Parts (rules : Rules) (t : Table) : Type 0 where
   pub header : Bounded rules (t .header)
   pub lists : Long (t .header) (length (t .identifiers)) (length (t .exponents)) (length (t .comments)) (length (t .rows))
-  pub names-many : length (namesOf t) ≡ t .header .satellites
+  pub names-many : length (tableIdentifiers t) ≡ t .header .satellites
   pub exponents-many : length (exponentsOf t) ≡ t .header .satellites
   pub comments-many : length (commentsOf t) ≡ t .header .comments * commentWidth
   pub rows-many : length (rowsOf t) ≡ cellsIn (t .header) * cellWidth (t .header .velocity)
-  pub names : every isName (namesOf t) ≡ true
-  pub different : repeats [] (namesOf t) ≡ false
-  pub agreeing : typeAgrees (t .header .«file_type») (namesOf t) ≡ true
+  pub names : every isName (tableIdentifiers t) ≡ true
+  pub different : repeats [] (tableIdentifiers t) ≡ false
+  pub agreeing : typeAgrees (t .header .«file_type») (tableIdentifiers t) ≡ true
   pub exponents : every (λ n. leb n 999) (exponentsOf t) ≡ true
   pub comments : commentsValid rules (t .header .comments) (commentsOf t) ≡ true
   pub rows : rowsValid (t .header .velocity) (cellsIn (t .header)) (rowsOf t) ≡ true
 
 module _ (rules : Rules) (t : Table) (v : valid rules t ≡ true) where
   abbrev named : Bool
-  named = namesValid (t .header .«file_type») (namesOf t)
+  named = namesValid (t .header .«file_type») (tableIdentifiers t)
 
   counts : countsHold rules t ≡ true
   unfolding valid
@@ -58,7 +58,7 @@ module _ (rules : Rules) (t : Table) (v : valid rules t ≡ true) where
   unfolding countsHold
   is-bounded = bounded rules (t .header) (and-left (headerValid rules (t .header)) _ counts)
 
-  named-parts : (every isName (namesOf t) && (not (repeats [] (namesOf t)) && typeAgrees (t .header .«file_type») (namesOf t))) ≡ true
+  named-parts : (every isName (tableIdentifiers t) && (not (repeats [] (tableIdentifiers t)) && typeAgrees (t .header .«file_type») (tableIdentifiers t))) ≡ true
   unfolding namesValid
   named-parts = and-left named _ lists
 
@@ -69,7 +69,7 @@ module _ (rules : Rules) (t : Table) (v : valid rules t ≡ true) where
   pub parts : Parts rules t
   parts =
       let n = t .header .satellites in
-      let others = and-right (every isName (namesOf t)) _ named-parts in
+      let others = and-right (every isName (tableIdentifiers t)) _ named-parts in
       record {
         header = is-bounded;
         lists = is-long;
@@ -77,9 +77,9 @@ module _ (rules : Rules) (t : Table) (v : valid rules t ≡ true) where
         exponents-many = length-take-le n (t .exponents) (is-long .weighed);
         comments-many = length-take-le (t .header .comments * commentWidth) (t .comments) (is-long .said);
         rows-many = length-take-le (cellsIn (t .header) * cellWidth (t .header .velocity)) (t .rows) (is-long .placed);
-        names = and-left (every isName (namesOf t)) _ named-parts;
-        different = not-true (repeats [] (namesOf t)) (and-left (not (repeats [] (namesOf t))) _ others);
-        agreeing = and-right (not (repeats [] (namesOf t))) _ others;
+        names = and-left (every isName (tableIdentifiers t)) _ named-parts;
+        different = not-true (repeats [] (tableIdentifiers t)) (and-left (not (repeats [] (tableIdentifiers t))) _ others);
+        agreeing = and-right (not (repeats [] (tableIdentifiers t))) _ others;
         exponents = exponents-low;
         comments = and-left (commentsValid rules (t .header .comments) (commentsOf t)) _ after-exponents;
         rows = and-right (commentsValid rules (t .header .comments) (commentsOf t)) _ after-exponents;

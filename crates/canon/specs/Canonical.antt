@@ -29,7 +29,7 @@ use Rattle.record.specs.declared.types.Descriptor.{Descriptor}
 use Rattle.record.specs.declared.types.BaseLine.{BaseLine}
 use Rattle.record.specs.declared.types.Signed.{Signed}
 use Rattle.record.specs.declared.types.Row.{Row}
-use Rattle.canon.specs.Table.{Table, commentWidth, cellWidth, namesOf, exponentsOf, commentsOf, rowsOf}
+use Rattle.canon.specs.Table.{Table, commentWidth, cellWidth, tableIdentifiers, exponentsOf, commentsOf, rowsOf}
 use Rattle.canon.specs.Valid.{entry}
 
 -- the date and time of an instant in 10^-8 s since MJD 0
@@ -168,9 +168,9 @@ epochsLines velocity names interval8 (suc epochs) at8 rows =
 -- every line, each with its LF
 unfoldable pub canonicalLines : Rules → Table → List (List ℕ)
 canonicalLines rules t =
-    linesBefore rules (t .header) (namesOf t) (exponentsOf t)
+    linesBefore rules (t .header) (tableIdentifiers t) (exponentsOf t)
     ++ (commentLines (t .header .comments) (commentsOf t)
-    ++ (epochsLines (t .header .velocity) (namesOf t) (t .header .interval8) (t .header .epochs) (t .header .start8) (rowsOf t)
+    ++ (epochsLines (t .header .velocity) (tableIdentifiers t) (t .header .interval8) (t .header .epochs) (t .header .start8) (rowsOf t)
     ++ (fixedLine endItems ∷ [])))
 
 -- the canonical form: its lines one directly after another

@@ -33,8 +33,8 @@ abbrev pub cellsIn : Header → ℕ
 cellsIn h = h .satellites * h .epochs
 
 -- What belongs to the table: its identifiers, their exponents, the bytes of its comments, the numbers of its rows.
-abbrev pub namesOf : Table → List ℕ
-namesOf t = take (t .header .satellites) (t .identifiers)
+abbrev pub tableIdentifiers : Table → List ℕ
+tableIdentifiers t = take (t .header .satellites) (t .identifiers)
 
 abbrev pub exponentsOf : Table → List ℕ
 exponentsOf t = take (t .header .satellites) (t .exponents)

@@ -21,7 +21,7 @@ use Rattle.machine.specs.Checks.{repeats, typeAgrees}
 use Rattle.header.specs.declared.types.Rules.{Rules}
 use Rattle.header.specs.declared.types.Header.{Header}
 use Rattle.header.specs.declared.types.Texts.{Texts}
-use Rattle.canon.specs.Table.{Table, commentWidth, cellWidth, cellsIn, namesOf, exponentsOf, commentsOf, rowsOf}
+use Rattle.canon.specs.Table.{Table, commentWidth, cellWidth, cellsIn, tableIdentifiers, exponentsOf, commentsOf, rowsOf}
 
 -- an instant in 10^-8 s since MJD 0 on a day from 1980-01-06 to 2099-12-31
 unfoldable pub isInstant : ℕ → Bool
@@ -135,7 +135,7 @@ countsHold rules t =
 unfoldable pub valid : Rules → Table → Bool
 valid rules t =
     countsHold rules t
-    && (namesValid (t .header .«file_type») (namesOf t)
+    && (namesValid (t .header .«file_type») (tableIdentifiers t)
     && (exponentsValid (exponentsOf t)
     && (commentsValid rules (t .header .comments) (commentsOf t)
     && rowsValid (t .header .velocity) (cellsIn (t .header)) (rowsOf t))))

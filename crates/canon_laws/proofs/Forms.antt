@@ -20,7 +20,7 @@ use Rattle.record.specs.declared.types.First.{First}
 use Rattle.record.specs.declared.types.Second.{Second}
 use Rattle.record.specs.declared.types.Satellites.{Satellites}
 use Rattle.machine.specs.Checks.{instantIn, repeats}
-use Rattle.file.specs.Plain.{Plain, Epochs, areSlots, namesOf, isSecondLine, isDescriptorLine}
+use Rattle.file.specs.Plain.{Plain, Epochs, areSlots, slotIdentifiers, isSecondLine, isDescriptorLine}
 use Rattle.canon.specs.Table as table
 use Rattle.canon.specs.Table.{Table}
 use Rattle.canon.specs.Canonical.{momentOf, firstShown, secondShown, satellitesShown, slotLinesOf, descriptorShown, basesShown, descriptorLines, linesBefore, commentLines, epochsLines, canonicalLines}
@@ -52,7 +52,7 @@ module _ (rules : Rules) (proper : Proper rules) (t : Table) (v : Parts rules t)
   n = h .satellites
 
   abbrev names : List ℕ
-  names = table.namesOf t
+  names = table.slotIdentifiers t
 
   abbrev bound : Bounded rules h
   bound = v .header
@@ -155,8 +155,8 @@ module _ (rules : Rules) (proper : Proper rules) (t : Table) (v : Parts rules t)
   unfolding satellitesShown
   says-count = ap (λ (s : Satellites). s .count) (count-read rules proper n names (bound .satellites) (v .names-many) (v .names))
 
-  pub says-names : namesOf (satellitesOf rules (padded count) .count) (count ∷ slots) ≡ names
-  says-names = ap (λ (k : ℕ). namesOf k (count ∷ slots)) says-count ∙ names-hold rules proper n names (bound .satellites) (v .names-many) (v .names)
+  pub says-names : slotIdentifiers (satellitesOf rules (padded count) .count) (count ∷ slots) ≡ names
+  says-names = ap (λ (k : ℕ). slotIdentifiers k (count ∷ slots)) says-count ∙ names-hold rules proper n names (bound .satellites) (v .names-many) (v .names)
 
   pub further-are : areSlots rules false (n - 17) slots ≡ true
   further-are =
@@ -205,7 +205,7 @@ module _ (rules : Rules) (proper : Proper rules) (t : Table) (v : Parts rules t)
         ap (within (rules .«fewest_comments») (rules .«most_comments»)) (comment.comments-many rules proper (h .comments) (table.commentsOf t))
         ∙ bound .comments;
     are-epochs =
-        subst (λ (b : Bool). Epochs rules b (namesOf (satellitesOf rules (padded count) .count) (count ∷ slots)) (secondOf (padded second) .interval8) (firstOf rules (padded first) .epochs) (instantIn (firstOf rules (padded first) .start)) epochs) (sym says-mode)
+        subst (λ (b : Bool). Epochs rules b (slotIdentifiers (satellitesOf rules (padded count) .count) (count ∷ slots)) (secondOf (padded second) .interval8) (firstOf rules (padded first) .epochs) (instantIn (firstOf rules (padded first) .start)) epochs) (sym says-mode)
         (subst (λ (ns : List ℕ). Epochs rules (h .velocity) ns (secondOf (padded second) .interval8) (firstOf rules (padded first) .epochs) (instantIn (firstOf rules (padded first) .start)) epochs) (sym says-names)
         (subst (λ (i : ℕ). Epochs rules (h .velocity) names i (firstOf rules (padded first) .epochs) (instantIn (firstOf rules (padded first) .start)) epochs) (sym says-interval)
         (subst (λ (k : ℕ). Epochs rules (h .velocity) names (h .interval8) k (instantIn (firstOf rules (padded first) .start)) epochs) (sym says-epochs)

@@ -18,7 +18,7 @@ use Rattle.record.specs.declared.types.Satellites.{Satellites}
 use Rattle.record.specs.declared.types.LineKind.the-variants as kind
 use Rattle.record.proofs.RoundTrips.{satellites-back}
 use Rattle.record.proofs.Tiled.{satellites-tiled}
-use Rattle.file.specs.Plain.{isCountLine, namesOf}
+use Rattle.file.specs.Plain.{isCountLine, slotIdentifiers}
 use Rattle.scan_laws.proofs.Slots.{freshIn, first-fresh, names-cons}
 use Rattle.canon.specs.Canonical.{seventeen, satellitesShown, slotLinesOf}
 use Rattle.canon_laws.proofs.Bare.{EndsLine, bare-ended, bare-record}
@@ -70,12 +70,12 @@ module _ (rules : Rules) (proper : Proper rules) (n : ℕ) (names : List ℕ) (f
       ∙ ap (λ (k : ℕ). take k (seventeen names)) (sym many)
       ∙ seventeen-front names
 
-  pub names-hold : namesOf n (line ∷ map lineOf (slotLinesOf false (slotLines n - 1) (drop 17 names))) ≡ names
+  pub names-hold : slotIdentifiers n (line ∷ map lineOf (slotLinesOf false (slotLines n - 1) (drop 17 names))) ≡ names
   names-hold =
       let later = map lineOf (slotLinesOf false (slotLines n - 1) (drop 17 names)) in
       let left : length (drop 17 names) ≡ n - 17 = length-drop 17 names ∙ ap (λ (k : ℕ). k - 17) many in
       names-cons n line later
       ∙ ap₂ (λ (a b : List ℕ). a ++ b) fresh-are
-      (ap (λ (k : ℕ). namesOf k later) (sym left)
+      (ap (λ (k : ℕ). slotIdentifiers k later) (sym left)
       ∙ slots-hold false (slotLines n - 1) (drop 17 names) (every-drop isName 17 names v) (omega (arith, left, room-after n)))
       ∙ take-append-drop 17 names

@@ -23,7 +23,7 @@ use Rattle.file_laws.proofs.Selected.{satellites, velocities, epochs}
 use Rattle.file_laws.proofs.Slots.{names-many}
 use Rattle.file_laws.proofs.Counts as plain
 use Rattle.scan_laws.proofs.Files.{plain-lines}
-use Rattle.canon.specs.Table.{Table, cellWidth, cellsIn, namesOf, exponentsOf, commentsOf, rowsOf}
+use Rattle.canon.specs.Table.{Table, cellWidth, cellsIn, tableIdentifiers, exponentsOf, commentsOf, rowsOf}
 use Rattle.canon.specs.Valid.{valid}
 use Rattle.canon.specs.Canonical.{linesBefore, commentLines, epochsLines, canonicalLines, canonical}
 use Rattle.canon_laws.specs.Held.{Holds, tableIn, rewritten, Proper}
@@ -39,7 +39,7 @@ module _ (rules : Rules) where
       ++ (commentLines (h .comments) comments
       ++ (epochsLines (h .velocity) names (h .interval8) (h .epochs) (h .start8) rows ++ (fixedLine endItems ∷ []))))
 
-  form-is : (t : Table) → canonical rules t ≡ formOf (t .header) (namesOf t) (exponentsOf t) (commentsOf t) (rowsOf t)
+  form-is : (t : Table) → canonical rules t ≡ formOf (t .header) (tableIdentifiers t) (exponentsOf t) (commentsOf t) (rowsOf t)
   unfolding canonical canonicalLines
   form-is t = refl
 
@@ -66,14 +66,14 @@ module _ (rules : Rules) where
   pub one-form : (lines : List (List ℕ)) (t u : Table) → Holds rules lines t → Holds rules lines u → canonical rules t ≡ canonical rules u
   one-form lines t u p q =
       let header : t .header ≡ u .header = sym (p .header-is) ∙ q .header-is in
-      let names : namesOf t ≡ namesOf u = sym (p .identifiers-are) ∙ q .identifiers-are in
+      let names : tableIdentifiers t ≡ tableIdentifiers u = sym (p .identifiers-are) ∙ q .identifiers-are in
       let exponents : exponentsOf t ≡ exponentsOf u = sym (p .exponents-are) ∙ q .exponents-are in
       let comments : commentsOf t ≡ commentsOf u = sym (p .comments-are) ∙ q .comments-are in
       let rows : rowsOf t ≡ rowsOf u = sym (p .rows-are) ∙ q .rows-are in
       form-is t
       ∙ ap₂ (λ (h : Header) (ns : List ℕ). formOf h ns (exponentsOf t) (commentsOf t) (rowsOf t)) header names
-      ∙ ap₂ (λ (xs cs : List ℕ). formOf (u .header) (namesOf u) xs cs (rowsOf t)) exponents comments
-      ∙ ap (λ (rs : List ℤ). formOf (u .header) (namesOf u) (exponentsOf u) (commentsOf u) rs) rows
+      ∙ ap₂ (λ (xs cs : List ℕ). formOf (u .header) (tableIdentifiers u) xs cs (rowsOf t)) exponents comments
+      ∙ ap (λ (rs : List ℤ). formOf (u .header) (tableIdentifiers u) (exponentsOf u) (commentsOf u) rs) rows
       ∙ sym (form-is u)
 
   module _ (proper : Proper rules) where

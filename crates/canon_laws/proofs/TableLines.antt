@@ -7,7 +7,7 @@ use native.Mathlib.Nat.{mul-comm, mul-assoc}
 use lib.ListN.{length}
 use Rattle.header.specs.declared.types.Rules.{Rules}
 use Rattle.file.specs.Plain.{Epochs}
-use Rattle.canon.specs.Table.{Table, cellWidth, cellsIn, namesOf, rowsOf}
+use Rattle.canon.specs.Table.{Table, cellWidth, cellsIn, tableIdentifiers, rowsOf}
 use Rattle.canon.specs.Valid.{rowsValid}
 use Rattle.canon.specs.Canonical.{epochsLines}
 use Rattle.canon.proofs.Parts.{Parts}
@@ -21,14 +21,14 @@ module _ (rules : Rules) (t : Table) (v : Parts rules t) where
 
   -- THE LINES OF ITS EPOCHS: they are those of so many epochs, they store its rows, and each ends in its LF.
   pub table-epochs : Carries rules
-      (λ (ls : List (List ℕ)). Epochs rules (t .header .velocity) (namesOf t) (t .header .interval8) (t .header .epochs) (t .header .start8) ls)
+      (λ (ls : List (List ℕ)). Epochs rules (t .header .velocity) (tableIdentifiers t) (t .header .interval8) (t .header .epochs) (t .header .start8) ls)
       (rowsOf t)
-      (epochsLines (t .header .velocity) (namesOf t) (t .header .interval8) (t .header .epochs) (t .header .start8) (rowsOf t))
+      (epochsLines (t .header .velocity) (tableIdentifiers t) (t .header .interval8) (t .header .epochs) (t .header .start8) (rowsOf t))
   table-epochs =
-      let n = length (namesOf t) in
+      let n = length (tableIdentifiers t) in
       let w = cellWidth (t .header .velocity) in
       let cells : t .header .epochs * n ≡ cellsIn (t .header) = ap (λ (k : ℕ). t .header .epochs * k) (v .names-many) ∙ mul-comm (t .header .epochs) (t .header .satellites) in
       let size : length (rowsOf t) ≡ t .header .epochs * (n * w) = v .rows-many ∙ ap (λ (k : ℕ). k * w) (sym cells) ∙ mul-assoc (t .header .epochs) n w in
-      all-epochs-hold rules (t .header .velocity) (namesOf t) (v .names) (t .header .interval8) (t .header .epochs) (t .header .start8) (rowsOf t) instants
+      all-epochs-hold rules (t .header .velocity) (tableIdentifiers t) (v .names) (t .header .interval8) (t .header .epochs) (t .header .start8) (rowsOf t) instants
       (ap (λ (k : ℕ). rowsValid (t .header .velocity) k (rowsOf t)) cells ∙ v .rows)
       size

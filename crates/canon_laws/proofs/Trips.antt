@@ -64,7 +64,7 @@ module _ (rules : Rules) (proper : Proper rules) (t : Table) (ok : valid rules t
   unfolding canonicalLines linesBefore
   all-end =
       let bound = v .header in
-      let names = table.namesOf t in
+      let names = table.tableIdentifiers t in
       let exponents = table.exponentsOf t in
       let fits = moment-fits (momentOf (h .start8)) (moment-is (h .start8) (bound .clock .start)) in
       let plus = slotLinesOf false (slotLines (h .satellites) - 1) (drop 17 names) in

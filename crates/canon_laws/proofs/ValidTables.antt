@@ -18,7 +18,7 @@ use Rattle.header.specs.declared.types.Rules.{Rules}
 use Rattle.header.specs.declared.types.Header.{Header}
 use Rattle.file.specs.Plain.{Plain}
 use Rattle.file.specs.Table.{headerFrom, slotsIn, rowsIn}
-use Rattle.canon.specs.Table.{Table, commentWidth, cellWidth, cellsIn, namesOf, exponentsOf, commentsOf, rowsOf}
+use Rattle.canon.specs.Table.{Table, commentWidth, cellWidth, cellsIn, tableIdentifiers, exponentsOf, commentsOf, rowsOf}
 use Rattle.canon.specs.Valid.{headerValid, listsLong, namesValid, exponentsValid, commentsValid, rowsValid, countsHold, valid}
 use Rattle.file_laws.proofs.Selected.{satellites, names, velocities, interval8, epochs}
 use Rattle.file_laws.proofs.Slots.{names-many}
@@ -62,8 +62,8 @@ module _ (rules : Rules) (lines : List (List ℕ)) (p : Plain rules lines) where
     satellites-are : t .header .satellites ≡ satellites p
     satellites-are = ap (λ (x : Header). x .satellites) said
 
-    names-are : namesOf t ≡ names p
-    names-are = sym (h .identifiers-are) ∙ plain.identifiers-are p
+    taken-are : tableIdentifiers t ≡ names p
+    taken-are = sym (h .identifiers-are) ∙ plain.identifiers-are p
 
     exponents-are : exponentsOf t ≡ slotsIn rules true (satellites p) lines
     exponents-are = sym (h .exponents-are) ∙ ap (λ (n : ℕ). slotsIn rules true n lines) (count-is p)
@@ -75,7 +75,7 @@ module _ (rules : Rules) (lines : List (List ℕ)) (p : Plain rules lines) where
         let x = t .header in
         let c : x .comments ≡ length (p .comments) = ap (λ (y : Header). y .comments) said in
         let some : leb (x .satellites) (length (t .identifiers)) ≡ true =
-        le-leb (x .satellites) (length (t .identifiers)) (has-places (x .satellites) (t .identifiers) (ap length names-are ∙ names-many p ∙ sym satellites-are)) in
+        le-leb (x .satellites) (length (t .identifiers)) (has-places (x .satellites) (t .identifiers) (ap length taken-are ∙ names-many p ∙ sym satellites-are)) in
         let same : leb (x .satellites) (length (t .exponents)) ≡ true =
         le-leb (x .satellites) (length (t .exponents)) (has-places (x .satellites) (t .exponents) (ap length exponents-are ∙ exponents-room p ∙ sym satellites-are)) in
         let whole : leb (x .comments) (length (t .comments) / commentWidth) ≡ true =
@@ -89,8 +89,8 @@ module _ (rules : Rules) (lines : List (List ℕ)) (p : Plain rules lines) where
     unfolding countsHold
     counts-hold = rw (ap (headerValid rules) (sym (h .header-is)) ∙ header-valid p, lists-long)
 
-    its-names : namesValid (t .header .«file_type») (namesOf t) ≡ true
-    its-names = ap₂ namesValid (ap (λ (x : Header). x .«file_type») said) names-are ∙ names-valid p
+    its-names : namesValid (t .header .«file_type») (tableIdentifiers t) ≡ true
+    its-names = ap₂ namesValid (ap (λ (x : Header). x .«file_type») said) taken-are ∙ names-valid p
 
     its-exponents : exponentsValid (exponentsOf t) ≡ true
     its-exponents = ap exponentsValid exponents-are ∙ exponents-valid p

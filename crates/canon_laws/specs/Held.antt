@@ -10,13 +10,13 @@ use Rattle.lines.specs.Lines.{linesOf}
 use Rattle.header.specs.declared.types.Rules.{Rules}
 use Rattle.file.specs.Table.{countOf, headerIn, slotsIn, commentsIn, rowsIn}
 use Rattle.file.specs.Plain.{Sound}
-use Rattle.canon.specs.Table.{Table, tableOf, namesOf, exponentsOf, commentsOf, rowsOf}
+use Rattle.canon.specs.Table.{Table, tableOf, tableIdentifiers, exponentsOf, commentsOf, rowsOf}
 use Rattle.canon.specs.Canonical.{canonical}
 
 -- the lines have the table: its header, and of its lists so many first places as its counts say
 pub record Holds (rules : Rules) (lines : List (List ℕ)) (t : Table) : Type 0 where
   pub header-is : headerIn rules lines ≡ t .header
-  pub identifiers-are : slotsIn rules false (countOf rules lines) lines ≡ namesOf t
+  pub identifiers-are : slotsIn rules false (countOf rules lines) lines ≡ tableIdentifiers t
   pub exponents-are : slotsIn rules true (countOf rules lines) lines ≡ exponentsOf t
   pub comments-are : commentsIn rules lines ≡ commentsOf t
   pub rows-are : rowsIn rules lines ≡ rowsOf t

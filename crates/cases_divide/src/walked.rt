@@ -1,10 +1,10 @@
-// One file walked: what `begin` answers and leaves, the rows in order, and the places after some lines.
+// One file walked: what `begin` answers and leaves, the rows in order, and the spots after some lines.
 ghost use Prim.Native.Nat.{_≤_};
 use crate::input::at_most;
 use crate::lent;
 use crate::print;
 use float_row::FloatRow;
-use line_walk::Place;
+use line_walk::Spot;
 use row_walk::RowStep;
 
 // The epoch and the satellite of a row.
@@ -136,8 +136,8 @@ fn more(n: usize) -> usize {
     n
 }
 
-// A place after so many lines: its byte, the kind of line due there, and the satellites and epochs still to come.
-fn stands(word: &[u8], k: usize, at: Place) {
+// A spot after so many lines: its byte, the kind of line due there, and the satellites and epochs still to come.
+fn stands(word: &[u8], k: usize, at: Spot) {
     let state = at.state;
     print::text(word);
     print::value(k as u64);
@@ -148,17 +148,17 @@ fn stands(word: &[u8], k: usize, at: Place) {
     print::text(b"\n");
 }
 
-// The place after the first k lines.
-fn after(file: &[u8], k: usize) -> Place {
+// The spot after the first k lines.
+fn after(file: &[u8], k: usize) -> Spot {
     let mut names = [0; 255];
-    line_walk::after_lines(file, line_walk::first_place(), k, &mut names)
+    line_walk::after_lines(file, line_walk::first_spot(), k, &mut names)
 }
 
-// The place after n lines, half of them first.
+// The spot after n lines, half of them first.
 fn in_two(file: &[u8], n: usize) {
     let mut names = [0; 255];
-    let half = line_walk::after_lines(file, line_walk::first_place(), n / 2, &mut names);
-    stands(b"place", n / 2, half);
+    let half = line_walk::after_lines(file, line_walk::first_spot(), n / 2, &mut names);
+    stands(b"spot", n / 2, half);
     stands(
         b"then",
         n,
@@ -166,19 +166,19 @@ fn in_two(file: &[u8], n: usize) {
     );
 }
 
-// The places after no line, one, three, half of them, all of them and more.
-fn places(file: &[u8]) {
+// The spots after no line, one, three, half of them, all of them and more.
+fn spots(file: &[u8]) {
     let n = line_count(file);
-    stands(b"place", 0, after(file, 0));
-    stands(b"place", 1, after(file, 1));
-    stands(b"place", 3, after(file, 3));
+    stands(b"spot", 0, after(file, 0));
+    stands(b"spot", 1, after(file, 1));
+    stands(b"spot", 3, after(file, 3));
     in_two(file, n);
-    stands(b"place", n, after(file, n));
-    stands(b"place", more(n), after(file, more(n)));
+    stands(b"spot", n, after(file, n));
+    stands(b"spot", more(n), after(file, more(n)));
 }
 
-// How many identifiers the lines before a place have brought: where `+ ` lines are still due, those of the satellites that have had their slot.
-fn brought(at: Place) -> u64 {
+// How many identifiers the lines before a spot have brought: where `+ ` lines are still due, those of the satellites that have had their slot.
+fn brought(at: Spot) -> u64 {
     let state = at.state;
     if state.due != 3 {
         return state.satellites;
@@ -189,10 +189,10 @@ fn brought(at: Place) -> u64 {
     state.satellites - state.left
 }
 
-// The place after all lines with no more room for identifiers than this, and those that they brought.
+// The spot after all lines with no more room for identifiers than this, and those that they brought.
 fn short(file: &[u8], names: &mut [u64]) {
     let n = line_count(file);
-    let at = line_walk::after_lines(file, line_walk::first_place(), n, names);
+    let at = line_walk::after_lines(file, line_walk::first_spot(), n, names);
     stands(b"short", n, at);
     lent::shown(true, names, brought(at));
 }
@@ -200,7 +200,7 @@ fn short(file: &[u8], names: &mut [u64]) {
 // A walk over rows with these names for those of the header, and over lines.
 fn walk_with<'a>(file: &'a [u8], header: &'a [u64]) {
     rows(file, header);
-    places(file);
+    spots(file);
 }
 
 // A file walked with the identifiers that `begin` fills; with the given names where it is refused.

@@ -10,7 +10,7 @@ use lib.Dec.{eqb}
 use lib.ListN.{length, drop}
 use borrow.Author.Tests.{eq-eqb}
 use Rattle.layout.specs.Line.{padded}
-use Rattle.lines.specs.Lines.{isLf, hasLf, lineLength, linesOf, select, nth, placeFrom}
+use Rattle.lines.specs.Lines.{isLf, hasLf, lineLength, linesOf, select, nth, beginsFrom}
 use Rattle.lines.proofs.Ends.{neither}
 use Rattle.lines.proofs.Picking.{select-first, select-other, nth-here, place-here, place-other, placed}
 use Rattle.lines.proofs.Split.{OneLine, first}
@@ -24,7 +24,7 @@ use Rattle.machine.specs.State.{startState, noNames}
 use Rattle.machine.specs.declared.types.State.{State}
 use Rattle.machine.specs.declared.types.Verdict.the-variants as verdict
 use Rattle.file.specs.Kinds.{isKind}
-use Rattle.scan.specs.Run.{nothing, counted, run, scanOf}
+use Rattle.scan.specs.Run.{nothingSeen, counted, run, scanOf}
 use Rattle.scan.specs.declared.Tally.{Tally}
 use Rattle.scan.specs.declared.Front.the-variants as front
 use Rattle.scan_laws.proofs.Passing.{kindHere, good, after, some-line}
@@ -62,7 +62,7 @@ module _ (rules : Rules) where
   -- some lines from a place on have an EOF line, and behind the first of them the file ends
   record Last (ls : List (List ℕ)) (from end : ℕ) : Type 0 where
     pub some : 0 < length (select isLast ls)
-    pub behind : placeFrom isLast 0 from ls + length (nth 0 (select isLast ls)) + 1 ≡ end
+    pub behind : beginsFrom isLast 0 from ls + length (nth 0 (select isLast ls)) + 1 ≡ end
 
   last-line : (ls : List (List ℕ)) (s : State) (names : List ℕ) (t t′ : Tally) → run rules s names t ls ≡ front.File t′ → Last ls (t .end) (t′ .end)
   unfolding run counted
@@ -95,10 +95,10 @@ module _ (rules : Rules) where
 
   -- A file at the front of some bytes ends behind their first EOF line.
   pub file-ends : (bytes : List ℕ) (t : Tally) → scanOf rules bytes ≡ front.File t
-      → placeFrom isLast 0 0 (linesOf bytes) + lineLength (drop (placeFrom isLast 0 0 (linesOf bytes)) bytes) + 1 ≡ t .end
+      → beginsFrom isLast 0 0 (linesOf bytes) + lineLength (drop (beginsFrom isLast 0 0 (linesOf bytes)) bytes) + 1 ≡ t .end
   file-ends bytes t e =
-      let last = last-line (linesOf bytes) startState noNames nothing t e in
+      let last = last-line (linesOf bytes) startState noNames nothingSeen t e in
       let p = placed isLast 0 bytes (last .some) in
-      let f = first (drop (placeFrom isLast 0 0 (linesOf bytes)) bytes) (nth 0 (select isLast (linesOf bytes))) (p .more) (p .there) in
-      ap (λ (n : ℕ). placeFrom isLast 0 0 (linesOf bytes) + n + 1) (ap lineLength (f .bytes-are) ∙ line-length (nth 0 (select isLast (linesOf bytes))) (f .rest) (f .text))
+      let f = first (drop (beginsFrom isLast 0 0 (linesOf bytes)) bytes) (nth 0 (select isLast (linesOf bytes))) (p .more) (p .there) in
+      ap (λ (n : ℕ). beginsFrom isLast 0 0 (linesOf bytes) + n + 1) (ap lineLength (f .bytes-are) ∙ line-length (nth 0 (select isLast (linesOf bytes))) (f .rest) (f .text))
       ∙ last .behind

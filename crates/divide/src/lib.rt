@@ -63,7 +63,7 @@ fn file_length(rules: Rules, bytes: &[u8]) -> usize
     requires { ⌜ FileHere rules (now bytes) ⌝ }
     ensures { λ r. ⌜ r ≡ endOf (scanOf rules (now (bytes .entry))) ⌝ }
 {
-    let last = file::place_of(rules, bytes, 14, 0);
+    let last = file::line_begins(rules, bytes, 14, 0);
     lines::line_end(bytes, last) + 1
 }
 

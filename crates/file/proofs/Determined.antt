@@ -3,7 +3,7 @@
 use mathlib.Core.Path.{_≡_, sym, _∙_}
 use Rattle.laws.specs.Places.{Same}
 use Rattle.file.proofs.kind_in.Reads as kind-in
-use Rattle.file.proofs.place_of.Reads as place-of
+use Rattle.file.proofs.line_begins.Reads as line-begins
 use Rattle.file.proofs.nothing_at.Reads as nothing-at
 use Rattle.file.proofs.line_at.Reads as line-at
 use Rattle.file.proofs.line_of.Reads as line-of
@@ -14,8 +14,8 @@ use Rattle.file.proofs.records.count_of.Reads as count-of
 pub kind-in-determined : (κs : _) (a : _) (r r′ : _) (s s′ : _) → kind-in.Post κs a r s → kind-in.Post κs a r′ s′ → r ≡ r′
 kind-in-determined κs a r r′ s s′ p q = p ∙ sym q
 
-pub place-of-determined : (κs : _) (a : _) (r r′ : _) (s s′ : _) → place-of.Post κs a r s → place-of.Post κs a r′ s′ → r ≡ r′
-place-of-determined κs a r r′ s s′ p q = p ∙ sym q
+pub line-begins-determined : (κs : _) (a : _) (r r′ : _) (s s′ : _) → line-begins.Post κs a r s → line-begins.Post κs a r′ s′ → r ≡ r′
+line-begins-determined κs a r r′ s s′ p q = p ∙ sym q
 
 pub nothing-at-determined : (κs : _) (a : _) (r r′ : _) (s s′ : _) → nothing-at.Post κs a r s → nothing-at.Post κs a r′ s′ → Same r r′
 nothing-at-determined κs a r r′ s s′ p q = (p .0 ∙ sym (q .0), p .1 ∙ sym (q .1))

@@ -11,9 +11,9 @@ use lib.ListN.{length, getD, take, drop, length-append, length-drop, getD-replic
 use lib.Seq.{getD-take}
 use Rattle.laws.specs.Texts.{blanks}
 use Rattle.layout.specs.Line.{padded}
-use Rattle.lines.specs.Lines.{lineLength, linesOf, bytesIn, select, nth, placeFrom}
+use Rattle.lines.specs.Lines.{lineLength, linesOf, bytesIn, select, nth, beginsFrom}
 use Rattle.lines.proofs.Ends.{no-line, first-line}
-use Rattle.lines.proofs.Picking.{nth-none, nth-here, nth-past, place-past, placed}
+use Rattle.lines.proofs.Picking.{nth-none, nth-here, nth-past, spot-past, placed}
 use Rattle.lines.proofs.Split.{bytes-in, parted, first}
 use Rattle.record.specs.LineKinds.{kindBy, kindOf}
 use Rattle.header.specs.declared.types.Rules.{Rules}
@@ -58,15 +58,15 @@ none-behind bytes =
 
 -- the k-th line that passes a test is the one at its place
 pub line-at-place : (test : List ℕ → Bool) (k : ℕ) (bytes : List ℕ)
-    → nth 0 (linesOf (drop (placeFrom test k 0 (linesOf bytes)) bytes)) ≡ nth k (select test (linesOf bytes))
+    → nth 0 (linesOf (drop (beginsFrom test k 0 (linesOf bytes)) bytes)) ≡ nth k (select test (linesOf bytes))
 line-at-place test k bytes = go (decLt k (length (select test (linesOf bytes))))
   where
-    go : Dec (k < length (select test (linesOf bytes))) → nth 0 (linesOf (drop (placeFrom test k 0 (linesOf bytes)) bytes)) ≡ nth k (select test (linesOf bytes))
+    go : Dec (k < length (select test (linesOf bytes))) → nth 0 (linesOf (drop (beginsFrom test k 0 (linesOf bytes)) bytes)) ≡ nth k (select test (linesOf bytes))
     go (yes h) =
         let p = placed test k bytes h in
         ap (nth 0) (p .there) ∙ nth-here 0 (nth k (select test (linesOf bytes))) (p .more) refl
     go (no h) =
-        ap (λ (n : ℕ). nth 0 (linesOf (drop n bytes))) (place-past test k 0 (linesOf bytes) (omega arith) ∙ zero-add (bytesIn (linesOf bytes)))
+        ap (λ (n : ℕ). nth 0 (linesOf (drop n bytes))) (spot-past test k 0 (linesOf bytes) (omega arith) ∙ zero-add (bytesIn (linesOf bytes)))
         ∙ ap (nth 0) (none-behind bytes)
         ∙ nth-none 0
         ∙ sym (nth-past k (select test (linesOf bytes)) (omega arith))
@@ -77,15 +77,15 @@ lines-within bytes = omega (arith, bytes-in (linesOf bytes), parted (linesOf byt
 
 -- the k-th line that passes a test ends within the bytes
 pub line-within : (test : List ℕ → Bool) (k : ℕ) (bytes : List ℕ)
-    → placeFrom test k 0 (linesOf bytes) + length (nth k (select test (linesOf bytes))) ≤ length bytes
+    → beginsFrom test k 0 (linesOf bytes) + length (nth k (select test (linesOf bytes))) ≤ length bytes
 line-within test k bytes = go (decLt k (length (select test (linesOf bytes))))
   where
-    go : Dec (k < length (select test (linesOf bytes))) → placeFrom test k 0 (linesOf bytes) + length (nth k (select test (linesOf bytes))) ≤ length bytes
+    go : Dec (k < length (select test (linesOf bytes))) → beginsFrom test k 0 (linesOf bytes) + length (nth k (select test (linesOf bytes))) ≤ length bytes
     go (yes h) =
         let p = placed test k bytes h in
-        let place = placeFrom test k 0 (linesOf bytes) in
+        let place = beginsFrom test k 0 (linesOf bytes) in
         let line = nth k (select test (linesOf bytes)) in
         let f = first (drop place bytes) line (p .more) (p .there) in
         omega (arith, p .within, length-drop place bytes, ap length (f .bytes-are) ∙ length-append line (10 ∷ f .rest))
     go (no h) =
-        omega (arith, place-past test k 0 (linesOf bytes) (omega arith), ap length (nth-past k (select test (linesOf bytes)) (omega arith)), lines-within bytes)
+        omega (arith, spot-past test k 0 (linesOf bytes) (omega arith), ap length (nth-past k (select test (linesOf bytes)) (omega arith)), lines-within bytes)

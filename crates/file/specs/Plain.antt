@@ -64,8 +64,8 @@ areSlots rules accuracies left (l ∷ ls) =
     isRecord rules (slotsOfKind accuracies) (moreOf accuracies left (padded l) .fault) l && areSlots rules accuracies (left - 17) ls
 
 -- the identifiers of n satellites in some `+ ` lines
-abbrev pub namesOf : ℕ → List (List ℕ) → List ℕ
-namesOf n lines = take n (flat (map (slotNumbers false) lines))
+abbrev pub slotIdentifiers : ℕ → List (List ℕ) → List ℕ
+slotIdentifiers n lines = take n (flat (map (slotNumbers false) lines))
 
 -- 5: the first `%c`, whose file type agrees with the identifiers, and the second
 abbrev pub isDescriptorLine : Rules → List ℕ → List ℕ → Bool
@@ -179,10 +179,10 @@ pub record Plain (rules : Rules) (lines : List (List ℕ)) : Type 0 where
   pub is-count : isCountLine rules count ≡ true
   pub are-slots : areSlots rules false (satellitesOf rules (padded count) .count - 17) slots ≡ true
   pub slots-many : suc (length slots) ≡ slotLines (satellitesOf rules (padded count) .count)
-  pub all-different : repeats [] (namesOf (satellitesOf rules (padded count) .count) (count ∷ slots)) ≡ false
+  pub all-different : repeats [] (slotIdentifiers (satellitesOf rules (padded count) .count) (count ∷ slots)) ≡ false
   pub are-accuracies : areSlots rules true (satellitesOf rules (padded count) .count) accuracies ≡ true
   pub accuracies-many : length accuracies ≡ slotLines (satellitesOf rules (padded count) .count)
-  pub is-descriptor : isDescriptorLine rules (namesOf (satellitesOf rules (padded count) .count) (count ∷ slots)) descriptor ≡ true
+  pub is-descriptor : isDescriptorLine rules (slotIdentifiers (satellitesOf rules (padded count) .count) (count ∷ slots)) descriptor ≡ true
   pub is-characters : isCharactersLine rules characters ≡ true
   pub is-bases : isBasesLine rules bases ≡ true
   pub is-floats : isFloatsLine rules floats ≡ true
@@ -194,7 +194,7 @@ pub record Plain (rules : Rules) (lines : List (List ℕ)) : Type 0 where
       Epochs
       rules
       (eqb (firstOf rules (padded first) .mode) 86)
-      (namesOf (satellitesOf rules (padded count) .count) (count ∷ slots))
+      (slotIdentifiers (satellitesOf rules (padded count) .count) (count ∷ slots))
       (secondOf (padded second) .interval8)
       (firstOf rules (padded first) .epochs)
       (instantIn (firstOf rules (padded first) .start))

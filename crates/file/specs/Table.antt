@@ -69,13 +69,13 @@ abbrev pub slotNumbers : Bool → List ℕ → List ℕ
 slotNumbers accuracies line = moreOf accuracies 17 (padded line) .values
 
 -- `+ ` lines (3), or `++` lines (4)
-abbrev pub slotKind : Bool → ℕ
-slotKind true = 4
-slotKind false = 3
+abbrev pub slotLineKind : Bool → ℕ
+slotLineKind true = 4
+slotLineKind false = 3
 
 -- the identifiers of n satellites, or their exponents
 unfoldable pub slotsIn : Rules → Bool → ℕ → List (List ℕ) → List ℕ
-slotsIn rules accuracies n lines = take n (flat (map (slotNumbers accuracies) (ofKind rules (slotKind accuracies) lines)))
+slotsIn rules accuracies n lines = take n (flat (map (slotNumbers accuracies) (ofKind rules (slotLineKind accuracies) lines)))
 
 -- the text of a comment: columns 4 to 80, filled up with blanks
 abbrev pub commentText : List ℕ → List ℕ

@@ -5,7 +5,7 @@ ghost use Prim.Native.Nat.{min};
 ghost use lib.ListN.{length, getD, drop};
 ghost use denote.Ref.{ptr};
 ghost use Rattle.laws.specs.Places.{byteOf};
-ghost use Rattle.lines.specs.Lines.{linesOf, nth, placeFrom};
+ghost use Rattle.lines.specs.Lines.{linesOf, nth, beginsFrom};
 ghost use Rattle.file.specs.Kinds.{kindIn, isKind, ofKind};
 use header::Rules;
 use record::LineKind;
@@ -40,8 +40,8 @@ pub fn kind_in(rules: Rules, line: &[u8]) -> u64
 }
 
 // Where the k-th line of a kind begins, counted from 0; where there is none, the byte after the last complete line.
-pub fn place_of(rules: Rules, bytes: &[u8], kind: u64, k: u64) -> usize
-    ensures result { λ r. ⌜ r ≡ placeFrom (isKind rules kind) k 0 (linesOf (now (bytes .entry))) ⌝ }
+pub fn line_begins(rules: Rules, bytes: &[u8], kind: u64, k: u64) -> usize
+    ensures result { λ r. ⌜ r ≡ beginsFrom (isKind rules kind) k 0 (linesOf (now (bytes .entry))) ⌝ }
 {
     let mut at: usize = 0;
     let mut left = k;
@@ -63,7 +63,7 @@ pub fn place_of(rules: Rules, bytes: &[u8], kind: u64, k: u64) -> usize
 // No bytes, at a place of some bytes, or at their end where they are fewer.
 pub fn nothing_at(bytes: &[u8], at: usize) -> &[u8]
     ensures result { λ r. ⌜ now r ≡ [] ⌝ }
-    ensures place { λ r. ⌜ ptr r ≡ byteOf (bytes .entry) (min at (length (now (bytes .entry)))) ⌝ }
+    ensures lies { λ r. ⌜ ptr r ≡ byteOf (bytes .entry) (min at (length (now (bytes .entry)))) ⌝ }
 {
     let here = laws::fewer(at, bytes.len());
     &bytes[here..here]
@@ -72,7 +72,7 @@ pub fn nothing_at(bytes: &[u8], at: usize) -> &[u8]
 // The line of some bytes that begins at a place, without its LF; nothing where there is no line. It lies there, or at the end of the bytes.
 pub fn line_at(bytes: &[u8], at: usize) -> &[u8]
     ensures result { λ r. ⌜ now r ≡ nth 0 (linesOf (drop at (now (bytes .entry)))) ⌝ }
-    ensures place { λ r. ⌜ ptr r ≡ byteOf (bytes .entry) (min at (length (now (bytes .entry)))) ⌝ }
+    ensures lies { λ r. ⌜ ptr r ≡ byteOf (bytes .entry) (min at (length (now (bytes .entry)))) ⌝ }
 {
     let end = lines::line_end(bytes, at);
     if bytes.len() <= end {
@@ -81,11 +81,11 @@ pub fn line_at(bytes: &[u8], at: usize) -> &[u8]
     &bytes[at..end]
 }
 
-// The k-th line of a kind, without its LF; nothing where there is none. It lies where `place_of` says.
+// The k-th line of a kind, without its LF; nothing where there is none. It lies where `line_begins` says.
 pub fn line_of(rules: Rules, bytes: &[u8], kind: u64, k: u64) -> &[u8]
     ensures result { λ r. ⌜ now r ≡ nth k (ofKind rules kind (linesOf (now (bytes .entry)))) ⌝ }
-    ensures place { λ r. ⌜ ptr r ≡ byteOf (bytes .entry) (placeFrom (isKind rules kind) k 0 (linesOf (now (bytes .entry)))) ⌝ }
+    ensures lies { λ r. ⌜ ptr r ≡ byteOf (bytes .entry) (beginsFrom (isKind rules kind) k 0 (linesOf (now (bytes .entry)))) ⌝ }
 {
-    let at = place_of(rules, bytes, kind, k);
+    let at = line_begins(rules, bytes, kind, k);
     line_at(bytes, at)
 }

@@ -159,8 +159,8 @@ module _ {rules : Rules} {lines : List (List ℕ)} (p : Plain rules lines) where
         ∙ place.rows-nth-both (by-epochs p) both v k j hk (omega arith)
         ∙ ap₂ (λ (m : ℕ) (ls : List (List ℕ)). nth (k * m + j) ls) named (sym (of-kind v))
 
-    pub row-place : nth (2 * (k * satellites p + j)) (rowLines rules lines) ≡ nth (k * satellites p + j) (ofKind rules 10 lines)
-    row-place =
+    pub row-begins : nth (2 * (k * satellites p + j)) (rowLines rules lines) ≡ nth (k * satellites p + j) (ofKind rules 10 lines)
+    row-begins =
         let same : 2 * (k * satellites p + j) ≡ 2 * (k * satellites p + j) + 0 = omega arith in
         ap (λ (m : ℕ). nth m (rowLines rules lines)) same ∙ in-turn false
 

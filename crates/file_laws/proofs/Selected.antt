@@ -17,7 +17,7 @@ use Rattle.record.specs.SlotLines.{satellitesOf, countIn}
 use Rattle.header.specs.declared.types.Rules.{Rules}
 use Rattle.record.specs.declared.types.LineKind.the-variants as kind
 use Rattle.file.specs.Kinds.{kindIn, ofKind}
-use Rattle.file.specs.Plain.{namesOf, Plain}
+use Rattle.file.specs.Plain.{slotIdentifiers, Plain}
 use Rattle.file.specs.Table.{rowLines}
 use Rattle.laws.proofs.Bools.{and-left}
 use Rattle.lines.proofs.Picking.{select-append}
@@ -31,7 +31,7 @@ module _ {rules : Rules} {lines : List (List ℕ)} (p : Plain rules lines) where
   satellites = countIn rules (padded (p .count))
 
   abbrev pub names : List ℕ
-  names = namesOf satellites (p .count ∷ p .slots)
+  names = slotIdentifiers satellites (p .count ∷ p .slots)
 
   abbrev pub velocities : Bool
   velocities = eqb (firstOf rules (padded (p .first)) .mode) 86

@@ -15,10 +15,10 @@ use Rattle.record.specs.Rows.{rowOf}
 use Rattle.header.specs.declared.types.Rules.{Rules}
 use Rattle.file.specs.Kinds.{ofKind}
 use Rattle.file.specs.Plain.{Plain}
-use Rattle.file.specs.Table.{slotNumbers, slotKind, slotsIn, commentText, commentsIn, rowIn, rowNumbers, numbersOfRows, rowLines, rowsIn}
+use Rattle.file.specs.Table.{slotNumbers, slotLineKind, slotsIn, commentText, commentsIn, rowIn, rowNumbers, numbersOfRows, rowLines, rowsIn}
 use Rattle.file_laws.proofs.Selected.{satellites, names, velocities, epochs}
 use Rattle.file_laws.proofs.Slots.{slots-wide}
-use Rattle.file_laws.proofs.Rule.{place-at, motion-at, rows-are-places, row-place, row-motion}
+use Rattle.file_laws.proofs.Rule.{place-at, motion-at, rows-are-places, row-begins, row-motion}
 use Rattle.file_laws.proofs.Counts.{comment-wide, row-wide, rows-many, rows-many-both}
 use Rattle.file_laws.proofs.Exact.{exactNumbers, row-exact}
 
@@ -50,11 +50,11 @@ module _ (rules : Rules) (lines : List (List ℕ)) where
       ∙ part-stored 77 commentText comment-wide (ofKind rules 8 lines) c h
 
   -- identifier or exponent 17 * k + i stands in slot i of the k-th line of its kind
-  pub slot-stored : (accuracies : Bool) (n k i : ℕ) → k < length (ofKind rules (slotKind accuracies) lines) → i < 17 → 17 * k + i < n
-      → getD (slotsIn rules accuracies n lines) (17 * k + i) 0 ≡ getD (slotNumbers accuracies (nth k (ofKind rules (slotKind accuracies) lines))) i 0
+  pub slot-stored : (accuracies : Bool) (n k i : ℕ) → k < length (ofKind rules (slotLineKind accuracies) lines) → i < 17 → 17 * k + i < n
+      → getD (slotsIn rules accuracies n lines) (17 * k + i) 0 ≡ getD (slotNumbers accuracies (nth k (ofKind rules (slotLineKind accuracies) lines))) i 0
   unfolding slotsIn
   slot-stored accuracies n k i hk hi h =
-      let of = ofKind rules (slotKind accuracies) lines in
+      let of = ofKind rules (slotLineKind accuracies) lines in
       let all = flat (map (slotNumbers accuracies) of) in
       let place : 17 * k + i ≡ k * 17 + i = omega arith in
       getD-take n all (17 * k + i) 0 h
@@ -90,7 +90,7 @@ module _ {rules : Rules} {lines : List (List ℕ)} (p : Plain rules lines) (k j 
     pub place-stored-both : take 12 (drop (12 * (2 * rowAt)) (rowsIn rules lines)) ≡ exactNumbers (rowOf false placeLine)
     place-stored-both =
         row-stored rules lines (2 * rowAt) (omega (arith, rows-many-both p both, below k (epochs p) (satellites p) j hk hj))
-        ∙ ap (λ (l : List ℕ). rowNumbers (rowIn rules l)) (row-place p both k j hk hj)
+        ∙ ap (λ (l : List ℕ). rowNumbers (rowIn rules l)) (row-begins p both k j hk hj)
         ∙ row-exact rules false (getD (names p) j 0) placeLine (place-at p k j hk hj)
 
     pub motion-stored : take 12 (drop (12 * (2 * rowAt + 1)) (rowsIn rules lines)) ≡ exactNumbers (rowOf true motionLine)

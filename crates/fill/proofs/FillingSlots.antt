@@ -18,7 +18,7 @@ use Rattle.lines.specs.Lines.{lineLength, linesOf, select}
 use Rattle.record.specs.SlotLines.{moreOf}
 use Rattle.header.specs.declared.types.Rules.{Rules}
 use Rattle.file.specs.Kinds.{isKind, ofKind}
-use Rattle.file.specs.Table.{slotNumbers, slotKind, slotsIn}
+use Rattle.file.specs.Table.{slotNumbers, slotLineKind, slotsIn}
 use Rattle.fill.proofs.Filling.{Filling, either-met, filling-first, filling-full, filling-kept, filling-last, filling-more, filling-none, neither-met}
 
 -- Slots: so many numbers of the lines, seventeen to a line.
@@ -73,7 +73,7 @@ slots-spent accuracies n ls h =
     let none : n - 17 ≡ 0 = omega arith in
     ap (λ (k : ℕ). slotsLeft accuracies k ls) none
 
-pub slots-first : (rules : Rules) (accuracies : Bool) (kind n : ℕ) (bytes old : List ℕ) → kind ≡ slotKind accuracies
+pub slots-first : (rules : Rules) (accuracies : Bool) (kind n : ℕ) (bytes old : List ℕ) → kind ≡ slotLineKind accuracies
     → Filling (isKind rules kind) (slotsLeft accuracies) bytes (slotsIn rules accuracies n (linesOf bytes)) old old 0 0 n
 unfolding slotsIn
 slots-first rules accuracies kind n bytes old e =

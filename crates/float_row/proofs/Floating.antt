@@ -9,7 +9,7 @@ use lib.Dec.{eqb}
 use lib.Ieee.{Float}
 use Rattle.record.specs.Rows.{rowOf}
 use Rattle.record.specs.declared.types.Row.{Row}
-use Rattle.questions.specs.declared.types.RowPlace.{RowPlace}
+use Rattle.questions.specs.declared.types.RowBegins.{RowBegins}
 use Rattle.float_row.specs.Floats.{floatUnless, noPlace, noClock, floatRow, absentRow, lineFrom, rowAnswer}
 use Rattle.float_row.specs.declared.FloatRow.{FloatRow}
 use Rattle.float_row.specs.declared.RowAnswer.{RowAnswer}
@@ -27,7 +27,7 @@ row-floats p {x} {y} {z} {k} {a} {b} ea eb ex ey ez ek =
     cc
 
 -- the answer, by the place that was found
-module _ (bytes : List ℕ) {place found : RowPlace} (e : found ≡ place) {row : FloatRow} where
+module _ (bytes : List ℕ) {place found : RowBegins} (e : found ≡ place) {row : FloatRow} where
   pub refused-as : (found .refusal ≡ 0 → ⊥) → row ≡ absentRow
       → _≡_ {A = RowAnswer} (record { refusal = found .refusal; line = found .line; row = row }) (rowAnswer bytes place)
   unfolding rowAnswer

@@ -24,8 +24,8 @@ use Rattle.record.specs.declared.types.Row.{Row}
 use Rattle.scan.specs.declared.Tally.{Tally}
 use Rattle.scan.specs.declared.Front.the-variants as front
 use Rattle.reader.specs.Reading.{fileOf}
-use Rattle.questions.specs.Questions.{epochsOf, rowPlace}
-use Rattle.questions.specs.declared.types.RowPlace.{RowPlace}
+use Rattle.questions.specs.Questions.{epochsOf, rowBegins}
+use Rattle.questions.specs.declared.types.RowBegins.{RowBegins}
 use Rattle.questions.proofs.Theorems.{row-not-refused, row-numbered}
 use Rattle.record.proofs.Absent.{place-absent, clock-absent}
 use Rattle.float_row.specs.Floats.{floatUnless, noPlace, noClock, floatRow, absentRow, rowAnswer}
@@ -139,7 +139,7 @@ unfolding floatRow
 clock-by-itself p q e = rw e (refl, refl)
 
 -- BESIDE A REFUSAL both are absent
-pub refused-is-absent : (bytes : List ℕ) (place : RowPlace) → (place .refusal ≡ 0 → ⊥)
+pub refused-is-absent : (bytes : List ℕ) (place : RowBegins) → (place .refusal ≡ 0 → ⊥)
     → rowAnswer bytes place ≡ record { refusal = place .refusal; line = place .line; row = absentRow }
 unfolding rowAnswer
 refused-is-absent bytes place some = rw (ne-eqb (place .refusal) 0 some)
@@ -150,7 +150,7 @@ module _ (bytes : List ℕ) (t : Tally) (e : fileOf d bytes ≡ front.File t) wh
     abbrev pub asked : Row
     asked = rowOf false (nth (epoch * countOf d (linesOf bytes) + satellite) (ofKind d 10 (linesOf bytes)))
 
-    pub row-given : rowAnswer bytes (rowPlace d bytes (fileOf d bytes) epoch satellite) ≡ record { refusal = 0; line = 0; row = floatRow asked }
+    pub row-given : rowAnswer bytes (rowBegins d bytes (fileOf d bytes) epoch satellite) ≡ record { refusal = 0; line = 0; row = floatRow asked }
     unfolding rowAnswer
     row-given =
         rw (eq-eqb _ 0 (row-not-refused bytes t e epoch satellite some one), row-numbered bytes t e epoch satellite some one)

@@ -13,7 +13,7 @@ use Rattle.record.specs.Rows.{rowOf}
 use Rattle.file.specs.Table.{storedSigned}
 use Rattle.record.specs.declared.types.Signed.{Signed}
 use Rattle.record.specs.declared.types.Row.{Row}
-use Rattle.questions.specs.declared.types.RowPlace.{RowPlace}
+use Rattle.questions.specs.declared.types.RowBegins.{RowBegins}
 use Rattle.float_row.specs.declared.FloatRow.{FloatRow}
 use Rattle.float_row.specs.declared.RowAnswer.{RowAnswer}
 
@@ -47,7 +47,7 @@ abbrev pub lineFrom : ℕ → List ℕ → List ℕ
 lineFrom at bytes = nth 0 (linesOf (drop at bytes))
 
 -- the row of the P line at a place, or the refusal
-unfoldable pub rowAnswer : List ℕ → RowPlace → RowAnswer
+unfoldable pub rowAnswer : List ℕ → RowBegins → RowAnswer
 rowAnswer bytes place =
     cond (eqb (place .refusal) 0)
     (record { refusal = 0; line = 0; row = floatRow (rowOf false (lineFrom (place .at) bytes)) })

@@ -4,7 +4,7 @@ ghost use lib.Ieee.{nan, ofInt, binary64};
 ghost use Rattle.file.specs.Table.{storedSigned};
 ghost use Rattle.header.specs.Rules.{d};
 ghost use Rattle.reader.specs.Reading.{fileOf};
-ghost use Rattle.questions.specs.Questions.{rowPlace};
+ghost use Rattle.questions.specs.Questions.{rowBegins};
 ghost use Rattle.float_row.specs.Floats.{floatUnless, floatRow, absentRow, rowAnswer};
 use record::Row;
 use record::Signed;
@@ -91,9 +91,9 @@ fn absent_row() -> FloatRow
 // The P row of an epoch and a satellite of a file, each counted from 0, in mode V too: the file's own refusal, then 13 with line 0 where it has
 // no such row.
 pub fn row(file: &[u8], epoch: u64, satellite: u64) -> RowAnswer
-    ensures result { λ r. ⌜ r ≡ rowAnswer (now (file .entry)) (rowPlace d (now (file .entry)) (fileOf d (now (file .entry))) epoch satellite) ⌝ }
+    ensures result { λ r. ⌜ r ≡ rowAnswer (now (file .entry)) (rowBegins d (now (file .entry)) (fileOf d (now (file .entry))) epoch satellite) ⌝ }
 {
-    let place = questions::row_place(file, epoch, satellite);
+    let place = questions::row_begins(file, epoch, satellite);
     if place.refusal != 0 {
         return RowAnswer {
             refusal: place.refusal,

@@ -6,9 +6,9 @@ use native.Mathlib.Decide.{decLe}
 use native.Mathlib.Omega.{arith}
 use borrow.Author.Tests.{ne-eqb}
 use lib.Arith.{digits-div, digits-mod}
-use Rattle.layout.specs.Fault.{clean, keyed, numberOf, columnOf, lowerOf, lower}
+use Rattle.layout.specs.Fault.{clean, keyed, keyNumber, columnOf, lowerOf, lower}
 
-pub number-kept : (number column : ℕ) → column < 128 → numberOf (keyed number column) ≡ number
+pub number-kept : (number column : ℕ) → column < 128 → keyNumber (keyed number column) ≡ number
 number-kept number column h = digits-div number h
 
 pub column-kept : (number column : ℕ) → column < 128 → columnOf (keyed number column) ≡ column
@@ -35,22 +35,22 @@ lower-first a = refl
 
 -- the number of the lower of two faults is the lower of their numbers, and where these are the same the column is the lower of their columns
 module _ (m n c d : ℕ) (p : 0 < m) (q : 0 < n) (h : c < 128) (k : d < 128) where
-  pub number-lower : numberOf (lower (keyed m c) (keyed n d)) ≡ min m n
-  number-lower = ap numberOf (lower-both (keyed m c) (keyed n d) (λ e. omega arith) (λ e. omega arith)) ∙ go (decLe n m) (decLe m n)
+  pub number-lower : keyNumber (lower (keyed m c) (keyed n d)) ≡ min m n
+  number-lower = ap keyNumber (lower-both (keyed m c) (keyed n d) (λ e. omega arith) (λ e. omega arith)) ∙ go (decLe n m) (decLe m n)
     where
-      go : Dec (n ≤ m) → Dec (m ≤ n) → numberOf (min (keyed m c) (keyed n d)) ≡ min m n
+      go : Dec (n ≤ m) → Dec (m ≤ n) → keyNumber (min (keyed m c) (keyed n d)) ≡ min m n
       go (no a) b =
           let first : min (keyed m c) (keyed n d) ≡ keyed m c = omega arith in
           let same : m ≡ min m n = omega arith in
-          ap numberOf first ∙ number-kept m c h ∙ same
+          ap keyNumber first ∙ number-kept m c h ∙ same
       go (yes a) (no b) =
           let second : min (keyed m c) (keyed n d) ≡ keyed n d = omega arith in
           let same : n ≡ min m n = omega arith in
-          ap numberOf second ∙ number-kept n d k ∙ same
+          ap keyNumber second ∙ number-kept n d k ∙ same
       go (yes a) (yes b) =
           let either : min (keyed m c) (keyed n d) ≡ keyed m (min c d) = omega arith in
           let same : m ≡ min m n = omega arith in
-          ap numberOf either ∙ number-kept m (min c d) (omega arith) ∙ same
+          ap keyNumber either ∙ number-kept m (min c d) (omega arith) ∙ same
 
   pub column-lower : m ≡ n → columnOf (lower (keyed m c) (keyed n d)) ≡ min c d
   column-lower e =

@@ -17,7 +17,7 @@ use Rattle.field.specs.declared.Exponent.{Exponent}
 use Rattle.field.specs.declared.Exponent.the-variants as exponents
 use Rattle.field.specs.declared.Amount.{Amount}
 use Rattle.field.specs.declared.Amount.the-variants as amounts
-use Rattle.layout.specs.Fault.{clean, keyed, numberOf}
+use Rattle.layout.specs.Fault.{clean, keyed, keyNumber}
 use Rattle.layout.specs.Kind.{Kind, unusedFault, sameBytes, isListed, isLettered, unless, boundFault, wholeFault, amountFault, exponentFault, isZero, isZeros, named, nameNumber, zeroSlot, faultIn}
 use Rattle.layout.specs.Kind.Kind.{unused, fixed, whole, decimal, signed, clock, exponent, flag, letter, listed, identifier, filler, zeroWhole, zeroDecimal, text}
 
@@ -41,7 +41,7 @@ isNumbered text = true
 
 -- no fault, or one with a number from 4 to 10
 abbrev pub Numbered : ℕ → Type 0
-Numbered key = 0 < key → (4 ≤ numberOf key) × (numberOf key ≤ 10)
+Numbered key = 0 < key → (4 ≤ keyNumber key) × (keyNumber key ≤ 10)
 
 numbered-key : (number column : ℕ) → 4 ≤ number → number ≤ 8 → column ≤ 128 → Numbered (keyed number column)
 numbered-key number column p q r h = (omega arith, omega arith)

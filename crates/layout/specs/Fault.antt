@@ -13,8 +13,8 @@ abbrev pub keyed : ℕ → ℕ → ℕ
 keyed number column = number * 128 + column
 
 -- the number of a key
-abbrev pub numberOf : ℕ → ℕ
-numberOf key = key / 128
+abbrev pub keyNumber : ℕ → ℕ
+keyNumber key = key / 128
 
 -- its column
 abbrev pub columnOf : ℕ → ℕ

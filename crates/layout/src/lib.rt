@@ -22,7 +22,7 @@ pub fn lower(a: usize, b: usize) -> usize
 
 // The paper's number in a fault's key: 6 of 773.
 pub fn number_of(key: usize) -> usize
-    ensures result { λ r. ⌜ r ≡ Fault.numberOf key ⌝ }
+    ensures result { λ r. ⌜ r ≡ Fault.keyNumber key ⌝ }
 {
     key / 128
 }

@@ -17,33 +17,33 @@ use prog.Memory.{Memory}
 use prog.Routine.{Routine}
 use prog.Wp.{Heap}
 use Rattle.machine.proofs.Told.{toldRead-one}
-use Rattle.line_walk.specs.declared.Place.{Place}
+use Rattle.line_walk.specs.declared.Spot.{Spot}
 use Rattle.line_walk.specs.declared.Walker.{Walker}
 use Rattle.line_walk.proofs.Facts.{both, both-pairs}
-use Rattle.line_walk.proofs.first_place.Reads as first-place
+use Rattle.line_walk.proofs.first_spot.Reads as first-spot
 use Rattle.line_walk.proofs.read_at.Reads as read-at
-use Rattle.line_walk.proofs.place_after.Reads as place-after
+use Rattle.line_walk.proofs.spot_after.Reads as spot-after
 use Rattle.line_walk.proofs.new as new
 use Rattle.line_walk.proofs.next as next
 use Rattle.line_walk.proofs.moved as moved
-use Rattle.line_walk.proofs.place_of as place-of
+use Rattle.line_walk.proofs.spot_of as spot-of
 use Rattle.line_walk.proofs.after_lines as after-lines
 
-pub first-place-determined : (κs : _) (a : _) (r r′ : _) (s s′ : _) → first-place.Post κs a r s → first-place.Post κs a r′ s′ → r ≡ r′
-first-place-determined κs a r r′ s s′ p q = p ∙ sym q
+pub first-spot-determined : (κs : _) (a : _) (r r′ : _) (s s′ : _) → first-spot.Post κs a r s → first-spot.Post κs a r′ s′ → r ≡ r′
+first-spot-determined κs a r r′ s s′ p q = p ∙ sym q
 
 pub read-at-determined : (κs : _) (a : _) (r r′ : _) (s s′ : _) → read-at.Post κs a r s → read-at.Post κs a r′ s′ → (r ≡ r′) × (now (s .1 .1 .0) ≡ now (s′ .1 .1 .0))
 read-at-determined κs a r r′ s s′ p q = (toldRead-one r r′ (p .0 ∙ sym (q .0)), p .1 ∙ sym (q .1))
 
-pub place-after-determined : (κs : _) (a : _) (r r′ : _) (s s′ : _) → place-after.Post κs a r s → place-after.Post κs a r′ s′ → (r ≡ r′) × (now (s .1 .1 .0) ≡ now (s′ .1 .1 .0))
-place-after-determined κs a r r′ s s′ p q = (p .0 ∙ sym (q .0), p .1 ∙ sym (q .1))
+pub spot-after-determined : (κs : _) (a : _) (r r′ : _) (s s′ : _) → spot-after.Post κs a r s → spot-after.Post κs a r′ s′ → (r ≡ r′) × (now (s .1 .1 .0) ≡ now (s′ .1 .1 .0))
+spot-after-determined κs a r r′ s s′ p q = (p .0 ∙ sym (q .0), p .1 ∙ sym (q .1))
 
 -- a walker by its two parts
-abbrev walkerOf : RefT (List ℕ) → Place → Walker
-walkerOf file place = record { file = file; place = place }
+abbrev walkerOf : RefT (List ℕ) → Spot → Walker
+walkerOf file spot = record { file = file; spot = spot }
 
-same-walker : (v w : Walker) → v .file ≡ w .file → v .place ≡ w .place → v ≡ w
-same-walker v w file place = ap₂ walkerOf file place
+same-walker : (v w : Walker) → v .file ≡ w .file → v .spot ≡ w .spot → v ≡ w
+same-walker v w file spot = ap₂ walkerOf file spot
 
 -- a contract without a ghost: two outcomes at the same arguments, r with s at exit and r′ with s′, agree
 abbrev Agree : {M : Type 1} (𝓤 : URA M) (T : Ended) (c : Clauses 𝓤 T) (κs : Lfts (T .signature .lifetimes)) (a : Args (T .signature) κs) (g : c κs a .ghost)
@@ -66,9 +66,9 @@ moved-determined 𝓤 H A mem run κs a r r′ s s′ =
     both-pairs 𝓤 _ _ _ _ ((r ≡ r′) × (now (s .1 .0) ≡ now (s′ .1 .0)))
     (λ p q. (same-walker r r′ (p .0 .0 ∙ sym (q .0 .0)) (p .0 .1 ∙ sym (q .0 .1)), p .1 ∙ sym (q .1)))
 
-pub place-of-determined : {M : Type 1} (𝓤 : URA M) (H : Heap 𝓤) (A : Atoms 𝓤) (mem : Memory → SProp 𝓤) (run : Routine → Fun 𝓤) (κs : Lfts 1) (a : Args place-of.signature κs)
-    → Agree 𝓤 place-of.ended (place-of.clauses 𝓤 H A mem run) κs a tt (λ r r′ s s′. r ≡ r′)
-place-of-determined 𝓤 H A mem run κs a r r′ s s′ = both 𝓤 _ _ (r ≡ r′) (λ p q. p ∙ sym q)
+pub spot-of-determined : {M : Type 1} (𝓤 : URA M) (H : Heap 𝓤) (A : Atoms 𝓤) (mem : Memory → SProp 𝓤) (run : Routine → Fun 𝓤) (κs : Lfts 1) (a : Args spot-of.signature κs)
+    → Agree 𝓤 spot-of.ended (spot-of.clauses 𝓤 H A mem run) κs a tt (λ r r′ s s′. r ≡ r′)
+spot-of-determined 𝓤 H A mem run κs a r r′ s s′ = both 𝓤 _ _ (r ≡ r′) (λ p q. p ∙ sym q)
 
 pub after-lines-determined : {M : Type 1} (𝓤 : URA M) (H : Heap 𝓤) (A : Atoms 𝓤) (mem : Memory → SProp 𝓤) (run : Routine → Fun 𝓤) (κs : Lfts 2) (a : Args after-lines.signature κs)
     → Agree 𝓤 after-lines.ended (after-lines.clauses 𝓤 H A mem run) κs a tt (λ r r′ s s′. (r ≡ r′) × (now (s .1 .1 .1 .0) ≡ now (s′ .1 .1 .1 .0)))

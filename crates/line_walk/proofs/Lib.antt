@@ -2,7 +2,7 @@
 mod Walking
 mod Again
 mod Saying
-pub mod Places
+pub mod Spots
 mod Facts
 pub mod Promised
 pub mod Determined

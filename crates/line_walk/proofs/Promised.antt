@@ -17,34 +17,34 @@ use prog.Routine.{Routine}
 use prog.Wp.{Heap}
 use Rattle.header.specs.Rules.{d}
 use Rattle.machine.specs.Step.{lineNames}
-use Rattle.line_walk.specs.Places.{placeAfter}
-use Rattle.line_walk.specs.declared.Place.{Place}
+use Rattle.line_walk.specs.Spots.{spotAfter}
+use Rattle.line_walk.specs.declared.Spot.{Spot}
 use Rattle.line_walk.specs.declared.Walker.{Walker}
 use Rattle.line_walk.proofs.Facts.{both}
 use Rattle.line_walk.proofs.new as new
 use Rattle.line_walk.proofs.moved as moved
 
--- a new walker holds the file and the place that it was made of
-pub record Begins (file : RefT (List ℕ)) (place : Place) (w : Walker) : Type 0 where
+-- a new walker holds the file and the spot that it was made of
+pub record Begins (file : RefT (List ℕ)) (spot : Spot) (w : Walker) : Type 0 where
   pub file-is : w .file ≡ file
-  pub place-is : w .place ≡ place
+  pub spot-is : w .spot ≡ spot
 
--- a walker v, moved from w with these names, which are then `kept`: the same file, the place after the line, the list after it
+-- a walker v, moved from w with these names, which are then `kept`: the same file, the spot after the line, the list after it
 pub record Moves (w : Walker) (names : List ℕ) (v : Walker) (kept : List ℕ) : Type 0 where
   pub file : v .file ≡ w .file
-  pub place : v .place ≡ placeAfter d (now (w .file)) names (w .place)
-  pub names-are : kept ≡ lineNames d (now (w .file)) (w .place .at) (w .place .state) names
+  pub spot : v .spot ≡ spotAfter d (now (w .file)) names (w .spot)
+  pub names-are : kept ≡ lineNames d (now (w .file)) (w .spot .at) (w .spot .state) names
 
 module _ {M : Type 1} (𝓤 : URA M) (H : Heap 𝓤) (A : Atoms 𝓤) (mem : Memory → SProp 𝓤) (run : Routine → Fun 𝓤) where
   -- THE CONTRACT OF `new`: of every outcome that it allows this is so
   pub new-begins : (κs : Lfts 1) (a : Args new.signature κs) (w : Res new.signature κs) (s : AtExit new.ended κs)
       → ent 𝓤 (new.clauses 𝓤 H A mem run κs a .ensures tt w s) (fact 𝓤 (Begins (a .0) (a .1 .0) w))
   new-begins κs a w s =
-      fact-use 𝓤 ((w .file ≡ a .0) × (w .place ≡ a .1 .0)) (id⊢ 𝓤 _)
-      (λ p. factI 𝓤 (Begins (a .0) (a .1 .0) w) _ (record { file-is = p .0; place-is = p .1 }))
+      fact-use 𝓤 ((w .file ≡ a .0) × (w .spot ≡ a .1 .0)) (id⊢ 𝓤 _)
+      (λ p. factI 𝓤 (Begins (a .0) (a .1 .0) w) _ (record { file-is = p .0; spot-is = p .1 }))
 
   -- THE CONTRACT OF `moved`: likewise
   pub moved-moves : (κs : Lfts 2) (a : Args moved.signature κs) (v : Res moved.signature κs) (s : AtExit moved.ended κs)
       → ent 𝓤 (moved.clauses 𝓤 H A mem run κs a .ensures tt v s) (fact 𝓤 (Moves (a .0) (now (a .1 .0)) v (now (s .1 .0))))
   moved-moves κs a v s =
-      both 𝓤 _ _ (Moves (a .0) (now (a .1 .0)) v (now (s .1 .0))) (λ p q. record { file = p .0; place = p .1; names-are = q })
+      both 𝓤 _ _ (Moves (a .0) (now (a .1 .0)) v (now (s .1 .0))) (λ p q. record { file = p .0; spot = p .1; names-are = q })

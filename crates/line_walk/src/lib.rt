@@ -1,112 +1,112 @@
-// A walker over the lines of a file: it holds the file's bytes and its place. The identifiers of the header are lent at each step. Each function over
+// A walker over the lines of a file: it holds the file's bytes and its spot. The identifiers of the header are lent at each step. Each function over
 // a walker takes it apart and calls the plain line reader; `after_lines` stands above them and has plain parameters.
 ghost use mathlib.Core.Path.{_≡_};
 ghost use Rattle.header.specs.Rules.{d};
 ghost use Rattle.machine.specs.Step.{lineRead, lineNames};
 ghost use Rattle.machine.specs.Told.{toldRead};
-ghost use Rattle.line_walk.specs.Places.{firstPlace, placeAfter, placesAfter, identifiersAfter};
+ghost use Rattle.line_walk.specs.Spots.{firstSpot, spotAfter, spotsAfter, identifiersPast};
 use header::Rules;
 use machine::LineRead;
 use machine::State;
 
 // Between two lines of a file: the byte at which the next line begins, and what must stand there.
 #[repr(C)]
-pub struct Place {
+pub struct Spot {
     pub at: usize,
     pub state: State,
 }
 
-// A file, and a place in it.
+// A file, and a spot in it.
 pub struct Walker<'a> {
     pub file: &'a [u8],
-    pub place: Place,
+    pub spot: Spot,
 }
 
 // Before the first line of a file.
-pub fn first_place() -> Place
-    ensures result { λ r. ⌜ r ≡ firstPlace ⌝ }
+pub fn first_spot() -> Spot
+    ensures result { λ r. ⌜ r ≡ firstSpot ⌝ }
 {
-    Place {
+    Spot {
         at: 0,
         state: machine::start(),
     }
 }
 
-// The plain line reader at a place: what the line there does, and where the next begins; a `+ ` line leaves its identifiers in `names`.
-pub fn read_at<'a, 'b>(file: &'a [u8], place: Place, names: &'b mut [u64]) -> LineRead
-    ensures result { λ r. ⌜ toldRead r ≡ toldRead (lineRead d (now (file .entry)) (place .at) (place .state) (now (names .entry))) ⌝ }
-    ensures lent { λ _. ⌜ now (names .exit) ≡ lineNames d (now (file .entry)) (place .at) (place .state) (now (names .entry)) ⌝ }
+// The plain line reader at a spot: what the line there does, and where the next begins; a `+ ` line leaves its identifiers in `names`.
+pub fn read_at<'a, 'b>(file: &'a [u8], spot: Spot, names: &'b mut [u64]) -> LineRead
+    ensures result { λ r. ⌜ toldRead r ≡ toldRead (lineRead d (now (file .entry)) (spot .at) (spot .state) (now (names .entry))) ⌝ }
+    ensures lent { λ _. ⌜ now (names .exit) ≡ lineNames d (now (file .entry)) (spot .at) (spot .state) (now (names .entry)) ⌝ }
 {
-    let at = place.at;
-    let state = place.state;
+    let at = spot.at;
+    let state = spot.state;
     machine::read_line(Rules::d(), file, at, state, names)
 }
 
-// The place after that line; the same place where no line is left, where the line is refused and where it ends the file.
-pub fn place_after<'a, 'b>(file: &'a [u8], place: Place, names: &'b mut [u64]) -> Place
-    ensures result { λ r. ⌜ r ≡ placeAfter d (now (file .entry)) (now (names .entry)) place ⌝ }
-    ensures lent { λ _. ⌜ now (names .exit) ≡ lineNames d (now (file .entry)) (place .at) (place .state) (now (names .entry)) ⌝ }
+// The spot after that line; the same spot where no line is left, where the line is refused and where it ends the file.
+pub fn spot_after<'a, 'b>(file: &'a [u8], spot: Spot, names: &'b mut [u64]) -> Spot
+    ensures result { λ r. ⌜ r ≡ spotAfter d (now (file .entry)) (now (names .entry)) spot ⌝ }
+    ensures lent { λ _. ⌜ now (names .exit) ≡ lineNames d (now (file .entry)) (spot .at) (spot .state) (now (names .entry)) ⌝ }
 {
-    match read_at(file, place, names) {
-        LineRead::Next { at, state } => Place { at, state },
-        LineRead::NoLine => place,
+    match read_at(file, spot, names) {
+        LineRead::Next { at, state } => Spot { at, state },
+        LineRead::NoLine => spot,
         LineRead::Fault {
             number: _,
             column: _,
-        } => place,
-        LineRead::Finished { at: _ } => place,
+        } => spot,
+        LineRead::Finished { at: _ } => spot,
     }
 }
 
-// A walker at a place of a file.
-pub fn new<'a>(file: &'a [u8], place: Place) -> Walker<'a>
-    ensures result { λ w. ⌜ (w .file ≡ file .entry) × (w .place ≡ place) ⌝ }
+// A walker at a spot of a file.
+pub fn new<'a>(file: &'a [u8], spot: Spot) -> Walker<'a>
+    ensures result { λ w. ⌜ (w .file ≡ file .entry) × (w .spot ≡ spot) ⌝ }
 {
-    Walker { file, place }
+    Walker { file, spot }
 }
 
-// What the line at the walker's place does.
+// What the line at the walker's spot does.
 pub fn next<'a, 'b>(w: Walker<'a>, names: &'b mut [u64]) -> LineRead
-    ensures result { λ r. ⌜ toldRead r ≡ toldRead (lineRead d (now (w .entry .file)) (w .entry .place .at) (w .entry .place .state) (now (names .entry))) ⌝ }
-    ensures lent { λ _. ⌜ now (names .exit) ≡ lineNames d (now (w .entry .file)) (w .entry .place .at) (w .entry .place .state) (now (names .entry)) ⌝ }
+    ensures result { λ r. ⌜ toldRead r ≡ toldRead (lineRead d (now (w .entry .file)) (w .entry .spot .at) (w .entry .spot .state) (now (names .entry))) ⌝ }
+    ensures lent { λ _. ⌜ now (names .exit) ≡ lineNames d (now (w .entry .file)) (w .entry .spot .at) (w .entry .spot .state) (now (names .entry)) ⌝ }
 {
-    read_at(w.file, w.place, names)
+    read_at(w.file, w.spot, names)
 }
 
-// The walker after that line: the same file, and the next place.
+// The walker after that line: the same file, and the next spot.
 pub fn moved<'a, 'b>(w: Walker<'a>, names: &'b mut [u64]) -> Walker<'a>
-    ensures result { λ v. ⌜ (v .file ≡ w .entry .file) × (v .place ≡ placeAfter d (now (w .entry .file)) (now (names .entry)) (w .entry .place)) ⌝ }
-    ensures lent { λ _. ⌜ now (names .exit) ≡ lineNames d (now (w .entry .file)) (w .entry .place .at) (w .entry .place .state) (now (names .entry)) ⌝ }
+    ensures result { λ v. ⌜ (v .file ≡ w .entry .file) × (v .spot ≡ spotAfter d (now (w .entry .file)) (now (names .entry)) (w .entry .spot)) ⌝ }
+    ensures lent { λ _. ⌜ now (names .exit) ≡ lineNames d (now (w .entry .file)) (w .entry .spot .at) (w .entry .spot .state) (now (names .entry)) ⌝ }
 {
-    let place = place_after(w.file, w.place, names);
+    let spot = spot_after(w.file, w.spot, names);
     Walker {
         file: w.file,
-        place,
+        spot,
     }
 }
 
-// The place alone.
-pub fn place_of<'a>(w: Walker<'a>) -> Place
-    ensures result { λ r. ⌜ r ≡ w .entry .place ⌝ }
+// The spot alone.
+pub fn spot_of<'a>(w: Walker<'a>) -> Spot
+    ensures result { λ r. ⌜ r ≡ w .entry .spot ⌝ }
 {
-    w.place
+    w.spot
 }
 
-// A walk: the place so many lines further, and the identifiers that they bring.
+// A walk: the spot so many lines further, and the identifiers that they bring.
 pub fn after_lines<'a, 'b>(
     file: &'a [u8],
-    place: Place,
+    spot: Spot,
     lines: usize,
     names: &'b mut [u64],
-) -> Place
-    ensures result { λ r. ⌜ r ≡ placesAfter d (now (file .entry)) (now (names .entry)) place lines ⌝ }
-    ensures lent { λ _. ⌜ now (names .exit) ≡ identifiersAfter d (now (file .entry)) (now (names .entry)) place lines ⌝ }
+) -> Spot
+    ensures result { λ r. ⌜ r ≡ spotsAfter d (now (file .entry)) (now (names .entry)) spot lines ⌝ }
+    ensures lent { λ _. ⌜ now (names .exit) ≡ identifiersPast d (now (file .entry)) (now (names .entry)) spot lines ⌝ }
 {
-    let mut w = new(file, place);
+    let mut w = new(file, spot);
     let mut left = lines;
     while 0 < left {
         w = moved(w, names);
         left -= 1;
     }
-    place_of(w)
+    spot_of(w)
 }

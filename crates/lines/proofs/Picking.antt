@@ -9,7 +9,7 @@ use native.Mathlib.Omega.{arith}
 use lib.ListN.{length, take, drop, length-append, length-drop}
 use lib.Seq.{drop-append-add, length-take-le}
 use Rattle.lines.specs.Lent.{flat}
-use Rattle.lines.specs.Lines.{lineLength, linesOf, bytesIn, select, nth, metAt, placeFrom}
+use Rattle.lines.specs.Lines.{lineLength, linesOf, bytesIn, select, nth, metAt, beginsFrom}
 use Rattle.lines.proofs.Each.{Each}
 use Rattle.lines.proofs.Ends.{no-line, first-line}
 use Rattle.lines.proofs.Split.{First, first}
@@ -69,51 +69,51 @@ nth-past (suc k) (l ∷ ls) h = nth-past k ls (le-of-suc-le-suc h)
 
 module _ (test : List ℕ → Bool) where
   -- one line of those that are left
-  pub place-none : {ls : List (List ℕ)} (k at : ℕ) → ls ≡ [] → placeFrom test k at ls ≡ at
-  unfolding placeFrom
-  place-none k at e = ap (placeFrom test k at) e
+  pub place-none : {ls : List (List ℕ)} (k at : ℕ) → ls ≡ [] → beginsFrom test k at ls ≡ at
+  unfolding beginsFrom
+  place-none k at e = ap (beginsFrom test k at) e
 
   module _ {ls : List (List ℕ)} (l : List ℕ) (more : List (List ℕ)) (e : ls ≡ l ∷ more) where
-    pub place-here : (k at : ℕ) → test l ≡ true → k ≡ 0 → placeFrom test k at ls ≡ at
-    unfolding placeFrom
+    pub place-here : (k at : ℕ) → test l ≡ true → k ≡ 0 → beginsFrom test k at ls ≡ at
+    unfolding beginsFrom
     place-here k at is z = rw (e, is, z)
 
-    pub place-later : (k at : ℕ) → test l ≡ true → (k ≡ 0 → ⊥) → placeFrom test k at ls ≡ placeFrom test (k - 1) (at + length l + 1) more
-    unfolding placeFrom
+    pub place-later : (k at : ℕ) → test l ≡ true → (k ≡ 0 → ⊥) → beginsFrom test k at ls ≡ beginsFrom test (k - 1) (at + length l + 1) more
+    unfolding beginsFrom
     place-later zero at is z = absurd (z refl)
-    place-later (suc k) at is z = rw (e, is) (ap (λ (n : ℕ). placeFrom test n (at + length l + 1) more) (omega arith))
+    place-later (suc k) at is z = rw (e, is) (ap (λ (n : ℕ). beginsFrom test n (at + length l + 1) more) (omega arith))
 
-    pub place-other : (k at : ℕ) → test l ≡ false → placeFrom test k at ls ≡ placeFrom test k (at + length l + 1) more
-    unfolding placeFrom
+    pub place-other : (k at : ℕ) → test l ≡ false → beginsFrom test k at ls ≡ beginsFrom test k (at + length l + 1) more
+    unfolding beginsFrom
     place-other k at is = rw (e, is)
 
   -- the place is counted from where the lines begin
-  pub place-shift : (k at : ℕ) (ls : List (List ℕ)) → placeFrom test k at ls ≡ at + placeFrom test k 0 ls
-  unfolding placeFrom
+  pub place-shift : (k at : ℕ) (ls : List (List ℕ)) → beginsFrom test k at ls ≡ at + beginsFrom test k 0 ls
+  unfolding beginsFrom
   place-shift k at [] = sym (add-zero at)
   place-shift k at (l ∷ ls) = go (test l) (λ (m b : ℕ). place-shift m b ls)
     where
       Shifts : Type 0
-      Shifts = (m b : ℕ) → placeFrom test m b ls ≡ b + placeFrom test m 0 ls
+      Shifts = (m b : ℕ) → beginsFrom test m b ls ≡ b + beginsFrom test m 0 ls
 
-      met : (m : ℕ) → Shifts → metAt m at (λ k′. placeFrom test k′ (at + length l + 1) ls) ≡ at + metAt m 0 (λ k′. placeFrom test k′ (0 + length l + 1) ls)
+      met : (m : ℕ) → Shifts → metAt m at (λ k′. beginsFrom test k′ (at + length l + 1) ls) ≡ at + metAt m 0 (λ k′. beginsFrom test k′ (0 + length l + 1) ls)
       met zero more = sym (add-zero at)
       met (suc m) more = omega (arith, more m (at + length l + 1), more m (0 + length l + 1))
 
       go : (t : Bool) → Shifts
-          → cond t (metAt k at (λ k′. placeFrom test k′ (at + length l + 1) ls)) (placeFrom test k (at + length l + 1) ls)
-          ≡ at + cond t (metAt k 0 (λ k′. placeFrom test k′ (0 + length l + 1) ls)) (placeFrom test k (0 + length l + 1) ls)
+          → cond t (metAt k at (λ k′. beginsFrom test k′ (at + length l + 1) ls)) (beginsFrom test k (at + length l + 1) ls)
+          ≡ at + cond t (metAt k 0 (λ k′. beginsFrom test k′ (0 + length l + 1) ls)) (beginsFrom test k (0 + length l + 1) ls)
       go true more = met k more
       go false more = omega (arith, more k (at + length l + 1), more k (0 + length l + 1))
 
   -- where there are too few, the place is behind them
-  pub place-past : (k at : ℕ) (ls : List (List ℕ)) → length (select test ls) ≤ k → placeFrom test k at ls ≡ at + bytesIn ls
+  pub spot-past : (k at : ℕ) (ls : List (List ℕ)) → length (select test ls) ≤ k → beginsFrom test k at ls ≡ at + bytesIn ls
   unfolding bytesIn
-  place-past k at [] h = place-none k at refl ∙ sym (add-zero at)
-  place-past k at (l ∷ ls) h = go (test l) refl (λ (m b : ℕ). place-past m b ls)
+  spot-past k at [] h = place-none k at refl ∙ sym (add-zero at)
+  spot-past k at (l ∷ ls) h = go (test l) refl (λ (m b : ℕ). spot-past m b ls)
     where
-      go : (t : Bool) → test l ≡ t → ((m b : ℕ) → length (select test ls) ≤ m → placeFrom test m b ls ≡ b + bytesIn ls)
-          → placeFrom test k at (l ∷ ls) ≡ at + (suc (length l) + bytesIn ls)
+      go : (t : Bool) → test l ≡ t → ((m b : ℕ) → length (select test ls) ≤ m → beginsFrom test m b ls ≡ b + bytesIn ls)
+          → beginsFrom test k at (l ∷ ls) ≡ at + (suc (length l) + bytesIn ls)
       go true is more =
           let chosen : length (select test (l ∷ ls)) ≡ suc (length (select test ls)) = ap length (select-first test l ls refl is) in
           place-later l ls refl k at is (λ z. omega arith)
@@ -127,15 +127,15 @@ module _ (test : List ℕ → Bool) where
 
 -- The k-th line that passes the test stands at its place: the lines of the bytes from there on begin with it.
 pub record Placed (test : List ℕ → Bool) (k : ℕ) (bytes : List ℕ) (ls : List (List ℕ)) : Type 0 where
-  pub within : placeFrom test k 0 ls ≤ length bytes
+  pub within : beginsFrom test k 0 ls ≤ length bytes
   pub more : List (List ℕ)
-  pub there : linesOf (drop (placeFrom test k 0 ls) bytes) ≡ nth k (select test ls) ∷ more
+  pub there : linesOf (drop (beginsFrom test k 0 ls) bytes) ≡ nth k (select test ls) ∷ more
   pub passes : test (nth k (select test ls)) ≡ true
 
 module _ (test : List ℕ → Bool) where
   placed-here : (bytes l : List ℕ) (ls : List (List ℕ)) (k : ℕ) → linesOf bytes ≡ l ∷ ls → test l ≡ true → k ≡ 0 → Placed test k bytes (l ∷ ls)
   placed-here bytes l ls k e is z =
-      let place : placeFrom test k 0 (l ∷ ls) ≡ 0 = place-here test l ls refl k 0 is z in
+      let place : beginsFrom test k 0 (l ∷ ls) ≡ 0 = place-here test l ls refl k 0 is z in
       let line : nth k (select test (l ∷ ls)) ≡ l = ap (nth k) (select-first test l ls refl is) ∙ nth-here k l (select test ls) z in
       record {
         within = omega arith;
@@ -145,12 +145,12 @@ module _ (test : List ℕ → Bool) where
       }
 
   placed-more : (bytes l : List ℕ) (ls : List (List ℕ)) (k m : ℕ) (f : First bytes l ls)
-      → placeFrom test k 0 (l ∷ ls) ≡ placeFrom test m (0 + length l + 1) ls → nth k (select test (l ∷ ls)) ≡ nth m (select test ls)
+      → beginsFrom test k 0 (l ∷ ls) ≡ beginsFrom test m (0 + length l + 1) ls → nth k (select test (l ∷ ls)) ≡ nth m (select test ls)
       → Placed test m (f .rest) ls → Placed test k bytes (l ∷ ls)
   placed-more bytes l ls k m f place line p =
-      let q = placeFrom test m 0 ls in
+      let q = beginsFrom test m 0 ls in
       let size : length bytes ≡ length l + suc (length (f .rest)) = ap length (f .bytes-are) ∙ length-append l (10 ∷ f .rest) in
-      let whole : placeFrom test k 0 (l ∷ ls) ≡ length l + suc q = place ∙ place-shift test m (0 + length l + 1) ls ∙ omega arith in
+      let whole : beginsFrom test k 0 (l ∷ ls) ≡ length l + suc q = place ∙ place-shift test m (0 + length l + 1) ls ∙ omega arith in
       record {
         within = omega (arith, p .within);
         more = p .more;
@@ -192,7 +192,7 @@ module _ (test : List ℕ → Bool) where
 -- A loop that looks for the k-th line that passes the test: it is the one numbered `left` of the lines from `at` on.
 pub record Seeking (test : List ℕ → Bool) (bytes : List ℕ) (k at left : ℕ) : Type 0 where
   pub within : at ≤ length bytes
-  pub place : placeFrom test left at (linesOf (drop at bytes)) ≡ placeFrom test k 0 (linesOf bytes)
+  pub place : beginsFrom test left at (linesOf (drop at bytes)) ≡ beginsFrom test k 0 (linesOf bytes)
   pub line : nth left (select test (linesOf (drop at bytes))) ≡ nth k (select test (linesOf bytes))
 
 pub seeking-first : (test : List ℕ → Bool) (bytes : List ℕ) (k : ℕ) → Seeking test bytes k 0 k
@@ -201,7 +201,7 @@ seeking-first test bytes k = record { within = zero-le; place = refl; line = ref
 module _ {test : List ℕ → Bool} {bytes : List ℕ} {k at left : ℕ} (s : Seeking test bytes k at left) (end : ℕ) (found : end ≡ at + lineLength (drop at bytes)) where
   -- no line is left
   module _ (h : length bytes ≤ end) where
-    pub seeking-none : at ≡ placeFrom test k 0 (linesOf bytes)
+    pub seeking-none : at ≡ beginsFrom test k 0 (linesOf bytes)
     seeking-none = sym (place-none test left at (no-line bytes at end found h)) ∙ s .place
 
     pub seeking-no-line : [] ≡ nth k (select test (linesOf bytes))
@@ -224,13 +224,13 @@ module _ {test : List ℕ → Bool} {bytes : List ℕ} {k at left : ℕ} (s : Se
         let lines = first-line bytes at end found h in
         record {
           within = omega arith;
-          place = ap (λ (n : ℕ). placeFrom test left n after) (sym next) ∙ sym (place-other test one after lines left at is) ∙ s .place;
+          place = ap (λ (n : ℕ). beginsFrom test left n after) (sym next) ∙ sym (place-other test one after lines left at is) ∙ s .place;
           line = ap (nth left) (sym (select-other test one after lines is)) ∙ s .line;
         }
 
     module _ (is : test one ≡ true) where
       -- it is the one sought
-      pub seeking-place : left ≡ 0 → at ≡ placeFrom test k 0 (linesOf bytes)
+      pub seeking-place : left ≡ 0 → at ≡ beginsFrom test k 0 (linesOf bytes)
       seeking-place z = sym (place-here test one after (first-line bytes at end found h) left at is z) ∙ s .place
 
       pub seeking-line : left ≡ 0 → one ≡ nth k (select test (linesOf bytes))
@@ -243,7 +243,7 @@ module _ {test : List ℕ → Bool} {bytes : List ℕ} {k at left : ℕ} (s : Se
           let lines = first-line bytes at end found h in
           record {
             within = omega arith;
-            place = ap (λ (n : ℕ). placeFrom test (left - 1) n after) (sym next) ∙ sym (place-later test one after lines left at is z) ∙ s .place;
+            place = ap (λ (n : ℕ). beginsFrom test (left - 1) n after) (sym next) ∙ sym (place-later test one after lines left at is z) ∙ s .place;
             line = nth-later left one (select test after) z ∙ ap (nth left) (sym (select-first test one after lines is)) ∙ s .line;
           }
 

@@ -61,9 +61,9 @@ metAt (suc k) here later = later k
 
 -- the byte at which the k-th line that passes a test begins, counted from the byte `at`, where the lines begin; where there is none, the byte
 -- after them
-unfoldable pub placeFrom : (List ℕ → Bool) → ℕ → ℕ → List (List ℕ) → ℕ
-placeFrom test k at [] = at
-placeFrom test k at (l ∷ ls) =
+unfoldable pub beginsFrom : (List ℕ → Bool) → ℕ → ℕ → List (List ℕ) → ℕ
+beginsFrom test k at [] = at
+beginsFrom test k at (l ∷ ls) =
     cond (test l)
-    (metAt k at (λ k′. placeFrom test k′ (at + length l + 1) ls))
-    (placeFrom test k (at + length l + 1) ls)
+    (metAt k at (λ k′. beginsFrom test k′ (at + length l + 1) ls))
+    (beginsFrom test k (at + length l + 1) ls)

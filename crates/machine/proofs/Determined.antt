@@ -10,7 +10,7 @@ use Rattle.machine.proofs.faults.kind_number.Reads as kind-number
 use Rattle.machine.proofs.step.start.Reads as start
 use Rattle.machine.proofs.step.step_line.Reads as step-line
 use Rattle.machine.proofs.step.keep_names.Reads as keep-names
-use Rattle.machine.proofs.step.line_at.Reads as line-at
+use Rattle.machine.proofs.step.line_known.Reads as line-known
 use Rattle.machine.proofs.step.read_line.Reads as read-line
 
 pub instant-in-determined : (κs : _) (a : _) (r r′ : _) (s s′ : _) → instant-in.Post κs a r s → instant-in.Post κs a r′ s′ → r ≡ r′
@@ -35,8 +35,8 @@ pub keep-names-determined : (κs : _) (a : _) (r r′ : _) (s s′ : _) → keep
     → (r ≡ r′) × (now (s .1 .1 .0) ≡ now (s′ .1 .1 .0))
 keep-names-determined κs a r r′ s s′ p q = (p .0 ∙ sym (q .0), p .1 ∙ sym (q .1))
 
-pub line-at-determined : (κs : _) (a : _) (r r′ : _) (s s′ : _) → line-at.Post κs a r s → line-at.Post κs a r′ s′ → r ≡ r′
-line-at-determined κs a r r′ s s′ p q = toldRead-one r r′ (p ∙ sym q)
+pub line-known-determined : (κs : _) (a : _) (r r′ : _) (s s′ : _) → line-known.Post κs a r s → line-known.Post κs a r′ s′ → r ≡ r′
+line-known-determined κs a r r′ s s′ p q = toldRead-one r r′ (p ∙ sym q)
 
 pub read-line-determined : (κs : _) (a : _) (r r′ : _) (s s′ : _) → read-line.Post κs a r s → read-line.Post κs a r′ s′
     → (r ≡ r′) × (now (s .1 .1 .1 .1 .0) ≡ now (s′ .1 .1 .1 .1 .0))

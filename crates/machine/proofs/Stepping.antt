@@ -25,9 +25,9 @@ use Rattle.record.proofs.Determined.{toldKind-one}
 use Rattle.header.specs.declared.types.Rules.{Rules}
 use Rattle.record.specs.declared.types.LineKind.{LineKind}
 use Rattle.machine.specs.Checks.{firstUnprintable}
-use Rattle.machine.specs.State.{seen, namesIn, fitBehind, laidBehind, hasRoom, namesAfter}
+use Rattle.machine.specs.State.{seen, namesIn, fitBehind, laidBehind, hasRoom, identifiersJoined}
 use Rattle.machine.specs.Faults.{longest}
-use Rattle.machine.specs.Step.{judgedLine, printedLine, stepOf, namesBrought, keptOn, namesKept, findsRoom, ifRoom, stepWithin, readAs, readFirst, namesFirst, lineAt, lineRead, lineNames}
+use Rattle.machine.specs.Step.{judgedLine, printedLine, stepOf, namesBrought, keptOn, namesKept, findsRoom, ifRoom, stepWithin, readAs, readFirst, namesFirst, lineKnown, lineRead, lineNames}
 use Rattle.machine.specs.Told.{toldRead}
 use Rattle.machine.proofs.Told.{toldRead-one}
 use Rattle.machine.proofs.types.LineRead.{the-type}
@@ -132,13 +132,13 @@ module _ (rules : Rules) (s : State) (line new : List ℕ) where
 
 -- the room for them and the list after them, by what the code has in hand
 pub kept-so : (rules : Rules) (s : State) (names line pad new : List ℕ) (from : ℕ) → pad ≡ padded line → from ≡ seen s → new ≡ namesIn rules s pad
-    → (fitBehind from new names ≡ hasRoom rules s names (padded line)) × (laidBehind from new names ≡ namesAfter rules s names (padded line))
-unfolding hasRoom namesAfter
+    → (fitBehind from new names ≡ hasRoom rules s names (padded line)) × (laidBehind from new names ≡ identifiersJoined rules s names (padded line))
+unfolding hasRoom identifiersJoined
 kept-so rules s names line pad new from pad-is from-is new-is = rw (new-is, from-is, pad-is) (refl, refl)
 
 -- a line keeps the number of places for identifiers
 pub brought-length : (rules : Rules) (s : State) (names line : List ℕ) → length (namesBrought rules s names line) ≡ length names
-unfolding namesBrought namesAfter
+unfolding namesBrought identifiersJoined
 brought-length rules s names line = go (eqb (s .due) 3) refl
   where
     go : (due : Bool) → eqb (s .due) 3 ≡ due → length (namesBrought rules s names line) ≡ length names
@@ -186,9 +186,9 @@ module _ (rules : Rules) (bytes : List ℕ) (at : ℕ) (s : State) (names : List
       go roomy (verdict.Next s′) h = absurd (miss (0 ∷ 1 ∷ 3 ∷ []) 2 tt h)
       go roomy verdict.Finished h = (refl, refl)
 
-  pub read-same : (r : LineRead) → toldRead r ≡ toldRead (lineAt rules bytes at s names) → OneOf (0 ∷ 1 ∷ 3 ∷ []) (tagOf the-type r) → ReadAs r names
+  pub read-same : (r : LineRead) → toldRead r ≡ toldRead (lineKnown rules bytes at s names) → OneOf (0 ∷ 1 ∷ 3 ∷ []) (tagOf the-type r) → ReadAs r names
   read-same r told k =
-      let same = toldRead-one r (lineAt rules bytes at s names) told in
+      let same = toldRead-one r (lineKnown rules bytes at s names) told in
       let none = none-brought (linesOf (drop at bytes)) (subst (λ (x : LineRead). OneOf (0 ∷ 1 ∷ 3 ∷ []) (tagOf the-type x)) same k) in
       (ap toldRead (same ∙ none .0), none .1)
 
@@ -224,9 +224,9 @@ module _ (rules : Rules) (bytes : List ℕ) (at : ℕ) (s : State) (names : List
             does = is ∙ ap verdict.Next state;
           }
 
-  module _ (r : LineRead) (place : ℕ) (s′ : State) (told : toldRead r ≡ toldRead (lineAt rules bytes at s names)) (is : r ≡ found.Next place s′) where
+  module _ (r : LineRead) (place : ℕ) (s′ : State) (told : toldRead r ≡ toldRead (lineKnown rules bytes at s names)) (is : r ≡ found.Next place s′) where
     pub goes-on : Goes place s′
-    goes-on = goes-by (linesOf (drop at bytes)) place s′ refl (sym (toldRead-one r (lineAt rules bytes at s names) told) ∙ is)
+    goes-on = goes-by (linesOf (drop at bytes)) place s′ refl (sym (toldRead-one r (lineKnown rules bytes at s names) told) ∙ is)
 
     abbrev g : Goes place s′
     g = goes-on
@@ -254,19 +254,19 @@ module _ (rules : Rules) (bytes : List ℕ) (at : ℕ) (s : State) (names : List
 
     -- where one is due, by the room for what it brings
     pub read-names : s .due ≡ 3 → (roomy : Bool) (kept : List ℕ) → let text = take (place - 1 - at) (drop at bytes) in
-        roomy ≡ hasRoom rules s names (padded text) → kept ≡ namesAfter rules s names (padded text)
+        roomy ≡ hasRoom rules s names (padded text) → kept ≡ identifiersJoined rules s names (padded text)
         → ReadAs (readAs (ifRoom roomy (verdict.Next s′)) place) kept
     unfolding namesBrought
     read-names due roomy kept e k =
         let three = eq-eqb (s .due) 3 due in
         let room : roomy ≡ findsRoom rules s names (g .line) = rw three (e ∙ ap (λ (l : List ℕ). hasRoom rules s names (padded l)) text-is) in
-        let new : kept ≡ namesBrought rules s names (g .line) = rw three (k ∙ ap (λ (l : List ℕ). namesAfter rules s names (padded l)) text-is) in
+        let new : kept ≡ namesBrought rules s names (g .line) = rw three (k ∙ ap (λ (l : List ℕ). identifiersJoined rules s names (padded l)) text-is) in
         (ap toldRead (read-by roomy room), new ∙ kept-by)
 
 -- The list after a line, by what the line reader makes of it: without room it is as it was.
 module _ (rules : Rules) (s : State) (names l : List ℕ) where
   no-room : findsRoom rules s names l ≡ false → namesBrought rules s names l ≡ names
-  unfolding namesBrought namesAfter laidBehind hasRoom
+  unfolding namesBrought identifiersJoined laidBehind hasRoom
   no-room e = go (eqb (s .due) 3) refl
     where
       go : (due : Bool) → eqb (s .due) 3 ≡ due → namesBrought rules s names l ≡ names

@@ -18,7 +18,7 @@ use Rattle.picture.proofs.Printed.{usual-printed}
 use Rattle.header.specs.declared.types.Rules.{Rules}
 use Rattle.record.specs.declared.types.LineKind.the-variants as kind
 use Rattle.machine.specs.State.{nameDue}
-use Rattle.machine.specs.Faults.{namedFault, placeFault}
+use Rattle.machine.specs.Faults.{namedFault, standingFault}
 use Rattle.machine.specs.Next.{afterPosition}
 use Rattle.machine.specs.Step.{onKey, judgedLine, printedLine, stepOf}
 use Rattle.machine.specs.Usual.{dueRow}
@@ -32,11 +32,11 @@ module _ (rules : Rules) (s : State) (names line : List ℕ) where
   its-kind e = rw e
 
   its-fault : s .due ≡ 10 → rowFault false (padded line) ≡ 0 → eqb (nameCode (cut 2 4 (padded line))) (nameDue s names) ≡ true
-      → placeFault kind.Position rules s names (padded line) ≡ 0
-  unfolding placeFault namedFault
+      → standingFault kind.Position rules s names (padded line) ≡ 0
+  unfolding standingFault namedFault
   its-fault due clean named = rw (due, clean, named)
 
-  its-verdict : leb (length line) 80 ≡ true → placeFault kind.Position rules s names (padded line) ≡ 0
+  its-verdict : leb (length line) 80 ≡ true → standingFault kind.Position rules s names (padded line) ≡ 0
       → printedLine kind.Position rules s names line ≡ verdict.Next (afterPosition s)
   unfolding printedLine judgedLine onKey
   its-verdict short clean = rw (short, clean)

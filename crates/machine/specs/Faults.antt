@@ -87,5 +87,5 @@ recordFault kind.VelocityCorrelation rules s names line = faultOf (correlationIt
 recordFault kind.EndOfFile rules s names line = faultOf endItems line
 
 -- the fault of a line of 80 columns at its place: 4 where its kind may not stand here
-unfoldable pub placeFault : LineKind → Rules → State → List ℕ → List ℕ → ℕ
-placeFault kind rules s names line = cond (stands s kind) (recordFault kind rules s names line) (keyed 4 0)
+unfoldable pub standingFault : LineKind → Rules → State → List ℕ → List ℕ → ℕ
+standingFault kind rules s names line = cond (stands s kind) (recordFault kind rules s names line) (keyed 4 0)

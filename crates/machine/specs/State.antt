@@ -72,5 +72,5 @@ unfoldable pub hasRoom : Rules → State → List ℕ → List ℕ → Bool
 hasRoom rules s names line = fitBehind (seen s) (namesIn rules s line) names
 
 -- the identifiers after a `+ ` line
-unfoldable pub namesAfter : Rules → State → List ℕ → List ℕ → List ℕ
-namesAfter rules s names line = laidBehind (seen s) (namesIn rules s line) names
+unfoldable pub identifiersJoined : Rules → State → List ℕ → List ℕ → List ℕ
+identifiersJoined rules s names line = laidBehind (seen s) (namesIn rules s line) names

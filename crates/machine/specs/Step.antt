@@ -7,15 +7,15 @@ use Prim.Native.Nat.{ℕ, _+_}
 use lib.Dec.{eqb, leb}
 use lib.ListN.{length, drop}
 use Rattle.laws.specs.Texts.{every, isPrintable}
-use Rattle.layout.specs.Fault.{numberOf, columnOf}
+use Rattle.layout.specs.Fault.{keyNumber, columnOf}
 use Rattle.layout.specs.Line.{padded}
 use Rattle.lines.specs.Lines.{linesOf}
 use Rattle.record.specs.LineKinds.{kindOf}
 use Rattle.header.specs.declared.types.Rules.{Rules}
 use Rattle.record.specs.declared.types.LineKind.{LineKind}
 use Rattle.machine.specs.Checks.{firstUnprintable}
-use Rattle.machine.specs.State.{hasRoom, namesAfter}
-use Rattle.machine.specs.Faults.{longest, placeFault}
+use Rattle.machine.specs.State.{hasRoom, identifiersJoined}
+use Rattle.machine.specs.Faults.{longest, standingFault}
 use Rattle.machine.specs.Next.{nextOf}
 use Rattle.machine.specs.declared.types.State.{State}
 use Rattle.machine.specs.declared.types.Verdict.{Verdict}
@@ -25,11 +25,11 @@ use Rattle.machine.specs.declared.types.LineRead.the-variants as found
 
 -- a fault by its key, or else what follows
 unfoldable pub onKey : ℕ → Verdict → Verdict
-onKey key next = cond (eqb key 0) next (verdict.Fault (numberOf key) (columnOf key))
+onKey key next = cond (eqb key 0) next (verdict.Fault (keyNumber key) (columnOf key))
 
 -- a line that has only characters 32 to 126 and is not too long, by its kind
 unfoldable pub judgedLine : LineKind → Rules → State → List ℕ → List ℕ → Verdict
-judgedLine kind rules s names line = onKey (placeFault kind rules s names line) (nextOf kind rules s line)
+judgedLine kind rules s names line = onKey (standingFault kind rules s names line) (nextOf kind rules s line)
 
 -- a line of printable characters: 3 names the column after the last that it may have
 unfoldable pub printedLine : LineKind → Rules → State → List ℕ → List ℕ → Verdict
@@ -43,9 +43,9 @@ stepOf rules s names line =
 
 -- the identifiers after a line without fault: where a `+ ` line (3) is due it brings some
 unfoldable pub namesBrought : Rules → State → List ℕ → List ℕ → List ℕ
-namesBrought rules s names line = cond (eqb (s .due) 3) (namesAfter rules s names (padded line)) names
+namesBrought rules s names line = cond (eqb (s .due) 3) (identifiersJoined rules s names (padded line)) names
 
--- the identifiers after a line, by what it does; where there is no room for them `namesAfter` leaves the list as it was
+-- the identifiers after a line, by what it does; where there is no room for them `identifiersJoined` leaves the list as it was
 abbrev pub keptOn : Verdict → Rules → State → List ℕ → List ℕ → List ℕ
 keptOn (verdict.Fault number column) rules s names line = names
 keptOn (verdict.Next s′) rules s names line = namesBrought rules s names line
@@ -84,8 +84,8 @@ namesFirst rules s names [] = names
 namesFirst rules s names (l ∷ ls) = namesKept rules s names l
 
 -- the line of some bytes that begins at a place, where the identifiers are known
-abbrev pub lineAt : Rules → List ℕ → ℕ → State → List ℕ → LineRead
-lineAt rules bytes at s names = readFirst (stepOf rules s names) at (linesOf (drop at bytes))
+abbrev pub lineKnown : Rules → List ℕ → ℕ → State → List ℕ → LineRead
+lineKnown rules bytes at s names = readFirst (stepOf rules s names) at (linesOf (drop at bytes))
 
 -- the same by the plain line reader, which keeps them in a lent list; and the list after it
 abbrev pub lineRead : Rules → List ℕ → ℕ → State → List ℕ → LineRead

@@ -7,7 +7,7 @@ ghost use Rattle.layout.specs.Fault.{lower};
 ghost use Rattle.layout.specs.Kind.{unless};
 ghost use Rattle.record.specs.LineKinds.{toldKind};
 ghost use Rattle.machine.specs.State.{seen, nameDue};
-ghost use Rattle.machine.specs.Faults.{longest, secondFault, satellitesFault, charactersFault, floatsFault, epochFault, namedFault, recordFault, placeFault};
+ghost use Rattle.machine.specs.Faults.{longest, secondFault, satellitesFault, charactersFault, floatsFault, epochFault, namedFault, recordFault, standingFault};
 use crate::checks;
 use crate::types::State;
 use header::Rules;
@@ -190,14 +190,14 @@ pub fn kind_number(kind: LineKind) -> u64
 }
 
 // The fault of a line at its place: 4 where its kind may not stand here.
-pub(crate) fn place_fault(
+pub(crate) fn standing_fault(
     kind: LineKind,
     rules: Rules,
     state: State,
     names: &[u64],
     line: &[u8; 80],
 ) -> usize
-    ensures { λ r. ⌜ r ≡ placeFault kind rules state (now (names .entry)) (now (line .entry)) ⌝ }
+    ensures { λ r. ⌜ r ≡ standingFault kind rules state (now (names .entry)) (now (line .entry)) ⌝ }
 {
     let number = kind_number(kind);
     if (number == state.due) | (number == state.also) {

@@ -10,7 +10,7 @@ pub use checks::repeats_name;
 pub use checks::type_agrees;
 pub use faults::kind_number;
 pub use step::keep_names;
-pub use step::line_at;
+pub use step::line_known;
 pub use step::read_line;
 pub use step::start;
 pub use step::step_line;

@@ -2,10 +2,10 @@
 ghost use mathlib.Core.Path.{_≡_};
 ghost use Rattle.laws.specs.Texts.{every, isPrintable};
 ghost use Rattle.layout.specs.Line.{padded};
-ghost use Rattle.machine.specs.State.{startState, fitBehind, laidBehind, hasRoom, namesAfter};
+ghost use Rattle.machine.specs.State.{startState, fitBehind, laidBehind, hasRoom, identifiersJoined};
 ghost use Rattle.machine.specs.Told.{toldVerdict, toldRead};
 ghost use Rattle.machine.specs.Usual.{dueRow};
-ghost use Rattle.machine.specs.Step.{judgedLine, stepOf, lineAt, lineRead, lineNames};
+ghost use Rattle.machine.specs.Step.{judgedLine, stepOf, lineKnown, lineRead, lineNames};
 use crate::checks;
 use crate::faults;
 use crate::next;
@@ -38,7 +38,7 @@ pub fn start() -> State
 fn judge_line(kind: LineKind, rules: Rules, state: State, names: &[u64], line: &[u8; 80]) -> Verdict
     ensures { λ r. ⌜ r ≡ judgedLine kind rules state (now (names .entry)) (now (line .entry)) ⌝ }
 {
-    let key = faults::place_fault(kind, rules, state, names, line);
+    let key = faults::standing_fault(kind, rules, state, names, line);
     if key == 0 {
         return next::after_line(kind, rules, state, line);
     }
@@ -117,7 +117,7 @@ fn lay_behind(list: &mut [u64], from: usize, new: &[u64]) -> bool
 // nothing changes.
 pub fn keep_names(rules: Rules, state: State, names: &mut [u64], line: &[u8]) -> bool
     ensures result { λ r. ⌜ r ≡ hasRoom rules state (now (names .entry)) (padded (now (line .entry))) ⌝ }
-    ensures lent { λ _. ⌜ now (names .exit) ≡ namesAfter rules state (now (names .entry)) (padded (now (line .entry))) ⌝ }
+    ensures lent { λ _. ⌜ now (names .exit) ≡ identifiersJoined rules state (now (names .entry)) (padded (now (line .entry))) ⌝ }
 {
     let padded = layout::pad(line);
     let from = faults::seen_so_far(state);
@@ -132,8 +132,8 @@ pub fn keep_names(rules: Rules, state: State, names: &mut [u64], line: &[u8]) ->
 }
 
 // What the line at a place does, where the header's identifiers so far are `names`, and where the next begins. No LF from the place on: no line.
-pub fn line_at(rules: Rules, bytes: &[u8], at: usize, state: State, names: &[u64]) -> LineRead
-    ensures result { λ r. ⌜ toldRead r ≡ toldRead (lineAt rules (now (bytes .entry)) at state (now (names .entry))) ⌝ }
+pub fn line_known(rules: Rules, bytes: &[u8], at: usize, state: State, names: &[u64]) -> LineRead
+    ensures result { λ r. ⌜ toldRead r ≡ toldRead (lineKnown rules (now (bytes .entry)) at state (now (names .entry))) ⌝ }
 {
     let end = lines::line_end(bytes, at);
     if end >= bytes.len() {
@@ -155,7 +155,7 @@ pub fn read_line(rules: Rules, bytes: &[u8], at: usize, state: State, names: &mu
     ensures result { λ r. ⌜ toldRead r ≡ toldRead (lineRead rules (now (bytes .entry)) at state (now (names .entry))) ⌝ }
     ensures lent { λ _. ⌜ now (names .exit) ≡ lineNames rules (now (bytes .entry)) at state (now (names .entry)) ⌝ }
 {
-    let found = line_at(rules, bytes, at, state, names);
+    let found = line_known(rules, bytes, at, state, names);
     let LineRead::Next { at: next, state: _ } = found else {
         return found;
     };

@@ -17,27 +17,27 @@ use Rattle.laws.proofs.Places.{in-front, in-part}
 use Rattle.layout.specs.Line.{trimmed}
 use Rattle.lines.specs.Lent.{laid}
 use Rattle.lines.proofs.Laying.{laid-fits}
-use Rattle.lines.specs.Lines.{linesOf, bytesIn, select, nth, placeFrom}
+use Rattle.lines.specs.Lines.{linesOf, bytesIn, select, nth, beginsFrom}
 use Rattle.header.specs.Rules.{d}
 use Rattle.file.specs.Kinds.{isKind, ofKind}
 use Rattle.file.specs.Plain.{Plain}
 use Rattle.file.specs.Table.{firstIn, countOf, slotsIn}
 use Rattle.file.proofs.Finding.{line-within}
-use Rattle.scan.specs.Run.{scanOf, wholeOf}
+use Rattle.scan.specs.Run.{scanOf, wholeFront}
 use Rattle.reader.specs.Reading.{linesTo, fileOf, identifiersOf}
-use Rattle.questions.specs.Questions.{textIn, noComment, commentLine, commentPlace, commentAt, commentAnswer, commentWords, indexOf, satelliteIn, satelliteAnswer, epochsOf, noRow, rowAt, rowPlace}
+use Rattle.questions.specs.Questions.{textIn, noComment, commentLine, commentBegins, commentAt, commentAnswer, commentWords, indexOf, satelliteIn, satelliteAnswer, epochsOf, noRow, rowAt, rowBegins}
 use Rattle.header.specs.declared.types.Rules.{Rules}
 use Rattle.record.specs.declared.types.First.{First}
 use Rattle.scan.specs.declared.Tally.{Tally}
 use Rattle.scan.specs.declared.Front.{Front}
 use Rattle.scan.specs.declared.Front.the-variants as front
 use Rattle.questions.specs.declared.types.CommentAnswer.{CommentAnswer}
-use Rattle.questions.specs.declared.types.RowPlace.{RowPlace}
+use Rattle.questions.specs.declared.types.RowBegins.{RowBegins}
 use Rattle.questions.specs.declared.types.SatelliteAnswer.{SatelliteAnswer}
 use Rattle.laws.proofs.Bools.{both-true}
 use Rattle.laws.proofs.Lists.{rest-step, rest-none, rest-part}
 use Rattle.layout.proofs.Lines.{trimmed-front, trimmed-shorter}
-use Rattle.lines.proofs.Picking.{nth-past, place-past, placed}
+use Rattle.lines.proofs.Picking.{nth-past, spot-past, placed}
 use Rattle.lines.proofs.Split.{bytes-in, parted, first}
 use Rattle.scan_laws.proofs.Files.{front-plain}
 use Rattle.scan_laws.proofs.Local.{whole-ends}
@@ -71,13 +71,13 @@ module _ (name : ℕ) (names : List ℕ) (i : ℕ) where
 
 -- where a comment's text lies, by its line's place, its line and the text
 pub comment-told : (rules : Rules) (lines : List (List ℕ)) (k place indent : ℕ) (line text : List ℕ)
-    → place ≡ commentPlace rules lines k → line ≡ commentLine rules lines k → indent ≡ min 3 (length line) → text ≡ textIn line
+    → place ≡ commentBegins rules lines k → line ≡ commentLine rules lines k → indent ≡ min 3 (length line) → text ≡ textIn line
     → _≡_ {A = CommentAnswer} (record { refusal = 0; line = 0; at = place + indent; length = length text }) (commentAt rules lines k)
 comment-told rules lines k place indent line text p l i t = rw (p, i, t, l)
 
 -- and it begins within the bytes
 pub text-within : (rules : Rules) (bytes : List ℕ) (k place indent : ℕ) (line : List ℕ)
-    → place ≡ commentPlace rules (linesOf bytes) k → line ≡ commentLine rules (linesOf bytes) k → indent ≡ min 3 (length line) → place + indent ≤ length bytes
+    → place ≡ commentBegins rules (linesOf bytes) k → line ≡ commentLine rules (linesOf bytes) k → indent ≡ min 3 (length line) → place + indent ≤ length bytes
 text-within rules bytes k place indent line p l i = omega (arith, ap length l, line-within (isKind rules 8) k bytes)
 
 pub epochs-are : {rules : Rules} {lines : List (List ℕ)} (p : Plain rules lines) → epochsOf rules lines ≡ epochs p
@@ -85,7 +85,7 @@ unfolding nth
 epochs-are p = rw (kind-1 p)
 
 -- an accepted file has at most 100,000 epochs and 255 satellites
-module _ (bytes : List ℕ) (t : Tally) (e : wholeOf (length bytes) (scanOf d bytes) ≡ front.File t) where
+module _ (bytes : List ℕ) (t : Tally) (e : wholeFront (length bytes) (scanOf d bytes) ≡ front.File t) where
   pub whole-plain : Plain d (linesTo (t .end) bytes)
   whole-plain = front-plain bytes t (whole-ends d bytes t e .0)
 
@@ -120,18 +120,18 @@ module _ (rules : Rules) (lines : List (List ℕ)) (epoch satellite : ℕ) (f : 
   has-row : (b : Bool) → (ltb epoch (f .epochs) && ltb satellite n) ≡ b → (ltb epoch (epochsOf rules lines) && ltb satellite (countOf rules lines)) ≡ b
   has-row b e = sym (ap (λ (x : First). ltb epoch (x .epochs) && ltb satellite (countOf rules lines)) is-first) ∙ sym (ap (λ (m : ℕ). ltb epoch (f .epochs) && ltb satellite m) is-count) ∙ e
 
-  pub row-told : (place : ℕ) → (ltb epoch (f .epochs) && ltb satellite n) ≡ true → place ≡ placeFrom (isKind rules 10) (epoch * n + satellite) 0 lines
-      → _≡_ {A = RowPlace} (record { refusal = 0; line = 0; at = place }) (rowAt rules lines epoch satellite)
+  pub row-told : (place : ℕ) → (ltb epoch (f .epochs) && ltb satellite n) ≡ true → place ≡ beginsFrom (isKind rules 10) (epoch * n + satellite) 0 lines
+      → _≡_ {A = RowBegins} (record { refusal = 0; line = 0; at = place }) (rowAt rules lines epoch satellite)
   row-told place has e =
-      ap (λ (a : ℕ). record { refusal = 0; line = 0; at = a }) (e ∙ ap (λ (m : ℕ). placeFrom (isKind rules 10) (epoch * m + satellite) 0 lines) is-count)
+      ap (λ (a : ℕ). record { refusal = 0; line = 0; at = a }) (e ∙ ap (λ (m : ℕ). beginsFrom (isKind rules 10) (epoch * m + satellite) 0 lines) is-count)
       ∙ rw (has-row true has)
 
   pub row-missing : (ltb epoch (f .epochs) && ltb satellite n) ≡ false → noRow 13 0 ≡ rowAt rules lines epoch satellite
   row-missing has = rw (has-row false has)
 
 -- what was found, under the rules that were asked for
-pub found-as : (rules : Rules) (bytes : List ℕ) (f g : Front) → rules ≡ d → f ≡ wholeOf (length bytes) (scanOf rules bytes) → f ≡ g → fileOf d bytes ≡ g
-found-as rules bytes f g r e is = ap (λ (x : Rules). wholeOf (length bytes) (scanOf x bytes)) (sym r) ∙ sym e ∙ is
+pub found-as : (rules : Rules) (bytes : List ℕ) (f g : Front) → rules ≡ d → f ≡ wholeFront (length bytes) (scanOf rules bytes) → f ≡ g → fileOf d bytes ≡ g
+found-as rules bytes f g r e is = ap (λ (x : Rules). wholeFront (length bytes) (scanOf x bytes)) (sym r) ∙ sym e ∙ is
 
 -- the answers about what was found
 module _ (bytes : List ℕ) (f : Front) (e : fileOf d bytes ≡ f) where
@@ -144,8 +144,8 @@ module _ (bytes : List ℕ) (f : Front) (e : fileOf d bytes ≡ f) where
   pub satellite-as : (name : ℕ) (a : SatelliteAnswer) → a ≡ satelliteAnswer d bytes f name → a ≡ satelliteAnswer d bytes (fileOf d bytes) name
   satellite-as name a is = is ∙ ap (λ (x : Front). satelliteAnswer d bytes x name) (sym e)
 
-  pub row-as : (epoch satellite : ℕ) (a : RowPlace) → a ≡ rowPlace d bytes f epoch satellite → a ≡ rowPlace d bytes (fileOf d bytes) epoch satellite
-  row-as epoch satellite a is = is ∙ ap (λ (x : Front). rowPlace d bytes x epoch satellite) (sym e)
+  pub row-as : (epoch satellite : ℕ) (a : RowBegins) → a ≡ rowBegins d bytes f epoch satellite → a ≡ rowBegins d bytes (fileOf d bytes) epoch satellite
+  row-as epoch satellite a is = is ∙ ap (λ (x : Front). rowBegins d bytes x epoch satellite) (sym e)
 
 -- the answers where a file was found, of its lines
 module _ (rules : Rules) (r : rules ≡ d) (bytes : List ℕ) (t : Tally) where
@@ -160,8 +160,8 @@ module _ (rules : Rules) (r : rules ≡ d) (bytes : List ℕ) (t : Tally) where
   unfolding commentWords
   words-there k s l h is line = is ∙ rw (line, r, lines-as, lt-ltb k (t .comments) h)
 
-  pub row-found : (epoch satellite : ℕ) (a : RowPlace) → a ≡ rowAt rules (linesTo (t .end - 0) bytes) epoch satellite → a ≡ rowPlace d bytes (front.File t) epoch satellite
-  unfolding rowPlace
+  pub row-found : (epoch satellite : ℕ) (a : RowBegins) → a ≡ rowAt rules (linesTo (t .end - 0) bytes) epoch satellite → a ≡ rowBegins d bytes (front.File t) epoch satellite
+  unfolding rowBegins
   row-found epoch satellite a is = is ∙ rw (r, lines-as)
 
   pub satellite-found : (name : ℕ) (a : SatelliteAnswer) → a ≡ satelliteIn name (identifiersOf rules (linesTo (t .end - 0) bytes)) → a ≡ satelliteAnswer d bytes (front.File t) name
@@ -186,12 +186,12 @@ no-words-there bytes t k h = rw (le-ltb k (t .comments) h)
 -- the text of a comment lies where the answer says
 pub at-comment : (rules : Rules) → rules ≡ d → (file : RefT (List ℕ)) (t : Tally) → fileOf d (now file) ≡ front.File t → (k : ℕ) (line text : RefT (List ℕ)) → k < t .comments
     → now line ≡ commentLine rules (linesTo (t .end - 0) (now file)) k
-    → line .ptr ≡ (file .ptr .0, commentPlace rules (linesTo (t .end - 0) (now file)) k + (0 + file .ptr .1))
+    → line .ptr ≡ (file .ptr .0, commentBegins rules (linesTo (t .end - 0) (now file)) k + (0 + file .ptr .1))
     → now text ≡ textIn (now line) → text .ptr ≡ byteOf line (min 3 (length (now line)))
     → text .ptr ≡ byteOf file (commentAnswer d (now file) (fileOf d (now file)) k .at)
 at-comment rules r file t e k line text h is-line at-line is-text at-text =
     let lines = linesTo (t .end - 0) (now file) in
-    let place = commentPlace rules lines k in
+    let place = commentBegins rules lines k in
     let told = comment-told rules lines k place (min 3 (length (now line))) (now line) (now text) refl is-line refl is-text in
     in-part file line text place (min 3 (length (now line))) (at-line ∙ in-front file place) at-text
     ∙ ap (λ (a : CommentAnswer). byteOf file (a .at)) (comment-as (now file) (front.File t) e k _ (comment-there rules r (now file) t k _ h told))

@@ -12,13 +12,13 @@ use lib.Seq.{take-append-le, drop-append-le, drop-drop}
 use borrow.Fn.Kinds.{Out}
 use denote.Ref.{now}
 use Rattle.laws.specs.Places.{PartAt}
-use Rattle.lines.specs.Lines.{linesOf, nth, placeFrom}
+use Rattle.lines.specs.Lines.{linesOf, nth, beginsFrom}
 use Rattle.header.specs.Rules.{d}
 use Rattle.file.specs.Kinds.{isKind, ofKind}
 use Rattle.file.specs.Plain.{isRowLine}
 use Rattle.file.specs.Table.{countOf}
 use Rattle.reader.specs.Reading.{fileOf, identifiersOf}
-use Rattle.questions.specs.Questions.{textIn, commentLine, commentPlace, commentAnswer, commentWords, epochsOf, rowIndex, rowPlace}
+use Rattle.questions.specs.Questions.{textIn, commentLine, commentBegins, commentAnswer, commentWords, epochsOf, rowIndex, rowBegins}
 use Rattle.scan.specs.declared.Tally.{Tally}
 use Rattle.scan.specs.declared.Front.{Front}
 use Rattle.scan.specs.declared.Front.the-variants as front
@@ -57,10 +57,10 @@ module _ (bytes : List ℕ) (t : Tally) (e : fileOf d bytes ≡ front.File t) wh
 
   -- THE STRETCH: a comment's text is the bytes from the place that is told on, as many as are told.
   module _ (k : ℕ) (h : k < t .comments) where
-    stretch : take (length (textIn (commentLine d (linesOf bytes) k))) (drop (commentPlace d (linesOf bytes) k + min 3 (length (commentLine d (linesOf bytes) k))) bytes)
+    stretch : take (length (textIn (commentLine d (linesOf bytes) k))) (drop (commentBegins d (linesOf bytes) k + min 3 (length (commentLine d (linesOf bytes) k))) bytes)
         ≡ textIn (commentLine d (linesOf bytes) k)
     stretch =
-        let place = commentPlace d (linesOf bytes) k in
+        let place = commentBegins d (linesOf bytes) k in
         let line = commentLine d (linesOf bytes) k in
         let many = subst (λ (b : List ℕ). t .comments ≡ length (ofKind d 8 (linesOf b))) all-bytes (accepted-front d bytes t (whole-ends d bytes t e .0) .comments) in
         let p = placed (isKind d 8) k bytes (omega arith) in
@@ -77,16 +77,16 @@ module _ (bytes : List ℕ) (t : Tally) (e : fileOf d bytes ≡ front.File t) wh
   -- that satellite of the header.
   module _ (epoch satellite : ℕ) (some : epoch < epochsOf d (linesOf bytes)) (one : satellite < countOf d (linesOf bytes)) where
     abbrev pub told : ℕ
-    told = rowPlace d bytes (fileOf d bytes) epoch satellite .at
+    told = rowBegins d bytes (fileOf d bytes) epoch satellite .at
 
-    place-told : told ≡ placeFrom (isKind d 10) (rowIndex d (linesOf bytes) epoch satellite) 0 (linesOf bytes)
-    unfolding rowPlace
+    place-told : told ≡ beginsFrom (isKind d 10) (rowIndex d (linesOf bytes) epoch satellite) 0 (linesOf bytes)
+    unfolding rowBegins
     place-told =
-        ap (λ (f : Front). rowPlace d bytes f epoch satellite .at) e
+        ap (λ (f : Front). rowBegins d bytes f epoch satellite .at) e
         ∙ rw (all-bytes, lt-ltb epoch (epochsOf d (linesOf bytes)) some, lt-ltb satellite (countOf d (linesOf bytes)) one)
 
-    pub row-not-refused : rowPlace d bytes (fileOf d bytes) epoch satellite .refusal ≡ 0
-    unfolding rowPlace
+    pub row-not-refused : rowBegins d bytes (fileOf d bytes) epoch satellite .refusal ≡ 0
+    unfolding rowBegins
     row-not-refused = rw (e, all-bytes, lt-ltb epoch (epochsOf d (linesOf bytes)) some, lt-ltb satellite (countOf d (linesOf bytes)) one)
 
     pub row-numbered : nth 0 (linesOf (drop told bytes)) ≡ nth (epoch * countOf d (linesOf bytes) + satellite) (ofKind d 10 (linesOf bytes))

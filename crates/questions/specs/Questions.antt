@@ -8,7 +8,7 @@ use lib.Dec.{eqb, ltb}
 use lib.ListN.{length, drop}
 use Rattle.layout.specs.Line.{trimmed}
 use Rattle.layout.specs.Kind.{named, nameNumber, nameCode}
-use Rattle.lines.specs.Lines.{nth, placeFrom}
+use Rattle.lines.specs.Lines.{nth, beginsFrom}
 use Rattle.file.specs.Kinds.{isKind, ofKind}
 use Rattle.file.specs.Table.{firstIn, countOf}
 use Rattle.header.specs.declared.types.Rules.{Rules}
@@ -17,7 +17,7 @@ use Rattle.scan.specs.declared.Front.the-variants as front
 use Rattle.reader.specs.Reading.{linesTo, identifiersOf}
 use Rattle.questions.specs.declared.types.CommentAnswer.{CommentAnswer}
 use Rattle.questions.specs.declared.types.SatelliteAnswer.{SatelliteAnswer}
-use Rattle.questions.specs.declared.types.RowPlace.{RowPlace}
+use Rattle.questions.specs.declared.types.RowBegins.{RowBegins}
 
 -- the text of a comment's line: from column 4 on, without trailing blanks
 abbrev pub textIn : List ℕ → List ℕ
@@ -30,15 +30,15 @@ noComment number line = record { refusal = number; line = line; at = 0; length =
 abbrev pub commentLine : Rules → List (List ℕ) → ℕ → List ℕ
 commentLine rules lines k = nth k (ofKind rules 8 lines)
 
-abbrev pub commentPlace : Rules → List (List ℕ) → ℕ → ℕ
-commentPlace rules lines k = placeFrom (isKind rules 8) k 0 lines
+abbrev pub commentBegins : Rules → List (List ℕ) → ℕ → ℕ
+commentBegins rules lines k = beginsFrom (isKind rules 8) k 0 lines
 
 -- where its text lies: at column 4, or at the line's end where the line is shorter
 abbrev pub commentAt : Rules → List (List ℕ) → ℕ → CommentAnswer
 commentAt rules lines k = record {
   refusal = 0;
   line = 0;
-  at = commentPlace rules lines k + min 3 (length (commentLine rules lines k));
+  at = commentBegins rules lines k + min 3 (length (commentLine rules lines k));
   length = length (textIn (commentLine rules lines k));
 }
 
@@ -79,18 +79,18 @@ epochsOf rules lines = firstIn rules lines .epochs
 abbrev pub rowIndex : Rules → List (List ℕ) → ℕ → ℕ → ℕ
 rowIndex rules lines epoch satellite = epoch * countOf rules lines + satellite
 
-abbrev pub noRow : ℕ → ℕ → RowPlace
+abbrev pub noRow : ℕ → ℕ → RowBegins
 noRow number line = record { refusal = number; line = line; at = 0 }
 
 abbrev pub hasRow : Rules → List (List ℕ) → ℕ → ℕ → Bool
 hasRow rules lines epoch satellite = ltb epoch (epochsOf rules lines) && ltb satellite (countOf rules lines)
 
-abbrev pub rowAt : Rules → List (List ℕ) → ℕ → ℕ → RowPlace
+abbrev pub rowAt : Rules → List (List ℕ) → ℕ → ℕ → RowBegins
 rowAt rules lines epoch satellite =
     cond (hasRow rules lines epoch satellite)
-    (record { refusal = 0; line = 0; at = placeFrom (isKind rules 10) (rowIndex rules lines epoch satellite) 0 lines })
+    (record { refusal = 0; line = 0; at = beginsFrom (isKind rules 10) (rowIndex rules lines epoch satellite) 0 lines })
     (noRow 13 0)
 
-unfoldable pub rowPlace : Rules → List ℕ → Front → ℕ → ℕ → RowPlace
-rowPlace rules bytes (front.File t) epoch satellite = rowAt rules (linesTo (t .end) bytes) epoch satellite
-rowPlace rules bytes (front.Refused number line column) epoch satellite = noRow number line
+unfoldable pub rowBegins : Rules → List ℕ → Front → ℕ → ℕ → RowBegins
+rowBegins rules bytes (front.File t) epoch satellite = rowAt rules (linesTo (t .end) bytes) epoch satellite
+rowBegins rules bytes (front.Refused number line column) epoch satellite = noRow number line

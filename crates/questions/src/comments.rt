@@ -15,7 +15,7 @@ use scan::Front;
 // The text of a comment's line: from column 4 on, without trailing blanks. It lies at column 4, or at the line's end where the line is shorter.
 fn text_of(line: &[u8]) -> &[u8]
     ensures result { λ r. ⌜ now r ≡ textIn (now (line .entry)) ⌝ }
-    ensures place { λ r. ⌜ ptr r ≡ byteOf (line .entry) (min 3 (length (now (line .entry)))) ⌝ }
+    ensures lies { λ r. ⌜ ptr r ≡ byteOf (line .entry) (min 3 (length (now (line .entry)))) ⌝ }
 {
     if line.len() < 3 {
         return file::nothing_at(line, line.len());
@@ -41,7 +41,7 @@ fn no_comment(number: usize, line: u64) -> CommentAnswer
 fn comment_at(rules: Rules, bytes: &[u8], k: u64) -> CommentAnswer
     ensures { λ r. ⌜ r ≡ commentAt rules (linesOf (now (bytes .entry))) k ⌝ }
 {
-    let place = file::place_of(rules, bytes, 8, k);
+    let place = file::line_begins(rules, bytes, 8, k);
     let line = file::line_of(rules, bytes, 8, k);
     let indent = laws::fewer(3, line.len());
     let text = text_of(line);
@@ -77,7 +77,7 @@ pub fn comment_answer(file: &[u8], k: u64) -> CommentAnswer
 // The text of the k-th comment of a file, that stretch of it: it lies where `comment_answer` says. Empty, at the file's first byte, on a refusal.
 pub fn comment(file: &[u8], k: u64) -> &[u8]
     ensures result { λ r. ⌜ now r ≡ commentWords d (now (file .entry)) (fileOf d (now (file .entry))) k ⌝ }
-    ensures place { λ r. ⌜ ptr r ≡ byteOf (file .entry) (commentAnswer d (now (file .entry)) (fileOf d (now (file .entry))) k .at) ⌝ }
+    ensures lies { λ r. ⌜ ptr r ≡ byteOf (file .entry) (commentAnswer d (now (file .entry)) (fileOf d (now (file .entry))) k .at) ⌝ }
 {
     let rules = Rules::d();
     match scan::scan_whole(rules, file) {

@@ -6,9 +6,9 @@ mod types;
 
 pub use comments::comment;
 pub use comments::comment_answer;
-pub use rows::row_place;
+pub use rows::row_begins;
 pub use satellites::identifier_of;
 pub use satellites::satellite_of;
 pub use types::CommentAnswer;
-pub use types::RowPlace;
+pub use types::RowBegins;
 pub use types::SatelliteAnswer;

@@ -5,16 +5,16 @@ ghost use Rattle.lines.specs.Lines.{linesOf};
 ghost use Rattle.header.specs.Rules.{d};
 ghost use Rattle.file.specs.Table.{countOf};
 ghost use Rattle.reader.specs.Reading.{fileOf};
-ghost use Rattle.questions.specs.Questions.{epochsOf, noRow, rowAt, rowPlace};
-use crate::types::RowPlace;
+ghost use Rattle.questions.specs.Questions.{epochsOf, noRow, rowAt, rowBegins};
+use crate::types::RowBegins;
 use header::Rules;
 use scan::Front;
 
 // A refusal beside no row.
-fn no_row(number: usize, line: u64) -> RowPlace
+fn no_row(number: usize, line: u64) -> RowBegins
     ensures { λ r. ⌜ r ≡ noRow number line ⌝ }
 {
-    RowPlace {
+    RowBegins {
         refusal: number,
         line,
         at: 0,
@@ -22,25 +22,25 @@ fn no_row(number: usize, line: u64) -> RowPlace
 }
 
 // Where the P line of an epoch and a satellite begins among some lines.
-fn row_at(rules: Rules, bytes: &[u8], epoch: u64, satellite: u64) -> RowPlace
+fn row_at(rules: Rules, bytes: &[u8], epoch: u64, satellite: u64) -> RowBegins
     requires { ⌜ (epochsOf rules (linesOf (now bytes)) ≤ 100000) × (countOf rules (linesOf (now bytes)) ≤ 255) ⌝ }
     ensures { λ r. ⌜ r ≡ rowAt rules (linesOf (now (bytes .entry))) epoch satellite ⌝ }
 {
     let first = file::first_of(rules, bytes);
     let n = file::count_of(rules, bytes);
     if (epoch < first.epochs) & (satellite < n) {
-        return RowPlace {
+        return RowBegins {
             refusal: 0,
             line: 0,
-            at: file::place_of(rules, bytes, 10, epoch * n + satellite),
+            at: file::line_begins(rules, bytes, 10, epoch * n + satellite),
         };
     }
     no_row(13, 0)
 }
 
 // Where the P line of an epoch and a satellite begins in a file, each counted from 0, in mode V too: 13 where it has no such row.
-pub fn row_place(file: &[u8], epoch: u64, satellite: u64) -> RowPlace
-    ensures result { λ r. ⌜ r ≡ rowPlace d (now (file .entry)) (fileOf d (now (file .entry))) epoch satellite ⌝ }
+pub fn row_begins(file: &[u8], epoch: u64, satellite: u64) -> RowBegins
+    ensures result { λ r. ⌜ r ≡ rowBegins d (now (file .entry)) (fileOf d (now (file .entry))) epoch satellite ⌝ }
 {
     let rules = Rules::d();
     match scan::scan_whole(rules, file) {

@@ -17,7 +17,7 @@ pub struct SatelliteAnswer {
 
 // Where the P line of an epoch and a satellite begins in its file; 0 beside a refusal.
 #[repr(C)]
-pub struct RowPlace {
+pub struct RowBegins {
     pub refusal: usize,
     pub line: u64,
     pub at: usize,

@@ -18,7 +18,7 @@ use Rattle.lines.proofs.Each.{each-map}
 use Rattle.lines.proofs.Laying.{laid-fits}
 use Rattle.lines.proofs.Picking.{length-flat}
 use Rattle.file.specs.Kinds.{ofKind}
-use Rattle.file.specs.Table.{countOf, slotNumbers, slotKind, slotsIn, commentText, commentsIn, rowWidth, rowLines, numbersOfRows, rowsIn}
+use Rattle.file.specs.Table.{countOf, slotNumbers, slotLineKind, slotsIn, commentText, commentsIn, rowWidth, rowLines, numbersOfRows, rowsIn}
 use Rattle.file_laws.proofs.Counts.{comment-wide}
 use Rattle.header.specs.declared.types.Rules.{Rules}
 use Rattle.scan.specs.declared.Tally.{Tally}
@@ -84,7 +84,7 @@ module _ (room : Bool) (rules : Rules) (n count : ℕ) (used : List (List ℕ)) 
 slots-fewer : (rules : Rules) (accuracies : Bool) (n : ℕ) (ls : List (List ℕ)) → length (slotsIn rules accuracies n ls) ≤ n
 unfolding slotsIn
 slots-fewer rules accuracies n ls =
-    omega (arith, length-take n (flat (map (slotNumbers accuracies) (ofKind rules (slotKind accuracies) ls))))
+    omega (arith, length-take n (flat (map (slotNumbers accuracies) (ofKind rules (slotLineKind accuracies) ls))))
 
 -- 77 bytes for each comment
 abbrev commentBytes : Rules → List (List ℕ) → List ℕ

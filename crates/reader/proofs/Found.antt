@@ -8,7 +8,7 @@ use native.Mathlib.Nat.{sub-zero}
 use lib.ListN.{length, take}
 use Rattle.lines.specs.Lines.{linesOf}
 use Rattle.file.specs.Table.{headerWith, headerIn}
-use Rattle.scan.specs.Run.{scanOf, wholeOf}
+use Rattle.scan.specs.Run.{scanOf, wholeFront}
 use Rattle.scan_laws.proofs.Used.{accepted-front}
 use Rattle.scan_laws.proofs.Local.{whole-ends}
 use Rattle.header.specs.declared.types.Header.{Header}
@@ -24,7 +24,7 @@ accounted-front : (rules : Rules) (bytes : List ℕ) (f : Front) → scanOf rule
 accounted-front rules bytes (front.File t) e = let a = accepted-front rules bytes t e in (a .within, a .comments, a .rows)
 accounted-front rules bytes (front.Refused number line column) e = tt
 
-accounted-whole : (rules : Rules) (bytes : List ℕ) (f : Front) → wholeOf (length bytes) (scanOf rules bytes) ≡ f → Accounted rules bytes f
+accounted-whole : (rules : Rules) (bytes : List ℕ) (f : Front) → wholeFront (length bytes) (scanOf rules bytes) ≡ f → Accounted rules bytes f
 accounted-whole rules bytes (front.File t) e = accounted-front rules bytes (front.File t) (whole-ends rules bytes t e .0)
 accounted-whole rules bytes (front.Refused number line column) e = tt
 

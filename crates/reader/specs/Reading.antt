@@ -13,7 +13,7 @@ use Rattle.lines.specs.Lines.{linesOf}
 use Rattle.header.specs.Header.{noHeader}
 use Rattle.file.specs.Kinds.{ofKind}
 use Rattle.file.specs.Table.{countOf, headerIn, slotsIn, commentsIn, rowWidth, rowLines, rowsIn}
-use Rattle.scan.specs.Run.{scanOf, wholeOf}
+use Rattle.scan.specs.Run.{scanOf, wholeFront}
 use Rattle.header.specs.declared.types.Header.{Header}
 use Rattle.header.specs.declared.types.Rules.{Rules}
 use Rattle.scan.specs.declared.Tally.{Tally}
@@ -43,7 +43,7 @@ abbrev pub frontOf : Rules → List ℕ → Front
 frontOf rules bytes = scanOf rules bytes
 
 abbrev pub fileOf : Rules → List ℕ → Front
-fileOf rules bytes = wholeOf (length bytes) (scanOf rules bytes)
+fileOf rules bytes = wholeFront (length bytes) (scanOf rules bytes)
 
 -- the counts of a file that was found are those of its lines
 abbrev pub Accounted : Rules → List ℕ → Front → Type 0

@@ -24,8 +24,8 @@ use Rattle.record.specs.declared.types.LineKind.the-variants as kind
 use Rattle.machine.specs.declared.types.State.{State}
 use Rattle.machine.specs.declared.types.Verdict.{Verdict}
 use Rattle.machine.specs.declared.types.Verdict.the-variants as verdict
-use Rattle.line_walk.specs.declared.Place.{Place}
-use Rattle.row_walk.specs.Rows.{placePast, toRow, rowAhead}
+use Rattle.line_walk.specs.declared.Spot.{Spot}
+use Rattle.row_walk.specs.Rows.{spotPast, toRow, rowAhead}
 
 -- a kind that is not P, or another that is not
 not-row : (p : Bool) (x y : LineKind) → eqb (toldKind x) 10 ≡ false → eqb (toldKind y) 10 ≡ false → eqb (toldKind (cond p x y)) 10 ≡ false
@@ -108,11 +108,11 @@ passed file at l ls e =
           ∙ p .rest-lines;
     }
 
--- the line at a place, or none: what the next step of a walk over the lines does
-module _ (rules : Rules) (file names : List ℕ) (p : Place) where
+-- the line at a spot, or none: what the next step of a walk over the lines does
+module _ (rules : Rules) (file names : List ℕ) (p : Spot) where
   -- nothing is left
-  stays-none : linesOf (drop (p .at) file) ≡ [] → (p ≡ rowAhead rules file names p) × (placePast rules file names p ≡ p)
-  unfolding toRow placePast readFirst
+  stays-none : linesOf (drop (p .at) file) ≡ [] → (p ≡ rowAhead rules file names p) × (spotPast rules file names p ≡ p)
+  unfolding toRow spotPast readFirst
   stays-none e = (rw e, rw e)
 
   module _ (l : List ℕ) (ls : List (List ℕ)) (e : linesOf (drop (p .at) file) ≡ l ∷ ls) where
@@ -123,40 +123,40 @@ module _ (rules : Rules) (file names : List ℕ) (p : Place) where
 
     -- another that is refused or ends the file does
     stays-fault : (m c : ℕ) → isKind rules 10 l ≡ false → stepOf rules (p .state) names l ≡ verdict.Fault m c
-        → (p ≡ rowAhead rules file names p) × (placePast rules file names p ≡ p)
-    unfolding toRow placePast readFirst
+        → (p ≡ rowAhead rules file names p) × (spotPast rules file names p ≡ p)
+    unfolding toRow spotPast readFirst
     stays-fault m c is v = (rw (e, is, v), rw (e, v))
 
     stays-end : isKind rules 10 l ≡ false → stepOf rules (p .state) names l ≡ verdict.Finished
-        → (p ≡ rowAhead rules file names p) × (placePast rules file names p ≡ p)
-    unfolding toRow placePast readFirst
+        → (p ≡ rowAhead rules file names p) × (spotPast rules file names p ≡ p)
+    unfolding toRow spotPast readFirst
     stays-end is v = (rw (e, is, v), rw (e, v))
 
     -- one that goes on leads to the lines after it
-    abbrev behind : State → Place
+    abbrev behind : State → Spot
     behind s = record { at = p .at + length l + 1; state = s }
 
     moves : (s : State) → isKind rules 10 l ≡ false → stepOf rules (p .state) names l ≡ verdict.Next s
-        → (rowAhead rules file names (behind s) ≡ rowAhead rules file names p) × (placePast rules file names p ≡ behind s)
-    unfolding toRow placePast readFirst
+        → (rowAhead rules file names (behind s) ≡ rowAhead rules file names p) × (spotPast rules file names p ≡ behind s)
+    unfolding toRow spotPast readFirst
     moves s is v = (rw (e, is, v, passed file (p .at) l ls e .rest), rw (e, v))
 
   -- a turn of the walk to the next row
-  pub record Turn (next : Place) : Type 0 where
+  pub record Turn (next : Spot) : Type 0 where
     pub stays : next .at ≡ p .at → p ≡ rowAhead rules file names p
     pub goes : (next .at ≡ p .at → ⊥) → rowAhead rules file names next ≡ rowAhead rules file names p
     pub nearer : (next .at ≡ p .at → ⊥) → (p .at < next .at) × (next .at ≤ length file)
 
-  still : (p ≡ rowAhead rules file names p) × (placePast rules file names p ≡ p) → Turn (placePast rules file names p)
+  still : (p ≡ rowAhead rules file names p) × (spotPast rules file names p ≡ p) → Turn (spotPast rules file names p)
   still (here, same) =
-      let at : placePast rules file names p .at ≡ p .at = ap (λ (x : Place). x .at) same in
+      let at : spotPast rules file names p .at ≡ p .at = ap (λ (x : Spot). x .at) same in
       record { stays = λ e. here; goes = λ not. absurd (not at); nearer = λ not. absurd (not at) }
 
   turned : (s : State) (l : List ℕ) (ls : List (List ℕ)) → linesOf (drop (p .at) file) ≡ l ∷ ls
-      → (rowAhead rules file names (record { at = p .at + length l + 1; state = s }) ≡ rowAhead rules file names p) × (placePast rules file names p ≡ record { at = p .at + length l + 1; state = s })
-      → Turn (placePast rules file names p)
+      → (rowAhead rules file names (record { at = p .at + length l + 1; state = s }) ≡ rowAhead rules file names p) × (spotPast rules file names p ≡ record { at = p .at + length l + 1; state = s })
+      → Turn (spotPast rules file names p)
   turned s l ls e (same, next) =
-      let at : placePast rules file names p .at ≡ p .at + length l + 1 = ap (λ (x : Place). x .at) next in
+      let at : spotPast rules file names p .at ≡ p .at + length l + 1 = ap (λ (x : Spot). x .at) next in
       record {
         stays = λ stay. absurd (omega arith);
         goes = λ not. ap (rowAhead rules file names) next ∙ same;
@@ -167,17 +167,17 @@ module _ (rules : Rules) (file names : List ℕ) (p : Place) where
   here-byte = getD-drop (p .at) file 0 0 ∙ ap (λ (n : ℕ). getD file n 0) (add-zero (p .at))
 
   -- where no P line begins here
-  pub turn : eqb (getD file (p .at) 0) 80 ≡ false → Turn (placePast rules file names p)
+  pub turn : eqb (getD file (p .at) 0) 80 ≡ false → Turn (spotPast rules file names p)
   turn none = go (linesOf (drop (p .at) file)) refl
     where
-      go : (ls : List (List ℕ)) → linesOf (drop (p .at) file) ≡ ls → Turn (placePast rules file names p)
+      go : (ls : List (List ℕ)) → linesOf (drop (p .at) file) ≡ ls → Turn (spotPast rules file names p)
       go [] e = still (stays-none e)
       go (l ∷ ls) e = by (stepOf rules (p .state) names l) refl
         where
           is : isKind rules 10 l ≡ false
           is = row-begins rules (drop (p .at) file) l ls e ∙ ap (λ (b : ℕ). eqb b 80) here-byte ∙ none
 
-          by : (v : Verdict) → stepOf rules (p .state) names l ≡ v → Turn (placePast rules file names p)
+          by : (v : Verdict) → stepOf rules (p .state) names l ≡ v → Turn (spotPast rules file names p)
           by (verdict.Fault m c) v = still (stays-fault l ls e m c is v)
           by verdict.Finished v = still (stays-end l ls e is v)
           by (verdict.Next s) v = turned s l ls e (moves l ls e s is v)
@@ -190,7 +190,7 @@ module _ (rules : Rules) (file names : List ℕ) (p : Place) where
       go [] e = stays-none e .0
       go (l ∷ ls) e = stays-row l ls e (row-begins rules (drop (p .at) file) l ls e ∙ ap (λ (b : ℕ). eqb b 80) here-byte ∙ some)
 
--- counting the lines before a place: those counted and those left are all
+-- counting the lines before a spot: those counted and those left are all
 pub record Counting (before : List ℕ) (from number : ℕ) : Type 0 where
   pub within : from ≤ length before
   pub small : number ≤ from + 1

@@ -13,7 +13,7 @@ use Rattle.lines.proofs.Laying.{laid-fits}
 use Rattle.header.specs.Rules.{d}
 use Rattle.record.specs.Rows.{rowOf}
 use Rattle.file.specs.Table.{slotsIn}
-use Rattle.machine.specs.Step.{lineAt}
+use Rattle.machine.specs.Step.{lineKnown}
 use Rattle.machine.specs.Told.{toldRead}
 use Rattle.machine.proofs.Told.{toldRead-one}
 use Rattle.reader.specs.Reading.{refusedWith}
@@ -26,12 +26,12 @@ use Rattle.record.specs.declared.types.Row.{Row}
 use Rattle.machine.specs.declared.types.LineRead.{LineRead}
 use Rattle.reader.specs.declared.types.Reading.{Reading}
 use Rattle.float_row.specs.declared.FloatRow.{FloatRow}
-use Rattle.line_walk.specs.declared.Place.{Place}
+use Rattle.line_walk.specs.declared.Spot.{Spot}
 use Rattle.row_walk.specs.declared.types.RowWalk.{RowWalk}
 use Rattle.row_walk.specs.declared.types.RowStep.{RowStep}
 use Rattle.row_walk.specs.declared.types.RowStep.the-variants as step
 
--- a row, with its place or without
+-- a row, with its spot or without
 module _ (epoch satellite : ℕ) (row : FloatRow) (next : RowWalk) where
   absent-shown : row .«place_absent» ≡ true → step.Absent epoch satellite row next ≡ shown epoch satellite row next
   unfolding shown
@@ -53,21 +53,21 @@ module _ (file : List ℕ) (at n passed : ℕ) (next : RowWalk) (line : List ℕ
   pub given-at : floats .«place_absent» ≡ false → step.At epoch satellite floats next ≡ rowGiven file at n passed next
   given-at e = at-shown epoch satellite floats next e ∙ all-shown
 
--- what the line at the place of the next row is to the walk
-module _ (rules : Rules) (file names : List ℕ) (from : RowWalk) (p : Place) (p-is : p ≡ rowAhead rules file names (from .place)) where
+-- what the line at the spot of the next row is to the walk
+module _ (rules : Rules) (file names : List ℕ) (from : RowWalk) (p : Spot) (p-is : p ≡ rowAhead rules file names (from .spot)) where
   from-there : stepFrom rules file names (from .passed) p ≡ rowStep rules file names from
   from-there = ap (stepFrom rules file names (from .passed)) p-is
 
-  step-there : stepAt file p (from .passed) (lineAt rules file (p .at) (p .state) names) ≡ stepFrom rules file names (from .passed) p
+  step-there : stepAt file p (from .passed) (lineKnown rules file (p .at) (p .state) names) ≡ stepFrom rules file names (from .passed) p
   unfolding stepFrom
   step-there = refl
 
-  pub steps-so : (r w : LineRead) (x : RowStep) → toldRead r ≡ toldRead (lineAt rules file (p .at) (p .state) names) → r ≡ w
+  pub steps-so : (r w : LineRead) (x : RowStep) → toldRead r ≡ toldRead (lineKnown rules file (p .at) (p .state) names) → r ≡ w
       → x ≡ stepAt file p (from .passed) w → toldStep x ≡ toldStep (rowStep rules file names from)
   steps-so r w x told is so =
       ap toldStep
       (so
-      ∙ ap (stepAt file p (from .passed)) (sym is ∙ toldRead-one r (lineAt rules file (p .at) (p .state) names) told)
+      ∙ ap (stepAt file p (from .passed)) (sym is ∙ toldRead-one r (lineKnown rules file (p .at) (p .state) names) told)
       ∙ step-there
       ∙ from-there)
 

@@ -5,14 +5,14 @@ ghost use lib.Dec.{eqb};
 ghost use lib.ListN.{length, getD, take, drop};
 ghost use Rattle.lines.specs.Lines.{linesOf};
 ghost use Rattle.header.specs.Rules.{d};
-ghost use Rattle.machine.specs.Step.{lineAt};
+ghost use Rattle.machine.specs.Step.{lineKnown};
 ghost use Rattle.machine.specs.Told.{toldRead};
-ghost use Rattle.row_walk.specs.Rows.{firstWalk, placePast, rowAhead, epochOf, satelliteOf, rowGiven, rowStep};
+ghost use Rattle.row_walk.specs.Rows.{firstWalk, spotPast, rowAhead, epochOf, satelliteOf, rowGiven, rowStep};
 ghost use Rattle.row_walk.specs.Told.{toldStep};
 use crate::types::RowStep;
 use crate::types::RowWalk;
 use header::Rules;
-use line_walk::Place;
+use line_walk::Spot;
 use machine::LineRead;
 
 // Before the first line of a file.
@@ -20,12 +20,12 @@ pub fn first() -> RowWalk
     ensures result { λ r. ⌜ r ≡ firstWalk ⌝ }
 {
     RowWalk {
-        place: line_walk::first_place(),
+        spot: line_walk::first_spot(),
         passed: 0,
     }
 }
 
-// Whether a P line begins at a place.
+// Whether a P line begins at a spot.
 fn is_row_at(file: &[u8], at: usize) -> bool
     ensures { λ r. ⌜ r ≡ eqb (getD (now (file .entry)) at 0) 80 ⌝ }
 {
@@ -35,48 +35,48 @@ fn is_row_at(file: &[u8], at: usize) -> bool
     false
 }
 
-// The plain line reader where the identifiers of the header are known: what the line at a place does, and where the next begins.
-pub fn read_known<'a>(file: &'a [u8], names: &'a [u64], place: Place) -> LineRead
-    ensures result { λ r. ⌜ toldRead r ≡ toldRead (lineAt d (now (file .entry)) (place .at) (place .state) (now (names .entry))) ⌝ }
+// The plain line reader where the identifiers of the header are known: what the line at a spot does, and where the next begins.
+pub fn read_known<'a>(file: &'a [u8], names: &'a [u64], spot: Spot) -> LineRead
+    ensures result { λ r. ⌜ toldRead r ≡ toldRead (lineKnown d (now (file .entry)) (spot .at) (spot .state) (now (names .entry))) ⌝ }
 {
-    let state = place.state;
-    machine::line_at(Rules::d(), file, place.at, state, names)
+    let state = spot.state;
+    machine::line_known(Rules::d(), file, spot.at, state, names)
 }
 
-// The place after the line at a place; the same place where no line is left, where the line is refused and where it ends the file.
-fn place_past<'a>(file: &'a [u8], names: &'a [u64], place: Place) -> Place
-    ensures { λ r. ⌜ r ≡ placePast d (now (file .entry)) (now (names .entry)) place ⌝ }
+// The spot after the line at a spot; the same spot where no line is left, where the line is refused and where it ends the file.
+fn spot_past<'a>(file: &'a [u8], names: &'a [u64], spot: Spot) -> Spot
+    ensures { λ r. ⌜ r ≡ spotPast d (now (file .entry)) (now (names .entry)) spot ⌝ }
 {
-    match read_known(file, names, place) {
-        LineRead::Next { at, state } => Place { at, state },
-        LineRead::NoLine => place,
+    match read_known(file, names, spot) {
+        LineRead::Next { at, state } => Spot { at, state },
+        LineRead::NoLine => spot,
         LineRead::Fault {
             number: _,
             column: _,
-        } => place,
-        LineRead::Finished { at: _ } => place,
+        } => spot,
+        LineRead::Finished { at: _ } => spot,
     }
 }
 
-// The place of the next P line; or of the line before it that is refused or ends the file.
-fn at_row<'a>(file: &'a [u8], names: &'a [u64], from: Place) -> Place
+// The spot of the next P line; or of the line before it that is refused or ends the file.
+fn at_row<'a>(file: &'a [u8], names: &'a [u64], from: Spot) -> Spot
     ensures { λ r. ⌜ r ≡ rowAhead d (now (file .entry)) (now (names .entry)) from ⌝ }
 {
-    let mut place = from;
+    let mut spot = from;
     loop {
-        let at = place.at;
+        let at = spot.at;
         if is_row_at(file, at) {
-            return place;
+            return spot;
         }
-        let next = place_past(file, names, place);
+        let next = spot_past(file, names, spot);
         if next.at == at {
-            return place;
+            return spot;
         }
-        place = next;
+        spot = next;
     }
 }
 
-// The number of the line that begins at a place, counted from 1.
+// The number of the line that begins at a spot, counted from 1.
 fn line_number(file: &[u8], at: usize) -> u64
     ensures { λ r. ⌜ r ≡ length (linesOf (take at (now (file .entry)))) + 1 ⌝ }
 {
@@ -122,11 +122,11 @@ fn satellite_of(passed: u64, satellites: u64) -> u64
     passed % satellites
 }
 
-// The row of the P line at a place.
+// The row of the P line at a spot.
 fn row_given(file: &[u8], at: usize, satellites: u64, passed: u64, next: RowWalk) -> RowStep
     ensures { λ r. ⌜ r ≡ rowGiven (now (file .entry)) at satellites passed next ⌝ }
 {
-    let line = file::line_at(file, at);
+    let line = file::line_known(file, at);
     let row = float_row::float_row(record::rows::row_of(line, false));
     let epoch = epoch_of(passed, satellites);
     let satellite = satellite_of(passed, satellites);
@@ -151,12 +151,12 @@ fn row_given(file: &[u8], at: usize, satellites: u64, passed: u64, next: RowWalk
 pub fn next_row<'a>(file: &'a [u8], names: &'a [u64], from: RowWalk) -> RowStep
     ensures result { λ r. ⌜ toldStep r ≡ toldStep (rowStep d (now (file .entry)) (now (names .entry)) from) ⌝ }
 {
-    let start = from.place;
+    let start = from.spot;
     let passed = from.passed;
-    let place = at_row(file, names, start);
-    let at = place.at;
-    let state = place.state;
-    match read_known(file, names, place) {
+    let spot = at_row(file, names, start);
+    let at = spot.at;
+    let state = spot.state;
+    match read_known(file, names, spot) {
         LineRead::NoLine => RowStep::Refused {
             number: 1,
             line: line_number(file, at),
@@ -175,7 +175,7 @@ pub fn next_row<'a>(file: &'a [u8], names: &'a [u64], from: RowWalk) -> RowStep
             state.satellites,
             passed,
             RowWalk {
-                place: Place {
+                spot: Spot {
                     at: end,
                     state: after,
                 },

@@ -1,15 +1,15 @@
 use float_row::FloatRow;
-use line_walk::Place;
+use line_walk::Spot;
 
-// Between two rows of a file: the place, and how many rows were passed.
+// Between two rows of a file: the spot, and how many rows were passed.
 #[repr(C)]
 pub struct RowWalk {
-    pub place: Place,
+    pub spot: Spot,
     pub passed: u64,
 }
 
-// What comes next in a file: the P row of a satellite that has a place, or of one that has none; the end; or the refusal of a line. Epochs and
-// satellites are counted from 0. A row without a place has no coordinates (NaN); its clock may be known.
+// What comes next in a file: the P row of a satellite that has a spot, or of one that has none; the end; or the refusal of a line. Epochs and
+// satellites are counted from 0. A row without a spot has no coordinates (NaN); its clock may be known.
 pub enum RowStep {
     At {
         epoch: u64,

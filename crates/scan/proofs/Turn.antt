@@ -14,8 +14,8 @@ use Rattle.lines.proofs.Lined.{Lined, lined}
 use Rattle.file.specs.Kinds.{kindIn, isKind, isRow}
 use Rattle.file.proofs.Finding.{kind-told}
 use Rattle.header.specs.declared.types.Rules.{Rules}
-use Rattle.machine.specs.State.{startState, noNames, namesAfter}
-use Rattle.machine.specs.Step.{stepOf, namesBrought, readAs, readFirst, lineAt}
+use Rattle.machine.specs.State.{startState, noNames, identifiersJoined}
+use Rattle.machine.specs.Step.{stepOf, namesBrought, readAs, readFirst, lineKnown}
 use Rattle.machine.specs.declared.types.State.{State}
 use Rattle.machine.specs.declared.types.Verdict.{Verdict}
 use Rattle.machine.specs.declared.types.Verdict.the-variants as verdict
@@ -24,7 +24,7 @@ use Rattle.machine.specs.declared.types.LineRead.the-variants as found
 use Rattle.machine.proofs.Stepping.{brought-length}
 use Rattle.scan.specs.declared.Tally.{Tally}
 use Rattle.scan.specs.declared.Front.the-variants as front
-use Rattle.scan.specs.Run.{nothing, oneMore, counted, onVerdict, run, scanOf}
+use Rattle.scan.specs.Run.{nothingSeen, oneMore, counted, onVerdict, run, scanOf}
 
 -- the kind of a P line by its first column
 pub position-told : (rules : Rules) (line : List ℕ) → getD line 0 32 ≡ 80 → 10 ≡ kindIn rules line
@@ -49,7 +49,7 @@ pub record Going (rules : Rules) (bytes names : List ℕ) (s : State) (t : Tally
   pub rows : t .rows ≤ t .end
   pub same : run rules s names t (linesOf (drop (t .end) bytes)) ≡ scanOf rules bytes
 
-pub going-first : (rules : Rules) (bytes : List ℕ) (s : State) → s ≡ startState → Going rules bytes noNames s nothing
+pub going-first : (rules : Rules) (bytes : List ℕ) (s : State) → s ≡ startState → Going rules bytes noNames s nothingSeen
 going-first rules bytes s e =
     record { size = refl; within = zero-le; lines = zero-le; comments = zero-le; rows = zero-le; same = rw e }
 
@@ -124,12 +124,12 @@ module _ (rules : Rules) (bytes names : List ℕ) (s : State) (t : Tally) (g : G
   first-turned [] e = sym (ap (run rules s names t) e) ∙ g .same
   first-turned (l ∷ ls) e = line-turned l ls e (stepOf rules s names l) refl
 
-  pub turned : (v w : LineRead) → v ≡ lineAt rules bytes (t .end) s names → v ≡ w → Turned rules bytes names s t w
+  pub turned : (v w : LineRead) → v ≡ lineKnown rules bytes (t .end) s names → v ≡ w → Turned rules bytes names s t w
   turned v w p e =
       subst (λ (x : LineRead). Turned rules bytes names s t x) (sym p ∙ e) (first-turned (linesOf (drop (t .end) bytes)) refl)
 
 -- the identifiers after a line, whether it brings some or not
-pub brought-so : (rules : Rules) (s : State) (names line kept : List ℕ) → s .due ≡ 3 → kept ≡ namesAfter rules s names (padded line) → kept ≡ namesBrought rules s names line
+pub brought-so : (rules : Rules) (s : State) (names line kept : List ℕ) → s .due ≡ 3 → kept ≡ identifiersJoined rules s names (padded line) → kept ≡ namesBrought rules s names line
 unfolding namesBrought
 brought-so rules s names line kept due e = rw (eq-eqb (s .due) 3 due) e
 
@@ -152,4 +152,4 @@ no-more-lines (l ∷ ls) rules s names t t′ h e = go (stepOf rules s names l) 
         omega (arith, ap (λ (x : Tally). x .lines) same, ap (λ (x : Tally). x .end) same)
 
 pub lines-within : (rules : Rules) (bytes : List ℕ) (t : Tally) → scanOf rules bytes ≡ front.File t → t .lines ≤ t .end
-lines-within rules bytes t e = no-more-lines (linesOf bytes) rules startState noNames nothing t zero-le e
+lines-within rules bytes t e = no-more-lines (linesOf bytes) rules startState noNames nothingSeen t zero-le e

@@ -20,8 +20,8 @@ use Rattle.scan.specs.declared.Front.{Front}
 use Rattle.scan.specs.declared.Front.the-variants as front
 
 -- before the first line
-abbrev pub nothing : Tally
-nothing = record { lines = 0; end = 0; comments = 0; rows = 0 }
+abbrev pub nothingSeen : Tally
+nothingSeen = record { lines = 0; end = 0; comments = 0; rows = 0 }
 
 -- one more where a test passes
 abbrev pub oneMore : Bool → ℕ → ℕ
@@ -50,16 +50,16 @@ run rules s names t (l ∷ ls) =
 
 -- the file at the front of some bytes
 abbrev pub scanOf : Rules → List ℕ → Front
-scanOf rules bytes = run rules startState noNames nothing (linesOf bytes)
+scanOf rules bytes = run rules startState noNames nothingSeen (linesOf bytes)
 
 -- the whole of so many bytes is one file: nothing stands after its last line
-unfoldable pub wholeOf : ℕ → Front → Front
-wholeOf size (front.File t) = cond (ltb (t .end) size) (front.Refused 11 (t .lines + 1) 0) (front.File t)
-wholeOf size (front.Refused number line column) = front.Refused number line column
+unfoldable pub wholeFront : ℕ → Front → Front
+wholeFront size (front.File t) = cond (ltb (t .end) size) (front.Refused 11 (t .lines + 1) 0) (front.File t)
+wholeFront size (front.Refused number line column) = front.Refused number line column
 
 -- the bytes are one accepted file
 abbrev pub IsFile : Rules → List ℕ → Type 0
-IsFile rules bytes = (t : Tally) × (wholeOf (length bytes) (scanOf rules bytes) ≡ front.File t)
+IsFile rules bytes = (t : Tally) × (wholeFront (length bytes) (scanOf rules bytes) ≡ front.File t)
 
 -- Stepping: the place, the state and the identifiers after so many lines. A line that is refused, or that ends the file, leaves them as they
 -- were.

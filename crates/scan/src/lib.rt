@@ -5,7 +5,7 @@ ghost use lib.ListN.{length};
 ghost use Rattle.file.specs.Kinds.{kindIn};
 ghost use Rattle.scan.specs.declared.Front.the-variants as front;
 ghost use Rattle.scan.specs.Told.{toldFront};
-ghost use Rattle.scan.specs.Run.{counted, scanOf, wholeOf};
+ghost use Rattle.scan.specs.Run.{counted, scanOf, wholeFront};
 use header::Rules;
 use machine::LineRead;
 use machine::State;
@@ -90,7 +90,7 @@ pub fn scan_front(rules: Rules, bytes: &[u8]) -> Front
     loop {
         let at = tally.end;
         let line = tally.lines + 1;
-        match machine::line_at(rules, bytes, at, state, &names) {
+        match machine::line_known(rules, bytes, at, state, &names) {
             LineRead::NoLine => {
                 return refused(1, line, 0);
             }
@@ -117,7 +117,7 @@ pub fn scan_front(rules: Rules, bytes: &[u8]) -> Front
 
 // The file that the bytes are from first to last: bytes after its EOF line are refused with 11 at the line after it.
 pub fn scan_whole(rules: Rules, bytes: &[u8]) -> Front
-    ensures result { λ r. ⌜ toldFront r ≡ toldFront (wholeOf (length (now (bytes .entry))) (scanOf rules (now (bytes .entry)))) ⌝ }
+    ensures result { λ r. ⌜ toldFront r ≡ toldFront (wholeFront (length (now (bytes .entry))) (scanOf rules (now (bytes .entry)))) ⌝ }
 {
     match scan_front(rules, bytes) {
         Front::Refused {

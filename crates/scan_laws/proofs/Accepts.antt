@@ -15,7 +15,7 @@ use Rattle.header.specs.declared.types.Rules.{Rules}
 use Rattle.machine.specs.Checks.{instantIn, repeats}
 use Rattle.machine.specs.State.{startState, noNames}
 use Rattle.machine.specs.Next.{afterFirst, afterSecond, afterCount}
-use Rattle.file.specs.Plain.{namesOf, areSlots, isFirstLine, isSecondLine, isCountLine, Plain, Sound}
+use Rattle.file.specs.Plain.{slotIdentifiers, areSlots, isFirstLine, isSecondLine, isCountLine, Plain, Sound}
 use Rattle.scan.specs.Run.{run, counted}
 use Rattle.scan.specs.declared.Tally.{Tally}
 use Rattle.scan.specs.declared.Front.the-variants as front
@@ -46,7 +46,7 @@ module _ (rules : Rules) (sound : Sound rules) (names : List ℕ) (wide : length
       ++ (p .descriptor ∷ p .characters ∷ p .bases ∷ p .floats ∷ p .integers ∷ p .integers′ ∷ (p .comments ++ (p .epochs ++ (p .last ∷ []))))
 
   plain-tail : (used : List (List ℕ)) (p : Plain rules used) (rest : List ℕ)
-      → Tail rules (counts rules (p .first) (p .second) (p .count)) (namesOf (satellitesOf rules (padded (p .count)) .count) (p .count ∷ p .slots)) rest
+      → Tail rules (counts rules (p .first) (p .second) (p .count)) (slotIdentifiers (satellitesOf rules (padded (p .count)) .count) (p .count ∷ p .slots)) rest
       (names-all rules (p .first) (p .second) (p .count) (p .slots) (p .slots-many))
       (some-name rules (p .first) (p .second) (p .count) (p .slots) (p .is-count) (p .slots-many))
       (begins rules (p .first) (p .second) (p .count) (p .is-first)) (tailOf used p)
@@ -86,7 +86,7 @@ module _ (rules : Rules) (sound : Sound rules) (names : List ℕ) (wide : length
       let plus =
       plus-reach rules s₂ names (names-due rules (p .first) (p .second)) (none-yet rules (p .first) (p .second)) room seventeen-fit
       (p .count) (p .slots) (p .is-count) (p .are-slots) (p .slots-many) (p .all-different) in
-      let known = namesOf (satellitesOf rules (padded (p .count)) .count) (p .count ∷ p .slots) in
+      let known = slotIdentifiers (satellitesOf rules (padded (p .count)) .count) (p .count ∷ p .slots) in
       let ends =
       tail-ends rules (counts rules (p .first) (p .second) (p .count)) known (plus .0)
       (names-all rules (p .first) (p .second) (p .count) (p .slots) (p .slots-many))
@@ -102,9 +102,9 @@ module _ (rules : Rules) (sound : Sound rules) (names : List ℕ) (wide : length
       (is-second : isSecondLine rules (instantIn (firstOf rules (padded first) .start)) second ≡ true) (is-count : isCountLine rules count ≡ true)
       (are-slots : areSlots rules false (satellitesOf rules (padded count) .count - 17) slots ≡ true)
       (slots-many : suc (length slots) ≡ slotLines (satellitesOf rules (padded count) .count))
-      (all-different : repeats [] (namesOf (satellitesOf rules (padded count) .count) (count ∷ slots)) ≡ false) where
+      (all-different : repeats [] (slotIdentifiers (satellitesOf rules (padded count) .count) (count ∷ slots)) ≡ false) where
     abbrev known : List ℕ
-    known = namesOf (satellitesOf rules (padded count) .count) (count ∷ slots)
+    known = slotIdentifiers (satellitesOf rules (padded count) .count) (count ∷ slots)
 
     abbrev FromPlus : List ℕ → List (List ℕ) → Type 0
     FromPlus rest lines =
@@ -159,7 +159,7 @@ module _ (rules : Rules) (sound : Sound rules) (names : List ℕ) (wide : length
       let n = satellitesOf rules (padded (x .count)) .count in
       let front-lines = first ∷ second ∷ x .count ∷ x .slots in
       let y =
-      tail-read rules (counts rules first second (x .count)) (namesOf n (x .count ∷ x .slots)) (x .rest)
+      tail-read rules (counts rules first second (x .count)) (slotIdentifiers n (x .count ∷ x .slots)) (x .rest)
       (names-all rules first second (x .count) (x .slots) (x .slots-many)) (some-name rules first second (x .count) (x .slots) (x .is-count) (x .slots-many))
       (begins rules first second (x .count) is-first) (countedOver rules t front-lines) t′ (x .more) (sound .comments-fit) (x .goes) in
       let split : ls ≡ front-lines ++ x .more = split₁ ∙ ap (λ (r : List (List ℕ)). first ∷ r) (split₂ ∙ ap (λ (r : List (List ℕ)). second ∷ r) (x .split)) in

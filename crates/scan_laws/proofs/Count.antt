@@ -16,13 +16,13 @@ use Rattle.header.specs.Rules.{slotLines}
 use Rattle.header.specs.declared.types.Rules.{Rules}
 use Rattle.record.specs.declared.types.LineKind.the-variants as kind
 use Rattle.machine.specs.Checks.{repeats}
-use Rattle.machine.specs.State.{namesIn, fitBehind, laidBehind, namesAfter}
+use Rattle.machine.specs.State.{namesIn, fitBehind, laidBehind, identifiersJoined}
 use Rattle.machine.specs.Faults.{satellitesFault}
 use Rattle.machine.specs.Next.{expect, leave, afterCount, afterSatellites}
 use Rattle.machine.specs.Step.{namesBrought}
 use Rattle.machine.specs.declared.types.State.{State}
 use Rattle.machine.specs.declared.types.Verdict.the-variants as verdict
-use Rattle.file.specs.Plain.{isLine, isCountLine, areSlots, namesOf}
+use Rattle.file.specs.Plain.{isLine, isCountLine, areSlots, slotIdentifiers}
 use Rattle.scan.specs.Run.{run, counted}
 use Rattle.scan.specs.declared.Tally.{Tally}
 use Rattle.scan.specs.declared.Front.the-variants as front
@@ -61,7 +61,7 @@ module _ (rules : Rules) where
     others l = drop (length (freshIn (said l) l)) names
 
     pub count-brought : (l : List ℕ) → namesBrought rules s names l ≡ freshIn (said l) l ++ others l
-    unfolding namesBrought namesAfter laidBehind namesIn
+    unfolding namesBrought identifiersJoined laidBehind namesIn
     count-brought l =
         let fits : fitBehind 0 (freshIn (said l) l) names ≡ true =
         le-leb (0 + length (freshIn (said l) l)) (length names) (omega (arith, fresh-length (said l) l, wide)) in
@@ -100,7 +100,7 @@ module _ (rules : Rules) where
 
     -- all `+ ` lines
     pub plus-reach : (l : List ℕ) (slots : List (List ℕ)) → isCountLine rules l ≡ true → areSlots rules false (said l - 17) slots ≡ true → suc (length slots) ≡ slotLines (said l)
-        → repeats [] (namesOf (said l) (l ∷ slots)) ≡ false → (rest : List ℕ) × Reach rules s names (l ∷ slots) (allKnown (said l)) (namesOf (said l) (l ∷ slots) ++ rest)
+        → repeats [] (slotIdentifiers (said l) (l ∷ slots)) ≡ false → (rest : List ℕ) × Reach rules s names (l ∷ slots) (allKnown (said l)) (slotIdentifiers (said l) (l ∷ slots) ++ rest)
     unfolding afterCount
     plus-reach l slots is are many new =
         let n = said l in
@@ -114,7 +114,7 @@ module _ (rules : Rules) where
           more .0,
           subst (λ (x : List ℕ). Reach rules s names (l ∷ slots) (allKnown n) (x ++ more .0)) (all-names n [] l slots)
               (reach-append rules s (namesDue rules s₁ (some-said l is) (suc (slotLines n - 2)) (n - 17)) (allKnown n) names (known ++ others l)
-              ((known ++ namesOf (n - 17) slots) ++ more .0) (l ∷ []) slots first (more .1)),
+              ((known ++ slotIdentifiers (n - 17) slots) ++ more .0) (l ∷ []) slots first (more .1)),
         )
 
     -- the `+ ` lines that a run to a file has read
@@ -126,9 +126,9 @@ module _ (rules : Rules) where
       pub is-count : isCountLine rules count ≡ true
       pub are-slots : areSlots rules false (said count - 17) slots ≡ true
       pub slots-many : suc (length slots) ≡ slotLines (said count)
-      pub all-different : repeats [] (namesOf (said count) (count ∷ slots)) ≡ false
+      pub all-different : repeats [] (slotIdentifiers (said count) (count ∷ slots)) ≡ false
       pub rest : List ℕ
-      pub goes : run rules (allKnown (said count)) (namesOf (said count) (count ∷ slots) ++ rest) (countedOver rules t (count ∷ slots)) more ≡ front.File t′
+      pub goes : run rules (allKnown (said count)) (slotIdentifiers (said count) (count ∷ slots) ++ rest) (countedOver rules t (count ∷ slots)) more ≡ front.File t′
 
     record Counted (t t′ : Tally) (ls : List (List ℕ)) : Type 0 where
       line : List ℕ

@@ -24,7 +24,7 @@ use Rattle.machine.specs.declared.types.State.{State}
 use Rattle.machine.specs.declared.types.Verdict.{Verdict}
 use Rattle.machine.specs.declared.types.Verdict.the-variants as verdict
 use Rattle.file.specs.Plain.{Plain, Accepted, Sound}
-use Rattle.scan.specs.Run.{nothing, counted, run, scanOf, wholeOf, IsFile}
+use Rattle.scan.specs.Run.{nothingSeen, counted, run, scanOf, wholeFront, IsFile}
 use Rattle.scan.specs.declared.Tally.{Tally}
 use Rattle.scan.specs.declared.Front.{Front}
 use Rattle.scan.specs.declared.Front.the-variants as front
@@ -76,13 +76,13 @@ module _ (rules : Rules) where
   -- the lines of its bytes are its lines
   pub plain-lines : Sound rules → (ls : List (List ℕ)) → Plain rules ls → linesOf (joinLines ls) ≡ ls
   plain-lines sound ls p =
-      let whole : run rules startState noNames nothing ls ≡ front.File (countedOver rules nothing ls) =
-      ap (run rules startState noNames nothing) (sym (append-nil ls)) ∙ plain-run rules sound ls [] nothing p in
-      join-lines ls (each-weaken Printed OneLine printed-one ls (all-printed ls startState noNames nothing whole))
+      let whole : run rules startState noNames nothingSeen ls ≡ front.File (countedOver rules nothingSeen ls) =
+      ap (run rules startState noNames nothingSeen) (sym (append-nil ls)) ∙ plain-run rules sound ls [] nothingSeen p in
+      join-lines ls (each-weaken Printed OneLine printed-one ls (all-printed ls startState noNames nothingSeen whole))
 
 -- the whole of the bytes is the file at their front
-whole-ends : (size : ℕ) (f : Front) (t : Tally) → wholeOf size f ≡ front.File t → (f ≡ front.File t) × (size ≤ t .end)
-unfolding wholeOf
+whole-ends : (size : ℕ) (f : Front) (t : Tally) → wholeFront size f ≡ front.File t → (f ≡ front.File t) × (size ≤ t .end)
+unfolding wholeFront
 whole-ends size (front.Refused n l c) t e = absurd (not-refused n l c t e)
 whole-ends size (front.File x) t e = go (ltb (x .end) size) refl
   where
@@ -97,19 +97,19 @@ whole-ends size (front.File x) t e = go (ltb (x .end) size) refl
 pub accepts-plain : (rules : Rules) → Sound rules → (bytes : List ℕ) → IsFile rules bytes → Accepted rules bytes
 accepts-plain rules sound bytes (t, e) =
     let w = whole-ends (length bytes) (scanOf rules bytes) t e in
-    let p = run-plain rules sound (linesOf bytes) nothing t (w .0) in
+    let p = run-plain rules sound (linesOf bytes) nothingSeen t (w .0) in
     let parts = parted (p .used) bytes (p .rest) (p .split) in
-    let end : t .end ≡ 0 + length (joinLines (p .used)) = ap (λ (x : Tally). x .end) (p .tally) ∙ bytes-counted rules nothing (p .used) in
+    let end : t .end ≡ 0 + length (joinLines (p .used)) = ap (λ (x : Tally). x .end) (p .tally) ∙ bytes-counted rules nothingSeen (p .used) in
     (p .used, sym (take-all (length (joinLines (p .used))) bytes (omega (arith, end, w .1))) ∙ parts .front, p .plain)
 
 -- and the bytes of a plain file are accepted as one file
 pub plain-accepts : (rules : Rules) → Sound rules → (bytes : List ℕ) → Accepted rules bytes → IsFile rules bytes
-unfolding wholeOf
+unfolding wholeFront
 plain-accepts rules sound bytes (lines, bytes-are, p) =
-    let t = countedOver rules nothing lines in
+    let t = countedOver rules nothingSeen lines in
     let lines-are : linesOf bytes ≡ lines ++ [] = ap linesOf bytes-are ∙ plain-lines rules sound lines p ∙ sym (append-nil lines) in
-    let accepted : scanOf rules bytes ≡ front.File t = ap (run rules startState noNames nothing) lines-are ∙ plain-run rules sound lines [] nothing p in
-    let all : ltb (t .end) (length bytes) ≡ false = le-ltb (t .end) (length bytes) (omega (arith, bytes-counted rules nothing lines, ap length bytes-are)) in
+    let accepted : scanOf rules bytes ≡ front.File t = ap (run rules startState noNames nothingSeen) lines-are ∙ plain-run rules sound lines [] nothingSeen p in
+    let all : ltb (t .end) (length bytes) ≡ false = le-ltb (t .end) (length bytes) (omega (arith, bytes-counted rules nothingSeen lines, ap length bytes-are)) in
     (t, rw (accepted, all))
 
 -- both at once
@@ -126,9 +126,9 @@ d-exactly bytes = accepts-exactly d d-sound bytes
 -- The lines of a file at the front of some bytes are those of a plain file.
 pub plain-front : (rules : Rules) → Sound rules → (bytes : List ℕ) (t : Tally) → scanOf rules bytes ≡ front.File t → Plain rules (linesOf (take (t .end) bytes))
 plain-front rules sound bytes t e =
-    let p = run-plain rules sound (linesOf bytes) nothing t e in
+    let p = run-plain rules sound (linesOf bytes) nothingSeen t e in
     let parts = parted (p .used) bytes (p .rest) (p .split) in
-    let end : t .end ≡ length (joinLines (p .used)) = ap (λ (x : Tally). x .end) (p .tally) ∙ bytes-counted rules nothing (p .used) ∙ omega arith in
+    let end : t .end ≡ length (joinLines (p .used)) = ap (λ (x : Tally). x .end) (p .tally) ∙ bytes-counted rules nothingSeen (p .used) ∙ omega arith in
     let lines : linesOf (take (t .end) bytes) ≡ p .used = ap (λ (n : ℕ). linesOf (take n bytes)) end ∙ ap linesOf (parts .front) ∙ parts .front-lines in
     rw lines (p .plain)
 
@@ -136,7 +136,7 @@ pub front-plain : (bytes : List ℕ) (t : Tally) → scanOf d bytes ≡ front.Fi
 front-plain bytes t e = plain-front d d-sound bytes t e
 
 -- a whole file takes up all of its bytes
-pub whole-taken : (bytes : List ℕ) (t : Tally) → wholeOf (length bytes) (scanOf d bytes) ≡ front.File t → take (t .end) bytes ≡ bytes
+pub whole-taken : (bytes : List ℕ) (t : Tally) → wholeFront (length bytes) (scanOf d bytes) ≡ front.File t → take (t .end) bytes ≡ bytes
 whole-taken bytes t e = take-all (t .end) bytes (whole-ends (length bytes) (scanOf d bytes) t e .1)
 
 -- and its lines are those of a plain file

@@ -23,7 +23,7 @@ use Rattle.machine.specs.State.{startState}
 use Rattle.machine.specs.Faults.{recordFault, secondFault}
 use Rattle.machine.specs.Next.{afterFirst, afterSecond, afterCount}
 use Rattle.machine.specs.declared.types.State.{State}
-use Rattle.file.specs.Plain.{isLine, isFirstLine, isSecondLine, isCountLine, namesOf}
+use Rattle.file.specs.Plain.{isLine, isFirstLine, isSecondLine, isCountLine, slotIdentifiers}
 use Rattle.scan.specs.Run.{run, counted}
 use Rattle.scan.specs.declared.Tally.{Tally}
 use Rattle.scan.specs.declared.Front.the-variants as front
@@ -116,14 +116,14 @@ module _ (rules : Rules) where
     begins is = some-epoch rules (padded first) (eqb-true (firstOf rules (padded first) .fault) 0 (and-right (isLine rules kind.First first) _ is))
 
     pub names-all : (slots : List (List ℕ)) → suc (length slots) ≡ slotLines (satellitesOf rules (padded count) .count)
-        → length (namesOf (satellitesOf rules (padded count) .count) (count ∷ slots)) ≡ counts first second count .satellites
+        → length (slotIdentifiers (satellitesOf rules (padded count) .count) (count ∷ slots)) ≡ counts first second count .satellites
     unfolding afterCount
     names-all slots many =
         let n = satellitesOf rules (padded count) .count in
         names-length n (count ∷ slots) (omega (arith, many, slots-enough n))
 
     pub some-name : (slots : List (List ℕ)) → isCountLine rules count ≡ true → suc (length slots) ≡ slotLines (satellitesOf rules (padded count) .count)
-        → 1 ≤ length (namesOf (satellitesOf rules (padded count) .count) (count ∷ slots))
+        → 1 ≤ length (slotIdentifiers (satellitesOf rules (padded count) .count) (count ∷ slots))
     unfolding afterCount
     some-name slots is many =
         let n = satellitesOf rules (padded count) .count in

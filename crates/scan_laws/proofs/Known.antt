@@ -16,7 +16,7 @@ use Rattle.header.specs.declared.types.Rules.{Rules}
 use Rattle.record.specs.declared.types.LineKind.{LineKind}
 use Rattle.record.specs.declared.types.LineKind.the-variants as kind
 use Rattle.machine.specs.State.{stands, seen}
-use Rattle.machine.specs.Faults.{longest, charactersFault, namedFault, placeFault}
+use Rattle.machine.specs.Faults.{longest, charactersFault, namedFault, standingFault}
 use Rattle.machine.specs.Next.{lineLess, leave, afterAccuracies, commentsDue, afterIntegers, afterEpoch, satelliteDone, afterPosition, nextOf}
 use Rattle.machine.specs.Step.{onKey, judgedLine, printedLine, stepOf}
 use Rattle.machine.specs.declared.types.State.{State}
@@ -144,13 +144,13 @@ both-stand false x y none h = refl
 module _ (rules : Rules) (n : ℕ) (some : 1 ≤ n) (names : List ℕ) where
   -- what a line of any kind does leads past them
   step-past : (s : State) (now l : List ℕ) → Past n s → Goes n (stepOf rules s now l)
-  unfolding stepOf printedLine judgedLine onKey placeFault
+  unfolding stepOf printedLine judgedLine onKey standingFault
   step-past s now l p =
       let k = kindOf rules (padded l) in
       tested n (every isPrintable l) _ _ _
       (λ printed. tested n (leb (length l) (longest rules k)) _ _ _
-      (λ short. tested n (eqb (placeFault k rules s now (padded l)) 0) _ _ _
-      (λ free. next-past n s p some rules (padded l) k (placed (stands s k) _ (eqb-true (placeFault k rules s now (padded l)) 0 free) .0))))
+      (λ short. tested n (eqb (standingFault k rules s now (padded l)) 0) _ _ _
+      (λ free. next-past n s p some rules (padded l) k (placed (stands s k) _ (eqb-true (standingFault k rules s now (padded l)) 0 free) .0))))
 
   module _ (s : State) (now : List ℕ) (p : Past n s) (same : take n names ≡ take n now) where
     -- the satellite whose row is due is the same in both lists
@@ -160,8 +160,8 @@ module _ (rules : Rules) (n : ℕ) (some : 1 ≤ n) (names : List ℕ) where
         sym (getD-take n names (seen s) 0 below) ∙ ap (λ (x : List ℕ). getD x (seen s) 0) same ∙ getD-take n now (seen s) 0 below
 
     -- the fault at a place is the same with both lists
-    place-alike : (l : List ℕ) (k : LineKind) → placeFault k rules s names l ≡ placeFault k rules s now l
-    unfolding placeFault charactersFault namedFault
+    place-alike : (l : List ℕ) (k : LineKind) → standingFault k rules s names l ≡ standingFault k rules s now l
+    unfolding standingFault charactersFault namedFault
     place-alike l kind.Satellites =
         both-stand (stands s kind.Satellites) _ _ _ (λ here. absurd (omega (arith, is-due n s p kind.Satellites refl here, p .later)))
     place-alike l kind.Characters = rw (p .many, same)

@@ -23,7 +23,7 @@ use Rattle.machine.specs.Next.{afterCount, afterSatellites, nextOf}
 use Rattle.machine.specs.Step.{namesBrought}
 use Rattle.machine.specs.declared.types.State.{State}
 use Rattle.machine.specs.declared.types.Verdict.the-variants as verdict
-use Rattle.file.specs.Plain.{isLine, isRecord, isCountLine, areSlots, namesOf}
+use Rattle.file.specs.Plain.{isLine, isRecord, isCountLine, areSlots, slotIdentifiers}
 use Rattle.scan.specs.Run.{stepped}
 use Rattle.scan_laws.proofs.Passing.{line-kind, step-of}
 use Rattle.scan_laws.proofs.Slots.{freshIn, all-names, one-line, first-new}
@@ -66,13 +66,13 @@ module _ (rules : Rules) (n : ℕ) (names : List ℕ) where
 
     -- all further `+ ` lines, where the lines after them do the same
     slots-alike : (k left : ℕ) (known rest rest′ : List ℕ) (ls tail : List (List ℕ)) → length ls ≡ suc k → length known + left ≡ s .satellites → left ≤ length rest
-        → areSlots rules false left ls ≡ true → repeats known (namesOf left ls) ≡ false → names ≡ (known ++ namesOf left ls) ++ rest′
-        → ((r : List ℕ) → From (afterAll rules s some) ((known ++ namesOf left ls) ++ r) tail)
+        → areSlots rules false left ls ≡ true → repeats known (slotIdentifiers left ls) ≡ false → names ≡ (known ++ slotIdentifiers left ls) ++ rest′
+        → ((r : List ℕ) → From (afterAll rules s some) ((known ++ slotIdentifiers left ls) ++ r) tail)
         → From (namesDue rules s some (suc k) left) (known ++ rest) (ls ++ tail)
     unfolding areSlots
     slots-alike k left known rest rest′ [] tail lines many room are new all more = absurd (omega arith)
     slots-alike zero left known rest rest′ (l ∷ []) tail lines many room are new all more =
-        line-alike left known rest (namesOf left (l ∷ []) ++ rest′) many room (all ∙ append-assoc known (namesOf left (l ∷ [])) rest′) 1
+        line-alike left known rest (slotIdentifiers left (l ∷ []) ++ rest′) many room (all ∙ append-assoc known (slotIdentifiers left (l ∷ [])) rest′) 1
         (afterAll rules s some) l tail (last-one rules s some left)
         (and-left (isRecord rules kind.Satellites (moreOf false left (padded l) .fault) l) _ are) (first-new left known l [] new .0)
         (rw (one-line left known l) (more (drop (length (freshIn left l)) rest)))
@@ -80,7 +80,7 @@ module _ (rules : Rules) (n : ℕ) (names : List ℕ) where
     slots-alike (suc k) left known rest rest′ (l ∷ ls) tail lines many room are new all more =
         let both = first-new left known l ls new in
         let is = isRecord rules kind.Satellites (moreOf false left (padded l) .fault) l in
-        line-alike left known rest (namesOf left (l ∷ ls) ++ rest′) many room (all ∙ append-assoc known (namesOf left (l ∷ ls)) rest′) (suc (suc k))
+        line-alike left known rest (slotIdentifiers left (l ∷ ls) ++ rest′) many room (all ∙ append-assoc known (slotIdentifiers left (l ∷ ls)) rest′) (suc (suc k))
         (namesDue rules s some (suc k) (left - 17)) l (ls ++ tail) (one-of-more rules s some k left) (and-left is _ are) (both .0)
         (slots-alike k (left - 17) (known ++ freshIn left l) (drop (length (freshIn left l)) rest) rest′ ls tail (omega arith)
         (many-on rules s some left known rest many l) (room-on rules s some left known rest many room l) (and-right is _ are) (both .1)
@@ -89,9 +89,9 @@ module _ (rules : Rules) (n : ℕ) (names : List ℕ) where
   -- All `+ ` lines, where the lines after them do the same.
   pub plus-alike : (s : State) (now : List ℕ) (due : s .due ≡ 3) (none : s .satellites ≡ 0) (room : rules .«most_satellites» ≤ length now) (wide : 17 ≤ length now)
       (l : List ℕ) (slots tail : List (List ℕ)) (rest : List ℕ) → isCountLine rules l ≡ true → areSlots rules false (said rules l - 17) slots ≡ true
-      → suc (length slots) ≡ slotLines (said rules l) → repeats [] (namesOf (said rules l) (l ∷ slots)) ≡ false
-      → names ≡ namesOf (said rules l) (l ∷ slots) ++ rest
-      → ((r : List ℕ) → From (allKnown rules s now due none room wide (said rules l)) (namesOf (said rules l) (l ∷ slots) ++ r) tail) → From s now (l ∷ (slots ++ tail))
+      → suc (length slots) ≡ slotLines (said rules l) → repeats [] (slotIdentifiers (said rules l) (l ∷ slots)) ≡ false
+      → names ≡ slotIdentifiers (said rules l) (l ∷ slots) ++ rest
+      → ((r : List ℕ) → From (allKnown rules s now due none room wide (said rules l)) (slotIdentifiers (said rules l) (l ∷ slots) ++ r) tail) → From s now (l ∷ (slots ++ tail))
   unfolding afterCount
   plus-alike s now due none room wide l slots tail rest is are many new all more =
       let n = said rules l in

@@ -22,7 +22,7 @@ use Rattle.machine.specs.State.{startState, noNames}
 use Rattle.machine.specs.Next.{expect, leave, afterCount}
 use Rattle.machine.specs.Step.{stepOf}
 use Rattle.file.specs.Kinds.{isKind}
-use Rattle.file.specs.Plain.{isLine, isRecord, isFirstLine, isSecondLine, namesOf, Plain, Sound}
+use Rattle.file.specs.Plain.{isLine, isRecord, isFirstLine, isSecondLine, slotIdentifiers, Plain, Sound}
 use Rattle.scan.specs.Run.{scanOf, Going, stepped, steppedOver, atFirst}
 use Rattle.scan.specs.declared.Tally.{Tally}
 use Rattle.scan.specs.declared.Front.the-variants as front
@@ -39,8 +39,8 @@ use Rattle.scan_laws.proofs.KnownNames.{From, alike-one, plus-alike}
 abbrev pub satellitesIn : {rules : Rules} {lines : List (List ℕ)} → Plain rules lines → ℕ
 satellitesIn {rules} p = satellitesOf rules (padded (p .count)) .count
 
-abbrev pub identifiersIn : {rules : Rules} {lines : List (List ℕ)} → Plain rules lines → List ℕ
-identifiersIn p = namesOf (satellitesIn p) (p .count ∷ p .slots)
+abbrev pub plainIdentifiers : {rules : Rules} {lines : List (List ℕ)} → Plain rules lines → List ℕ
+plainIdentifiers p = slotIdentifiers (satellitesIn p) (p .count ∷ p .slots)
 
 module _ (rules : Rules) (n : ℕ) (names : List ℕ) where
   -- lines 1 and 2 look at no identifier
@@ -71,12 +71,12 @@ module _ (rules : Rules) (n : ℕ) (names : List ℕ) where
   alike-at (suc k) (l ∷ ls) g h a = alike-at k ls (stepped rules g l) (le-of-suc-le-suc h) (a .2)
 
 -- Every line of a plain file, and every line after it, does the same with all identifiers in hand.
-pub plain-alike : (rules : Rules) (names : List ℕ) → Sound rules → (used more : List (List ℕ)) (p : Plain rules used) → take (satellitesIn p) names ≡ identifiersIn p
+pub plain-alike : (rules : Rules) (names : List ℕ) → Sound rules → (used more : List (List ℕ)) (p : Plain rules used) → take (satellitesIn p) names ≡ plainIdentifiers p
     → From rules (satellitesIn p) names startState noNames (used ++ more)
 unfolding afterCount
 plain-alike rules names sound used more p same =
     let n = satellitesIn p in
-    let ids = identifiersIn p in
+    let ids = plainIdentifiers p in
     let many : length ids ≡ n = names-all rules (p .first) (p .second) (p .count) (p .slots) (p .slots-many) in
     let some : 1 ≤ n = omega (arith, some-name rules (p .first) (p .second) (p .count) (p .slots) (p .is-count) (p .slots-many)) in
     let all : names ≡ ids ++ drop n names = sym (take-append-drop n names) ∙ ap (λ (x : List ℕ). x ++ drop n names) same in
@@ -97,7 +97,7 @@ plain-alike rules names sound used more p same =
 -- Judged with the identifiers of the header, each line of an accepted file does what it does in the run; and where a P line stands, the number of
 -- satellites is that of the header.
 pub known-plain : (rules : Rules) → Sound rules → (bytes : List ℕ) (t : Tally) → scanOf rules bytes ≡ front.File t → (p : Plain rules (frontLines bytes t))
-    (names : List ℕ) → take (satellitesIn p) names ≡ identifiersIn p → (k : ℕ) → k < t .lines
+    (names : List ℕ) → take (satellitesIn p) names ≡ plainIdentifiers p → (k : ℕ) → k < t .lines
     → (stepOf rules (behind rules atFirst (linesOf bytes) k .state) names (nth k (linesOf bytes))
     ≡ stepOf rules (behind rules atFirst (linesOf bytes) k .state) (behind rules atFirst (linesOf bytes) k .names) (nth k (linesOf bytes)))
     × (isKind rules 10 (nth k (linesOf bytes)) ≡ true → behind rules atFirst (linesOf bytes) k .state .satellites ≡ satellitesIn p)

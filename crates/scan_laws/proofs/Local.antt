@@ -16,7 +16,7 @@ use Rattle.machine.specs.State.{startState, noNames}
 use Rattle.scan.specs.declared.Tally.{Tally}
 use Rattle.scan.specs.declared.Front.{Front}
 use Rattle.scan.specs.declared.Front.the-variants as front
-use Rattle.scan.specs.Run.{nothing, run, scanOf, wholeOf, IsFile}
+use Rattle.scan.specs.Run.{nothingSeen, run, scanOf, wholeFront, IsFile}
 use Rattle.scan_laws.proofs.Used.{frontLines, accepted-front}
 
 -- bytes more leave the complete lines as they were
@@ -50,12 +50,12 @@ module _ (rules : Rules) where
       let l = lines-longer a b in
       let lines : linesOf (a ++ b) ≡ frontLines a t ++ (u .rest ++ l .0) =
       l .1 ∙ ap (λ (ls : List (List ℕ)). ls ++ l .0) (u .split) ∙ append-assoc (frontLines a t) (u .rest) (l .0) in
-      ap (run rules startState noNames nothing) lines ∙ u .alone (u .rest ++ l .0)
+      ap (run rules startState noNames nothingSeen) lines ∙ u .alone (u .rest ++ l .0)
 
   -- A whole file is a file at the front that ends where the bytes end; and the other way round.
-  pub whole-ends : (bytes : List ℕ) (t : Tally) → wholeOf (length bytes) (scanOf rules bytes) ≡ front.File t
+  pub whole-ends : (bytes : List ℕ) (t : Tally) → wholeFront (length bytes) (scanOf rules bytes) ≡ front.File t
       → (scanOf rules bytes ≡ front.File t) × (t .end ≡ length bytes)
-  unfolding wholeOf
+  unfolding wholeFront
   whole-ends bytes t e = go (scanOf rules bytes) refl
     where
       go : (f : Front) → scanOf rules bytes ≡ f → (scanOf rules bytes ≡ front.File t) × (t .end ≡ length bytes)
@@ -77,8 +77,8 @@ module _ (rules : Rules) where
               (is ∙ same, omega (arith, ltb-false (x .end) (length bytes) ge, accepted-front rules bytes x is .within))
 
   pub ends-whole : (bytes : List ℕ) (t : Tally) → scanOf rules bytes ≡ front.File t → t .end ≡ length bytes
-      → wholeOf (length bytes) (scanOf rules bytes) ≡ front.File t
-  unfolding wholeOf
+      → wholeFront (length bytes) (scanOf rules bytes) ≡ front.File t
+  unfolding wholeFront
   ends-whole bytes t e end = rw (e, le-ltb (t .end) (length bytes) (omega arith))
 
   -- Bytes are one accepted file exactly when a file stands at their front and ends where they end.
@@ -103,7 +103,7 @@ module _ (rules : Rules) where
   pub scan-again : (bytes : List ℕ) (t : Tally) → scanOf rules bytes ≡ front.File t → scanOf rules (take (t .end) bytes) ≡ front.File t
   scan-again bytes t e =
       let a = accepted-front rules bytes t e in
-      ap (run rules startState noNames nothing) (sym (append-nil (frontLines bytes t))) ∙ a .alone []
+      ap (run rules startState noNames nothingSeen) (sym (append-nil (frontLines bytes t))) ∙ a .alone []
 
   -- The bytes of a file at the front are a whole file.
   pub front-whole : (bytes : List ℕ) (t : Tally) → scanOf rules bytes ≡ front.File t → IsFile rules (take (t .end) bytes)

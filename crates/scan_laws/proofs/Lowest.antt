@@ -10,7 +10,7 @@ use borrow.Author.Tests.{eqb-true, eqb-false}
 use lib.Dec.{eqb, leb}
 use lib.ListN.{length, take}
 use Rattle.laws.specs.Texts.{every, isPrintable}
-use Rattle.layout.specs.Fault.{clean, keyed, numberOf, columnOf, lowerOf}
+use Rattle.layout.specs.Fault.{clean, keyed, keyNumber, columnOf, lowerOf}
 use Rattle.layout.specs.Kind.{unless, nameCode}
 use Rattle.layout.specs.Layout.{Item, faultAt, faultOf}
 use Rattle.layout.specs.Line.{padded}
@@ -26,7 +26,7 @@ use Rattle.record.specs.declared.types.LineKind.{LineKind}
 use Rattle.record.specs.declared.types.LineKind.the-variants as kind
 use Rattle.machine.specs.Checks.{firstUnprintable, instantIn, secondAgrees, repeats, typeAgrees}
 use Rattle.machine.specs.State.{stands, knownNames, nameDue, isFirst, namesIn}
-use Rattle.machine.specs.Faults.{longest, secondFault, satellitesFault, charactersFault, floatsFault, epochFault, namedFault, recordFault, placeFault}
+use Rattle.machine.specs.Faults.{longest, secondFault, satellitesFault, charactersFault, floatsFault, epochFault, namedFault, recordFault, standingFault}
 use Rattle.machine.specs.Next.{nextOf}
 use Rattle.machine.specs.Step.{onKey, judgedLine, printedLine, stepOf}
 use Rattle.machine.specs.declared.types.State.{State}
@@ -91,7 +91,7 @@ pub data Earns (rules : Rules) (s : State) (names line : List ℕ) (m : ℕ) : T
   by-byte : every isPrintable line ≡ false → m ≡ 2 → Earns rules s names line m
   by-length : leb (length line) (longest rules (kindAt rules line)) ≡ false → m ≡ 3 → Earns rules s names line m
   by-place : stands s (kindAt rules line) ≡ false → m ≡ 4 → Earns rules s names line m
-  by-part : LookedAt rules s line → (key : ℕ) → Among key (partsAt (kindAt rules line) rules s names (padded line)) → 0 < key → numberOf key ≡ m → Earns rules s names line m
+  by-part : LookedAt rules s line → (key : ℕ) → Among key (partsAt (kindAt rules line) rules s names (padded line)) → 0 < key → keyNumber key ≡ m → Earns rules s names line m
 
 -- the fault of a record is the lowest of its parts'
 record-lowest : (k : LineKind) (rules : Rules) (s : State) (names line : List ℕ)
@@ -200,7 +200,7 @@ module _ (rules : Rules) (s : State) (names line : List ℕ) where
 
   -- a line that may not stand here
   decides-four : every isPrintable line ≡ true → Short ≡ true → stands s (kindAt rules line) ≡ false → Decides rules s names line (stepOf rules s names line)
-  unfolding stepOf printedLine judgedLine onKey placeFault
+  unfolding stepOf printedLine judgedLine onKey standingFault
   decides-four b n p = refused 4 0 (rw (b, n, p) refl) (by-place p refl) least
     where
       least : (m : ℕ) → Earns rules s names line m → 4 ≤ m
@@ -212,7 +212,7 @@ module _ (rules : Rules) (s : State) (names line : List ℕ) where
   -- a line whose record is looked at
   module _ (l : LookedAt rules s line) where
     step-key : stepOf rules s names line ≡ onKey key (nextOf (kindAt rules line) rules s (padded line))
-    unfolding stepOf printedLine judgedLine placeFault
+    unfolding stepOf printedLine judgedLine standingFault
     step-key =
         let k = kindAt rules line in
         let record-key : recordFault k rules s names (padded line) ≡ key =
@@ -227,7 +227,7 @@ module _ (rules : Rules) (s : State) (names line : List ℕ) where
         go (inl e) = absurd (omega arith)
         go (inr a) = a
 
-    least : (r : ℕ) → Lowest clean parts r → (m : ℕ) → Earns rules s names line m → (0 < r) × (numberOf r ≤ m)
+    least : (r : ℕ) → Lowest clean parts r → (m : ℕ) → Earns rules s names line m → (0 < r) × (keyNumber r ≤ m)
     least r low m (by-byte p e) = absurd (both (l .plain) p)
     least r low m (by-length p e) = absurd (both (l .short) p)
     least r low m (by-place p e) = absurd (both (l .placed) p)
@@ -247,7 +247,7 @@ module _ (rules : Rules) (s : State) (names line : List ℕ) where
             (λ m e. omega (arith, none, least key low m e .0))
         go false e low =
             let some : 0 < key = omega (arith, eqb-false key 0 e) in
-            refused (numberOf key) (columnOf key) (step-key ∙ rw e refl) (by-part l key (earned key low some) some refl) (λ m e. least key low m e .1)
+            refused (keyNumber key) (columnOf key) (step-key ∙ rw e refl) (by-part l key (earned key low some) some refl) (λ m e. least key low m e .1)
 
   decides : Decides rules s names line (stepOf rules s names line)
   decides = go (every isPrintable line) Short (stands s (kindAt rules line)) refl refl refl

@@ -21,13 +21,13 @@ use Rattle.header.specs.Rules.{slotLines}
 use Rattle.header.specs.declared.types.Rules.{Rules}
 use Rattle.record.specs.declared.types.LineKind.the-variants as kind
 use Rattle.machine.specs.Checks.{repeats}
-use Rattle.machine.specs.State.{namesIn, fitBehind, laidBehind, namesAfter}
+use Rattle.machine.specs.State.{namesIn, fitBehind, laidBehind, identifiersJoined}
 use Rattle.machine.specs.Faults.{satellitesFault}
 use Rattle.machine.specs.Next.{expect, leave, afterNames, afterSatellites}
 use Rattle.machine.specs.Step.{namesBrought}
 use Rattle.machine.specs.declared.types.State.{State}
 use Rattle.machine.specs.declared.types.Verdict.the-variants as verdict
-use Rattle.file.specs.Plain.{isLine, isRecord, areSlots, namesOf}
+use Rattle.file.specs.Plain.{isLine, isRecord, areSlots, slotIdentifiers}
 use Rattle.scan.specs.Run.{run, counted}
 use Rattle.scan.specs.declared.Tally.{Tally}
 use Rattle.scan.specs.declared.Front.the-variants as front
@@ -79,7 +79,7 @@ module _ (rules : Rules) (s : State) (some : eqb (s .satellites) 0 ≡ false) wh
     brought l = (known ++ freshIn left l) ++ drop (length (freshIn left l)) rest
 
     pub brought-is : left ≤ length rest → (lines : ℕ) (l : List ℕ) → namesBrought rules (namesDue lines left) (known ++ rest) l ≡ brought l
-    unfolding namesBrought namesAfter laidBehind namesIn
+    unfolding namesBrought identifiersJoined laidBehind namesIn
     brought-is room lines l =
         let fits : fitBehind (s .satellites - left) (freshIn left l) (known ++ rest) ≡ true =
         le-leb (s .satellites - left + length (freshIn left l)) (length (known ++ rest)) (omega (arith, length-append known rest, fresh-length left l, room, many)) in
@@ -126,8 +126,8 @@ module _ (rules : Rules) (s : State) (some : eqb (s .satellites) 0 ≡ false) wh
 
   -- all further `+ ` lines
   pub names-reach : (k left : ℕ) (known rest : List ℕ) (ls : List (List ℕ)) → length ls ≡ suc k → length known + left ≡ s .satellites → left ≤ length rest
-      → areSlots rules false left ls ≡ true → repeats known (namesOf left ls) ≡ false
-      → (rest′ : List ℕ) × Reach rules (namesDue (suc k) left) (known ++ rest) ls afterAll ((known ++ namesOf left ls) ++ rest′)
+      → areSlots rules false left ls ≡ true → repeats known (slotIdentifiers left ls) ≡ false
+      → (rest′ : List ℕ) × Reach rules (namesDue (suc k) left) (known ++ rest) ls afterAll ((known ++ slotIdentifiers left ls) ++ rest′)
   unfolding areSlots
   names-reach k left known rest [] lines many room are new = absurd (omega arith)
   names-reach zero left known rest (l ∷ []) lines many room are new =
@@ -150,7 +150,7 @@ module _ (rules : Rules) (s : State) (some : eqb (s .satellites) 0 ≡ false) wh
         others .0,
         subst (λ (r : List ℕ). Reach rules (namesDue (suc (suc k)) left) (known ++ rest) (l ∷ ls) afterAll (r ++ others .0)) (all-names left known l ls)
             (reach-append rules (namesDue (suc (suc k)) left) (namesDue (suc k) (left - 17)) afterAll (known ++ rest) (known′ ++ rest′)
-            ((known′ ++ namesOf (left - 17) ls) ++ others .0) (l ∷ []) ls first (others .1)),
+            ((known′ ++ slotIdentifiers (left - 17) ls) ++ others .0) (l ∷ []) ls first (others .1)),
       )
 
   -- the `+ ` lines that a run to a file has read
@@ -160,9 +160,9 @@ module _ (rules : Rules) (s : State) (some : eqb (s .satellites) 0 ≡ false) wh
     pub split : ls ≡ used ++ more
     pub many : length used ≡ lines
     pub are : areSlots rules false left used ≡ true
-    pub new : repeats known (namesOf left used) ≡ false
+    pub new : repeats known (slotIdentifiers left used) ≡ false
     pub rest : List ℕ
-    pub goes : run rules afterAll ((known ++ namesOf left used) ++ rest) (countedOver rules t used) more ≡ front.File t′
+    pub goes : run rules afterAll ((known ++ slotIdentifiers left used) ++ rest) (countedOver rules t used) more ≡ front.File t′
 
   -- one line more in front
   named-more : (lines left : ℕ) (known l : List ℕ) (t t′ : Tally) (ls others : List (List ℕ)) → ls ≡ l ∷ others

@@ -11,7 +11,7 @@ use lib.Dec.{eqb, leb, ltb}
 use lib.ListN.{length, take, drop, length-take}
 use Rattle.laws.proofs.Bools.{and-left, and-right, and-both}
 use Rattle.lines.proofs.Each.{Each, each-append}
-use Rattle.layout.specs.Fault.{numberOf}
+use Rattle.layout.specs.Fault.{keyNumber}
 use Rattle.layout.specs.Kind.{Kind, unless, nameCode}
 use Rattle.layout.specs.Kind.Kind.{unused}
 use Rattle.layout.specs.Layout.{Item, columns, widthOf, partOf, faultAt, slotFor, slotsFrom}
@@ -178,16 +178,16 @@ module _ (rules : Rules) (s : State) (names line : List ℕ) where
 
   -- Nor is the number of any part below it, whether or not the record is looked at: the tests are independent.
   pub lowest-of-all : (m c : ℕ) → stepOf rules s names line ≡ verdict.Fault m c
-      → (key : ℕ) → Among key (partsAt (kindAt rules line) rules s names (padded line)) → 0 < key → m ≤ numberOf key
+      → (key : ℕ) → Among key (partsAt (kindAt rules line) rules s names (padded line)) → 0 < key → m ≤ keyNumber key
   lowest-of-all m c e key a h = go (lowest rules s names line m c e .0)
     where
-      some : 4 ≤ numberOf key
+      some : 4 ≤ keyNumber key
       some =
           let k = kindAt rules line in
           among-each (partsAt k rules s names (padded line)) key (parts-numbered rules s names (padded line) k) a h .0
 
-      go : Earns rules s names line m → m ≤ numberOf key
+      go : Earns rules s names line m → m ≤ keyNumber key
       go (by-byte p e′) = omega (arith, some)
       go (by-length p e′) = omega (arith, some)
       go (by-place p e′) = omega (arith, some)
-      go (by-part l k b g e′) = lowest rules s names line m c e .1 (numberOf key) (by-part l key a h refl)
+      go (by-part l k b g e′) = lowest rules s names line m c e .1 (keyNumber key) (by-part l key a h refl)

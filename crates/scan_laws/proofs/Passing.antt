@@ -18,7 +18,7 @@ use Rattle.header.specs.declared.types.Rules.{Rules}
 use Rattle.record.specs.declared.types.LineKind.{LineKind}
 use Rattle.record.specs.declared.types.LineKind.the-variants as kind
 use Rattle.machine.specs.State.{stands}
-use Rattle.machine.specs.Faults.{longest, recordFault, placeFault}
+use Rattle.machine.specs.Faults.{longest, recordFault, standingFault}
 use Rattle.machine.specs.Next.{nextOf}
 use Rattle.machine.specs.Step.{onKey, judgedLine, printedLine, stepOf, namesBrought}
 use Rattle.machine.specs.declared.types.State.{State}
@@ -64,12 +64,12 @@ module _ (rules : Rules) where
 
   pub good : (s : State) (names l : List ℕ) (t t′ : Tally) (more : State → Front) → onVerdict (stepOf rules s names l) t more ≡ front.File t′
       → Good s names l t t′ more
-  unfolding stepOf printedLine judgedLine onKey placeFault
+  unfolding stepOf printedLine judgedLine onKey standingFault
   good s names l t t′ more e =
       let printed = passed-on (every isPrintable l) _ _ _ t t′ more e in
       let short = passed-on (leb (length l) (longest rules (kindHere l))) _ _ _ t t′ more (printed .1) in
-      let free = passed-on (eqb (placeFault (kindHere l) rules s names (padded l)) 0) _ _ _ t t′ more (short .1) in
-      let place = placed (stands s (kindHere l)) _ (eqb-true (placeFault (kindHere l) rules s names (padded l)) 0 (free .0)) in
+      let free = passed-on (eqb (standingFault (kindHere l) rules s names (padded l)) 0) _ _ _ t t′ more (short .1) in
+      let place = placed (stands s (kindHere l)) _ (eqb-true (standingFault (kindHere l) rules s names (padded l)) 0 (free .0)) in
       record { printed = printed .0; short = short .0; here = place .0; clean = place .1; goes = free .1 }
 
   -- a line of a kind, by its characters, its length and its symbol
@@ -91,7 +91,7 @@ module _ (rules : Rules) where
   -- the machine goes on from a line of a kind that may stand here and has no fault
   pub step-of : (k : LineKind) (s : State) (names l : List ℕ) → isLine rules k l ≡ true → stands s k ≡ true → recordFault k rules s names (padded l) ≡ 0
       → stepOf rules s names l ≡ nextOf k rules s (padded l)
-  unfolding stepOf printedLine judgedLine onKey placeFault
+  unfolding stepOf printedLine judgedLine onKey standingFault
   step-of k s names l is here clean = rw (line-printed k l is, line-kind k l is, line-short k l is, here, clean)
 
   -- what a run does after a line of a kind

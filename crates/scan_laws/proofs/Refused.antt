@@ -20,7 +20,7 @@ use Rattle.file.specs.Plain.{Sound}
 use Rattle.scan.specs.declared.Tally.{Tally}
 use Rattle.scan.specs.declared.Front.{Front}
 use Rattle.scan.specs.declared.Front.the-variants as front
-use Rattle.scan.specs.Run.{nothing, counted, onVerdict, run, scanOf, Going, stepped, steppedOver, atFirst}
+use Rattle.scan.specs.Run.{nothingSeen, counted, onVerdict, run, scanOf, Going, stepped, steppedOver, atFirst}
 use Rattle.scan_laws.proofs.Stepping.{judged, GoesOn, behind, GoOn, next-line, go-first, go-later, go-more, stepped-on, place-behind, stands-behind}
 
 -- what has been read, some lines further
@@ -145,20 +145,20 @@ module _ (rules : Rules) (bytes : List ℕ) (number line column : ℕ) where
     where
       at : (k : ℕ) → GoOn rules atFirst (linesOf bytes) k → Stop rules atFirst (linesOf bytes) k → RefusedAt rules bytes number line column
       at k goes (ran-out n) =
-          let same : front.Refused 1 (0 + k + 1) 0 ≡ front.Refused number line column = sym (run-out rules k (linesOf bytes) atFirst nothing goes n) ∙ e in
+          let same : front.Refused 1 (0 + k + 1) 0 ≡ front.Refused number line column = sym (run-out rules k (linesOf bytes) atFirst nothingSeen goes n) ∙ e in
           let l : 0 + k + 1 ≡ line = cc in
           let m : 1 ≡ number = cc in
           let c : 0 ≡ column = cc in
           record { k = k; line-is = omega arith; goes = goes; why = inl (n, sym m, sym c) }
       at k goes (faulty m′ c′ h v) =
           let same : front.Refused m′ (0 + k + 1) c′ ≡ front.Refused number line column =
-          sym (run-fault rules k (linesOf bytes) atFirst nothing goes h m′ c′ v) ∙ e in
+          sym (run-fault rules k (linesOf bytes) atFirst nothingSeen goes h m′ c′ v) ∙ e in
           let l : 0 + k + 1 ≡ line = cc in
           let fault : verdict.Fault m′ c′ ≡ verdict.Fault number column = cc in
           record { k = k; line-is = omega arith; goes = goes; why = inr (h, v ∙ fault) }
       at k goes (finished h v) =
-          let both : front.File (tallied rules nothing (linesOf bytes) k) ≡ front.Refused number line column =
-          sym (run-end rules k (linesOf bytes) atFirst nothing goes h v) ∙ e in
+          let both : front.File (tallied rules nothingSeen (linesOf bytes) k) ≡ front.Refused number line column =
+          sym (run-end rules k (linesOf bytes) atFirst nothingSeen goes h v) ∙ e in
           let z : _≡_ {A = ℕ} 0 1 = cc in
           absurd (omega arith)
 
@@ -175,8 +175,8 @@ module _ (rules : Rules) (bytes : List ℕ) (number line column : ℕ) where
       go : ((r .k ≡ length (linesOf bytes)) × (number ≡ 1) × (column ≡ 0))
           ⊎ ((r .k < length (linesOf bytes)) × (judged rules (behind rules atFirst (linesOf bytes) (r .k)) (nth (r .k) (linesOf bytes)) ≡ verdict.Fault number column))
           → scanOf rules bytes ≡ front.Refused number line column
-      go (inl (n, m, c)) = run-out rules (r .k) (linesOf bytes) atFirst nothing (r .goes) n ∙ rw (here, m, c) refl
-      go (inr (h, v)) = run-fault rules (r .k) (linesOf bytes) atFirst nothing (r .goes) h number column v ∙ rw here refl
+      go (inl (n, m, c)) = run-out rules (r .k) (linesOf bytes) atFirst nothingSeen (r .goes) n ∙ rw (here, m, c) refl
+      go (inr (h, v)) = run-fault rules (r .k) (linesOf bytes) atFirst nothingSeen (r .goes) h number column v ∙ rw here refl
 
   pub refused-exactly : (scanOf rules bytes ≡ front.Refused number line column) ↔ RefusedAt rules bytes number line column
   refused-exactly = (refused-first, first-refused)
@@ -197,16 +197,16 @@ module _ (rules : Rules) (bytes : List ℕ) (t : Tally) where
 
   ends-after : (k : ℕ) (h : k < length (linesOf bytes)) (goes : GoOn rules atFirst (linesOf bytes) k)
       → judged rules (behind rules atFirst (linesOf bytes) k) (nth k (linesOf bytes)) ≡ verdict.Finished
-      → tallied rules nothing (linesOf bytes) k ≡ t → EndsAfter rules bytes t k
+      → tallied rules nothingSeen (linesOf bytes) k ≡ t → EndsAfter rules bytes t k
   unfolding counted
   ends-after k h goes last e =
       let ls = linesOf bytes in
       let g = behind rules atFirst ls k in
       let below : k ≤ length ls = omega arith in
       let place = place-behind rules k ls atFirst goes below in
-      let many = lines-then rules k ls atFirst nothing goes below in
+      let many = lines-then rules k ls atFirst nothingSeen goes below in
       let end : t .end ≡ g .at + length (nth k ls) + 1 =
-      sym (ap (λ (x : Tally). x .end) e) ∙ omega (arith, tallied-end rules (take k ls) nothing, place) in
+      sym (ap (λ (x : Tally). x .end) e) ∙ omega (arith, tallied-end rules (take k ls) nothingSeen, place) in
       record {
         lines = sym (ap (λ (x : Tally). x .lines) e) ∙ omega (arith, many);
         within = h;
@@ -223,12 +223,12 @@ module _ (rules : Rules) (bytes : List ℕ) (t : Tally) where
       no-file m l c f = let both : front.Refused m l c ≡ front.File t = sym f ∙ e in let z : _≡_ {A = ℕ} 0 1 = cc in omega arith
 
       ended : (k : ℕ) → GoOn rules atFirst (linesOf bytes) k → Stop rules atFirst (linesOf bytes) k → EndsAfter rules bytes t k
-      ended k goes (ran-out n) = absurd (no-file 1 (0 + k + 1) 0 (run-out rules k (linesOf bytes) atFirst nothing goes n))
-      ended k goes (faulty m c h v) = absurd (no-file m (0 + k + 1) c (run-fault rules k (linesOf bytes) atFirst nothing goes h m c v))
+      ended k goes (ran-out n) = absurd (no-file 1 (0 + k + 1) 0 (run-out rules k (linesOf bytes) atFirst nothingSeen goes n))
+      ended k goes (faulty m c h v) = absurd (no-file m (0 + k + 1) c (run-fault rules k (linesOf bytes) atFirst nothingSeen goes h m c v))
       ended k goes (finished h v) =
-          let files : front.File (tallied rules nothing (linesOf bytes) k) ≡ front.File t =
-          sym (run-end rules k (linesOf bytes) atFirst nothing goes h v) ∙ e in
-          let tally : tallied rules nothing (linesOf bytes) k ≡ t = cc in
+          let files : front.File (tallied rules nothingSeen (linesOf bytes) k) ≡ front.File t =
+          sym (run-end rules k (linesOf bytes) atFirst nothingSeen goes h v) ∙ e in
+          let tally : tallied rules nothingSeen (linesOf bytes) k ≡ t = cc in
           ends-after k h goes v tally
 
       go : Stops rules atFirst (linesOf bytes) → EndsAfter rules bytes t (t .lines - 1)

@@ -27,7 +27,7 @@ use Rattle.machine.specs.declared.types.State.{State}
 use Rattle.machine.specs.declared.types.Verdict.{Verdict}
 use Rattle.machine.specs.declared.types.Verdict.the-variants as verdict
 use Rattle.file.specs.Plain.{Sound}
-use Rattle.scan.specs.Run.{Going, nothing, onVerdict, stepped, atFirst}
+use Rattle.scan.specs.Run.{Going, nothingSeen, onVerdict, stepped, atFirst}
 use Rattle.scan.specs.declared.Front.the-variants as front
 use Rattle.scan_laws.proofs.Bounds.{some-satellites}
 use Rattle.scan_laws.proofs.Passing.{kindHere, is-line, good, step-of}
@@ -124,7 +124,7 @@ module _ (rules : Rules) where
   next-clean : (s s′ : State) (names l : List ℕ) → stepOf rules s names l ≡ verdict.Next s′
       → (recordFault (kindHere rules l) rules s names (padded l) ≡ 0) × (nextOf (kindHere rules l) rules s (padded l) ≡ verdict.Next s′)
   next-clean s s′ names l e =
-      let g = good rules s names l nothing nothing (λ _. front.File nothing) (ap (λ (v : Verdict). onVerdict v nothing (λ _. front.File nothing)) e) in
+      let g = good rules s names l nothingSeen nothingSeen (λ _. front.File nothingSeen) (ap (λ (v : Verdict). onVerdict v nothingSeen (λ _. front.File nothingSeen)) e) in
       let is = is-line rules (kindHere rules l) l (g .printed) (g .short) refl in
       (g .clean, sym (step-of rules (kindHere rules l) s names l is (g .here) (g .clean)) ∙ e)
 

@@ -19,7 +19,7 @@ use Rattle.machine.specs.declared.types.Verdict.{Verdict}
 use Rattle.machine.specs.declared.types.Verdict.the-variants as verdict
 use Rattle.scan.specs.declared.Tally.{Tally}
 use Rattle.scan.specs.declared.Front.the-variants as front
-use Rattle.scan.specs.Run.{nothing, oneMore, counted, run, scanOf}
+use Rattle.scan.specs.Run.{nothingSeen, oneMore, counted, run, scanOf}
 
 -- a file took up the lines `used` of those that the run was given
 pub record Taken (rules : Rules) (s : State) (names : List ℕ) (t : Tally) (ls : List (List ℕ)) (t′ : Tally) : Type 0 where
@@ -108,7 +108,7 @@ pub record AcceptedFront (rules : Rules) (bytes : List ℕ) (t : Tally) : Type 0
   pub within : t .end ≤ length bytes
   pub rest : List (List ℕ)
   pub split : linesOf bytes ≡ frontLines bytes t ++ rest
-  pub alone : (more : List (List ℕ)) → run rules startState noNames nothing (frontLines bytes t ++ more) ≡ front.File t
+  pub alone : (more : List (List ℕ)) → run rules startState noNames nothingSeen (frontLines bytes t ++ more) ≡ front.File t
   pub joined : take (t .end) bytes ≡ joinLines (frontLines bytes t)
   pub end : t .end ≡ bytesIn (frontLines bytes t)
   pub lines : t .lines ≡ length (frontLines bytes t)
@@ -121,7 +121,7 @@ pub record AcceptedFront (rules : Rules) (bytes : List ℕ) (t : Tally) : Type 0
 -- What an accepted file at the front of some bytes is.
 pub accepted-front : (rules : Rules) (bytes : List ℕ) (t : Tally) → scanOf rules bytes ≡ front.File t → AcceptedFront rules bytes t
 accepted-front rules bytes t e =
-    let u = taken rules (linesOf bytes) startState noNames nothing t e in
+    let u = taken rules (linesOf bytes) startState noNames nothingSeen t e in
     let p = parted (u .used) bytes (u .rest) (u .split) in
     let n : t .end ≡ length (joinLines (u .used)) = omega (arith, u .end, bytes-in (u .used)) in
     let joined : take (t .end) bytes ≡ joinLines (u .used) = ap (λ (k : ℕ). take k bytes) n ∙ p .front in

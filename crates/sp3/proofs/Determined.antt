@@ -20,7 +20,7 @@ use Rattle.sp3.proofs.lists.sp3_place_of.Reads as sp3-place-of
 use Rattle.sp3.proofs.lists.sp3_clock_of.Reads as sp3-clock-of
 use Rattle.sp3.proofs.lists.sp3_exponent_of.Reads as sp3-exponent-of
 use Rattle.sp3.proofs.lists.sp3_flag_of.Reads as sp3-flag-of
-use Rattle.sp3.proofs.walking.sp3_first_place.Reads as sp3-first-place
+use Rattle.sp3.proofs.walking.sp3_first_spot.Reads as sp3-first-spot
 use Rattle.sp3.proofs.walking.sp3_read_line.Reads as sp3-read-line
 use Rattle.sp3.proofs.walking.sp3_next_line.Reads as sp3-next-line
 use Rattle.sp3.proofs.walking.sp3_after_lines.Reads as sp3-after-lines
@@ -87,8 +87,8 @@ sp3-exponent-of-determined κs a r r′ s s′ p q = p ∙ sym q
 pub sp3-flag-of-determined : (κs : _) (a : _) (r r′ : _) (s s′ : _) → sp3-flag-of.Post κs a r s → sp3-flag-of.Post κs a r′ s′ → r ≡ r′
 sp3-flag-of-determined κs a r r′ s s′ p q = p ∙ sym q
 
-pub sp3-first-place-determined : (κs : _) (a : _) (r r′ : _) (s s′ : _) → sp3-first-place.Post κs a r s → sp3-first-place.Post κs a r′ s′ → r ≡ r′
-sp3-first-place-determined κs a r r′ s s′ p q = p ∙ sym q
+pub sp3-first-spot-determined : (κs : _) (a : _) (r r′ : _) (s s′ : _) → sp3-first-spot.Post κs a r s → sp3-first-spot.Post κs a r′ s′ → r ≡ r′
+sp3-first-spot-determined κs a r r′ s s′ p q = p ∙ sym q
 
 pub sp3-read-line-determined : (κs : _) (a : _) (r r′ : _) (s s′ : _) → sp3-read-line.Post κs a r s → sp3-read-line.Post κs a r′ s′
     → (r ≡ r′) × (now (s .1 .1 .0) ≡ now (s′ .1 .1 .0))

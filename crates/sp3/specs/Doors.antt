@@ -20,7 +20,7 @@ use Rattle.machine.specs.declared.types.LineRead.{LineRead}
 use Rattle.machine.specs.declared.types.LineRead.the-variants as found
 use Rattle.float_row.specs.Floats.{absentRow}
 use Rattle.float_row.specs.declared.FloatRow.{FloatRow}
-use Rattle.line_walk.specs.declared.Place.{Place as Between}
+use Rattle.line_walk.specs.declared.Spot.{Spot}
 use Rattle.row_walk.specs.declared.types.RowWalk.{RowWalk}
 use Rattle.row_walk.specs.declared.types.RowStep.{RowStep}
 use Rattle.row_walk.specs.declared.types.RowStep.the-variants as step
@@ -95,11 +95,11 @@ flagDoor flag.Set = flagParts 0 true
 flagDoor flag.NotSet = flagParts 0 false
 flagDoor flag.NotThere = flagParts 13 false
 
--- what a line does at a place: a line that is refused leaves the place, and the line that ends the file leaves the state
-abbrev pub lineParts : ℕ → ℕ → Bool → Between → LineAnswer
+-- what a line does at a spot: a line that is refused leaves the spot, and the line that ends the file leaves the state
+abbrev pub lineParts : ℕ → ℕ → Bool → Spot → LineAnswer
 lineParts number column ends next = record { refusal = number; column = column; finished = ends; next = next }
 
-unfoldable pub lineDoor : Between → LineRead → LineAnswer
+unfoldable pub lineDoor : Spot → LineRead → LineAnswer
 lineDoor p found.NoLine = lineParts 1 0 false p
 lineDoor p (found.Fault number column) = lineParts number column false p
 lineDoor p (found.Next at s) = lineParts 0 0 false (record { at = at; state = s })

@@ -5,7 +5,7 @@ ghost use Rattle.header.specs.Header.{headerOf};
 ghost use Rattle.calendar.specs.Clock.{clockOf};
 ghost use Rattle.calendar.specs.Gregorian.{toldDate, dateAnswer, toldNamed, civilAnswer};
 ghost use Rattle.reader.specs.Reading.{fileOf};
-ghost use Rattle.questions.specs.Questions.{identifierNamed, commentAnswer, satelliteAnswer, rowPlace};
+ghost use Rattle.questions.specs.Questions.{identifierNamed, commentAnswer, satelliteAnswer, rowBegins};
 ghost use Rattle.float_row.specs.Floats.{rowAnswer};
 ghost use Rattle.sp3.specs.Doors.{dateDoor, momentDoor};
 use crate::types::DateAnswer;
@@ -48,7 +48,7 @@ pub extern "C" fn sp3_satellite_of(file: &[u8], identifier: u64) -> SatelliteAns
 // The row of an epoch and a satellite of a file, as floats.
 #[no_mangle]
 pub extern "C" fn sp3_row(file: &[u8], epoch: u64, satellite: u64) -> RowAnswer
-    ensures result { λ r. ⌜ r ≡ rowAnswer (now (file .entry)) (rowPlace d (now (file .entry)) (fileOf d (now (file .entry))) epoch satellite) ⌝ }
+    ensures result { λ r. ⌜ r ≡ rowAnswer (now (file .entry)) (rowBegins d (now (file .entry)) (fileOf d (now (file .entry))) epoch satellite) ⌝ }
 {
     float_row::row(file, epoch, satellite)
 }

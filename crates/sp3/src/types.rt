@@ -3,7 +3,7 @@ use float_row::FloatRow;
 use header::Bases;
 use header::Moment;
 use header::Texts;
-use line_walk::Place;
+use line_walk::Spot;
 use row_walk::RowWalk;
 
 // What a date names: the refusal (0 or 7), MJD in days, GPS week, seconds of week in whole s; 0 beside a refusal.
@@ -74,13 +74,13 @@ pub struct StoredFlag {
 }
 
 // What a line does: the refusal (0, 1 where no complete line is left, 2 to 10) and its column (0 for none), whether the line ends the file, and the
-// place after the line; where the line is refused the place before it, where it ends the file the state before it.
+// spot after the line; where the line is refused the spot before it, where it ends the file the state before it.
 #[repr(C)]
 pub struct LineAnswer {
     pub refusal: usize,
     pub column: usize,
     pub finished: bool,
-    pub next: Place,
+    pub next: Spot,
 }
 
 // The next row of a walk: the refusal and its line, whether the file is at its end, epoch and satellite counted from 0, the row, and the walk

@@ -2,9 +2,9 @@
 ghost use mathlib.Core.Path.{_≡_};
 ghost use lib.ListN.{length};
 ghost use Rattle.header.specs.Rules.{d};
-ghost use Rattle.machine.specs.Step.{lineAt, lineRead, lineNames};
+ghost use Rattle.machine.specs.Step.{lineKnown, lineRead, lineNames};
 ghost use Rattle.reader.specs.Reading.{fileOf, judged};
-ghost use Rattle.line_walk.specs.Places.{firstPlace, placesAfter, identifiersAfter};
+ghost use Rattle.line_walk.specs.Spots.{firstSpot, spotsAfter, identifiersPast};
 ghost use Rattle.row_walk.specs.Begin.{begunAs, namesBegun};
 ghost use Rattle.row_walk.specs.Rows.{firstWalk, rowStep};
 ghost use Rattle.sp3.specs.Doors.{lineParts, lineDoor, noRow, rowFound, rowDoor};
@@ -12,7 +12,7 @@ use crate::types::LineAnswer;
 use crate::types::RowStepAnswer;
 use float_row::FloatRow;
 use header::Rules;
-use line_walk::Place;
+use line_walk::Spot;
 use machine::LineRead;
 use reader::Reading;
 use row_walk::RowStep;
@@ -20,14 +20,14 @@ use row_walk::RowWalk;
 
 // Before the first line of a file.
 #[no_mangle]
-pub extern "C" fn sp3_first_place() -> Place
-    ensures result { λ r. ⌜ r ≡ firstPlace ⌝ }
+pub extern "C" fn sp3_first_spot() -> Spot
+    ensures result { λ r. ⌜ r ≡ firstSpot ⌝ }
 {
-    line_walk::first_place()
+    line_walk::first_spot()
 }
 
 // The parts of what a line does.
-fn line_parts(refusal: usize, column: usize, finished: bool, next: Place) -> LineAnswer
+fn line_parts(refusal: usize, column: usize, finished: bool, next: Spot) -> LineAnswer
     ensures { λ r. ⌜ r ≡ lineParts refusal column finished next ⌝ }
 {
     LineAnswer {
@@ -38,52 +38,52 @@ fn line_parts(refusal: usize, column: usize, finished: bool, next: Place) -> Lin
     }
 }
 
-// What a line was found to do at a place, for C.
-fn line_answer(found: LineRead, place: Place) -> LineAnswer
-    ensures { λ r. ⌜ r ≡ lineDoor place found ⌝ }
+// What a line was found to do at a spot, for C.
+fn line_answer(found: LineRead, spot: Spot) -> LineAnswer
+    ensures { λ r. ⌜ r ≡ lineDoor spot found ⌝ }
 {
-    let before = place.state;
+    let before = spot.state;
     match found {
-        LineRead::NoLine => line_parts(1, 0, false, place),
-        LineRead::Fault { number, column } => line_parts(number, column, false, place),
-        LineRead::Next { at, state } => line_parts(0, 0, false, Place { at, state }),
-        LineRead::Finished { at } => line_parts(0, 0, true, Place { at, state: before }),
+        LineRead::NoLine => line_parts(1, 0, false, spot),
+        LineRead::Fault { number, column } => line_parts(number, column, false, spot),
+        LineRead::Next { at, state } => line_parts(0, 0, false, Spot { at, state }),
+        LineRead::Finished { at } => line_parts(0, 0, true, Spot { at, state: before }),
     }
 }
 
-// The plain line reader: what the line at a place does. A `+ ` line leaves its identifiers in `names`; 12 where they are more than fit.
+// The plain line reader: what the line at a spot does. A `+ ` line leaves its identifiers in `names`; 12 where they are more than fit.
 #[no_mangle]
-pub extern "C" fn sp3_read_line(bytes: &[u8], place: Place, names: &mut [u64]) -> LineAnswer
-    ensures result { λ r. ⌜ r ≡ lineDoor place (lineRead d (now (bytes .entry)) (place .at) (place .state) (now (names .entry))) ⌝ }
-    ensures lent { λ _. ⌜ now (names .exit) ≡ lineNames d (now (bytes .entry)) (place .at) (place .state) (now (names .entry)) ⌝ }
+pub extern "C" fn sp3_read_line(bytes: &[u8], spot: Spot, names: &mut [u64]) -> LineAnswer
+    ensures result { λ r. ⌜ r ≡ lineDoor spot (lineRead d (now (bytes .entry)) (spot .at) (spot .state) (now (names .entry))) ⌝ }
+    ensures lent { λ _. ⌜ now (names .exit) ≡ lineNames d (now (bytes .entry)) (spot .at) (spot .state) (now (names .entry)) ⌝ }
 {
-    let at = place.at;
-    let state = place.state;
+    let at = spot.at;
+    let state = spot.state;
     let found = machine::read_line(Rules::d(), bytes, at, state, names);
-    line_answer(found, place)
+    line_answer(found, spot)
 }
 
 // The same where the identifiers of the header are known.
 #[no_mangle]
-pub extern "C" fn sp3_next_line<'a>(file: &'a [u8], names: &'a [u64], place: Place) -> LineAnswer
-    ensures result { λ r. ⌜ r ≡ lineDoor place (lineAt d (now (file .entry)) (place .at) (place .state) (now (names .entry))) ⌝ }
+pub extern "C" fn sp3_next_line<'a>(file: &'a [u8], names: &'a [u64], spot: Spot) -> LineAnswer
+    ensures result { λ r. ⌜ r ≡ lineDoor spot (lineKnown d (now (file .entry)) (spot .at) (spot .state) (now (names .entry))) ⌝ }
 {
-    let found = row_walk::read_known(file, names, place);
-    line_answer(found, place)
+    let found = row_walk::read_known(file, names, spot);
+    line_answer(found, spot)
 }
 
-// A walk: the place so many lines further. A `+ ` line leaves its identifiers in `names`.
+// A walk: the spot so many lines further. A `+ ` line leaves its identifiers in `names`.
 #[no_mangle]
 pub extern "C" fn sp3_after_lines(
     file: &[u8],
     names: &mut [u64],
-    place: Place,
+    spot: Spot,
     lines: usize,
-) -> Place
-    ensures result { λ r. ⌜ r ≡ placesAfter d (now (file .entry)) (now (names .entry)) place lines ⌝ }
-    ensures lent { λ _. ⌜ now (names .exit) ≡ identifiersAfter d (now (file .entry)) (now (names .entry)) place lines ⌝ }
+) -> Spot
+    ensures result { λ r. ⌜ r ≡ spotsAfter d (now (file .entry)) (now (names .entry)) spot lines ⌝ }
+    ensures lent { λ _. ⌜ now (names .exit) ≡ identifiersPast d (now (file .entry)) (now (names .entry)) spot lines ⌝ }
 {
-    line_walk::after_lines(file, place, lines, names)
+    line_walk::after_lines(file, spot, lines, names)
 }
 
 // Before a walk over rows: the file judged, the identifiers of its header left in `identifiers`.

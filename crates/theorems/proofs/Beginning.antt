@@ -28,8 +28,8 @@ use Rattle.scan.specs.declared.Front.the-variants as front
 abbrev pub begun : List ℕ → ℕ → Reading
 begun bytes room = begunAs (judged d bytes (fileOf d bytes)) room
 
-abbrev pub namesAfter : List ℕ → List ℕ → List ℕ
-namesAfter bytes old = namesBegun (judged d bytes (fileOf d bytes)) bytes old
+abbrev pub begunList : List ℕ → List ℕ → List ℕ
+begunList bytes old = namesBegun (judged d bytes (fileOf d bytes)) bytes old
 
 module _ (bytes : List ℕ) (t : Tally) (accepted : fileOf d bytes ≡ front.File t) where
   lines-are : linesTo (t .end) bytes ≡ linesOf bytes
@@ -46,31 +46,31 @@ module _ (bytes : List ℕ) (t : Tally) (accepted : fileOf d bytes ≡ front.Fil
     unfolding begunAs judged
     begin-accepts room = rw (accepted, lines-are, le-leb (header bytes .satellites) (length old) room)
 
-    names-laid : header bytes .satellites ≤ length old → namesAfter bytes old ≡ over (identifiersOf d (linesOf bytes)) old
+    names-laid : header bytes .satellites ≤ length old → begunList bytes old ≡ over (identifiersOf d (linesOf bytes)) old
     unfolding namesBegun judged headerIn
     names-laid room = rw (accepted, lines-are, le-leb (header bytes .satellites) (length old) room)
 
     -- the list begins with its identifiers,
-    pub begin-identifies : header bytes .satellites ≤ length old → Identified bytes (namesAfter bytes old)
+    pub begin-identifies : header bytes .satellites ≤ length old → Identified bytes (begunList bytes old)
     begin-identifies room =
         ap (take (header bytes .satellites)) (names-laid room)
         ∙ take-at (identifiersOf d (linesOf bytes)) (drop (length (identifiersOf d (linesOf bytes))) old) (header bytes .satellites) names-many
 
     -- and the places past them are as they were.
-    pub begin-keeps-rest : header bytes .satellites ≤ length old → drop (header bytes .satellites) (namesAfter bytes old) ≡ drop (header bytes .satellites) old
+    pub begin-keeps-rest : header bytes .satellites ≤ length old → drop (header bytes .satellites) (begunList bytes old) ≡ drop (header bytes .satellites) old
     begin-keeps-rest room =
         ap (drop (header bytes .satellites)) (names-laid room)
         ∙ drop-at (identifiersOf d (linesOf bytes)) (drop (length (identifiersOf d (linesOf bytes))) old) (header bytes .satellites) names-many
         ∙ ap (λ (n : ℕ). drop n old) names-many
 
     -- With less room it is 12, line 0, and the list is as it was.
-    pub begin-short : length old < header bytes .satellites → (begun bytes (length old) ≡ refusedWith 12 0) × (namesAfter bytes old ≡ old)
+    pub begin-short : length old < header bytes .satellites → (begun bytes (length old) ≡ refusedWith 12 0) × (begunList bytes old ≡ old)
     unfolding begunAs namesBegun judged
     begin-short short = let no-room = lt-leb (header bytes .satellites) (length old) short in (rw (accepted, lines-are, no-room), rw (accepted, lines-are, no-room))
 
 -- A file that is refused: its own number and line, and the list is as it was.
 pub begin-refused : (bytes : List ℕ) (number line column : ℕ) → fileOf d bytes ≡ front.Refused number line column → (old : List ℕ)
-    → (begun bytes (length old) ≡ refusedWith number line) × (namesAfter bytes old ≡ old)
+    → (begun bytes (length old) ≡ refusedWith number line) × (begunList bytes old ≡ old)
 unfolding begunAs namesBegun judged
 begin-refused bytes number line column e old =
     let some = found-numbered true bytes number line column e in

@@ -15,12 +15,12 @@ use Rattle.calendar.specs.Fraction.{agrees}
 use Rattle.field.specs.Read.{signNumber, digitsFrom, numberOf as readNumber, minusFirst, signedOf, integerOf, decimalOf}
 use Rattle.header.specs.Rules.{d, slotLines}
 use Rattle.header.specs.Header.{isMoment, instantOf}
-use Rattle.layout.specs.Fault.{numberOf}
+use Rattle.layout.specs.Fault.{keyNumber}
 use Rattle.layout.specs.Kind.{Held, unless, faultIn, heldIn, negativeIn, magnitudeIn}
 use Rattle.layout.specs.Kind.Kind.{signed}
 use Rattle.lines.specs.Lines.{linesOf}
 use Rattle.machine.specs.Checks.{instantIn, secondAgrees}
-use Rattle.scan.specs.Run.{run, wholeOf}
+use Rattle.scan.specs.Run.{run, wholeFront}
 use Rattle.reader.specs.Reading.{judged, fileOf}
 use Rattle.header.specs.declared.types.Moment.{Moment}
 use Rattle.record.specs.declared.types.Second.{Second}
@@ -44,7 +44,7 @@ abbrev pub heldAnswer : Held → List ℕ
 heldAnswer v = 0 ∷ signNumber (negativeIn v) ∷ magnitudeIn v ∷ []
 
 abbrev pub fieldAnswer : List ℕ → List ℕ
-fieldAnswer s = cond (eqb (faultIn (signed 6) 5 s) 0) (heldAnswer (heldIn (signed 6) s)) (numberOf (faultIn (signed 6) 5 s) ∷ [])
+fieldAnswer s = cond (eqb (faultIn (signed 6) 5 s) 0) (heldAnswer (heldIn (signed 6) s)) (keyNumber (faultIn (signed 6) 5 s) ∷ [])
 
 -- line 2 of a file that starts at 2013-04-03 00:00:01, right but for its fraction of day, and the number that it earns
 abbrev pub start : Moment
@@ -55,7 +55,7 @@ second fraction =
     record { fault = 0; week = 1734; seconds8 = 259_201 * secondUnits; interval8 = 900 * secondUnits; mjd = 56385; fraction13 = fraction }
 
 abbrev pub fractionAnswer : ℕ → ℕ
-fractionAnswer fraction = numberOf (unless (secondAgrees (instantIn start) (second fraction)) 8 0)
+fractionAnswer fraction = keyNumber (unless (secondAgrees (instantIn start) (second fraction)) 8 0)
 
 -- the refusal and its line
 abbrev pub refusalOf : Reading → List ℕ
@@ -80,5 +80,5 @@ cases =
 
 -- THE TWELVE CASES: in each what is found is what the paper says.
 pub twelve-cases : (length cases ≡ 12) × (map (λ (c : Case). c .found) cases ≡ map (λ (c : Case). c .paper) cases)
-unfolding cases dateAnswer isDate isDay leap monthLength mjdOf daysOfYears yearLength daysBefore dayAnswer decimalOf integerOf signedOf minusFirst readNumber digitsFrom slotLines secondAgrees agrees instantIn isMoment isTime instantOf timeOf judged wholeOf run linesOf
+unfolding cases dateAnswer isDate isDay leap monthLength mjdOf daysOfYears yearLength daysBefore dayAnswer decimalOf integerOf signedOf minusFirst readNumber digitsFrom slotLines secondAgrees agrees instantIn isMoment isTime instantOf timeOf judged wholeFront run linesOf
 twelve-cases = (refl, refl)

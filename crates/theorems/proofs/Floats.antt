@@ -24,7 +24,7 @@ use Rattle.file.specs.Table.{headerIn}
 use Rattle.file.proofs.Finding.{line-at-place}
 use Rattle.scan.specs.Run.{IsFile}
 use Rattle.reader.specs.Reading.{fileOf}
-use Rattle.questions.specs.Questions.{rowPlace}
+use Rattle.questions.specs.Questions.{rowBegins}
 use Rattle.float_row.specs.Floats.{floatUnless, floatRow, absentRow, rowAnswer}
 use Rattle.scan_laws.proofs.Files.{whole-taken}
 use Rattle.file.proofs.Exact.{stored-exact}
@@ -132,7 +132,7 @@ clock-nan row e = rw e refl
 
 -- the row question: a row of a file, by epoch and satellite
 abbrev pub asked : List ℕ → ℕ → ℕ → RowAnswer
-asked bytes k j = rowAnswer bytes (rowPlace d bytes (fileOf d bytes) k j)
+asked bytes k j = rowAnswer bytes (rowBegins d bytes (fileOf d bytes) k j)
 
 abbrev pub rowFound : FloatRow → RowAnswer
 rowFound row = record { refusal = 0; line = 0; row = row }
@@ -143,7 +143,7 @@ rowRefused number line = record { refusal = number; line = line; row = absentRow
 -- In an accepted file the row of epoch k and satellite j is that of P line k * n + j, in mode V too.
 pub row-asked : (bytes : List ℕ) → IsFile d bytes → (k j : ℕ) → There bytes k j
     → asked bytes k j ≡ rowFound (floatRow (rowOf false (nth (rowAt bytes k j) (rowsOf false bytes))))
-unfolding rowAnswer rowPlace headerIn
+unfolding rowAnswer rowBegins headerIn
 row-asked bytes (t, e) k j there =
     let some : ltb k (header bytes .epochs) ≡ true = lt-ltb k (header bytes .epochs) (there .epoch) in
     let one : ltb j (header bytes .satellites) ≡ true = lt-ltb j (header bytes .satellites) (there .satellite) in
@@ -151,7 +151,7 @@ row-asked bytes (t, e) k j there =
 
 -- An epoch or a satellite that the file does not have: 13, line 0, and both absent.
 pub row-not-there : (bytes : List ℕ) → IsFile d bytes → (k j : ℕ) → (There bytes k j → ⊥) → asked bytes k j ≡ rowRefused 13 0
-unfolding rowAnswer rowPlace headerIn
+unfolding rowAnswer rowBegins headerIn
 row-not-there bytes (t, e) k j missing = go (ltb k (header bytes .epochs)) (ltb j (header bytes .satellites)) refl refl
   where
     go : (a b : Bool) → ltb k (header bytes .epochs) ≡ a → ltb j (header bytes .satellites) ≡ b → asked bytes k j ≡ rowRefused 13 0
@@ -163,7 +163,7 @@ row-not-there bytes (t, e) k j missing = go (ltb k (header bytes .epochs)) (ltb 
 -- A file that is refused: its own number and line come first, and both are absent.
 pub row-refused : (bytes : List ℕ) (number line column : ℕ) → fileOf d bytes ≡ front.Refused number line column
     → (k j : ℕ) → asked bytes k j ≡ rowRefused number line
-unfolding rowAnswer rowPlace
+unfolding rowAnswer rowBegins
 row-refused bytes number line column e k j =
     let some = found-numbered true bytes number line column e in
     let apart : eqb number 0 ≡ false = ne-eqb number 0 (λ zero. omega arith) in

@@ -28,7 +28,7 @@ use Rattle.lines.specs.Lines.{linesOf, select}
 use Rattle.file.specs.Plain.{Accepted}
 use Rattle.file.specs.Table.{rowLines, rowsIn}
 use Rattle.machine.specs.State.{noNames}
-use Rattle.machine.specs.Step.{lineAt, lineRead, lineNames, Overfull}
+use Rattle.machine.specs.Step.{lineKnown, lineRead, lineNames, Overfull}
 use Rattle.machine.specs.declared.types.State.{State}
 use Rattle.machine.specs.declared.types.LineRead.the-variants as found
 use Rattle.scan.specs.Run.{IsFile, Going, atFirst}
@@ -42,7 +42,7 @@ use Rattle.writer.specs.Writing.{outAfter}
 use Rattle.canon_laws.proofs.Rewriting as rewriting
 use Rattle.canon_laws.specs.Held.{Holds, rewritten as formOf}
 use Rattle.divide.specs.Dividing.{Divides, sum, division, divideOf, lengthsAfter}
-use Rattle.line_walk.specs.Places.{firstPlace}
+use Rattle.line_walk.specs.Spots.{firstSpot}
 use Rattle.file_laws.proofs.Exact.{exactSigned}
 use Rattle.file_laws.proofs.Notes.{SameTable}
 use Rattle.file_laws.proofs.Rule.{absentIn}
@@ -78,7 +78,7 @@ use Rattle.line_walk.proofs.moved as moved
 use Rattle.theorems.proofs.WalkedRows as walked
 use Rattle.theorems.proofs.WalkedRows.{Identified, walkStep}
 use Rattle.theorems.proofs.Beginning as beginning
-use Rattle.theorems.proofs.Beginning.{begun, namesAfter}
+use Rattle.theorems.proofs.Beginning.{begun, begunList}
 use Rattle.theorems.proofs.Exist as exist
 use Rattle.theorems.proofs.Cases as cases
 use Rattle.theorems.proofs.Cases.{Case}
@@ -108,7 +108,7 @@ pub use Rattle.line_walk.proofs.Determined.{new-determined, next-determined, mo
 pub use Rattle.row_walk.proofs.Determined.{begin-determined, next-row-determined}
 -- The doors for C promise the same definitions under their own names, and leave nothing open either. A place or clock that a door does not mark absent is
 -- there; beside the mark stands a number that no field of a file can hold.
-pub use Rattle.sp3.proofs.Determined.{sp3-judge-determined, sp3-judge-front-determined, sp3-read-determined, sp3-read-front-determined, sp3-write-determined, sp3-form-length-determined, sp3-divide-determined, sp3-comment-determined, sp3-identifier-determined, sp3-satellite-of-determined, sp3-row-determined, sp3-date-determined, sp3-moment-determined, sp3-header-determined, sp3-place-of-determined, sp3-clock-of-determined, sp3-exponent-of-determined, sp3-flag-of-determined, sp3-first-place-determined, sp3-read-line-determined, sp3-next-line-determined, sp3-after-lines-determined, sp3-begin-determined, sp3-first-row-determined, sp3-next-row-determined}
+pub use Rattle.sp3.proofs.Determined.{sp3-judge-determined, sp3-judge-front-determined, sp3-read-determined, sp3-read-front-determined, sp3-write-determined, sp3-form-length-determined, sp3-divide-determined, sp3-comment-determined, sp3-identifier-determined, sp3-satellite-of-determined, sp3-row-determined, sp3-date-determined, sp3-moment-determined, sp3-header-determined, sp3-place-of-determined, sp3-clock-of-determined, sp3-exponent-of-determined, sp3-flag-of-determined, sp3-first-spot-determined, sp3-read-line-determined, sp3-next-line-determined, sp3-after-lines-determined, sp3-begin-determined, sp3-first-row-determined, sp3-next-row-determined}
 pub use Rattle.sp3.proofs.Marks.{place-unmarked, place-marked, clock-unmarked, clock-marked, no-field, no-row}
 
 -- DEMAND 1. Bytes of every kind and length, every table, room of every size are answered, since no public function asks anything of its caller. A
@@ -125,11 +125,11 @@ writing-keeps t out refused = writing.refusal-keeps-out t out refused
 
 -- The beginning of a walk that is refused, by the file's own refusal or by 12, leaves the identifiers as they were.
 pub beginning-keeps : (bytes : List ℕ) (number line column : ℕ) → fileOf d bytes ≡ front.Refused number line column → (old : List ℕ)
-    → (begun bytes (length old) ≡ refusedWith number line) × (namesAfter bytes old ≡ old)
+    → (begun bytes (length old) ≡ refusedWith number line) × (begunList bytes old ≡ old)
 beginning-keeps bytes number line column refused old = beginning.begin-refused bytes number line column refused old
 
 pub beginning-short : (bytes : List ℕ) (t : Tally) → fileOf d bytes ≡ front.File t → (old : List ℕ) → length old < header bytes .satellites
-    → (begun bytes (length old) ≡ refusedWith 12 0) × (namesAfter bytes old ≡ old)
+    → (begun bytes (length old) ≡ refusedWith 12 0) × (begunList bytes old ≡ old)
 beginning-short bytes t accepted old short = beginning.begin-short bytes t accepted old short
 
 -- A division without room writes no length.
@@ -236,7 +236,7 @@ line-twelve bytes at s names = lent-list.twelve-exactly d bytes at s names
 pub line-twelve-keeps : (bytes : List ℕ) (at : ℕ) (s : State) (names : List ℕ) → Overfull d bytes at s names → lineNames d bytes at s names ≡ names
 line-twelve-keeps bytes at s names o = lent-list.twelve-keeps d bytes at s names o
 
-pub line-room : (bytes : List ℕ) (at : ℕ) (s : State) (names : List ℕ) → (Overfull d bytes at s names → ⊥) → lineRead d bytes at s names ≡ lineAt d bytes at s names
+pub line-room : (bytes : List ℕ) (at : ℕ) (s : State) (names : List ℕ) → (Overfull d bytes at s names → ⊥) → lineRead d bytes at s names ≡ lineKnown d bytes at s names
 line-room bytes at s names none = lent-list.room-enough d bytes at s names none
 
 pub judge-room : (bytes : List ℕ) (k : ℕ) → AllGoOn bytes k → k ≤ length (linesOf bytes)
@@ -261,7 +261,7 @@ pub walker-short : (bytes : List ℕ) (g : Going) → Overfull d bytes (g .at) (
 walker-short bytes g o k = walks.short-stays d bytes g o k
 
 -- By the promises of `new` and `moved`: k moves after a new walker at the first line it is where the judge's run is,
-pub walker-walks : (file : RefT (List ℕ)) (from : Walker) → Begins file firstPlace from → (k : ℕ) (w : Walker) (names : List ℕ) → After from noNames k w names
+pub walker-walks : (file : RefT (List ℕ)) (from : Walker) → Begins file firstSpot from → (k : ℕ) (w : Walker) (names : List ℕ) → After from noNames k w names
     → AllGoOn (now file) k → k ≤ length (linesOf (now file)) → goingAt (w .place) names ≡ after (now file) k
 walker-walks file from begins k w names steps goes h = walks.walker-walks file from begins k w names steps goes h
 

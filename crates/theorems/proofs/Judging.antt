@@ -16,7 +16,7 @@ use Rattle.header.specs.Rules.{d}
 use Rattle.lines.specs.Lines.{linesOf, joinLines, nth}
 use Rattle.file.specs.Plain.{Accepted}
 use Rattle.machine.specs.Step.{stepOf, lineRead}
-use Rattle.scan.specs.Run.{wholeOf, IsFile, Going, atFirst}
+use Rattle.scan.specs.Run.{wholeFront, IsFile, Going, atFirst}
 use Rattle.reader.specs.Reading.{linesTo, frontOf, fileOf, linesIn, judged, enough, delivered, filled}
 use Rattle.scan_laws.proofs.Files.{d-sound, d-exactly}
 use Rattle.scan_laws.proofs.Local as local
@@ -132,7 +132,7 @@ refused-numbers bytes number line column e = refusal-numbered d bytes number lin
 pub whole-refused : (bytes : List ℕ) (number line column : ℕ) → fileOf d bytes ≡ front.Refused number line column
     → (frontOf d bytes ≡ front.Refused number line column)
     ⊎ ((t : Tally) × (frontOf d bytes ≡ front.File t) × (t .end < length bytes) × (number ≡ 11) × (line ≡ t .lines + 1))
-unfolding wholeOf
+unfolding wholeFront
 whole-refused bytes number line column e = go (frontOf d bytes) refl
   where
     go : (f : Front) → frontOf d bytes ≡ f

@@ -13,7 +13,7 @@ use Rattle.header.specs.Rules.{d}
 use Rattle.layout.specs.Line.{padded}
 use Rattle.lines.specs.Lines.{linesOf}
 use Rattle.machine.specs.State.{hasRoom}
-use Rattle.machine.specs.Step.{stepOf, ifRoom, stepWithin, readAs, readFirst, namesFirst, lineAt, lineRead, lineNames, Overfull}
+use Rattle.machine.specs.Step.{stepOf, ifRoom, stepWithin, readAs, readFirst, namesFirst, lineKnown, lineRead, lineNames, Overfull}
 use Rattle.machine.proofs.Stepping.{kept-within}
 use Rattle.scan_laws.proofs.Files.{d-sound}
 use Rattle.scan_laws.proofs.Numbered.{step-numbered}
@@ -84,7 +84,7 @@ module _ (rules : Rules) (bytes : List ℕ) (at : ℕ) (s : State) (names : List
   twelve-exactly = (only-twelve, twelve-there)
 
   -- at any other line the room makes no difference.
-  pub room-enough : (Overfull rules bytes at s names → ⊥) → lineRead rules bytes at s names ≡ lineAt rules bytes at s names
+  pub room-enough : (Overfull rules bytes at s names → ⊥) → lineRead rules bytes at s names ≡ lineKnown rules bytes at s names
   unfolding readFirst stepWithin
   room-enough none = go (linesOf (drop at bytes)) refl
     where

@@ -17,7 +17,7 @@ use Rattle.file.specs.Table.{headerIn}
 use Rattle.scan.specs.Run.{IsFile}
 use Rattle.reader.specs.Reading.{fileOf, linesTo, readAnswer, identifiersAfter, exponentsAfter, commentsAfter, rowsAfter}
 use Rattle.scan_laws.proofs.Files.{d-exactly, file-plain, whole-taken}
-use Rattle.canon.specs.Table.{Table, tableOf, commentWidth, cellWidth, cellsIn, namesOf, exponentsOf, commentsOf, rowsOf}
+use Rattle.canon.specs.Table.{Table, tableOf, commentWidth, cellWidth, cellsIn, tableIdentifiers, exponentsOf, commentsOf, rowsOf}
 use Rattle.canon.specs.Valid.{valid}
 use Rattle.canon.specs.Canonical.{canonical}
 use Rattle.canon.specs.Measured.{measured}
@@ -88,7 +88,7 @@ module _ (t : Table) (out : List ℕ) (success : measured d t (length out) .refu
         ∙ ap length (written-form t out success)
         ∙ sym (written-length t out success)
 
-    pub identifiers-back : identifiersAfter d writtenBytes (fileOf d writtenBytes) identifiers exponents comments rows ≡ over (namesOf t) identifiers
+    pub identifiers-back : identifiersAfter d writtenBytes (fileOf d writtenBytes) identifiers exponents comments rows ≡ over (tableIdentifiers t) identifiers
     identifiers-back =
         identifiers-filled writtenBytes written-accepted identifiers exponents comments rows read
         ∙ ap (λ (s : List ℕ). over s identifiers) (written-holds .identifiers-are)

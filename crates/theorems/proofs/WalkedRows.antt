@@ -18,7 +18,7 @@ use Rattle.lines.specs.Lines.{linesOf, select, nth}
 use Rattle.record.specs.LineKinds.{toldKind, kindOf}
 use Rattle.record.specs.Rows.{rowOf}
 use Rattle.file.specs.Kinds.{isKind, ofKind}
-use Rattle.machine.specs.Faults.{longest, placeFault}
+use Rattle.machine.specs.Faults.{longest, standingFault}
 use Rattle.machine.specs.Next.{nextOf}
 use Rattle.machine.specs.Step.{onKey, judgedLine, printedLine, stepOf, readFirst}
 use Rattle.float_row.specs.Floats.{floatRow, lineFrom}
@@ -35,8 +35,8 @@ use Rattle.theorems.proofs.Judging.{after}
 use Rattle.theorems.proofs.Known.{Knows, known-steps}
 use Rattle.theorems.proofs.Reading.{header, rowsOf, rowAt, There, rows-number}
 use Rattle.theorems.proofs.Floats.{asked, row-asked}
-use Rattle.theorems.proofs.Walks.{placeOf}
-use Rattle.line_walk.specs.Places.{firstPlace}
+use Rattle.theorems.proofs.Walks.{spotOf}
+use Rattle.line_walk.specs.Spots.{firstSpot}
 use Rattle.row_walk.specs.Rows.{firstWalk, toRow, epochOf, satelliteOf, shown, stepAt, stepFrom, rowStep}
 use Rattle.row_walk.proofs.Going.{passed}
 use Rattle.divide.proofs.Ending.{ends-or-on}
@@ -48,7 +48,7 @@ use Rattle.float_row.specs.declared.FloatRow.{FloatRow}
 use Rattle.float_row.specs.declared.RowAnswer.{RowAnswer}
 use Rattle.scan.specs.declared.Tally.{Tally}
 use Rattle.scan.specs.declared.Front.the-variants as front
-use Rattle.line_walk.specs.declared.Place.{Place}
+use Rattle.line_walk.specs.declared.Spot.{Spot}
 use Rattle.row_walk.specs.declared.types.RowWalk.{RowWalk}
 use Rattle.row_walk.specs.declared.types.RowStep.{RowStep}
 use Rattle.row_walk.specs.declared.types.RowStep.the-variants as step
@@ -75,7 +75,7 @@ unfolding stepOf printedLine judgedLine onKey
 last-no-row s names l e =
     let k = kindOf d (padded l) in
     last-kind k s (padded l)
-    (past-test (eqb (placeFault k d s names (padded l)) 0) _ _ _
+    (past-test (eqb (standingFault k d s names (padded l)) 0) _ _ _
     (past-test (leb (length l) (longest d k)) _ _ _ (past-test (every isPrintable l) _ _ _ e)))
 
 -- the rows that follow, one after another: a step at a row leads to the next
@@ -100,33 +100,33 @@ module _ (bytes names : List ℕ) where
   stepsFrom w (suc i) = onRow (rowStep d bytes names w) (λ next. stepsFrom next i)
 
   module _ (n : ℕ) where
-    abbrev behind : Place → List ℕ → State → Place
+    abbrev behind : Spot → List ℕ → State → Spot
     behind p l s = record { at = p .at + length l + 1; state = s }
 
     -- each of the lines goes on with these identifiers, up to the one that ends the file, which is the last; where a P line stands there are n satellites
-    unfoldable pub Ahead : Place → List (List ℕ) → Type 0
+    unfoldable pub Ahead : Spot → List (List ℕ) → Type 0
     Ahead p [] = ⊥
     Ahead p (l ∷ ls) =
         ((stepOf d (p .state) names l ≡ verdict.Finished) × (ls ≡ []))
         ⊎ ((s : State) × (stepOf d (p .state) names l ≡ verdict.Next s) × (isKind d 10 l ≡ true → p .state .satellites ≡ n) × Ahead (behind p l s) ls)
 
     -- what a walk to the next row finds
-    record Row (q : Place) (l : List ℕ) (more rows : List (List ℕ)) : Type 0 where
+    record Row (q : Spot) (l : List ℕ) (more rows : List (List ℕ)) : Type 0 where
       state : State
       goes : stepOf d (q .state) names l ≡ verdict.Next state
       many : q .state .satellites ≡ n
       rows-are : rows ≡ l ∷ ofKind d 10 more
       ahead : Ahead (behind q l state) more
 
-    record Found (p : Place) (ls : List (List ℕ)) : Type 0 where
-      q : Place
+    record Found (p : Spot) (ls : List (List ℕ)) : Type 0 where
+      q : Spot
       l : List ℕ
       more : List (List ℕ)
       is : toRow d names p ls ≡ q
       here : linesOf (drop (q .at) bytes) ≡ l ∷ more
       what : Row q l more (ofKind d 10 ls) ⊎ ((stepOf d (q .state) names l ≡ verdict.Finished) × (ofKind d 10 ls ≡ []))
 
-    found : (ls : List (List ℕ)) (p : Place) → Ahead p ls → linesOf (drop (p .at) bytes) ≡ ls → Found p ls
+    found : (ls : List (List ℕ)) (p : Spot) → Ahead p ls → linesOf (drop (p .at) bytes) ≡ ls → Found p ls
     unfolding Ahead toRow select
     found [] p ahead here = absurd ahead
     found (l ∷ ls) p ahead here = go (isKind d 10 l) refl ahead (found ls)
@@ -134,7 +134,7 @@ module _ (bytes names : List ℕ) where
         go : (b : Bool) → isKind d 10 l ≡ b
             → ((stepOf d (p .state) names l ≡ verdict.Finished) × (ls ≡ []))
             ⊎ ((s : State) × (stepOf d (p .state) names l ≡ verdict.Next s) × (isKind d 10 l ≡ true → p .state .satellites ≡ n) × Ahead (behind p l s) ls)
-            → ((p′ : Place) → Ahead p′ ls → linesOf (drop (p′ .at) bytes) ≡ ls → Found p′ ls)
+            → ((p′ : Spot) → Ahead p′ ls → linesOf (drop (p′ .at) bytes) ≡ ls → Found p′ ls)
             → Found p (l ∷ ls)
         go true is (inl (last, none)) later = absurd (false≢true (sym (last-no-row (p .state) names l last) ∙ is))
         go true is (inr (s, goes, many, more)) later = record {
@@ -157,8 +157,8 @@ module _ (bytes names : List ℕ) where
               what = rw is (f .what);
             }
 
-    -- the line at a place, as it is read
-    line-here : (q : Place) (l : List ℕ) (more : List (List ℕ)) → linesOf (drop (q .at) bytes) ≡ l ∷ more → lineFrom (q .at) bytes ≡ l
+    -- the line at a spot, as it is read
+    line-here : (q : Spot) (l : List ℕ) (more : List (List ℕ)) → linesOf (drop (q .at) bytes) ≡ l ∷ more → lineFrom (q .at) bytes ≡ l
     unfolding nth
     line-here q l more e = rw e
 
@@ -166,29 +166,29 @@ module _ (bytes names : List ℕ) where
     record Taken (passed-so : ℕ) (rows : List (List ℕ)) (w : RowWalk) : Type 0 where
       l : List ℕ
       others : List (List ℕ)
-      next : Place
+      next : Spot
       rows-are : rows ≡ l ∷ ofKind d 10 others
-      gives : rowStep d bytes names w ≡ shown (epochOf passed-so n) (satelliteOf passed-so n) (floatRow (rowOf false l)) (record { place = next; passed = passed-so + 1 })
+      gives : rowStep d bytes names w ≡ shown (epochOf passed-so n) (satelliteOf passed-so n) (floatRow (rowOf false l)) (record { spot = next; passed = passed-so + 1 })
       ahead : Ahead next others
       here : linesOf (drop (next .at) bytes) ≡ others
 
-    module _ (p : Place) (ls : List (List ℕ)) (r : ℕ) (ahead : Ahead p ls) (here : linesOf (drop (p .at) bytes) ≡ ls) where
+    module _ (p : Spot) (ls : List (List ℕ)) (r : ℕ) (ahead : Ahead p ls) (here : linesOf (drop (p .at) bytes) ≡ ls) where
       abbrev at-row : RowWalk
-      at-row = record { place = p; passed = r }
+      at-row = record { spot = p; passed = r }
 
-      to-there : (q : Place) → toRow d names p ls ≡ q → rowStep d bytes names at-row ≡ stepFrom d bytes names r q
+      to-there : (q : Spot) → toRow d names p ls ≡ q → rowStep d bytes names at-row ≡ stepFrom d bytes names r q
       to-there q is = ap (stepFrom d bytes names r) (ap (toRow d names p) here ∙ is)
 
-      row-step : (q : Place) (l : List ℕ) (more : List (List ℕ)) (s : State) → linesOf (drop (q .at) bytes) ≡ l ∷ more → stepOf d (q .state) names l ≡ verdict.Next s
+      row-step : (q : Spot) (l : List ℕ) (more : List (List ℕ)) (s : State) → linesOf (drop (q .at) bytes) ≡ l ∷ more → stepOf d (q .state) names l ≡ verdict.Next s
           → q .state .satellites ≡ n → r + 1 < 2 ^ 64
-          → stepFrom d bytes names r q ≡ shown (epochOf r n) (satelliteOf r n) (floatRow (rowOf false l)) (record { place = behind q l s; passed = r + 1 })
+          → stepFrom d bytes names r q ≡ shown (epochOf r n) (satelliteOf r n) (floatRow (rowOf false l)) (record { spot = behind q l s; passed = r + 1 })
       unfolding stepFrom stepAt readFirst
       row-step q l more s e goes many small =
           let fits : (r + 1) % 2 ^ 64 ≡ r + 1 = mod-eq-of-lt small in
-          let next : RowWalk = record { place = behind q l s; passed = r + 1 } in
+          let next : RowWalk = record { spot = behind q l s; passed = r + 1 } in
           rw (e, goes, many, fits) (ap (λ (x : List ℕ). shown (epochOf r n) (satelliteOf r n) (floatRow (rowOf false x)) next) (line-here q l more e))
 
-      end-step : (q : Place) (l : List ℕ) (more : List (List ℕ)) → linesOf (drop (q .at) bytes) ≡ l ∷ more → stepOf d (q .state) names l ≡ verdict.Finished
+      end-step : (q : Spot) (l : List ℕ) (more : List (List ℕ)) → linesOf (drop (q .at) bytes) ≡ l ∷ more → stepOf d (q .state) names l ≡ verdict.Finished
           → stepFrom d bytes names r q ≡ step.End
       unfolding stepFrom stepAt readFirst
       end-step q l more e last = rw (e, last)
@@ -220,41 +220,41 @@ module _ (bytes names : List ℕ) where
       end : i ≡ length rows → stepsFrom w i ≡ step.End
 
     -- the first of them
-    gives-first : (p : Place) (r : ℕ) (rows : List (List ℕ))
-        → Taken r rows (record { place = p; passed = r }) ⊎ ((rows ≡ []) × (rowStep d bytes names (record { place = p; passed = r }) ≡ step.End))
-        → Gives (record { place = p; passed = r }) r 0 rows
+    gives-first : (p : Spot) (r : ℕ) (rows : List (List ℕ))
+        → Taken r rows (record { spot = p; passed = r }) ⊎ ((rows ≡ []) × (rowStep d bytes names (record { spot = p; passed = r }) ≡ step.End))
+        → Gives (record { spot = p; passed = r }) r 0 rows
     unfolding stepsFrom nth
     gives-first p r rows (inl x) = record {
-      row = λ some. (record { place = x .next; passed = r + 1 }, rw (x .rows-are, add-zero r) (x .gives));
+      row = λ some. (record { spot = x .next; passed = r + 1 }, rw (x .rows-are, add-zero r) (x .gives));
       end = λ none. absurd (omega (arith, ap length (x .rows-are)));
     }
     gives-first p r rows (inr (none, end)) = record { row = λ some. absurd (omega (arith, ap length none)); end = λ all. end }
 
     -- a later one
-    gives-later : (i : ℕ) (p next : Place) (r : ℕ) (l : List ℕ) (others : List (List ℕ))
-        → rowStep d bytes names (record { place = p; passed = r })
-        ≡ shown (epochOf r n) (satelliteOf r n) (floatRow (rowOf false l)) (record { place = next; passed = r + 1 })
-        → Gives (record { place = next; passed = r + 1 }) (r + 1) i others → Gives (record { place = p; passed = r }) r (suc i) (l ∷ others)
+    gives-later : (i : ℕ) (p next : Spot) (r : ℕ) (l : List ℕ) (others : List (List ℕ))
+        → rowStep d bytes names (record { spot = p; passed = r })
+        ≡ shown (epochOf r n) (satelliteOf r n) (floatRow (rowOf false l)) (record { spot = next; passed = r + 1 })
+        → Gives (record { spot = next; passed = r + 1 }) (r + 1) i others → Gives (record { spot = p; passed = r }) r (suc i) (l ∷ others)
     unfolding stepsFrom nth
     gives-later i p next r l others first more =
-        let leads : stepsFrom (record { place = p; passed = r }) (suc i) ≡ stepsFrom (record { place = next; passed = r + 1 }) i =
+        let leads : stepsFrom (record { spot = p; passed = r }) (suc i) ≡ stepsFrom (record { spot = next; passed = r + 1 }) i =
         ap (λ (x : RowStep). onRow x (λ (w : RowWalk). stepsFrom w i)) first
-        ∙ row-leads (epochOf r n) (satelliteOf r n) (floatRow (rowOf false l)) (record { place = next; passed = r + 1 }) (λ w. stepsFrom w i) in
+        ∙ row-leads (epochOf r n) (satelliteOf r n) (floatRow (rowOf false l)) (record { spot = next; passed = r + 1 }) (λ w. stepsFrom w i) in
         let sum : r + 1 + i ≡ r + suc i = omega arith in
         record {
           row = λ some. let x = more .row (le-of-suc-le-suc some) in (x .0, leads ∙ rw (← sum) (x .1));
           end = λ all. leads ∙ more .end (omega arith);
         }
 
-    gives : (i : ℕ) (p : Place) (ls : List (List ℕ)) (r : ℕ) → Ahead p ls → linesOf (drop (p .at) bytes) ≡ ls → r + length (ofKind d 10 ls) + 1 < 2 ^ 64
-        → Gives (record { place = p; passed = r }) r i (ofKind d 10 ls)
+    gives : (i : ℕ) (p : Spot) (ls : List (List ℕ)) (r : ℕ) → Ahead p ls → linesOf (drop (p .at) bytes) ≡ ls → r + length (ofKind d 10 ls) + 1 < 2 ^ 64
+        → Gives (record { spot = p; passed = r }) r i (ofKind d 10 ls)
     gives zero p ls r ahead here small = gives-first p r (ofKind d 10 ls) (next-row p ls r ahead here (omega arith))
     gives (suc i) p ls r ahead here small = by (next-row p ls r ahead here (omega arith)) (gives i)
       where
-        by : Taken r (ofKind d 10 ls) (record { place = p; passed = r }) ⊎ ((ofKind d 10 ls ≡ []) × (rowStep d bytes names (record { place = p; passed = r }) ≡ step.End))
-            → ((p′ : Place) (ls′ : List (List ℕ)) (r′ : ℕ) → Ahead p′ ls′ → linesOf (drop (p′ .at) bytes) ≡ ls′ → r′ + length (ofKind d 10 ls′) + 1 < 2 ^ 64
-            → Gives (record { place = p′; passed = r′ }) r′ i (ofKind d 10 ls′))
-            → Gives (record { place = p; passed = r }) r (suc i) (ofKind d 10 ls)
+        by : Taken r (ofKind d 10 ls) (record { spot = p; passed = r }) ⊎ ((ofKind d 10 ls ≡ []) × (rowStep d bytes names (record { spot = p; passed = r }) ≡ step.End))
+            → ((p′ : Spot) (ls′ : List (List ℕ)) (r′ : ℕ) → Ahead p′ ls′ → linesOf (drop (p′ .at) bytes) ≡ ls′ → r′ + length (ofKind d 10 ls′) + 1 < 2 ^ 64
+            → Gives (record { spot = p′; passed = r′ }) r′ i (ofKind d 10 ls′))
+            → Gives (record { spot = p; passed = r }) r (suc i) (ofKind d 10 ls)
         by (inl x) more =
             rw (x .rows-are)
             (gives-later i p (x .next) r (x .l) (ofKind d 10 (x .others)) (x .gives)
@@ -299,7 +299,7 @@ module _ (bytes : List ℕ) (t : Tally) (accepted : fileOf d bytes ≡ front.Fil
       (both .0, λ row. both .1 row ∙ ap (countOf d) lines-all)
 
   -- from behind each line but the last
-  ahead : (m k : ℕ) → k + m ≡ t .lines - 1 → Ahead bytes names n (placeOf (after bytes k)) (drop k lines)
+  ahead : (m k : ℕ) → k + m ≡ t .lines - 1 → Ahead bytes names n (spotOf (after bytes k)) (drop k lines)
   unfolding Ahead
   ahead zero k e =
       let some : k < t .lines = omega (arith, ends .lines) in
@@ -312,10 +312,10 @@ module _ (bytes : List ℕ) (t : Tally) (accepted : fileOf d bytes ≡ front.Fil
       let some : k < t .lines = omega arith in
       let below : k < length lines = omega (arith, lines-many) in
       let on = ends .goes k (omega arith) in
-      let next : placeOf (after bytes (suc k)) ≡ record { at = after bytes k .at + length (nth k lines) + 1; state = on .0 } =
-      ap placeOf (behind-next d k lines atFirst below ∙ stepped-on d (after bytes k) (nth k lines) (on .0) (on .1)) in
+      let next : spotOf (after bytes (suc k)) ≡ record { at = after bytes k .at + length (nth k lines) + 1; state = on .0 } =
+      ap spotOf (behind-next d k lines atFirst below ∙ stepped-on d (after bytes k) (nth k lines) (on .0) (on .1)) in
       rw (next-line k lines below)
-      (inr (on .0, same k some .0 ∙ on .1, same k some .1, subst (λ (p : Place). Ahead bytes names n p (drop (suc k) lines)) next (ahead m (suc k) (omega arith))))
+      (inr (on .0, same k some .0 ∙ on .1, same k some .1, subst (λ (p : Spot). Ahead bytes names n p (drop (suc k) lines)) next (ahead m (suc k) (omega arith))))
 
   rows-many : length (rowsOf false bytes) ≡ header bytes .satellites * header bytes .epochs
   rows-many = rows-number bytes (t, accepted)
@@ -333,7 +333,7 @@ module _ (bytes : List ℕ) (t : Tally) (accepted : fileOf d bytes ≡ front.Fil
   unfolding steppedOver
   given i =
       let first : 0 + (t .lines - 1) ≡ t .lines - 1 = omega arith in
-      gives bytes names n i firstPlace lines 0 (ahead (t .lines - 1) 0 first) refl (omega (arith, few))
+      gives bytes names n i firstSpot lines 0 (ahead (t .lines - 1) 0 first) refl (omega (arith, few))
 
   -- the answer of step i of a walk from the first line on
   abbrev pub walkStep : ℕ → RowStep
@@ -365,7 +365,7 @@ module _ (bytes : List ℕ) (t : Tally) (accepted : fileOf d bytes ≡ front.Fil
   pub walk-ends : walkStep (header bytes .satellites * header bytes .epochs) ≡ step.End
   walk-ends = given (header bytes .satellites * header bytes .epochs) .end (sym rows-many)
 
-  -- ABSENCE IS A CASE: a row comes as absent exactly when its place is marked so, that is when its three fields are zero, whatever its clock.
+  -- ABSENCE IS A CASE: a row comes as absent exactly when its spot is marked so, that is when its three fields are zero, whatever its clock.
   module _ (k j : ℕ) (there : There bytes k j) where
     pub walk-absent : asked bytes k j .row .«place_absent» ≡ true
         → (next : RowWalk) × (walkStep (rowAt bytes k j) ≡ step.Absent k j (asked bytes k j .row) next)

@@ -1,4 +1,4 @@
--- The front page for the walker: after k steps the place, the state and the identifiers are those of the first k lines, for every k and any bytes; so
+-- The front page for the walker: after k steps the spot, the state and the identifiers are those of the first k lines, for every k and any bytes; so
 -- they are those of the judge's own run, as long as its lines go on.
 -- Assumes nothing.
 use mathlib.Core.Path.{_≡_, refl, sym, ap, ap₂, _∙_}
@@ -17,7 +17,7 @@ use Rattle.machine.proofs.Stepping.{kept-within}
 use Rattle.file.specs.Plain.{Sound}
 use Rattle.scan.specs.Run.{Going, stepped, steppedOver, atFirst}
 use Rattle.reader.specs.Reading.{frontOf}
-use Rattle.line_walk.specs.Places.{firstPlace, placeAfter, placesAfter, identifiersAfter}
+use Rattle.line_walk.specs.Spots.{firstSpot, spotAfter, spotsAfter, identifiersPast}
 use Rattle.line_walk.proofs.Promised.{Begins, Moves}
 use Rattle.scan_laws.proofs.Files.{d-sound}
 use Rattle.scan_laws.proofs.Refused.{EndsAfter, accepted-steps}
@@ -31,15 +31,15 @@ use Rattle.machine.specs.declared.types.Verdict.{Verdict}
 use Rattle.machine.specs.declared.types.Verdict.the-variants as verdict
 use Rattle.scan.specs.declared.Tally.{Tally}
 use Rattle.scan.specs.declared.Front.the-variants as front
-use Rattle.line_walk.specs.declared.Place.{Place}
+use Rattle.line_walk.specs.declared.Spot.{Spot}
 use Rattle.line_walk.specs.declared.Walker.{Walker}
 
 -- where one is, without the identifiers
-abbrev pub placeOf : Going → Place
-placeOf g = record { at = g .at; state = g .state }
+abbrev pub spotOf : Going → Spot
+spotOf g = record { at = g .at; state = g .state }
 
 -- and with them
-abbrev pub goingAt : Place → List ℕ → Going
+abbrev pub goingAt : Spot → List ℕ → Going
 goingAt p names = record { at = p .at; state = p .state; names = names }
 
 -- what the line reader makes of a line
@@ -63,7 +63,7 @@ overLines rules g (l ∷ ls) = onFrom (read rules g l) g (λ s. overLines rules 
 
 -- where the walker is after k steps
 abbrev pub walkedFrom : Rules → List ℕ → Going → ℕ → Going
-walkedFrom rules bytes g k = goingAt (placesAfter rules bytes (g .names) (placeOf g) k) (identifiersAfter rules bytes (g .names) (placeOf g) k)
+walkedFrom rules bytes g k = goingAt (spotsAfter rules bytes (g .names) (spotOf g) k) (identifiersPast rules bytes (g .names) (spotOf g) k)
 
 no-fault : (m c : ℕ) (s : State) → verdict.Fault m c ≡ verdict.Next s → ⊥
 no-fault m c s x = let z : _≡_ {A = ℕ} 0 1 = cc in absurd (omega arith)
@@ -89,31 +89,31 @@ module _ (rules : Rules) (bytes : List ℕ) where
 
   -- one step: where the line leads
   record Leads (g h : Going) : Type 0 where
-    place : placeAfter rules bytes (g .names) (placeOf g) ≡ placeOf h
+    spot : spotAfter rules bytes (g .names) (spotOf g) ≡ spotOf h
     names : lineNames rules bytes (g .at) (g .state) (g .names) ≡ h .names
 
   leads-on : (g h : Going) (k : ℕ) → Leads g h → walkedFrom rules bytes g (suc k) ≡ walkedFrom rules bytes h k
-  unfolding placesAfter identifiersAfter
+  unfolding spotsAfter identifiersPast
   leads-on g h k to =
-      ap₂ (λ (p : Place) (ns : List ℕ). goingAt (placesAfter rules bytes ns p k) (identifiersAfter rules bytes ns p k)) (to .place) (to .names)
+      ap₂ (λ (p : Spot) (ns : List ℕ). goingAt (spotsAfter rules bytes ns p k) (identifiersPast rules bytes ns p k)) (to .spot) (to .names)
 
   module _ (g : Going) where
     none-leads : linesOf (drop (g .at) bytes) ≡ [] → Leads g g
-    unfolding placeAfter readFirst namesFirst
-    none-leads e = record { place = rw e; names = rw e }
+    unfolding spotAfter readFirst namesFirst
+    none-leads e = record { spot = rw e; names = rw e }
 
     module _ (l : List ℕ) (ls : List (List ℕ)) (e : linesOf (drop (g .at) bytes) ≡ l ∷ ls) where
       fault-leads : (m c : ℕ) → read rules g l ≡ verdict.Fault m c → Leads g g
-      unfolding placeAfter readFirst namesFirst
-      fault-leads m c v = record { place = rw (e, v); names = rw e (kept-within rules (g .state) (g .names) l (verdict.Fault m c) v) }
+      unfolding spotAfter readFirst namesFirst
+      fault-leads m c v = record { spot = rw (e, v); names = rw e (kept-within rules (g .state) (g .names) l (verdict.Fault m c) v) }
 
       end-leads : read rules g l ≡ verdict.Finished → Leads g g
-      unfolding placeAfter readFirst namesFirst
-      end-leads v = record { place = rw (e, v); names = rw e (kept-within rules (g .state) (g .names) l verdict.Finished v) }
+      unfolding spotAfter readFirst namesFirst
+      end-leads v = record { spot = rw (e, v); names = rw e (kept-within rules (g .state) (g .names) l verdict.Finished v) }
 
       next-leads : (s : State) → read rules g l ≡ verdict.Next s → Leads g (past rules g l s)
-      unfolding placeAfter readFirst namesFirst
-      next-leads s v = record { place = rw (e, v); names = rw e (kept-within rules (g .state) (g .names) l (verdict.Next s) v) }
+      unfolding spotAfter readFirst namesFirst
+      next-leads s v = record { spot = rw (e, v); names = rw e (kept-within rules (g .state) (g .names) l (verdict.Next s) v) }
 
   walks-more : (k : ℕ) → Walks k → Walks (suc k)
   unfolding overLines
@@ -144,10 +144,10 @@ module _ (rules : Rules) (bytes : List ℕ) where
               ∙ ap (λ (x : List (List ℕ)). overLines rules (past rules g l s) (take k x)) (lined bytes (g .at) l ls e .rest)
               ∙ rw v refl
 
-  -- AFTER K STEPS from any place, with any list lent, the place, the state and the identifiers are those of the first k lines from there, for every k
+  -- AFTER K STEPS from any spot, with any list lent, the spot, the state and the identifiers are those of the first k lines from there, for every k
   -- and any bytes.
   pub walks : (k : ℕ) → Walks k
-  unfolding placesAfter identifiersAfter overLines
+  unfolding spotsAfter identifiersPast overLines
   walks zero g = refl
   walks (suc k) g = walks-more k (walks k) g
 
@@ -180,7 +180,7 @@ module _ (bytes : List ℕ) where
   walked : (k m : ℕ) → GoOn d atFirst (linesOf bytes) k → k ≤ length (linesOf bytes) → walkedTo (k + m) ≡ overLines d (after bytes k) (take m (drop k (linesOf bytes)))
   walked k m goes h = walks d bytes (k + m) atFirst ∙ over-behind d d-sound k (linesOf bytes) atFirst m (ready-first d) goes h
 
-  -- STEPPING BY THE WALKER: after k steps over lines that go on, place, state and identifiers are those of the judge's run after the first k lines.
+  -- STEPPING BY THE WALKER: after k steps over lines that go on, spot, state and identifiers are those of the judge's run after the first k lines.
   pub walker-steps : (k : ℕ) → GoOn d atFirst (linesOf bytes) k → k ≤ length (linesOf bytes) → walkedTo k ≡ after bytes k
   unfolding overLines
   walker-steps k goes h = ap walkedTo (sym (add-zero k)) ∙ walked k 0 goes h
@@ -210,55 +210,55 @@ module _ (bytes : List ℕ) (t : Tally) (accepted : frontOf d bytes ≡ front.Fi
       ap (walkedTo bytes) sum ∙ walker-stays bytes last (λ i below. ends .goes i below) (ends .within) (λ s on. no-end s (sym (ends .last) ∙ on)) (k - last)
 
 -- one step more at the end
-last-step : (rules : Rules) (bytes : List ℕ) (k : ℕ) (names : List ℕ) (p : Place)
-    → let q = placesAfter rules bytes names p k in let kept = identifiersAfter rules bytes names p k in
-    (placeAfter rules bytes kept q ≡ placesAfter rules bytes names p (suc k))
-    × (lineNames rules bytes (q .at) (q .state) kept ≡ identifiersAfter rules bytes names p (suc k))
-unfolding placesAfter identifiersAfter
+last-step : (rules : Rules) (bytes : List ℕ) (k : ℕ) (names : List ℕ) (p : Spot)
+    → let q = spotsAfter rules bytes names p k in let kept = identifiersPast rules bytes names p k in
+    (spotAfter rules bytes kept q ≡ spotsAfter rules bytes names p (suc k))
+    × (lineNames rules bytes (q .at) (q .state) kept ≡ identifiersPast rules bytes names p (suc k))
+unfolding spotsAfter identifiersPast
 last-step rules bytes zero names p = (refl, refl)
-last-step rules bytes (suc k) names p = last-step rules bytes k (lineNames rules bytes (p .at) (p .state) names) (placeAfter rules bytes names p)
+last-step rules bytes (suc k) names p = last-step rules bytes k (lineNames rules bytes (p .at) (p .state) names) (spotAfter rules bytes names p)
 
 -- a walker and the names lent, so many moves after another
 pub data After (from : Walker) (first : List ℕ) : ℕ → Walker → List ℕ → Type 0 where
   none : After from first 0 from first
   more : {k : ℕ} {w v : Walker} {names kept : List ℕ} → After from first k w names → Moves w names v kept → After from first (suc k) v kept
 
--- BY THE PROMISES OF `new` AND `moved`: k moves after a walker, the file is the same, the place is k lines further and the names are theirs, for every k;
+-- BY THE PROMISES OF `new` AND `moved`: k moves after a walker, the file is the same, the spot is k lines further and the names are theirs, for every k;
 pub record Further (from : Walker) (first : List ℕ) (k : ℕ) (w : Walker) (names : List ℕ) : Type 0 where
   pub file : w .file ≡ from .file
-  pub place : w .place ≡ placesAfter d (now (from .file)) first (from .place) k
-  pub names-are : names ≡ identifiersAfter d (now (from .file)) first (from .place) k
+  pub spot : w .spot ≡ spotsAfter d (now (from .file)) first (from .spot) k
+  pub names-are : names ≡ identifiersPast d (now (from .file)) first (from .spot) k
 
 pub after-moves : (from : Walker) (first : List ℕ) {k : ℕ} {w : Walker} {names : List ℕ} → After from first k w names → Further from first k w names
-unfolding placesAfter identifiersAfter
-after-moves from first none = record { file = refl; place = refl; names-are = refl }
+unfolding spotsAfter identifiersPast
+after-moves from first none = record { file = refl; spot = refl; names-are = refl }
 after-moves from first (more {k} {w} {v} {names} {kept} steps move) =
     let so-far = after-moves from first steps in
     let bytes = now (from .file) in
-    let here : placeAfter d bytes names (w .place) ≡ placeAfter d bytes (identifiersAfter d bytes first (from .place) k) (placesAfter d bytes first (from .place) k) =
-    ap₂ (λ (ns : List ℕ) (p : Place). placeAfter d bytes ns p) (so-far .names-are) (so-far .place) in
-    let brought : lineNames d bytes (w .place .at) (w .place .state) names
-    ≡ lineNames d bytes (placesAfter d bytes first (from .place) k .at) (placesAfter d bytes first (from .place) k .state) (identifiersAfter d bytes first (from .place) k) =
-    ap₂ (λ (ns : List ℕ) (p : Place). lineNames d bytes (p .at) (p .state) ns) (so-far .names-are) (so-far .place) in
+    let here : spotAfter d bytes names (w .spot) ≡ spotAfter d bytes (identifiersPast d bytes first (from .spot) k) (spotsAfter d bytes first (from .spot) k) =
+    ap₂ (λ (ns : List ℕ) (p : Spot). spotAfter d bytes ns p) (so-far .names-are) (so-far .spot) in
+    let brought : lineNames d bytes (w .spot .at) (w .spot .state) names
+    ≡ lineNames d bytes (spotsAfter d bytes first (from .spot) k .at) (spotsAfter d bytes first (from .spot) k .state) (identifiersPast d bytes first (from .spot) k) =
+    ap₂ (λ (ns : List ℕ) (p : Spot). lineNames d bytes (p .at) (p .state) ns) (so-far .names-are) (so-far .spot) in
     record {
       file = move .file ∙ so-far .file;
-      place =
-          move .place
-          ∙ ap (λ (f : RefT (List ℕ)). placeAfter d (now f) names (w .place)) (so-far .file)
+      spot =
+          move .spot
+          ∙ ap (λ (f : RefT (List ℕ)). spotAfter d (now f) names (w .spot)) (so-far .file)
           ∙ here
-          ∙ last-step d bytes k first (from .place) .0;
+          ∙ last-step d bytes k first (from .spot) .0;
       names-are =
           move .names-are
-          ∙ ap (λ (f : RefT (List ℕ)). lineNames d (now f) (w .place .at) (w .place .state) names) (so-far .file)
+          ∙ ap (λ (f : RefT (List ℕ)). lineNames d (now f) (w .spot .at) (w .spot .state) names) (so-far .file)
           ∙ brought
-          ∙ last-step d bytes k first (from .place) .1;
+          ∙ last-step d bytes k first (from .spot) .1;
     }
 
 -- so from `new` at the first line of any bytes, over lines that go on, they are those of its first k lines.
-pub walker-walks : (file : RefT (List ℕ)) (from : Walker) → Begins file firstPlace from → (k : ℕ) (w : Walker) (names : List ℕ) → After from noNames k w names
-    → GoOn d atFirst (linesOf (now file)) k → k ≤ length (linesOf (now file)) → goingAt (w .place) names ≡ after (now file) k
+pub walker-walks : (file : RefT (List ℕ)) (from : Walker) → Begins file firstSpot from → (k : ℕ) (w : Walker) (names : List ℕ) → After from noNames k w names
+    → GoOn d atFirst (linesOf (now file)) k → k ≤ length (linesOf (now file)) → goingAt (w .spot) names ≡ after (now file) k
 walker-walks file from begins k w names steps goes h =
     let far = after-moves from noNames steps in
-    ap₂ goingAt (far .place) (far .names-are)
-    ∙ ap₂ (λ (f : RefT (List ℕ)) (p : Place). goingAt (placesAfter d (now f) noNames p k) (identifiersAfter d (now f) noNames p k)) (begins .file-is) (begins .place-is)
+    ap₂ goingAt (far .spot) (far .names-are)
+    ∙ ap₂ (λ (f : RefT (List ℕ)) (p : Spot). goingAt (spotsAfter d (now f) noNames p k) (identifiersPast d (now f) noNames p k)) (begins .file-is) (begins .spot-is)
     ∙ walker-steps (now file) k goes h

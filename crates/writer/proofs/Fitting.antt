@@ -13,7 +13,7 @@ use Rattle.canon.proofs.Parts.{parts}
 
 pub record Fitting (t : Table) : Type 0 where
   pub times : timesValid (t .header) ≡ true
-  pub names : t .header .satellites ≤ length (t .identifiers)
+  pub listed : t .header .satellites ≤ length (t .identifiers)
   pub exponents : t .header .satellites ≤ length (t .exponents)
   pub comments : t .header .comments * commentWidth ≤ length (t .comments)
   pub cells : cellsIn (t .header) ≤ length (t .rows)
@@ -24,7 +24,7 @@ valid-fits rules t e =
     let p = parts rules t e in
     record {
       times = p .header .times;
-      names = p .lists .named;
+      listed = p .lists .named;
       exponents = p .lists .weighed;
       comments = p .lists .said;
       cells = cells-fit (cellsIn (t .header)) (length (t .rows)) (t .header .velocity) (p .lists .placed);

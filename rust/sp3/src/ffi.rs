@@ -232,11 +232,11 @@ pub struct State {
     pub interval8: u64,
 }
 
-/// Between two lines: the byte at which the next line begins, and what must stand there. [`first_place`](crate::first_place) makes the
+/// Between two lines: the byte at which the next line begins, and what must stand there. [`first_spot`](crate::first_spot) makes the
 /// first one; the line readers lead on from it.
 #[repr(C)]
 #[derive(Clone, Copy, Debug, PartialEq, Eq, Hash)]
-pub struct Place {
+pub struct Spot {
     pub(crate) at: usize,
     pub(crate) state: State,
 }
@@ -246,7 +246,7 @@ pub struct LineAnswer {
     pub refusal: usize,
     pub column: usize,
     pub finished: bool,
-    pub next: Place,
+    pub next: Spot,
 }
 
 // ---- A file row by row ----
@@ -255,7 +255,7 @@ pub struct LineAnswer {
 #[repr(C)]
 #[derive(Clone, Copy, Debug, PartialEq, Eq, Hash)]
 pub struct RowWalk {
-    pub(crate) place: Place,
+    pub(crate) spot: Spot,
     pub(crate) passed: u64,
 }
 
@@ -345,11 +345,11 @@ unsafe extern "C" {
     pub fn sp3_row(file: *const u8, length: usize, epoch: u64, satellite: u64) -> RowAnswer;
     pub safe fn sp3_date(year: u64, month: u64, day: u64) -> DateAnswer;
     pub safe fn sp3_moment(instant8: u64) -> MomentAnswer;
-    pub safe fn sp3_first_place() -> Place;
+    pub safe fn sp3_first_spot() -> Spot;
     pub fn sp3_read_line(
         file: *const u8,
         length: usize,
-        place: Place,
+        spot: Spot,
         names: *mut u64,
         name_room: usize,
     ) -> LineAnswer;
@@ -358,16 +358,16 @@ unsafe extern "C" {
         length: usize,
         names: *const u64,
         name_count: usize,
-        place: Place,
+        spot: Spot,
     ) -> LineAnswer;
     pub fn sp3_after_lines(
         file: *const u8,
         length: usize,
         names: *mut u64,
         name_room: usize,
-        place: Place,
+        spot: Spot,
         lines: usize,
-    ) -> Place;
+    ) -> Spot;
     pub fn sp3_begin(
         file: *const u8,
         length: usize,

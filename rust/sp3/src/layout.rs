@@ -96,9 +96,9 @@ structs! {
     sp3_date_answer_t = DateAnswer { refusal mjd week seconds }
     sp3_moment_answer_t = MomentAnswer { refusal moment }
     sp3_state_t = State { due also lines left comments velocity satellites epochs at8 gap8 interval8 }
-    sp3_place_t = Place { at state }
+    sp3_spot_t = Spot { at state }
     sp3_line_answer_t = LineAnswer { refusal column finished next }
-    sp3_row_walk_t = RowWalk { place passed }
+    sp3_row_walk_t = RowWalk { spot passed }
     sp3_row_step_t = RowStep { refusal line end epoch satellite row next }
 }
 
@@ -155,7 +155,7 @@ functions! {
     sp3_row(_ _ _ _)
     sp3_date(_ _ _)
     sp3_moment(_)
-    sp3_first_place()
+    sp3_first_spot()
     sp3_read_line(_ _ _ _ _)
     sp3_next_line(_ _ _ _ _)
     sp3_after_lines(_ _ _ _ _ _)

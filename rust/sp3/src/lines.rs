@@ -2,9 +2,9 @@
 
 use crate::ffi;
 use crate::refusal::refused;
-use crate::{LineRefusal, Place};
+use crate::{LineRefusal, Spot};
 
-impl Place {
+impl Spot {
     /// The byte at which the next line begins.
     pub fn at(&self) -> usize {
         self.at
@@ -16,8 +16,8 @@ impl Place {
 pub struct Line {
     /// Whether the line is the file's EOF line.
     pub finished: bool,
-    /// The place after the line. After the EOF line only its byte counts: there the file ends.
-    pub next: Place,
+    /// The spot after the line. After the EOF line only its byte counts: there the file ends.
+    pub next: Spot,
 }
 
 impl ffi::LineAnswer {
@@ -30,16 +30,16 @@ impl ffi::LineAnswer {
     }
 }
 
-/// The place before the first line of a file.
+/// The spot before the first line of a file.
 ///
 /// ```
-/// assert_eq!(sp3::first_place().at(), 0);
+/// assert_eq!(sp3::first_spot().at(), 0);
 /// ```
-pub fn first_place() -> Place {
-    ffi::sp3_first_place()
+pub fn first_spot() -> Spot {
+    ffi::sp3_first_spot()
 }
 
-/// What the line at a place does. A `+ ` line without fault leaves its identifiers in `names` (255 places suffice), after those of the lines
+/// What the line at a spot does. A `+ ` line without fault leaves its identifiers in `names` (255 places suffice), after those of the lines
 /// before it; no other line changes `names`, which is lent to the next line as this one left it.
 ///
 /// Refused: 1 where no LF is left, 12 at the `+ ` line without fault that brings more identifiers than `names` has places for; `names` is then
@@ -48,7 +48,7 @@ pub fn first_place() -> Place {
 /// ```
 /// let file = include_bytes!("../../../samples/paper.sp3");
 /// let mut names = [0; 255];
-/// let mut line = sp3::read_line(file, sp3::first_place(), &mut names)?;
+/// let mut line = sp3::read_line(file, sp3::first_spot(), &mut names)?;
 /// assert_eq!(line.next.at(), 61);
 /// while !line.finished {
 ///     line = sp3::read_line(file, line.next, &mut names)?;
@@ -56,57 +56,57 @@ pub fn first_place() -> Place {
 /// assert_eq!(line.next.at(), file.len());
 /// assert_eq!(names[0], 7107);
 ///
-/// let refusal = sp3::read_line(b"#dP2013", sp3::first_place(), &mut names).unwrap_err();
+/// let refusal = sp3::read_line(b"#dP2013", sp3::first_spot(), &mut names).unwrap_err();
 /// assert_eq!(refusal.number, 1);
 ///
-/// let satellites = sp3::after_lines(file, &mut [], sp3::first_place(), 2);
+/// let satellites = sp3::after_lines(file, &mut [], sp3::first_spot(), 2);
 /// let refusal = sp3::read_line(file, satellites, &mut []).unwrap_err();
 /// assert_eq!(refusal, sp3::LineRefusal { number: 12, column: 0 });
 /// # Ok::<(), sp3::LineRefusal>(())
 /// ```
-pub fn read_line(file: &[u8], place: Place, names: &mut [u64]) -> Result<Line, LineRefusal> {
+pub fn read_line(file: &[u8], spot: Spot, names: &mut [u64]) -> Result<Line, LineRefusal> {
     // SAFETY: each pointer and its number are of one slice; the names are borrowed for this call alone.
     let answer = unsafe {
-        ffi::sp3_read_line(file.as_ptr(), file.len(), place, names.as_mut_ptr(), names.len())
+        ffi::sp3_read_line(file.as_ptr(), file.len(), spot, names.as_mut_ptr(), names.len())
     };
     answer.told()
 }
 
-/// What the line at a place does, where all identifiers of the header are known (as [`begin`](crate::begin) leaves them).
+/// What the line at a spot does, where all identifiers of the header are known (as [`begin`](crate::begin) leaves them).
 ///
 /// Refused: as [`read_line`], but never 12; 10 for a row of a satellite that `names` does not have here.
 ///
 /// ```
 /// let file = include_bytes!("../../../samples/paper.sp3");
-/// let row = sp3::after_lines(file, &mut [0; 255], sp3::first_place(), 23);
+/// let row = sp3::after_lines(file, &mut [0; 255], sp3::first_spot(), 23);
 /// assert!(file[row.at()..].starts_with(b"PG07"));
 /// assert!(sp3::next_line(file, &[7107], row).is_ok());
 /// assert_eq!(sp3::next_line(file, &[7108], row).unwrap_err().number, 10);
 /// ```
-pub fn next_line(file: &[u8], names: &[u64], place: Place) -> Result<Line, LineRefusal> {
+pub fn next_line(file: &[u8], names: &[u64], spot: Spot) -> Result<Line, LineRefusal> {
     // SAFETY: each pointer and its number are of one slice.
     let answer = unsafe {
-        ffi::sp3_next_line(file.as_ptr(), file.len(), names.as_ptr(), names.len(), place)
+        ffi::sp3_next_line(file.as_ptr(), file.len(), names.as_ptr(), names.len(), spot)
     };
     answer.told()
 }
 
-/// The place so many lines further, each line read as by [`read_line`]. Afterwards `names` (255 places suffice) holds the identifiers of the
-/// `+ ` lines that were passed; to go on from there lend it as it is. The place stays at a line that is refused, with 12 too, and at the EOF
+/// The spot so many lines further, each line read as by [`read_line`]. Afterwards `names` (255 places suffice) holds the identifiers of the
+/// `+ ` lines that were passed; to go on from there lend it as it is. The spot stays at a line that is refused, with 12 too, and at the EOF
 /// line.
 ///
 /// ```
 /// let file = include_bytes!("../../../samples/paper.sp3");
 /// let mut names = [0; 255];
-/// let end = sp3::after_lines(file, &mut names, sp3::first_place(), 1000);
+/// let end = sp3::after_lines(file, &mut names, sp3::first_spot(), 1000);
 /// assert_eq!(&file[end.at()..], b"EOF\n");
 /// assert_eq!(names[0], 7107);
 ///
-/// let satellites = sp3::after_lines(file, &mut [], sp3::first_place(), 1000);
+/// let satellites = sp3::after_lines(file, &mut [], sp3::first_spot(), 1000);
 /// assert!(file[satellites.at()..].starts_with(b"+    1   G07"));
 /// ```
-pub fn after_lines(file: &[u8], names: &mut [u64], place: Place, lines: usize) -> Place {
+pub fn after_lines(file: &[u8], names: &mut [u64], spot: Spot, lines: usize) -> Spot {
     let (list, room) = (names.as_mut_ptr(), names.len());
     // SAFETY: each pointer and its number are of one slice; the names are borrowed for this call alone.
-    unsafe { ffi::sp3_after_lines(file.as_ptr(), file.len(), list, room, place, lines) }
+    unsafe { ffi::sp3_after_lines(file.as_ptr(), file.len(), list, room, spot, lines) }
 }

@@ -62,7 +62,7 @@ impl Error for Refusal {}
 /// all other numbers.
 ///
 /// ```
-/// let refusal = sp3::read_line(b"#dQ\n", sp3::first_place(), &mut []).unwrap_err();
+/// let refusal = sp3::read_line(b"#dQ\n", sp3::first_spot(), &mut []).unwrap_err();
 /// assert_eq!(refusal.number, 6);
 /// assert_eq!(refusal.column, 3);
 /// ```

@@ -237,21 +237,21 @@ fn identifiers_and_their_texts() {
 fn lines_one_after_the_other() {
     let file = night().bytes();
     let mut names = [77_777; 4];
-    let mut place = sp3::first_place();
+    let mut spot = sp3::first_spot();
     for (k, text) in night().0.iter().enumerate() {
         let mut learnt = [77_777; 4];
-        assert_eq!(place, sp3::after_lines(&file, &mut learnt, sp3::first_place(), k));
+        assert_eq!(spot, sp3::after_lines(&file, &mut learnt, sp3::first_spot(), k));
         assert_eq!(learnt, names);
         assert_eq!(
-            sp3::next_line(&file, &[7107, 8224], place),
-            sp3::read_line(&file, place, &mut names)
+            sp3::next_line(&file, &[7107, 8224], spot),
+            sp3::read_line(&file, spot, &mut names)
         );
-        let line = sp3::read_line(&file, place, &mut names).unwrap();
-        assert_eq!(line.next.at(), place.at() + text.len() + 1);
+        let line = sp3::read_line(&file, spot, &mut names).unwrap();
+        assert_eq!(line.next.at(), spot.at() + text.len() + 1);
         assert_eq!(line.finished, text == b"EOF");
-        place = line.next;
+        spot = line.next;
     }
-    assert_eq!(place.at(), file.len());
+    assert_eq!(spot.at(), file.len());
     assert_eq!(names, [7107, 8224, 77_777, 77_777]);
 }
 
@@ -260,16 +260,16 @@ fn lines_one_after_the_other() {
 fn fewer_names_than_satellites() {
     let file = night().bytes();
     let mut names = [77_777; 1];
-    let mut place = sp3::first_place();
+    let mut spot = sp3::first_spot();
     for _ in 0..2 {
-        place = sp3::read_line(&file, place, &mut names).unwrap().next;
+        spot = sp3::read_line(&file, spot, &mut names).unwrap().next;
     }
     let refusal = sp3::LineRefusal { number: 12, column: 0 };
-    assert_eq!(sp3::read_line(&file, place, &mut names), Err(refusal));
-    assert_eq!(sp3::after_lines(&file, &mut names, sp3::first_place(), 99), place);
+    assert_eq!(sp3::read_line(&file, spot, &mut names), Err(refusal));
+    assert_eq!(sp3::after_lines(&file, &mut names, sp3::first_spot(), 99), spot);
     assert_eq!(names, [77_777]);
-    assert!(sp3::next_line(&file, &names, place).is_ok());
-    assert!(sp3::read_line(&file, place, &mut [0; 2]).is_ok());
+    assert!(sp3::next_line(&file, &names, spot).is_ok());
+    assert!(sp3::read_line(&file, spot, &mut [0; 2]).is_ok());
 }
 
 /// A walk in two parts, with one list, is the walk at once.
@@ -278,23 +278,23 @@ fn walks_in_two_parts() {
     let file = many(18).write().unwrap();
     for (room, end) in [(16, 2), (17, 3), (18, 41), (255, 41)] {
         let mut once = vec![77_777; room];
-        let place = sp3::after_lines(&file, &mut once, sp3::first_place(), end);
-        assert_eq!(sp3::after_lines(&file, &mut once, place, 1), place, "room for {room}");
+        let spot = sp3::after_lines(&file, &mut once, sp3::first_spot(), end);
+        assert_eq!(sp3::after_lines(&file, &mut once, spot, 1), spot, "room for {room}");
         for half in 0..=end {
             let mut twice = vec![77_777; room];
-            let middle = sp3::after_lines(&file, &mut twice, sp3::first_place(), half);
-            assert_eq!(sp3::after_lines(&file, &mut twice, middle, 99), place);
+            let middle = sp3::after_lines(&file, &mut twice, sp3::first_spot(), half);
+            assert_eq!(sp3::after_lines(&file, &mut twice, middle, 99), spot);
             assert_eq!(twice, once);
         }
     }
 }
 
-/// A place that was found in one file means nothing in another, and does no harm there.
+/// A spot that was found in one file means nothing in another, and does no harm there.
 #[test]
 fn places_of_another_file() {
-    let place = sp3::after_lines(&night().bytes(), &mut [0; 2], sp3::first_place(), 30);
-    assert_eq!(sp3::next_line(b"", &[], place).unwrap_err().number, 1);
-    assert_eq!(sp3::read_line(b"EOF\n", place, &mut []).unwrap_err().number, 1);
-    assert!(sp3::next_line(SAMPLE, &[7107], place).is_err());
-    assert_eq!(sp3::after_lines(b"\n\n", &mut [], place, 5), place);
+    let spot = sp3::after_lines(&night().bytes(), &mut [0; 2], sp3::first_spot(), 30);
+    assert_eq!(sp3::next_line(b"", &[], spot).unwrap_err().number, 1);
+    assert_eq!(sp3::read_line(b"EOF\n", spot, &mut []).unwrap_err().number, 1);
+    assert!(sp3::next_line(SAMPLE, &[7107], spot).is_err());
+    assert_eq!(sp3::after_lines(b"\n\n", &mut [], spot, 5), spot);
 }

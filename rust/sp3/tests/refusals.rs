@@ -228,7 +228,7 @@ fn empty_slices() {
     let empty = sp3::Division { files: Vec::new(), rest: 0, refusal: None };
     assert_eq!(sp3::divide_all(b""), empty);
     assert_eq!(sp3::next_row(b"", &[], sp3::first_row()), refused(1, 1));
-    assert_eq!(sp3::after_lines(b"", &mut [], sp3::first_place(), 9), sp3::first_place());
+    assert_eq!(sp3::after_lines(b"", &mut [], sp3::first_spot(), 9), sp3::first_spot());
 }
 
 #[test]
@@ -272,11 +272,11 @@ fn words_and_errors() {
     assert_eq!(refusal.to_string(), "refused 9 line 23: an epoch stands at the wrong instant");
     let boxed: Box<dyn std::error::Error> = Box::new(refusal);
     assert_eq!(boxed.to_string(), refusal.to_string());
-    let line = sp3::read_line(b"", sp3::first_place(), &mut []).unwrap_err();
+    let line = sp3::read_line(b"", sp3::first_spot(), &mut []).unwrap_err();
     let words = "refused 1 column 0: no line end is left before the file's EOF line is complete";
     assert_eq!(line.to_string(), words);
     let file = paper().put(24, 19, "       .500000").bytes();
-    let row = sp3::after_lines(&file, &mut [0], sp3::first_place(), 99);
+    let row = sp3::after_lines(&file, &mut [0], sp3::first_spot(), 99);
     let line = sp3::next_line(&file, &[7107], row).unwrap_err();
     assert_eq!(line, sp3::LineRefusal { number: 6, column: 19 }, "the y field of line 24");
     assert_eq!(sp3::words(255), "an unknown number");

@@ -1,4 +1,4 @@
--- `stretch::count_files` meets its contract. The loop's invariant and its turn are in `Cutting`.
+-- `divide::count_files` meets its contract. The loop's invariant and its turn are in `Cutting`.
 -- Assumes nothing.
 use mathlib.Core.Path.{_∙_}
 use Prim.Native.Nat.{_-_}

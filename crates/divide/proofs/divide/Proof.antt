@@ -1,4 +1,4 @@
--- `stretch::divide` meets its contract: what was counted is stored.
+-- `divide::divide` meets its contract: what was counted is stored.
 -- Assumes nothing.
 use mathlib.Core.Path.{_≡_, ap, _∙_}
 use borrow.Author.Needs.{needs}

@@ -1,4 +1,4 @@
--- `stretch::file_length` meets its contract: the file ends behind its first EOF line.
+-- `divide::file_length` meets its contract: the file ends behind its first EOF line.
 -- Assumes nothing.
 use mathlib.Core.Path.{_≡_, sym, ap, _∙_}
 use Prim.Native.Nat.{_+_}
@@ -16,7 +16,7 @@ found c =
     let start = c .before .before .before in
     let rules = start .args .rules in
     let bytes = start .args .bytes .now in
-    let there = c .before .place-of .ensures in
+    let there = c .before .line-begins .ensures in
     rw (c .line-end .ensures, there) (file-ends rules bytes (start .pre .0) (start .pre .1))
 
 add-result : tie.Need-add-result

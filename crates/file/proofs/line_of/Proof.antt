@@ -6,7 +6,7 @@ use native.Mathlib.Omega.{arith}
 use borrow.Author.Needs.{needs}
 use lib.ListN.{length, drop}
 use Rattle.laws.specs.Places.{byteOf}
-use Rattle.lines.specs.Lines.{linesOf, nth, placeFrom}
+use Rattle.lines.specs.Lines.{linesOf, nth, beginsFrom}
 use Rattle.file.specs.Kinds.{isKind}
 use Rattle.file.proofs.Finding.{line-at-place, line-within}
 use Rattle.file.proofs.line_of.Statement.{statement}
@@ -15,10 +15,10 @@ use Rattle.file.proofs.line_of.Tie as tie
 returns : tie.Need-returns
 returns c =
     let a = c .before .before .before .args in
-    let at = c .before .place-of .result in
-    let told = c .before .place-of .ensures in
+    let at = c .before .line-begins .result in
+    let told = c .before .line-begins .ensures in
     let test = isKind (a .rules) (a .kind) in
-    let here : min at (length (a .bytes .now)) ≡ placeFrom test (a .k) 0 (linesOf (a .bytes .now)) = omega (arith, told, line-within test (a .k) (a .bytes .now)) in (
+    let here : min at (length (a .bytes .now)) ≡ beginsFrom test (a .k) 0 (linesOf (a .bytes .now)) = omega (arith, told, line-within test (a .k) (a .bytes .now)) in (
       c .line-at .ensures .0
           ∙ ap (λ (n : ℕ). nth 0 (linesOf (drop n (a .bytes .now)))) told
           ∙ line-at-place test (a .k) (a .bytes .now),

@@ -1,4 +1,4 @@
--- `adjust::absent_row` meets its contract.
+-- `float_row::absent_row` meets its contract.
 -- Assumes nothing.
 use borrow.Author.Needs.{needs}
 use Rattle.float_row.proofs.absent_row.Statement.{statement}

@@ -1,4 +1,4 @@
--- `adjust::float_of` meets its contract: the stored number, as a float.
+-- `float_row::float_of` meets its contract: the stored number, as a float.
 -- Assumes nothing.
 use mathlib.Core.Path.{_∙_, ap}
 use borrow.Author.Needs.{needs}

@@ -1,4 +1,4 @@
--- `adjust::float_row` meets its contract: part by part, what each call ensures.
+-- `float_row::float_row` meets its contract: part by part, what each call ensures.
 -- Assumes nothing.
 use borrow.Author.Needs.{needs}
 use Rattle.float_row.proofs.Floating.{row-floats}

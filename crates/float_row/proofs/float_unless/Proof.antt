@@ -1,4 +1,4 @@
--- `adjust::float_unless` meets its contract, by the mark.
+-- `float_row::float_unless` meets its contract, by the mark.
 -- Assumes nothing.
 use borrow.Author.Needs.{needs}
 use Rattle.float_row.specs.Floats.{floatUnless}

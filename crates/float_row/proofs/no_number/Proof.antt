@@ -1,4 +1,4 @@
--- `adjust::no_number` meets its contract: zero by zero is no number.
+-- `float_row::no_number` meets its contract: zero by zero is no number.
 -- Assumes nothing.
 use mathlib.Core.Path.{refl}
 use lib.Ieee.{div, ofBits}

@@ -1,4 +1,4 @@
--- `adjust::row` meets its contract: the row of the line at the place that `questions::row_place` gives, or its refusal.
+-- `float_row::row` meets its contract: the row of the line at the place that `questions::row_begins` gives, or its refusal.
 -- Assumes nothing.
 use borrow.Author.Needs.{needs}
 use Rattle.float_row.proofs.Floating.{refused-as, answered-as}
@@ -8,13 +8,13 @@ use Rattle.float_row.proofs.row.Tie as tie
 returns : tie.Need-returns
 returns c =
     let placed = c .before .before .before in
-    refused-as (placed .before .before .args .file .now) (placed .row-place .ensures) (c .before .if1 .taken) (c .absent-row .ensures)
+    refused-as (placed .before .before .args .file .now) (placed .row-begins .ensures) (c .before .if1 .taken) (c .absent-row .ensures)
 
 returns-2 : tie.Need-returns-2
 returns-2 c =
     let found = c .before .before .before in
     let placed = found .before .before in
-    answered-as (placed .before .before .args .file .now) (placed .row-place .ensures) (found .if1 .left) (c .before .before .line-at .ensures .0)
+    answered-as (placed .before .before .args .file .now) (placed .row-begins .ensures) (found .if1 .left) (c .before .before .line-at .ensures .0)
     (c .before .row-of .ensures) (c .float-row .ensures)
 
 pub row-spec : {M : Type 1} → statement M

@@ -1,17 +1,17 @@
--- `walker::after_lines` meets its contract: a walk of its MIR, by hand, with a loop over a struct that holds a reference. All that the proof knows of `new`, `moved` and `place_of` is that each meets its contract.
--- The loop's invariant: the walker w holds the file that was passed, and so many lines from its place, with the names as they are now, lead where all the lines from the first place lead, in place and names. The variant is the number of lines left.
+-- `line_walk::after_lines` meets its contract: a walk of its MIR, by hand, with a loop over a struct that holds a reference. All that the proof knows of `new`, `moved` and `spot_of` is that each meets its contract.
+-- The loop's invariant: the walker w holds the file that was passed, and so many lines from its spot, with the names as they are now, lead where all the lines from the first spot lead, in spot and names. The variant is the number of lines left.
 -- In each turn the names are lent again, for a lifetime of the call, and come back at the list that `moved` leaves.
 -- Assumes nothing.
-use Rattle.line_walk.proofs.Walking.{_≡_, refl, ap, ap₂, sym, subst, _∙_, ℕ, _-_, _<_, _^_, lt-of-le-of-lt, arith, WellFounded, InvImage·wf, List, [], _∷_, ltb, ltb→lt, nltb→le, length, Nat·lt-wfRel, fullShare, URA, Ty, Body, named, erased, imm, mut, w8, w64, tyInt, tyBool, tyRef, place, field, deref, addrOf, aggregate, unsigned, copy, int, skipᴹ, seq, assign, block, loop, cond, exit, call, return, rvOpd, op2, subᴹ, lt, Val, vint, SProp, ent, sep, emp, via, fst∗, snd∗, exE, ex, id⊢, Lft, Share, GName, Fml, ftrue, fat, froom, fdies, flft, Memory, Routine, Heap, Out, Env, afterSeq, afterBlock, afterTurn, Calls, Loops, Wp, atReturn, WpFn, Tables, Atoms, sem, Lfts, Fun, fact, givenOf, tables, tablesOf, Given, Item, ‵, raw, _⊛_, ⋆, some, later, runs, lft-new, lft-end, anyQ, atRet, Sq, _$_, _∵_, !, qed, by, move, drop, use1, use2, use3, rewrite, split, join, pick, fsplit, fjoin, feqL, suffices, frame, await, done, look, look-in, whole, sub, agg, store, init, forget, stop, hop, fld, from, load, addr, lit, of-opd, bin, and-then, no-more, assigns, assigns-last, land, first, skips, jumps, blocks, branches, returns, enter, alloc1, alloc0, params1, pass1, pass0, free1, free0, exec, Below, again, loops, FmC, fmOf, WpFn-mono, RattleType, owns, Is, shows, uint-vals, uint-tells, u8, u64, usize, RefT, NamedLft, now, plain, namedLft, sliceTy, sliceVal, ShrSlice, MutSlice, Room, finally, mut-slice-tells, slice-vals, shr-slice-tells, shr-slice-lawful, shr-slice-copy, only, peeks, heard, nothing, Contract, Triple, calls-at, Vals, onEntry, Meets, tripleOf, entered, cited, Stays, stay-none, stay-none-slice, stay-slice, walkOf, goes-none, goes-none-slice, goes-slice, Walks, ends-at, walked, walk-meets, yes, ensured, lasts}
+use Rattle.line_walk.proofs.Walking.{_≡_, refl, ap, ap₂, sym, subst, _∙_, ℕ, _-_, _<_, _^_, lt-of-le-of-lt, arith, WellFounded, InvImage·wf, List, [], _∷_, ltb, ltb→lt, nltb→le, length, Nat·lt-wfRel, fullShare, URA, Ty, Body, named, erased, imm, mut, w8, w64, tyInt, tyBool, tyRef, spot, field, deref, addrOf, aggregate, unsigned, copy, int, skipᴹ, seq, assign, block, loop, cond, exit, call, return, rvOpd, op2, subᴹ, lt, Val, vint, SProp, ent, sep, emp, via, fst∗, snd∗, exE, ex, id⊢, Lft, Share, GName, Fml, ftrue, fat, froom, fdies, flft, Memory, Routine, Heap, Out, Env, afterSeq, afterBlock, afterTurn, Calls, Loops, Wp, atReturn, WpFn, Tables, Atoms, sem, Lfts, Fun, fact, givenOf, tables, tablesOf, Given, Item, ‵, raw, _⊛_, ⋆, some, later, runs, lft-new, lft-end, anyQ, atRet, Sq, _$_, _∵_, !, qed, by, move, drop, use1, use2, use3, rewrite, split, join, pick, fsplit, fjoin, feqL, suffices, frame, await, done, look, look-in, whole, sub, agg, store, init, forget, stop, hop, fld, from, load, addr, lit, of-opd, bin, and-then, no-more, assigns, assigns-last, land, first, skips, jumps, blocks, branches, returns, enter, alloc1, alloc0, params1, pass1, pass0, free1, free0, exec, Below, again, loops, FmC, fmOf, WpFn-mono, RattleType, owns, Is, shows, uint-vals, uint-tells, u8, u64, usize, RefT, NamedLft, now, plain, namedLft, sliceTy, sliceVal, ShrSlice, MutSlice, Room, finally, mut-slice-tells, slice-vals, shr-slice-tells, shr-slice-lawful, shr-slice-copy, only, peeks, heard, nothing, Contract, Triple, calls-at, Vals, onEntry, Meets, tripleOf, entered, cited, Stays, stay-none, stay-none-slice, stay-slice, walkOf, goes-none, goes-none-slice, goes-slice, Walks, ends-at, walked, walk-meets, yes, ensured, lasts}
 use Rattle.line_walk.proofs.Saying.{says-both}
 use Rattle.line_walk.proofs.Again.{LentAgain, lends-again, comes-back}
 use denote.Struct.Laws as LL
 use Rattle.header.specs.Rules.{d as rules-d}
 use Rattle.machine.specs.Step.{lineNames}
-use Rattle.line_walk.specs.Places.{placeAfter, placesAfter, identifiersAfter}
-use Rattle.line_walk.proofs.Places.{first-line-more, no-line-more}
+use Rattle.line_walk.specs.Spots.{spotAfter, spotsAfter, identifiersPast}
+use Rattle.line_walk.proofs.Spots.{first-line-more, no-line-more}
 use Rattle.line_walk.specs.declared.Walker.{Walker}
-use Rattle.line_walk.specs.declared.Place.{Place}
+use Rattle.line_walk.specs.declared.Spot.{Spot}
 use Rattle.line_walk.proofs.Walker as T
 use Rattle.line_walk.proofs.Walker.Laws as T′
 use Rattle.line_walk.proofs.Place as S
@@ -24,10 +24,10 @@ use Rattle.line_walk.proofs.moved as moved
 use Rattle.line_walk.proofs.moved.Symbol as moved-def
 use Rattle.line_walk.proofs.moved.Symbol.{name as #walker·moved}
 use Rattle.line_walk.proofs.moved.Met as moved-thm
-use Rattle.line_walk.proofs.place_of as place-of
-use Rattle.line_walk.proofs.place_of.Symbol as place-of-def
-use Rattle.line_walk.proofs.place_of.Symbol.{name as #walker·place-of}
-use Rattle.line_walk.proofs.place_of.Met as place-of-thm
+use Rattle.line_walk.proofs.spot_of as spot-of
+use Rattle.line_walk.proofs.spot_of.Symbol as spot-of-def
+use Rattle.line_walk.proofs.spot_of.Symbol.{name as #walker·spot-of}
+use Rattle.line_walk.proofs.spot_of.Met as spot-of-thm
 use Rattle.line_walk.proofs.after_lines.Key.{name as #walker·after-lines}
 use Rattle.line_walk.proofs.after_lines as after
 use Rattle.line_walk.proofs.after_lines.Statement as stated
@@ -62,21 +62,21 @@ again-words = sliceTy (tyRef erased mut (tyInt w64))
 -- a turn of the loop: the test, and what follows it
 abbrev more : Body
 more =
-    seq (assign (place 8 []) (rvOpd (copy (place 5 []))))
-    (seq (assign (place 9 []) (addrOf (place 4 (field 0 ∷ deref (tyInt w64) ∷ []))))
-    (seq (assign (place 10 []) (aggregate (copy (place 9 []) ∷ copy (place 4 (field 1 ∷ [])) ∷ [])))
-    (seq (call #walker·moved (copy (place 8 []) ∷ copy (place 10 []) ∷ []) (place 5 [])) (assign (place 6 []) (op2 (subᴹ unsigned) (copy (place 6 [])) (int w64 1))))))
+    seq (assign (spot 8 []) (rvOpd (copy (spot 5 []))))
+    (seq (assign (spot 9 []) (addrOf (spot 4 (field 0 ∷ deref (tyInt w64) ∷ []))))
+    (seq (assign (spot 10 []) (aggregate (copy (spot 9 []) ∷ copy (spot 4 (field 1 ∷ [])) ∷ [])))
+    (seq (call #walker·moved (copy (spot 8 []) ∷ copy (spot 10 []) ∷ []) (spot 5 [])) (assign (spot 6 []) (op2 (subᴹ unsigned) (copy (spot 6 [])) (int w64 1))))))
 
 abbrev turn : Body
-turn = seq (assign (place 7 []) (op2 (lt unsigned) (int w64 0) (copy (place 6 [])))) (seq (cond (copy (place 7 [])) skipᴹ (exit 1)) more)
+turn = seq (assign (spot 7 []) (op2 (lt unsigned) (int w64 0) (copy (spot 6 [])))) (seq (cond (copy (spot 7 [])) skipᴹ (exit 1)) more)
 
 -- what runs after the loop
 abbrev rest : Body
-rest = seq (assign (place 11 []) (rvOpd (copy (place 5 [])))) (seq (call #walker·place-of (copy (place 11 []) ∷ []) (place 0 [])) return)
+rest = seq (assign (spot 11 []) (rvOpd (copy (spot 5 [])))) (seq (call #walker·spot-of (copy (spot 11 []) ∷ []) (spot 0 [])) return)
 
 -- what runs after the call of `new`
 abbrev follows : Body
-follows = seq (assign (place 6 []) (rvOpd (copy (place 3 [])))) (seq (block (loop turn)) rest)
+follows = seq (assign (spot 6 []) (rvOpd (copy (spot 3 [])))) (seq (block (loop turn)) rest)
 
 module _ {M : Type 1} (𝓤 : URA M) (H : Heap 𝓤) (A : Atoms 𝓤) (mem : Memory → SProp 𝓤) (run : Routine → Fun 𝓤) where
   -- the contracts that the proof cites
@@ -86,10 +86,10 @@ module _ {M : Type 1} (𝓤 : URA M) (H : Heap 𝓤) (A : Atoms 𝓤) (mem : Mem
   abbrev Moved : Contract 𝓤
   Moved = tripleOf 𝓤 H A moved.signature (moved.spec 𝓤 H A mem run)
 
-  abbrev PlaceOf : Contract 𝓤
-  PlaceOf = tripleOf 𝓤 H A place-of.signature (place-of.spec 𝓤 H A mem run)
+  abbrev SpotOf : Contract 𝓤
+  SpotOf = tripleOf 𝓤 H A spot-of.signature (spot-of.spec 𝓤 H A mem run)
 
-module _ {M : Type 1} (𝓤 : URA M) (H : Heap 𝓤) (A : Atoms 𝓤) (W : Given 𝓤 H A) (mem : Memory → SProp 𝓤) (run : Routine → Fun 𝓤) (κ κ′ : Lft) (q q′ : Share) (f : RefT (List ℕ)) (s : Place) (n : ℕ) (b o : ℕ) (γ : GName) (ys : List ℕ) (gn : n < 2 ^ 64) (room : Room u64 (length ys)) where
+module _ {M : Type 1} (𝓤 : URA M) (H : Heap 𝓤) (A : Atoms 𝓤) (W : Given 𝓤 H A) (mem : Memory → SProp 𝓤) (run : Routine → Fun 𝓤) (κ κ′ : Lft) (q q′ : Share) (f : RefT (List ℕ)) (s : Spot) (n : ℕ) (b o : ℕ) (γ : GName) (ys : List ℕ) (gn : n < 2 ^ 64) (room : Room u64 (length ys)) where
   -- the names, under the name δ at the list l
   abbrev x : GName → List ℕ → RefT (List ℕ)
   x δ l = record { ptr = (b, o); name = δ; now = l }
@@ -117,8 +117,8 @@ module _ {M : Type 1} (𝓤 : URA M) (H : Heap 𝓤) (A : Atoms 𝓤) (W : Given
   abbrev OwnFile : Fml
   OwnFile = ShrSlice (named 0) κ u8 .own f (v ∷ [])
 
-  abbrev OwnPlace : Fml
-  OwnPlace = S.the-row .own s (S′.lowered s ∷ [])
+  abbrev OwnSpot : Fml
+  OwnSpot = S.the-row .own s (S′.lowered s ∷ [])
 
   abbrev OwnLines : Fml
   OwnLines = usize .own n (vint w64 n ∷ [])
@@ -153,23 +153,23 @@ module _ {M : Type 1} (𝓤 : URA M) (H : Heap 𝓤) (A : Atoms 𝓤) (W : Given
 
   -- what is kept beside the call of `new`
   abbrev Beside : Item 𝓤
-  Beside = ‵ (flft κ′ q′) ⊛ (‵ (OwnNames ys) ⊛ (‵ OwnFile ⊛ (‵ OwnPlace ⊛ ‵ OwnLines)))
+  Beside = ‵ (flft κ′ q′) ⊛ (‵ (OwnNames ys) ⊛ (‵ OwnFile ⊛ (‵ OwnSpot ⊛ ‵ OwnLines)))
 
   goes-new : ent 𝓤 (onEntry 𝓤 H A after.signature κs (q, (q′, tt)) (f, (s, (n, (x γ ys, tt)))) at)
-      (sep 𝓤 (New 𝓤 H A mem run .pre to-new) (sep 𝓤 (A .lft κ′ q′) (sep 𝓤 (sem 𝓤 H A (OwnNames ys)) (sep 𝓤 (sem 𝓤 H A OwnFile) (sep 𝓤 (sem 𝓤 H A OwnPlace) (sem 𝓤 H A OwnLines))))))
+      (sep 𝓤 (New 𝓤 H A mem run .pre to-new) (sep 𝓤 (A .lft κ′ q′) (sep 𝓤 (sem 𝓤 H A (OwnNames ys)) (sep 𝓤 (sem 𝓤 H A OwnFile) (sep 𝓤 (sem 𝓤 H A OwnSpot) (sem 𝓤 H A OwnLines))))))
   goes-new =
       qed W ((‵ (flft κ q) ⊛ ‵ (flft κ′ q′) ⊛ ‵ ftrue) ∷ ‵ (owns (ShrSlice (named 0) κ u8 ∷ S.the-row ∷ usize ∷ MutSlice (named 1) κ′ u64 ∷ []) (f, (s, (n, (x γ ys, tt)))) at) ∷ []) ∵
       split ! $ move ! (1 ∷ []) $ split ! $ move ! (2 ∷ 1 ∷ []) $ join ! $
       -- [the token of κ; that of κ′; what the parameters own]
       move ! (2 ∷ []) $ fsplit ! $ use1 W (‵ OwnFile ⊛ ‵ OwnFile) (shr-slice-copy 𝓤 H A W (named 0) κ u8 .twice f (v ∷ [])) $ split ! $ move ! (2 ∷ []) $ fsplit ! $
-      use1 W (‵ OwnPlace ⊛ ‵ OwnPlace) (LL.copy S.the-type S′.the-copy 𝓤 H A W .twice s (S′.lowered s ∷ [])) $ split ! $ move ! (2 ∷ []) $ fsplit ! $ move ! (1 ∷ []) $ fsplit ! $
+      use1 W (‵ OwnSpot ⊛ ‵ OwnSpot) (LL.copy S.the-type S′.the-copy 𝓤 H A W .twice s (S′.lowered s ∷ [])) $ split ! $ move ! (2 ∷ []) $ fsplit ! $ move ! (1 ∷ []) $ fsplit ! $
       -- [what the names own; nothing; what n owns; what s owns, twice; what the file owns, twice; the token of κ; that of κ′]
       move ! (3 ∷ 1 ∷ []) $ fjoin ! $ move ! (4 ∷ 0 ∷ []) $ fjoin ! $ move ! (5 ∷ 0 ∷ []) $ use2 W (raw (New 𝓤 H A mem run .pre to-new)) asked $
       -- [what `new` asks; what the names own; what n owns; what s owns; what the file owns; the token of κ′]
       frame ! $ move ! (4 ∷ []) $ frame ! $ frame ! $ move ! (2 ∷ []) $ frame ! $ move ! (1 ∷ []) $ frame ! $ done !
 
-  new-said : (r : Walker) → ent 𝓤 (ensured 𝓤 H A new.ended (new.clauses 𝓤 H A mem run) (κ, tt) (f, (s, tt)) tt r) (fact 𝓤 ((r .file ≡ f) × (r .place ≡ s)))
-  new-said r = exE 𝓤 _ (λ ws. snd∗ 𝓤 (sem 𝓤 H A (lasts new.ended (κ, tt) (f, (s, tt)) ws)) (fact 𝓤 ((r .file ≡ f) × (r .place ≡ s))))
+  new-said : (r : Walker) → ent 𝓤 (ensured 𝓤 H A new.ended (new.clauses 𝓤 H A mem run) (κ, tt) (f, (s, tt)) tt r) (fact 𝓤 ((r .file ≡ f) × (r .spot ≡ s)))
+  new-said r = exE 𝓤 _ (λ ws. snd∗ 𝓤 (sem 𝓤 H A (lasts new.ended (κ, tt) (f, (s, tt)) ws)) (fact 𝓤 ((r .file ≡ f) × (r .spot ≡ s))))
 
   -- the call of `moved`, at the walker w and the names, at the list l, lent for the lifetime ν
   abbrev OwnAt : Walker → Fml
@@ -189,25 +189,25 @@ module _ {M : Type 1} (𝓤 : URA M) (H : Heap 𝓤) (A : Atoms 𝓤) (W : Given
       qed W (‵ (flft κ q) ∷ ‵ (flft (ν ∷ []) fullShare) ∷ ‵ (passed w ν δ l) ∷ []) ∵ nothing ! $ move ! (2 ∷ 0 ∷ []) $ join ! $ move ! (1 ∷ 0 ∷ []) $ join ! $ join ! $ frame ! $ done !
 
   abbrev Next : Walker → List ℕ → Walker → Type 0
-  Next w l r = (r .file ≡ w .file) × (r .place ≡ placeAfter rules-d (now (w .file)) l (w .place))
+  Next w l r = (r .file ≡ w .file) × (r .spot ≡ spotAfter rules-d (now (w .file)) l (w .spot))
 
   abbrev Kept : Walker → List ℕ → List ℕ → Type 0
-  Kept w l zs = zs ≡ lineNames rules-d (now (w .file)) (w .place .at) (w .place .state) l
+  Kept w l zs = zs ≡ lineNames rules-d (now (w .file)) (w .spot .at) (w .spot .state) l
 
-  -- the call of `place_of`
-  abbrev to-place-of : Walker → PlaceOf 𝓤 H A mem run .Ghost
-  to-place-of w = (((κ, tt), (q, tt), tt, (w, tt), (T′.lowered w ∷ [], tt)), tt)
+  -- the call of `spot_of`
+  abbrev to-spot-of : Walker → SpotOf 𝓤 H A mem run .Ghost
+  to-spot-of w = (((κ, tt), (q, tt), tt, (w, tt), (T′.lowered w ∷ [], tt)), tt)
 
-  goes-place-of : (w : Walker) → ent 𝓤 (sep 𝓤 (sem 𝓤 H A (OwnAt w)) (A .lft κ q)) (PlaceOf 𝓤 H A mem run .pre (to-place-of w))
-  goes-place-of w = qed W (‵ (OwnAt w) ∷ ‵ (flft κ q) ∷ []) ∵ nothing ! $ move ! (1 ∷ 0 ∷ []) $ fjoin ! $ nothing ! $ move ! (2 ∷ 0 ∷ []) $ join ! $ join ! $ frame ! $ done !
+  goes-spot-of : (w : Walker) → ent 𝓤 (sep 𝓤 (sem 𝓤 H A (OwnAt w)) (A .lft κ q)) (SpotOf 𝓤 H A mem run .pre (to-spot-of w))
+  goes-spot-of w = qed W (‵ (OwnAt w) ∷ ‵ (flft κ q) ∷ []) ∵ nothing ! $ move ! (1 ∷ 0 ∷ []) $ fjoin ! $ nothing ! $ move ! (2 ∷ 0 ∷ []) $ join ! $ join ! $ frame ! $ done !
 
-  place-said : (w : Walker) (r : Place) → ent 𝓤 (ensured 𝓤 H A place-of.ended (place-of.clauses 𝓤 H A mem run) (κ, tt) (w, tt) tt r) (fact 𝓤 (r ≡ w .place))
-  place-said w r = exE 𝓤 _ (λ ws. snd∗ 𝓤 (sem 𝓤 H A (lasts place-of.ended (κ, tt) (w, tt) ws)) (fact 𝓤 (r ≡ w .place)))
+  spot-said : (w : Walker) (r : Spot) → ent 𝓤 (ensured 𝓤 H A spot-of.ended (spot-of.clauses 𝓤 H A mem run) (κ, tt) (w, tt) tt r) (fact 𝓤 (r ≡ w .spot))
+  spot-said w r = exE 𝓤 _ (λ ws. snd∗ 𝓤 (sem 𝓤 H A (lasts spot-of.ended (κ, tt) (w, tt) ws)) (fact 𝓤 (r ≡ w .spot)))
 
-  exits : (r : Place) (u : Val) (zs : List ℕ) → r ≡ placesAfter rules-d (now f) ys s n → zs ≡ identifiersAfter rules-d (now f) ys s n → length zs ≡ length ys
-      → ent 𝓤 (⋆ 𝓤 H A (‵ (S.the-row .own r (u ∷ [])) ∷ (‵ (flft κ q) ⊛ ‵ ftrue) ∷ ‵ (flft κ′ q′) ∷ ‵ (OwnNames zs) ∷ ‵ OwnFile ∷ ‵ OwnPlace ∷ ‵ OwnLines ∷ [])) (Post u)
+  exits : (r : Spot) (u : Val) (zs : List ℕ) → r ≡ spotsAfter rules-d (now f) ys s n → zs ≡ identifiersPast rules-d (now f) ys s n → length zs ≡ length ys
+      → ent 𝓤 (⋆ 𝓤 H A (‵ (S.the-row .own r (u ∷ [])) ∷ (‵ (flft κ q) ⊛ ‵ ftrue) ∷ ‵ (flft κ′ q′) ∷ ‵ (OwnNames zs) ∷ ‵ OwnFile ∷ ‵ OwnSpot ∷ ‵ OwnLines ∷ [])) (Post u)
   exits r u zs e k l =
-      qed W (‵ (S.the-row .own r (u ∷ [])) ∷ (‵ (flft κ q) ⊛ ‵ ftrue) ∷ ‵ (flft κ′ q′) ∷ ‵ (OwnNames zs) ∷ ‵ OwnFile ∷ ‵ OwnPlace ∷ ‵ OwnLines ∷ []) ∵
+      qed W (‵ (S.the-row .own r (u ∷ [])) ∷ (‵ (flft κ q) ⊛ ‵ ftrue) ∷ ‵ (flft κ′ q′) ∷ ‵ (OwnNames zs) ∷ ‵ OwnFile ∷ ‵ OwnSpot ∷ ‵ OwnLines ∷ []) ∵
       suffices ! _ (ends-at 𝓤 H A after.ended stayed (after.clauses 𝓤 H A mem run) W ((κs, (q, (q′, tt)), tt, (f, (s, (n, (x γ ys, tt)))), at), tt) u r (tt, (tt, (tt, (zs, tt)))) (tt, (tt, (tt, (l, tt))))) $ says-both ! e k $
       move ! (1 ∷ []) $ split ! $ move ! (3 ∷ 1 ∷ []) $ join ! $ move ! (1 ∷ 0 ∷ []) $ join ! $ frame ! $
       -- [the result; what the names own; what the file owns; what s owns; what n owns]
@@ -221,8 +221,8 @@ module _ {M : Type 1} (𝓤 : URA M) (H : Heap 𝓤) (A : Atoms 𝓤) (W : Given
     pub same : w .file ≡ f
     pub long : length names ≡ length ys
     pub small : left < 2 ^ 64
-    pub holds : placesAfter rules-d (now f) names (w .place) left ≡ placesAfter rules-d (now f) ys s n
-    pub keeps : identifiersAfter rules-d (now f) names (w .place) left ≡ identifiersAfter rules-d (now f) ys s n
+    pub holds : spotsAfter rules-d (now f) names (w .spot) left ≡ spotsAfter rules-d (now f) ys s n
+    pub keeps : identifiersPast rules-d (now f) names (w .spot) left ≡ identifiersPast rules-d (now f) ys s n
 
   abbrev Nearer : Turn → Turn → Type 0
   Nearer j i = j .left < i .left
@@ -230,12 +230,12 @@ module _ {M : Type 1} (𝓤 : URA M) (H : Heap 𝓤) (A : Atoms 𝓤) (W : Given
   Nearer-wf : WellFounded Nearer
   Nearer-wf = InvImage·wf (λ (i : Turn). i .left) (Nat·lt-wfRel .wf)
 
-  -- a line passed: the place and the names after it
-  here : (i : Turn) (r : Walker) → Next (i .w) (i .names) r → r .place ≡ placeAfter rules-d (now f) (i .names) (i .w .place)
-  here i r e = e .1 ∙ ap (λ (g : RefT (List ℕ)). placeAfter rules-d (now g) (i .names) (i .w .place)) (i .same)
+  -- a line passed: the spot and the names after it
+  here : (i : Turn) (r : Walker) → Next (i .w) (i .names) r → r .spot ≡ spotAfter rules-d (now f) (i .names) (i .w .spot)
+  here i r e = e .1 ∙ ap (λ (g : RefT (List ℕ)). spotAfter rules-d (now g) (i .names) (i .w .spot)) (i .same)
 
-  kept-here : (i : Turn) (zs : List ℕ) → Kept (i .w) (i .names) zs → zs ≡ lineNames rules-d (now f) (i .w .place .at) (i .w .place .state) (i .names)
-  kept-here i zs k = k ∙ ap (λ (g : RefT (List ℕ)). lineNames rules-d (now g) (i .w .place .at) (i .w .place .state) (i .names)) (i .same)
+  kept-here : (i : Turn) (zs : List ℕ) → Kept (i .w) (i .names) zs → zs ≡ lineNames rules-d (now f) (i .w .spot .at) (i .w .spot .state) (i .names)
+  kept-here i zs k = k ∙ ap (λ (g : RefT (List ℕ)). lineNames rules-d (now g) (i .w .spot .at) (i .w .spot .state) (i .names)) (i .same)
 
   next : (i : Turn) (r : Walker) (zs : List ℕ) → Next (i .w) (i .names) r → Kept (i .w) (i .names) zs → length zs ≡ length (i .names) → 0 < i .left → Turn
   next i r zs e k l h = record {
@@ -246,14 +246,14 @@ module _ {M : Type 1} (𝓤 : URA M) (H : Heap 𝓤) (A : Atoms 𝓤) (W : Given
     long = l ∙ i .long;
     small = lt-of-le-of-lt (omega arith) (i .small);
     holds =
-        ap₂ (λ (p : Place) (ns : List ℕ). placesAfter rules-d (now f) ns p (i .left - 1)) (here i r e) (kept-here i zs k)
-        ∙ first-line-more rules-d (now f) (i .names) (i .w .place) (i .left) h .0 ∙ i .holds;
+        ap₂ (λ (p : Spot) (ns : List ℕ). spotsAfter rules-d (now f) ns p (i .left - 1)) (here i r e) (kept-here i zs k)
+        ∙ first-line-more rules-d (now f) (i .names) (i .w .spot) (i .left) h .0 ∙ i .holds;
     keeps =
-        ap₂ (λ (p : Place) (ns : List ℕ). identifiersAfter rules-d (now f) ns p (i .left - 1)) (here i r e) (kept-here i zs k)
-        ∙ first-line-more rules-d (now f) (i .names) (i .w .place) (i .left) h .1 ∙ i .keeps;
+        ap₂ (λ (p : Spot) (ns : List ℕ). identifiersPast rules-d (now f) ns p (i .left - 1)) (here i r e) (kept-here i zs k)
+        ∙ first-line-more rules-d (now f) (i .names) (i .w .spot) (i .left) h .1 ∙ i .keeps;
   }
 
-  module _ (𝓣 : Tables 𝓤 H) (fm : FmC 𝓤 H (W .laws) (𝓣 .C)) (known-moved : Triple 𝓤 (𝓣 .C #walker·moved) (Moved 𝓤 H A mem run)) (known-place : Triple 𝓤 (𝓣 .C #walker·place-of) (PlaceOf 𝓤 H A mem run)) (l₀ l₁ l₂ l₃ l₄ l₅ l₆ l₇ l₈ l₉ l₁₀ l₁₁ : ℕ) where
+  module _ (𝓣 : Tables 𝓤 H) (fm : FmC 𝓤 H (W .laws) (𝓣 .C)) (known-moved : Triple 𝓤 (𝓣 .C #walker·moved) (Moved 𝓤 H A mem run)) (known-spot : Triple 𝓤 (𝓣 .C #walker·spot-of) (SpotOf 𝓤 H A mem run)) (l₀ l₁ l₂ l₃ l₄ l₅ l₆ l₇ l₈ l₉ l₁₀ l₁₁ : ℕ) where
     abbrev C : Calls 𝓤 H
     C = 𝓣 .C
 
@@ -265,7 +265,7 @@ module _ {M : Type 1} (𝓤 : URA M) (H : Heap 𝓤) (A : Atoms 𝓤) (W : Given
 
     -- [what the walker w owns; the tokens of κ and κ′; what the names, at the list l, own; what the file, s and n own; room for _11, _10, _9, _8, _7; …]
     abbrev Front : Walker → List ℕ → List (Item 𝓤) → List (Item 𝓤)
-    Front w l locals = ‵ (OwnAt w) ∷ ‵ (flft κ q) ∷ ‵ (flft κ′ q′) ∷ ‵ (OwnNames l) ∷ ‵ OwnFile ∷ ‵ OwnPlace ∷ ‵ OwnLines ∷
+    Front w l locals = ‵ (OwnAt w) ∷ ‵ (flft κ q) ∷ ‵ (flft κ′ q′) ∷ ‵ (OwnNames l) ∷ ‵ OwnFile ∷ ‵ OwnSpot ∷ ‵ OwnLines ∷
         ‵ (froom walker l₁₁ 0) ∷ ‵ (fdies walker l₁₁) ∷ ‵ (froom again-words l₁₀ 0) ∷ ‵ (fdies again-words l₁₀) ∷ ‵ (froom again-ptr l₉ 0) ∷ ‵ (fdies again-ptr l₉) ∷
         ‵ (froom walker l₈ 0) ∷ ‵ (fdies walker l₈) ∷ ‵ (froom tyBool l₇ 0) ∷ ‵ (fdies tyBool l₇) ∷ locals
 
@@ -288,7 +288,7 @@ module _ {M : Type 1} (𝓤 : URA M) (H : Heap 𝓤) (A : Atoms 𝓤) (W : Given
         assigns ! (bin ! (lit ! tt) (load ! (from ! (stop !)) (look ! 17 refl)) tt) (from ! (stop !)) (init ! 15 refl (tt, tt)) $
         peeks ! (B (κ, tt)) (Is (B (κ, tt))) (shows 𝓤 H A (B (κ, tt))) (i .w) (T′.lowered (i .w) ∷ []) (λ is.
         first ! $ branches ! (load ! (from ! (stop !)) (look ! 15 refl))
-        -- a line is left: the walker is passed to `moved`, with the names lent again, and what comes back takes its place
+        -- a line is left: the walker is passed to `moved`, with the names lent again, and what comes back takes its spot
         (λ less. skips ! $ exec ! C Λ En more (anyQ (Turned i)) $
         assigns ! (of-opd ! (load ! (from ! (stop !)) (look ! 19 refl))) (from ! (stop !)) (init ! 13 refl (LL.lawful (T.the-type αᵉ) (T′.the-laws αᵉ) 𝓤 H A W .typed (i .w) _ is .0)) $
         assigns ! (addr ! (from ! (fld ! refl (hop ! (look-in ! 21 (sub ! 0 refl (whole !))) (stop !))))) (from ! (stop !)) (init ! 11 refl (tt, tt)) $
@@ -314,25 +314,25 @@ module _ {M : Type 1} (𝓤 : URA M) (H : Heap 𝓤) (A : Atoms 𝓤) (W : Given
         move ! (2 ∷ []) $ drop ! $ move ! (3 ∷ 2 ∷ 1 ∷ 0 ∷ []) $
         assigns-last ! (bin ! (load ! (from ! (stop !)) (look ! 17 refl)) (lit ! tt) (ltb→lt 0 (i .left) less)) (from ! (stop !)) (store ! 17 refl (tt, record { fits = next i r (zs .1 .0) e k l (ltb→lt 0 (i .left) less) .small })) $
         forget ! 15 refl $ forget ! 13 refl $ forget ! 11 refl $ forget ! 9 refl $ again ! Nearer At i (next i r (zs .1 .0) e k l (ltb→lt 0 (i .left) less)) (omega (arith, ltb→lt 0 (i .left) less))))))))))))
-        -- none is left: the walker's place is the result
+        -- none is left: the walker's spot is the result
         (λ over. jumps ! $ exec ! C Λ En rest (atRet En Post) $
         assigns ! (of-opd ! (load ! (from ! (stop !)) (look ! 19 refl))) (from ! (stop !)) (init ! 7 refl (LL.lawful (T.the-type αᵉ) (T′.the-laws αᵉ) 𝓤 H A W .typed (i .w) _ is .0)) $
-        use2 W (raw (PlaceOf 𝓤 H A mem run .pre (to-place-of (i .w)))) (goes-place-of (i .w)) $
-        calls-at ! fm (PlaceOf 𝓤 H A mem run) known-place (to-place-of (i .w)) (and-then ! (load ! (from ! (stop !)) (look ! 6 refl)) (no-more !)) (λ u.
-        use1 W (later (some (λ (r : Place). ((‵ (flft κ q) ⊛ ‵ ftrue) ⊛ ‵ (S.the-row .own r (u ∷ []))) ⊛ raw (ensured 𝓤 H A place-of.ended (place-of.clauses 𝓤 H A mem run) (κ, tt) (i .w, tt) tt r)))) (id⊢ 𝓤 _) $ await ! tt $ pick ! (λ r.
-        split ! $ move ! (1 ∷ []) $ use1 W (raw (fact 𝓤 (r ≡ i .w .place))) (place-said (i .w) r) $ heard ! (r ≡ i .w .place) (λ e. split ! $ move ! (1 ∷ []) $
+        use2 W (raw (SpotOf 𝓤 H A mem run .pre (to-spot-of (i .w)))) (goes-spot-of (i .w)) $
+        calls-at ! fm (SpotOf 𝓤 H A mem run) known-spot (to-spot-of (i .w)) (and-then ! (load ! (from ! (stop !)) (look ! 6 refl)) (no-more !)) (λ u.
+        use1 W (later (some (λ (r : Spot). ((‵ (flft κ q) ⊛ ‵ ftrue) ⊛ ‵ (S.the-row .own r (u ∷ []))) ⊛ raw (ensured 𝓤 H A spot-of.ended (spot-of.clauses 𝓤 H A mem run) (κ, tt) (i .w, tt) tt r)))) (id⊢ 𝓤 _) $ await ! tt $ pick ! (λ r.
+        split ! $ move ! (1 ∷ []) $ use1 W (raw (fact 𝓤 (r ≡ i .w .spot))) (spot-said (i .w) r) $ heard ! (r ≡ i .w .spot) (λ e. split ! $ move ! (1 ∷ []) $
         peeks ! S.the-row (Is S.the-row) (shows 𝓤 H A S.the-row) r (u ∷ []) (λ is′.
         land ! (from ! (stop !)) (init ! 29 refl (LL.lawful S.the-type S′.the-laws 𝓤 H A W .typed r _ is′ .0)) $
         returns ! (look ! 29 refl) $ forget ! 7 refl $ forget ! 15 refl $ forget ! 17 refl $ forget ! 19 refl $ forget ! 21 refl $ forget ! 23 refl $ forget ! 25 refl $ forget ! 27 refl $ forget ! 29 refl $
         move ! (29 ∷ 30 ∷ []) $ free1 ! $ move ! (27 ∷ 28 ∷ []) $ free1 ! $ move ! (25 ∷ 26 ∷ []) $ free1 ! $ move ! (23 ∷ 24 ∷ []) $ free1 ! $ move ! (21 ∷ 22 ∷ []) $ free1 ! $ move ! (19 ∷ 20 ∷ []) $ free1 ! $ move ! (17 ∷ 18 ∷ []) $ free1 ! $ move ! (15 ∷ 16 ∷ []) $ free1 ! $ move ! (13 ∷ 14 ∷ []) $ free1 ! $ move ! (11 ∷ 12 ∷ []) $ free1 ! $ move ! (9 ∷ 10 ∷ []) $ free1 ! $ move ! (7 ∷ 8 ∷ []) $ free1 ! $ free0 ! $
-        by ! (let none = no-line-more rules-d (now f) (i .names) (i .w .place) (i .left) (nltb→le 0 (i .left) over) in exits r u (i .names) (e ∙ none .0 ∙ i .holds) (none .1 ∙ i .keeps) (i .long))))))))
+        by ! (let none = no-line-more rules-d (now f) (i .names) (i .w .spot) (i .left) (nltb→le 0 (i .left) over) in exits r u (i .names) (e ∙ none .0 ∙ i .holds) (none .1 ∙ i .keeps) (i .long))))))))
 
     -- the loop and what follows it, from where the loop stands
     looped : (i : Turn) → Sq W (At i) (runs C Λ En (seq (block (loop turn)) rest) (atRet En Post))
     looped i = first ! $ blocks ! $ loops ! 𝓣 Nearer Nearer-wf At turns i
 
     -- what stands when `new` has returned the walker r
-    starts : (r : Walker) → (r .file ≡ f) × (r .place ≡ s) → Sq W (Front r ys (‵ (froom word l₆ 0) ∷ Back r)) (runs C Λ En follows (atRet En Post))
+    starts : (r : Walker) → (r .file ≡ f) × (r .spot ≡ s) → Sq W (Front r ys (‵ (froom word l₆ 0) ∷ Back r)) (runs C Λ En follows (atRet En Post))
     starts r e =
         assigns ! (of-opd ! (load ! (from ! (stop !)) (look ! 23 refl))) (from ! (stop !)) (init ! 17 refl (tt, record { fits = gn })) $
         looped (record {
@@ -342,21 +342,21 @@ module _ {M : Type 1} (𝓤 : URA M) (H : Heap 𝓤) (A : Atoms 𝓤) (W : Given
           same = e .0;
           long = refl;
           small = gn;
-          holds = ap (λ (p : Place). placesAfter rules-d (now f) ys p n) (e .1);
-          keeps = ap (λ (p : Place). identifiersAfter rules-d (now f) ys p n) (e .1);
+          holds = ap (λ (p : Spot). spotsAfter rules-d (now f) ys p n) (e .1);
+          keeps = ap (λ (p : Spot). identifiersPast rules-d (now f) ys p n) (e .1);
         })
 
-  walk : (𝓣 : Tables 𝓤 H) → FmC 𝓤 H (W .laws) (𝓣 .C) → Triple 𝓤 (𝓣 .C #walker·new) (New 𝓤 H A mem run) → Triple 𝓤 (𝓣 .C #walker·moved) (Moved 𝓤 H A mem run) → Triple 𝓤 (𝓣 .C #walker·place-of) (PlaceOf 𝓤 H A mem run)
+  walk : (𝓣 : Tables 𝓤 H) → FmC 𝓤 H (W .laws) (𝓣 .C) → Triple 𝓤 (𝓣 .C #walker·new) (New 𝓤 H A mem run) → Triple 𝓤 (𝓣 .C #walker·moved) (Moved 𝓤 H A mem run) → Triple 𝓤 (𝓣 .C #walker·spot-of) (SpotOf 𝓤 H A mem run)
       → Is (ShrSlice (named 0) κ u8) f (v ∷ []) → Is S.the-row s (S′.lowered s ∷ [])
       → ent 𝓤 (onEntry 𝓤 H A after.signature κs (q, (q′, tt)) (f, (s, (n, (x γ ys, tt)))) at) (WpFn 𝓤 H (𝓣 .C) (𝓣 .Λ) code.function (v ∷ S′.lowered s ∷ vint w64 n ∷ m ∷ []) Post)
-  walk 𝓣 fm known-new known-moved known-place p ps =
+  walk 𝓣 fm known-new known-moved known-spot p ps =
       qed W (raw (onEntry 𝓤 H A after.signature κs (q, (q′, tt)) (f, (s, (n, (x γ ys, tt)))) at) ∷ []) ∵ enter ! (𝓣 .C) (𝓣 .Λ) code.function (v ∷ S′.lowered s ∷ vint w64 n ∷ m ∷ []) _ $
       alloc1 ! (λ l₀. alloc1 ! (λ l₁. alloc1 ! (λ l₂. alloc1 ! (λ l₃. alloc1 ! (λ l₄. alloc1 ! (λ l₅. alloc1 ! (λ l₆. alloc1 ! (λ l₇. alloc1 ! (λ l₈. alloc1 ! (λ l₉. alloc1 ! (λ l₁₀. alloc1 ! (λ l₁₁. alloc0 ! $ params1 ! $
       pass1 ! (init ! 20 refl (shr-slice-lawful 𝓤 H A W (named 0) κ u8 .typed f (v ∷ []) p .0)) $ pass1 ! (init ! 18 refl (LL.lawful S.the-type S′.the-laws 𝓤 H A W .typed s _ ps .0)) $ pass1 ! (init ! 16 refl (tt, record { fits = gn })) $ pass1 ! (init ! 14 refl (tt, (tt, (record { fits = room .0 }, tt)))) $ pass0 ! $
       move ! (24 ∷ []) $ use1 W (raw (New 𝓤 H A mem run .pre to-new) ⊛ Beside) goes-new $ split ! $
       calls-at ! fm (New 𝓤 H A mem run) known-new to-new (and-then ! (load ! (from ! (stop !)) (look ! 22 refl)) (and-then ! (load ! (from ! (stop !)) (look ! 20 refl)) (no-more !))) (λ u.
       use1 W (later (some (λ (r : Walker). ((‵ (flft κ q) ⊛ ‵ ftrue) ⊛ ‵ (B (κ, tt) .own r (u ∷ []))) ⊛ raw (ensured 𝓤 H A new.ended (new.clauses 𝓤 H A mem run) (κ, tt) (f, (s, tt)) tt r)))) (id⊢ 𝓤 _) $ await ! tt $ pick ! (λ r.
-      split ! $ move ! (1 ∷ []) $ use1 W (raw (fact 𝓤 ((r .file ≡ f) × (r .place ≡ s)))) (new-said r) $ heard ! ((r .file ≡ f) × (r .place ≡ s)) (λ e. split ! $ move ! (1 ∷ []) $
+      split ! $ move ! (1 ∷ []) $ use1 W (raw (fact 𝓤 ((r .file ≡ f) × (r .spot ≡ s)))) (new-said r) $ heard ! ((r .file ≡ f) × (r .spot ≡ s)) (λ e. split ! $ move ! (1 ∷ []) $
       peeks ! (B (κ, tt)) (Is (B (κ, tt))) (shows 𝓤 H A (B (κ, tt))) r (u ∷ []) (λ is.
       land ! (from ! (stop !)) (init ! 15 refl (LL.lawful (T.the-type αᵉ) (T′.the-laws αᵉ) 𝓤 H A W .typed r _ is .0)) $
       rewrite ! 15 (λ (z : Val). ‵ (fat fullShare walker l₅ 0 z)) (ap only (LL.tells (T.the-type (namedLft 1 0 tt (κ, tt))) (T′.the-laws (namedLft 1 0 tt (κ, tt))) r _ is)) refl $
@@ -365,15 +365,15 @@ module _ {M : Type 1} (𝓤 : URA M) (H : Heap 𝓤) (A : Atoms 𝓤) (W : Given
       move ! (1 ∷ []) $ split ! $ move ! (1 ∷ []) $ drop ! $ move ! (2 ∷ []) $ split ! $ move ! (1 ∷ []) $ split ! $ move ! (1 ∷ []) $ split ! $ move ! (1 ∷ []) $ split ! $
       -- [what s owns; n; the file; the names; the token of κ′; that of κ; the walker; …]
       move ! (6 ∷ 5 ∷ 4 ∷ 3 ∷ 2 ∷ 0 ∷ 1 ∷ []) $
-      starts 𝓣 fm known-moved known-place l₀ l₁ l₂ l₃ l₄ l₅ l₆ l₇ l₈ l₉ l₁₀ l₁₁ r e))))))))))))))))
+      starts 𝓣 fm known-moved known-spot l₀ l₁ l₂ l₃ l₄ l₅ l₆ l₇ l₈ l₉ l₁₀ l₁₁ r e))))))))))))))))
 
 module _ {M : Type 1} (𝓤 : URA M) (H : Heap 𝓤) (A : Atoms 𝓤) (W : Given 𝓤 H A) (mem : Memory → SProp 𝓤) (run : Routine → Fun 𝓤) (𝓣 : Tables 𝓤 H)
-    (known-new : Triple 𝓤 (𝓣 .C #walker·new) (New 𝓤 H A mem run)) (known-moved : Triple 𝓤 (𝓣 .C #walker·moved) (Moved 𝓤 H A mem run)) (known-place : Triple 𝓤 (𝓣 .C #walker·place-of) (PlaceOf 𝓤 H A mem run)) where
+    (known-new : Triple 𝓤 (𝓣 .C #walker·new) (New 𝓤 H A mem run)) (known-moved : Triple 𝓤 (𝓣 .C #walker·moved) (Moved 𝓤 H A mem run)) (known-spot : Triple 𝓤 (𝓣 .C #walker·spot-of) (SpotOf 𝓤 H A mem run)) where
   after-walks : Walks 𝓤 H A after.ended stayed (WpFn 𝓤 H (𝓣 .C) (𝓣 .Λ) code.function) (after.clauses 𝓤 H A mem run)
   after-walks = walked 𝓤 H A after.ended stayed (after.clauses 𝓤 H A mem run) (WpFn 𝓤 H (𝓣 .C) (𝓣 .Λ) code.function)
       (λ κs. (slice-vals, (LL.vals S.the-type S′.the-laws, (uint-vals w64, (slice-vals, tt))))) (λ κs. (shr-slice-tells (named 0) (κs .0) u8, (LL.tells S.the-type S′.the-laws, (uint-tells w64, (mut-slice-tells (named 1) (κs .1 .0) u64, tt)))))
       (λ κs qs bounds a g are. via 𝓤 _ (fst∗ 𝓤 _ (emp 𝓤)) (walk 𝓤 H A W mem run (κs .0) (κs .1 .0) (qs .0) (qs .1 .0) (a .0) (a .1 .0) (a .1 .1 .0) (a .1 .1 .1 .0 .ptr .0) (a .1 .1 .1 .0 .ptr .1) (a .1 .1 .1 .0 .name) (a .1 .1 .1 .0 .now) (are .1 .1 .0 .1) (are .1 .1 .1 .0 .0 .1)
-      𝓣 (fmOf 𝓤 H (W .laws) 𝓣) known-new known-moved known-place (are .0) (are .1 .0)))
+      𝓣 (fmOf 𝓤 H (W .laws) 𝓣) known-new known-moved known-spot (are .0) (are .1 .0)))
 
   after-meets : Meets 𝓤 H A after.signature (WpFn 𝓤 H (𝓣 .C) (𝓣 .Λ) code.function) (after.spec 𝓤 H A mem run)
   after-meets = walk-meets 𝓤 H A after.ended stayed W (goes-none-slice 𝓤 H A W 2 (0 ∷ []) tt (plain (λ _. u8)) yes, (goes-none 𝓤 H A W 2 (λ _. S.the-row) yes (λ κs x f. refl), (goes-none 𝓤 H A W 2 (λ _. usize) yes (λ κs x f. refl), (goes-slice 𝓤 H A W 2 1 tt (plain (λ _. u64)), tt))))
@@ -385,6 +385,6 @@ after-lines-spec 𝓤 H 𝓜 𝓖 𝓡 =
     entered 𝓤 H (tripleOf 𝓤 H (𝓖 .A) after.signature (after.spec 𝓤 H (𝓖 .A) (𝓜 .mem) (𝓡 .run)))
     (tables 𝓤 H 𝓜 𝓡 code.env .C) (tables 𝓤 H 𝓜 𝓡 code.env .Λ) #walker·after-lines code.function (code.unfolded 𝓤 H 𝓜 𝓡)
     (after-meets 𝓤 H (𝓖 .A) (givenOf 𝓤 H 𝓜 𝓖) (𝓜 .mem) (𝓡 .run) (tablesOf 𝓤 H 𝓜 (tables 𝓤 H 𝓜 𝓡 code.env))
-    (cited 𝓤 H (New 𝓤 H (𝓖 .A) (𝓜 .mem) (𝓡 .run)) 𝓜 𝓡 code.env #walker·new new-def.routine code.calls-walker·new (new-thm.met 𝓤 H 𝓜 𝓖 𝓡))
-    (cited 𝓤 H (Moved 𝓤 H (𝓖 .A) (𝓜 .mem) (𝓡 .run)) 𝓜 𝓡 code.env #walker·moved moved-def.routine code.calls-walker·moved (moved-thm.met 𝓤 H 𝓜 𝓖 𝓡))
-    (cited 𝓤 H (PlaceOf 𝓤 H (𝓖 .A) (𝓜 .mem) (𝓡 .run)) 𝓜 𝓡 code.env #walker·place-of place-of-def.routine code.calls-walker·place-of (place-of-thm.met 𝓤 H 𝓜 𝓖 𝓡)))
+    (cited 𝓤 H (New 𝓤 H (𝓖 .A) (𝓜 .mem) (𝓡 .run)) 𝓜 𝓡 code.env #walker·new new-def.routine code.calls-line-walk·new (new-thm.met 𝓤 H 𝓜 𝓖 𝓡))
+    (cited 𝓤 H (Moved 𝓤 H (𝓖 .A) (𝓜 .mem) (𝓡 .run)) 𝓜 𝓡 code.env #walker·moved moved-def.routine code.calls-line-walk·moved (moved-thm.met 𝓤 H 𝓜 𝓖 𝓡))
+    (cited 𝓤 H (SpotOf 𝓤 H (𝓖 .A) (𝓜 .mem) (𝓡 .run)) 𝓜 𝓡 code.env #walker·spot-of spot-of-def.routine code.calls-line-walk·spot-of (spot-of-thm.met 𝓤 H 𝓜 𝓖 𝓡)))

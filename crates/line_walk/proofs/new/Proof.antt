@@ -1,10 +1,10 @@
--- `walker::new` meets its contract: a walk of its MIR, by hand. A `Walker` is made of the slice and the place passed, in the result's local.
+-- `line_walk::new` meets its contract: a walk of its MIR, by hand. A `Walker` is made of the slice and the spot passed, in the result's local.
 -- Both are Copy, so what each owns is had twice: once for the parameter at exit, and once inside the result.
 -- Assumes nothing.
 use Rattle.line_walk.proofs.Walking.{refl, ℕ, List, [], _∷_, length, URA, named, Val, SProp, ent, emp, via, fst∗, Lft, Share, Fml, ftrue, flft, Memory, Routine, Heap, Calls, Loops, WpFn, Tables, Atoms, Fun, givenOf, tables, tablesOf, Given, ‵, raw, _⊛_, _$_, _∵_, !, qed, by, move, use1, split, fsplit, fjoin, suffices, frame, agg, look, init, forget, stop, from, load, and-then, no-more, assigns, returns, enter, alloc1, alloc0, params1, pass1, pass0, free1, free0, WpFn-mono, owns, Is, u8, RefT, NamedLft, plain, namedLft, sliceVal, ShrSlice, slice-vals, shr-slice-tells, shr-slice-lawful, shr-slice-copy, nothing, own-shut, Vals, onEntry, Meets, tripleOf, entered, says, Stays, stay-none, stay-none-slice, walkOf, goes-none, goes-none-slice, Walks, ends-at, walked, walk-meets, yes}
 use denote.Struct.Laws as LL
 use Rattle.line_walk.specs.declared.Walker.{Walker}
-use Rattle.line_walk.specs.declared.Place.{Place}
+use Rattle.line_walk.specs.declared.Spot.{Spot}
 use Rattle.line_walk.proofs.Walker as T
 use Rattle.line_walk.proofs.Walker.Laws as T′
 use Rattle.line_walk.proofs.Place as S
@@ -17,7 +17,7 @@ use Rattle.line_walk.proofs.new.Code as code
 abbrev stayed : Stays (own.ended .signature .params) (own.ended .kept)
 stayed = (stay-none-slice (0 ∷ []) tt (plain (λ _. u8)) yes, (stay-none (λ _. S.the-row) yes, tt))
 
-module _ {M : Type 1} (𝓤 : URA M) (H : Heap 𝓤) (A : Atoms 𝓤) (W : Given 𝓤 H A) (mem : Memory → SProp 𝓤) (run : Routine → Fun 𝓤) (κ : Lft) (q : Share) (s : RefT (List ℕ)) (x : Place) where
+module _ {M : Type 1} (𝓤 : URA M) (H : Heap 𝓤) (A : Atoms 𝓤) (W : Given 𝓤 H A) (mem : Memory → SProp 𝓤) (run : Routine → Fun 𝓤) (κ : Lft) (q : Share) (s : RefT (List ℕ)) (x : Spot) where
   abbrev α : NamedLft
   α = namedLft 1 0 tt (κ, tt)
 
@@ -26,7 +26,7 @@ module _ {M : Type 1} (𝓤 : URA M) (H : Heap 𝓤) (A : Atoms 𝓤) (W : Given
   v = sliceVal (s .ptr) (length (s .now))
 
   abbrev made : Walker
-  made = record { file = s; place = x }
+  made = record { file = s; spot = x }
 
   abbrev at : Vals own.signature (κ, tt)
   at = (v ∷ [], (S′.lowered x ∷ [], tt))
@@ -37,18 +37,18 @@ module _ {M : Type 1} (𝓤 : URA M) (H : Heap 𝓤) (A : Atoms 𝓤) (W : Given
   abbrev Own : Fml
   Own = ShrSlice (named 0) κ u8 .own s (v ∷ [])
 
-  abbrev OwnPlace : Fml
-  OwnPlace = S.the-row .own x (S′.lowered x ∷ [])
+  abbrev OwnSpot : Fml
+  OwnSpot = S.the-row .own x (S′.lowered x ∷ [])
 
   exits : ent 𝓤 (onEntry 𝓤 H A own.signature (κ, tt) (q, tt) (s, (x, tt)) at) (Post (T′.lowered made))
   exits =
       qed W ((‵ (flft κ q) ⊛ ‵ ftrue) ∷ ‵ (owns (ShrSlice (named 0) κ u8 ∷ S.the-row ∷ []) (s, (x, tt)) at) ∷ []) ∵
       suffices ! _ (ends-at 𝓤 H A own.ended stayed (own.clauses 𝓤 H A mem run) W (((κ, tt), (q, tt), tt, (s, (x, tt)), at), tt) (T′.lowered made) made (tt, (tt, tt)) (tt, (tt, tt))) $ says ! (refl, refl) $
       frame ! $ fsplit ! $ use1 W (‵ Own ⊛ ‵ Own) (shr-slice-copy 𝓤 H A W (named 0) κ u8 .twice s (v ∷ [])) $ split ! $ move ! (2 ∷ []) $ fsplit ! $
-      use1 W (‵ OwnPlace ⊛ ‵ OwnPlace) (LL.copy S.the-type S′.the-copy 𝓤 H A W .twice x (S′.lowered x ∷ [])) $ split ! $
-      -- [what the place owns, twice; nothing; what the file owns, twice]: one of each for the exit
+      use1 W (‵ OwnSpot ⊛ ‵ OwnSpot) (LL.copy S.the-type S′.the-copy 𝓤 H A W .twice x (S′.lowered x ∷ [])) $ split ! $
+      -- [what the spot owns, twice; nothing; what the file owns, twice]: one of each for the exit
       move ! (0 ∷ 2 ∷ []) $ fjoin ! $ move ! (2 ∷ 0 ∷ []) $ fjoin ! $ frame ! $
-      -- and the others, together, are what the struct owns: [what the place owns; what the file owns]
+      -- and the others, together, are what the struct owns: [what the spot owns; what the file owns]
       nothing ! $ move ! (1 ∷ 0 ∷ []) $ fjoin ! $ move ! (1 ∷ 0 ∷ []) $ fjoin ! $ by ! (own-shut 𝓤 H A W (T.the-type α) (T′.the-laws α) (s, (x, tt)))
 
   module _ (C : Calls 𝓤 H) (Λ : Loops 𝓤 H) where

@@ -1,4 +1,4 @@
--- `walker::next` meets its contract: a walk of its MIR, by hand. The struct is taken apart, and `read_at` is called on the file, the place and the names lent, of which the proof knows only that it meets its contract.
+-- `line_walk::next` meets its contract: a walk of its MIR, by hand. The struct is taken apart, and `read_at` is called on the file, the spot and the names lent, of which the proof knows only that it meets its contract.
 -- The struct is Copy: what it owns is had twice, one copy is kept whole for the exit, and of the other the callee takes the fields in their order, then the names. They are lent on at their own lifetime, share and ghost name, for good: what `read_at` says of the last list is what `next` says of it.
 -- Assumes nothing.
 use Rattle.line_walk.proofs.Walking.{_≡_, refl, List, [], _∷_, ℕ, Holds, length, URA, named, Val, WT, hasTy, SProp, ent, sep, emp, via, fst∗, id⊢, Lft, Share, GName, Fml, ftrue, flft, Memory, Routine, Heap, Calls, Loops, WpFn, Tables, Atoms, sem, Lfts, Fun, fact, givenOf, tables, tablesOf, Given, Item, ‵, raw, _⊛_, given, ⋆, some, later, _$_, _∵_, !, qed, by, move, drop, use1, use2, split, join, learn, pick, fsplit, fjoin, feqL, suffices, frame, await, done, whole, sub, look-in, agg, look, init, forget, stop, hop, fld, from, load, addr, of-opd, and-then, no-more, assigns, land, returns, enter, alloc1, alloc0, params1, pass1, pass0, free1, free0, FmC, fmOf, WpFn-mono, RattleType, owns, Is, shows, u8, u64, RefT, now, plain, namedLft, sliceVal, ShrSlice, MutSlice, Room, finally, slice-vals, mut-slice-tells, peeks, heard, nothing, Declared, all-own, own-open, Values, Contract, Triple, calls-at, Vals, onEntry, Meets, tripleOf, entered, cited, Stays, stay-none, gave-slice, walkOf, goes-none, goes-gave-slice, Walks, ends-at, walked, walk-meets, yes, ensured, lasts}
@@ -60,10 +60,10 @@ module _ {M : Type 1} (𝓤 : URA M) (H : Heap 𝓤) (A : Atoms 𝓤) (W : Given
 
   -- what is known of the result, and of the last list
   abbrev Told : LineRead → Type 0
-  Told r = toldRead r ≡ toldRead (lineRead rules-d (now (d .file)) (d .place .at) (d .place .state) ys)
+  Told r = toldRead r ≡ toldRead (lineRead rules-d (now (d .file)) (d .spot .at) (d .spot .state) ys)
 
   abbrev Kept : List ℕ → Type 0
-  Kept zs = zs ≡ lineNames rules-d (now (d .file)) (d .place .at) (d .place .state) ys
+  Kept zs = zs ≡ lineNames rules-d (now (d .file)) (d .spot .at) (d .spot .state) ys
 
   abbrev Post : Val → SProp 𝓤
   Post = walkOf 𝓤 H A own.ended stayed (own.clauses 𝓤 H A mem run) .post ((κs, (q, (q′, tt)), tt, (d, (x, tt)), vals), tt)
@@ -85,17 +85,17 @@ module _ {M : Type 1} (𝓤 : URA M) (H : Heap 𝓤) (A : Atoms 𝓤) (W : Given
   L = T′.the-laws (namedLft 2 0 tt κs)
 
   abbrev vd : Values (D .parts)
-  vd = (d .file, (d .place, tt))
+  vd = (d .file, (d .spot, tt))
 
   -- what the callee is passed
   abbrev passed : Vals read-at.signature κs
-  passed = (v ∷ [], (S′.lowered (d .place) ∷ [], (m ∷ [], tt)))
+  passed = (v ∷ [], (S′.lowered (d .spot) ∷ [], (m ∷ [], tt)))
 
   abbrev to : ReadAt 𝓤 H A mem run .Ghost
-  to = ((κs, (q, (q′, tt)), tt, (d .file, (d .place, (x, tt))), passed), tt)
+  to = ((κs, (q, (q′, tt)), tt, (d .file, (d .spot, (x, tt))), passed), tt)
 
-  asked : ent 𝓤 (onEntry 𝓤 H A read-at.signature κs (q, (q′, tt)) (d .file, (d .place, (x, tt))) passed) (ReadAt 𝓤 H A mem run .pre to)
-  asked = qed W (Tokens ∷ ‵ (owns (ShrSlice (named 0) κ u8 ∷ S.the-row ∷ MutSlice (named 1) κ′ u64 ∷ []) (d .file, (d .place, (x, tt))) passed) ∷ []) ∵ join ! $ frame ! $ done !
+  asked : ent 𝓤 (onEntry 𝓤 H A read-at.signature κs (q, (q′, tt)) (d .file, (d .spot, (x, tt))) passed) (ReadAt 𝓤 H A mem run .pre to)
+  asked = qed W (Tokens ∷ ‵ (owns (ShrSlice (named 0) κ u8 ∷ S.the-row ∷ MutSlice (named 1) κ′ u64 ∷ []) (d .file, (d .spot, (x, tt))) passed) ∷ []) ∵ join ! $ frame ! $ done !
 
   -- what the struct and the names own gives what the callee asks, and what the struct owns is kept
   apart : ent 𝓤 (onEntry 𝓤 H A own.signature κs (q, (q′, tt)) (d, (x, tt)) vals) (sep 𝓤 (ReadAt 𝓤 H A mem run .pre to) (sem 𝓤 H A Own))
@@ -104,7 +104,7 @@ module _ {M : Type 1} (𝓤 : URA M) (H : Heap 𝓤) (A : Atoms 𝓤) (W : Given
       move ! (1 ∷ []) $ fsplit ! $ use1 W (‵ Own ⊛ ‵ Own) (LL.copy D (T′.the-copy (namedLft 2 0 tt κs)) 𝓤 H A W .twice d (mach ∷ [])) $ split ! $
       use1 W (given (mach ∷ [] ≡ mach ∷ []) (‵ (all-own (D .parts) L vd))) (own-open 𝓤 H A W D L vd mach) $ learn ! (λ _.
       fsplit ! $ move ! (1 ∷ []) $ fsplit ! $
-      -- [what the place owns; nothing; what the file owns; what the struct owns; what the names own; the tokens]
+      -- [what the spot owns; nothing; what the file owns; what the struct owns; what the names own; the tokens]
       move ! (0 ∷ 4 ∷ []) $ fjoin ! $ move ! (2 ∷ 0 ∷ []) $ fjoin ! $
       -- [what the callee's parameters own; nothing; what the struct owns; the tokens]
       move ! (1 ∷ []) $ drop ! $ move ! (2 ∷ 0 ∷ []) $ use2 W (raw (ReadAt 𝓤 H A mem run .pre to)) asked $ frame ! $ done !)
@@ -129,9 +129,9 @@ module _ {M : Type 1} (𝓤 : URA M) (H : Heap 𝓤) (A : Atoms 𝓤) (W : Given
         assigns ! (agg ! (and-then ! (load ! (from ! (stop !)) (look ! 2 refl)) (and-then ! (load ! (from ! (fld ! refl (stop !))) (look-in ! 8 (sub ! 1 refl (whole !)))) (no-more !)))) (from ! (stop !)) (init ! 0 refl (tt, (tt, (record { fits = room .0 }, tt)))) $
         move ! (14 ∷ []) $ use1 W (raw (ReadAt 𝓤 H A mem run .pre to) ⊛ ‵ Own) apart $ split ! $
         calls-at ! fm (ReadAt 𝓤 H A mem run) known to (and-then ! (load ! (from ! (stop !)) (look ! 8 refl)) (and-then ! (load ! (from ! (stop !)) (look ! 6 refl)) (and-then ! (load ! (from ! (stop !)) (look ! 2 refl)) (no-more !)))) (λ u.
-        use1 W (later (some (λ (r : LineRead). (Tokens ⊛ ‵ (E.the-row .own r (u ∷ []))) ⊛ raw (ensured 𝓤 H A read-at.ended (read-at.clauses 𝓤 H A mem run) κs (d .file, (d .place, (x, tt))) tt r)))) (id⊢ 𝓤 _) $ await ! tt $ pick ! (λ r.
+        use1 W (later (some (λ (r : LineRead). (Tokens ⊛ ‵ (E.the-row .own r (u ∷ []))) ⊛ raw (ensured 𝓤 H A read-at.ended (read-at.clauses 𝓤 H A mem run) κs (d .file, (d .spot, (x, tt))) tt r)))) (id⊢ 𝓤 _) $ await ! tt $ pick ! (λ r.
         -- what `read_at` ensures, at some last list
-        split ! $ move ! (1 ∷ []) $ use1 W (some (λ (zs : Unit {0} × (Unit {0} × (List ℕ × Unit {0}))). ‵ (lasts read-at.ended κs (d .file, (d .place, (x, tt))) zs) ⊛ (raw (fact 𝓤 (Told r)) ⊛ raw (fact 𝓤 (Kept (zs .1 .1 .0)))))) (id⊢ 𝓤 _) $ pick ! (λ zs.
+        split ! $ move ! (1 ∷ []) $ use1 W (some (λ (zs : Unit {0} × (Unit {0} × (List ℕ × Unit {0}))). ‵ (lasts read-at.ended κs (d .file, (d .spot, (x, tt))) zs) ⊛ (raw (fact 𝓤 (Told r)) ⊛ raw (fact 𝓤 (Kept (zs .1 .1 .0)))))) (id⊢ 𝓤 _) $ pick ! (λ zs.
         split ! $ move ! (1 ∷ []) $ split ! $ heard ! (Told r) (λ e. heard ! (Kept (zs .1 .1 .0)) (λ k. fsplit ! $ drop ! $ fsplit ! $ drop ! $ fsplit ! $ fsplit ! $ move ! (1 ∷ []) $ feqL ! (λ l. move ! (1 ∷ []) $ drop ! $
         -- [the last list; the tokens and the result; what the struct owns; _6; …; _5; …; _4; …; _3; …; _2; …; _1; …; room for _0; …]
         move ! (1 ∷ []) $ split ! $ move ! (1 ∷ []) $ peeks ! E.the-row (Is E.the-row) (shows 𝓤 H A E.the-row) r (u ∷ []) (λ is.
@@ -160,4 +160,4 @@ next-spec 𝓤 H 𝓜 𝓖 𝓡 =
     entered 𝓤 H (tripleOf 𝓤 H (𝓖 .A) own.signature (own.spec 𝓤 H (𝓖 .A) (𝓜 .mem) (𝓡 .run)))
     (tables 𝓤 H 𝓜 𝓡 code.env .C) (tables 𝓤 H 𝓜 𝓡 code.env .Λ) #walker·next code.function (code.unfolded 𝓤 H 𝓜 𝓡)
     (next-meets 𝓤 H (𝓖 .A) (givenOf 𝓤 H 𝓜 𝓖) (𝓜 .mem) (𝓡 .run) (tablesOf 𝓤 H 𝓜 (tables 𝓤 H 𝓜 𝓡 code.env))
-    (cited 𝓤 H (ReadAt 𝓤 H (𝓖 .A) (𝓜 .mem) (𝓡 .run)) 𝓜 𝓡 code.env #walker·read-at read-at-def.routine code.calls-walker·read-at (read-at-thm.met 𝓤 H 𝓜 𝓖 𝓡)))
+    (cited 𝓤 H (ReadAt 𝓤 H (𝓖 .A) (𝓜 .mem) (𝓡 .run)) 𝓜 𝓡 code.env #walker·read-at read-at-def.routine code.calls-line-walk·read-at (read-at-thm.met 𝓤 H 𝓜 𝓖 𝓡)))

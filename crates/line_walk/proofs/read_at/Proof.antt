@@ -1,4 +1,4 @@
--- `walker::read_at` meets its contract.
+-- `line_walk::read_at` meets its contract.
 -- Assumes nothing.
 use mathlib.Core.Path.{_∙_, ap}
 use borrow.Author.Needs.{needs}
@@ -13,8 +13,8 @@ returns c =
     let done = c .before .before in
     let ruled = done .before .before in
     let a = ruled .before .before .before .before .args in (
-      done .read-line .ensures .0 ∙ ap (λ (k : Rules). toldRead (lineRead k (a .file .now) (a .place .at) (a .place .state) (a .names .now))) (ruled .d .ensures),
-      done .read-line .ensures .1 ∙ ap (λ (k : Rules). lineNames k (a .file .now) (a .place .at) (a .place .state) (a .names .now)) (ruled .d .ensures),
+      done .read-line .ensures .0 ∙ ap (λ (k : Rules). toldRead (lineRead k (a .file .now) (a .spot .at) (a .spot .state) (a .names .now))) (ruled .d .ensures),
+      done .read-line .ensures .1 ∙ ap (λ (k : Rules). lineNames k (a .file .now) (a .spot .at) (a .spot .state) (a .names .now)) (ruled .d .ensures),
     )
 
 pub read-at-spec : {M : Type 1} → statement M

@@ -5,7 +5,7 @@ use native.Mathlib.Omega.{arith}
 use borrow.Author.Needs.{needs}
 use borrow.Author.Tests.{lt-ltb, le-ltb}
 use lib.ListN.{length}
-use Rattle.scan.specs.Run.{wholeOf}
+use Rattle.scan.specs.Run.{wholeFront}
 use Rattle.scan.proofs.Told.{toldFront-one}
 use Rattle.scan.proofs.Turn.{lines-within}
 use Rattle.scan.proofs.scan_whole.Statement.{statement}
@@ -19,18 +19,18 @@ add-t11 c =
     omega (arith, lines-within (a .rules) (a .bytes .now) (known .tally .given .0 .0) (sym (toldFront-one _ _ (ran .scan-front .ensures)) ∙ known .tally .given .1))
 
 returns : tie.Need-returns
-unfolding wholeOf
+unfolding wholeFront
 returns c =
     let known = c .before .before .before .before in
     let ran = known .before .before in
     rw (sym (toldFront-one _ _ (ran .scan-front .ensures)) ∙ known .tally .given .1, lt-ltb (known .tally .given .0 .0 .end) (length (ran .before .before .args .bytes .now)) (c .before .if1 .taken))
 
 returns-2 : tie.Need-returns-2
-unfolding wholeOf
+unfolding wholeFront
 returns-2 c = let known = c .before in rw (sym (toldFront-one _ _ (known .before .before .scan-front .ensures)) ∙ known .number .given .1)
 
 returns-3 : tie.Need-returns-3
-unfolding wholeOf
+unfolding wholeFront
 returns-3 c =
     let known = c .before .before .before in
     let ran = known .before .before in

@@ -8,7 +8,7 @@ use native.Mathlib.Nat.{sub-zero}
 use borrow.Author.Tests.{not-true, not-false}
 use borrow.Author.Needs.{needs}
 use lib.ListN.{length, take}
-use Rattle.canon.specs.Table.{Table, tableOf, cellsIn, namesOf, exponentsOf, commentsOf, rowsOf}
+use Rattle.canon.specs.Table.{Table, tableOf, cellsIn, tableIdentifiers, exponentsOf, commentsOf, rowsOf}
 use Rattle.canon.specs.Valid.{countsHold, namesValid, exponentsValid, commentsValid, rowsValid}
 use Rattle.canon.specs.Measured.{formLength}
 use Rattle.canon.proofs.Tests.{both}
@@ -54,7 +54,7 @@ known c = c .before .before .before .before .before
 judged : (c : tie.After-exponents-valid) → (
     let t = table (known c .before) in
     (c .before .before .before .names-valid .result && (c .exponents-valid .result && c .before .before .table-spent .result .valid))
-    ≡ (namesValid (t .header .«file_type») (namesOf t)
+    ≡ (namesValid (t .header .«file_type») (tableIdentifiers t)
     && (exponentsValid (exponentsOf t)
     && (commentsValid (start (known c .before) .args .rules) (t .header .comments) (commentsOf t) && rowsValid (t .header .velocity) (cellsIn (t .header)) (rowsOf t)))))
 judged c =

@@ -1,4 +1,4 @@
--- `stretches::input::batch` is safe and ends: a case ends past where it begins.
+-- `cases_divide::input::batch` is safe and ends: a case ends past where it begins.
 -- Assumes nothing.
 use Prim.Native.Nat.{_≤_, _-_}
 use borrow.Author.Needs.{needs}

@@ -1,4 +1,4 @@
--- `stretches::input::number` is safe and ends: the place stays between where it began and the end.
+-- `cases_divide::input::number` is safe and ends: the place stays between where it began and the end.
 -- Assumes nothing.
 use Prim.Native.Nat.{_≤_, _-_}
 use borrow.Author.Needs.{needs}

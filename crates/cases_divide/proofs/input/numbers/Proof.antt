@@ -1,4 +1,4 @@
--- `stretches::input::numbers` is safe and ends: the place stays between where it began and the end.
+-- `cases_divide::input::numbers` is safe and ends: the place stays between where it began and the end.
 -- Assumes nothing.
 use mathlib.Core.Path.{_≡_}
 use Prim.Native.Nat.{_≤_, _-_}

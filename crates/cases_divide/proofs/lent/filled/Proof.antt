@@ -1,4 +1,4 @@
--- `stretches::lent::filled` is safe and ends.
+-- `cases_divide::lent::filled` is safe and ends.
 -- Assumes nothing.
 use Prim.Native.Nat.{_≤_, _-_}
 use borrow.Author.Needs.{needs}

@@ -1,4 +1,4 @@
--- `stretches::lent::marked` is safe and ends.
+-- `cases_divide::lent::marked` is safe and ends.
 -- Assumes nothing.
 use Prim.Native.Nat.{_≤_, _-_}
 use borrow.Author.Needs.{needs}

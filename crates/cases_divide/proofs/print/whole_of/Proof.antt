@@ -1,4 +1,4 @@
--- `stretches::print::whole_of` is safe: the two tests say that the float lies between the ends of the signed numbers of 64 bits, each end by its bit pattern.
+-- `cases_divide::print::whole_of` is safe: the two tests say that the float lies between the ends of the signed numbers of 64 bits, each end by its bit pattern.
 -- Assumes nothing.
 use mathlib.Core.Path.{sym, subst}
 use borrow.Author.Needs.{needs}

@@ -1,4 +1,4 @@
--- `stretches::walked::line_count` is safe and ends: no more lines end than bytes were met.
+-- `cases_divide::walked::line_count` is safe and ends: no more lines end than bytes were met.
 -- Assumes nothing.
 use Prim.Native.Nat.{_≤_, _-_}
 use borrow.Author.Needs.{needs}

@@ -1,4 +1,4 @@
--- `stretches::walked::rows` is safe and ends: each row counts down.
+-- `cases_divide::walked::rows` is safe and ends: each row counts down.
 -- Assumes nothing.
 use Prim.Native.Nat.{_≤_}
 use borrow.Author.Needs.{needs}

@@ -1,4 +1,4 @@
--- `foundations::days::month_sum` is safe and ends: it counts up to its end.
+-- `cases_fields::days::month_sum` is safe and ends: it counts up to its end.
 -- Assumes nothing.
 use Prim.Native.Nat.{_≤_, _-_}
 use borrow.Author.Needs.{needs}

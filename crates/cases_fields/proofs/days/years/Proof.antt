@@ -1,4 +1,4 @@
--- `foundations::days::years` is safe and ends: it counts up to its end.
+-- `cases_fields::days::years` is safe and ends: it counts up to its end.
 -- Assumes nothing.
 use Prim.Native.Nat.{_≤_, _-_}
 use borrow.Author.Needs.{needs}

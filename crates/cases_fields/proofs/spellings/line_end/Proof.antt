@@ -1,4 +1,4 @@
--- `foundations::spellings::line_end` is safe and ends: the place stays between where it began and the end.
+-- `cases_fields::spellings::line_end` is safe and ends: the place stays between where it began and the end.
 -- Assumes nothing.
 use Prim.Native.Nat.{_≤_, _-_}
 use borrow.Author.Needs.{needs}

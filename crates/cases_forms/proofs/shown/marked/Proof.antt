@@ -1,4 +1,4 @@
--- `forms::shown::marked` is safe and ends.
+-- `cases_forms::shown::marked` is safe and ends.
 -- Assumes nothing.
 use Prim.Native.Nat.{_≤_, _-_}
 use borrow.Author.Needs.{needs}

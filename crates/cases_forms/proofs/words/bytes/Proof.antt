@@ -1,4 +1,4 @@
--- `forms::words::bytes` is safe and ends.
+-- `cases_forms::words::bytes` is safe and ends.
 -- Assumes nothing.
 use mathlib.Core.Path.{_≡_}
 use Prim.Native.Nat.{_≤_, _-_}

@@ -1,4 +1,4 @@
--- `forms::words::minus` is safe: a magnitude below 2^63 fits with a minus too.
+-- `cases_forms::words::minus` is safe: a magnitude below 2^63 fits with a minus too.
 -- Assumes nothing.
 use Prim.Native.Nat.{ℕ, zero, suc, _≤_}
 use native.Mathlib.Omega.{arith}

@@ -1,4 +1,4 @@
--- `forms::words::numbers` is safe and ends: the place stays between where it began and the end.
+-- `cases_forms::words::numbers` is safe and ends: the place stays between where it began and the end.
 -- Assumes nothing.
 use mathlib.Core.Path.{_≡_}
 use Prim.Native.Nat.{_≤_, _-_}

@@ -1,4 +1,4 @@
--- `records::input::all` is safe and ends: the bytes that it lends are as many as their type says, by a law, since to count them costs too much.
+-- `cases_lines::input::all` is safe and ends: the bytes that it lends are as many as their type says, by a law, since to count them costs too much.
 -- Assumes nothing.
 use mathlib.Core.Path.{sym}
 use Prim.Native.Nat.{ℕ}

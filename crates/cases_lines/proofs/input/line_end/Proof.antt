@@ -1,4 +1,4 @@
--- `records::input::line_end` is safe and ends: the place stays between where it began and the end.
+-- `cases_lines::input::line_end` is safe and ends: the place stays between where it began and the end.
 -- Assumes nothing.
 use Prim.Native.Nat.{_≤_, _-_}
 use borrow.Author.Needs.{needs}

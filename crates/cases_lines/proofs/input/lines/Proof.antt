@@ -1,4 +1,4 @@
--- `records::input::lines` is safe and ends: a turn ends past a line that lies within the input.
+-- `cases_lines::input::lines` is safe and ends: a turn ends past a line that lies within the input.
 -- Assumes nothing.
 use Prim.Native.Nat.{_≤_, _+_, _-_}
 use borrow.Author.Needs.{needs}

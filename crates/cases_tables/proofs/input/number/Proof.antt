@@ -1,4 +1,4 @@
--- `tables::input::number` is safe and ends: no more blanks were met than bytes.
+-- `cases_tables::input::number` is safe and ends: no more blanks were met than bytes.
 -- Assumes nothing.
 use Prim.Native.Nat.{_≤_, _-_}
 use borrow.Author.Needs.{needs}

@@ -1,4 +1,4 @@
--- `tables::lent::sum_of_bytes` is safe and ends.
+-- `cases_tables::lent::sum_of_bytes` is safe and ends.
 -- Assumes nothing.
 use Prim.Native.Nat.{_≤_, _-_}
 use borrow.Author.Needs.{needs}

@@ -1,4 +1,4 @@
--- `tables::table::absent_places` is safe and ends: no more are absent than were met.
+-- `cases_tables::table::absent_places` is safe and ends: no more are absent than were met.
 -- Assumes nothing.
 use Prim.Native.Nat.{_≤_, _-_}
 use borrow.Author.Needs.{needs}

@@ -1,4 +1,4 @@
--- `tables::table::all_rows` is safe and ends.
+-- `cases_tables::table::all_rows` is safe and ends.
 -- Assumes nothing.
 use Prim.Native.Nat.{_≤_, _-_}
 use borrow.Author.Needs.{needs}

@@ -1,4 +1,4 @@
--- `tables::table::comment` is safe and ends: what is left without trailing blanks is no longer than the text.
+-- `cases_tables::table::comment` is safe and ends: what is left without trailing blanks is no longer than the text.
 -- Assumes nothing.
 use native.Mathlib.Omega.{arith}
 use borrow.Author.Needs.{needs}

@@ -1,4 +1,4 @@
--- `store::fill::fill_comments` meets its contract. The invariant and the loop's turn are in `Filling`: the comments of the lines left are still to be laid.
+-- `fill::fill::fill_comments` meets its contract. The invariant and the loop's turn are in `Filling`: the comments of the lines left are still to be laid.
 -- Assumes nothing.
 use Prim.Native.Nat.{_-_, _<_}
 use mathlib.Core.Path.{refl, sym, _∙_}

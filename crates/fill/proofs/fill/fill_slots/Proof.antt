@@ -1,4 +1,4 @@
--- `store::fill::fill_slots` meets its contract. The invariant and the loop's turn are in `Filling`: the slots of the lines left are still to be laid.
+-- `fill::fill::fill_slots` meets its contract. The invariant and the loop's turn are in `Filling`: the slots of the lines left are still to be laid.
 -- Assumes nothing.
 use Prim.Native.Nat.{_-_}
 use mathlib.Core.Path.{sym, ap, _∙_}
@@ -10,7 +10,7 @@ use borrow.Rule.Slice.PartMut.{putMid}
 use lib.ListN.{length}
 use Rattle.lines.specs.Lines.{linesOf}
 use Rattle.file.specs.Kinds.{isKind}
-use Rattle.file.specs.Table.{slotKind, slotsIn}
+use Rattle.file.specs.Table.{slotLineKind, slotsIn}
 use Rattle.fill.proofs.Filling.{Filling, neither-met, filling-other}
 use Rattle.fill.proofs.FillingSlots.{slotsLeft, slots-first, slots-end, slots-done, slots-more}
 use Rattle.fill.proofs.fill.fill_slots.Statement.{statement}
@@ -27,7 +27,7 @@ loop-holds : tie.Need-loop-holds Inv-loop μ-loop
 loop-holds c =
     let a = c .before .before .before .args in
     slots-first (a .rules) (a .accuracies) (c .if1 .kind) (a .n) (a .bytes .now) (a .out .now)
-    (⊎-elim (λ w. w .1 ∙ sym (ap slotKind (w .0 .taken))) (λ w. w .1 ∙ sym (ap slotKind (w .0 .left))) (c .if1 .came))
+    (⊎-elim (λ w. w .1 ∙ sym (ap slotLineKind (w .0 .taken))) (λ w. w .1 ∙ sym (ap slotLineKind (w .0 .left))) (c .if1 .came))
 
 returns : tie.Need-returns Inv-loop μ-loop
 returns c =

@@ -1,4 +1,4 @@
--- `store::fill::lay_comment` meets its contract.
+-- `fill::fill::lay_comment` meets its contract.
 -- Assumes nothing.
 use mathlib.Core.Path.{ap, _∙_}
 use mathlib.Core.List.{List}

@@ -1,4 +1,4 @@
--- `store::fill::lay_slots` meets its contract. A line has seventeen slots.
+-- `fill::fill::lay_slots` meets its contract. A line has seventeen slots.
 -- Assumes nothing.
 use mathlib.Core.Path.{ap, _∙_}
 use mathlib.Core.List.{List}

@@ -1,4 +1,4 @@
--- `store::rows::store_row` meets its contract: twelve numbers, one after another.
+-- `fill::rows::store_row` meets its contract: twelve numbers, one after another.
 -- Assumes nothing.
 use mathlib.Core.Bool.{false}
 use native.Mathlib.Omega.{arith}

@@ -1,4 +1,4 @@
--- `store::rows::stored_mark` meets its contract: 1 for a flag that is set, 0 for one that is not.
+-- `fill::rows::stored_mark` meets its contract: 1 for a flag that is set, 0 for one that is not.
 -- Assumes nothing.
 use mathlib.Core.Bool.{false}
 use borrow.Author.Needs.{needs}

@@ -15,8 +15,8 @@ add-t8 c =
     let a = lined .before .before .before .args in
     omega (
       arith,
-      text-within (a .rules) (a .bytes .now) (a .k) (lined .before .place-of .result) (indented .fewer .result) (now (lined .line-of .result))
-          (lined .before .place-of .ensures) (lined .line-of .ensures .0) (indented .fewer .ensures),
+      text-within (a .rules) (a .bytes .now) (a .k) (lined .before .line-begins .result) (indented .fewer .result) (now (lined .line-of .result))
+          (lined .before .line-begins .ensures) (lined .line-of .ensures .0) (indented .fewer .ensures),
     )
 
 returns : tie.Need-returns
@@ -24,8 +24,8 @@ returns c =
     let indented = c .before in
     let lined = indented .before in
     let a = lined .before .before .before .args in
-    comment-told (a .rules) (linesOf (a .bytes .now)) (a .k) (lined .before .place-of .result) (indented .fewer .result) (now (lined .line-of .result)) (now (c .text-of .result))
-    (lined .before .place-of .ensures) (lined .line-of .ensures .0) (indented .fewer .ensures) (c .text-of .ensures .0)
+    comment-told (a .rules) (linesOf (a .bytes .now)) (a .k) (lined .before .line-begins .result) (indented .fewer .result) (now (lined .line-of .result)) (now (c .text-of .result))
+    (lined .before .line-begins .ensures) (lined .line-of .ensures .0) (indented .fewer .ensures) (c .text-of .ensures .0)
 
 pub comment-at-spec : {M : Type 1} → statement M
 comment-at-spec = tie.close (tie.spec (λ c κs. search needs) (λ c κs. search needs) (λ c κs. search needs) (λ c κs. search needs) add-t8 returns)

@@ -23,18 +23,18 @@ small c =
     (omega (arith, start .pre .0, epochs))
     (omega (arith, start .pre .1, counted .count-of .ensures))
 
-mul-place-of : tie.Need-mul-place-of
-mul-place-of c = omega (arith, small c .0, small c .1)
+mul-line-begins : tie.Need-mul-line-begins
+mul-line-begins c = omega (arith, small c .0, small c .1)
 
-add-place-of : tie.Need-add-place-of
-add-place-of c = omega (arith, small c .0, small c .1)
+add-line-begins : tie.Need-add-line-begins
+add-line-begins c = omega (arith, small c .0, small c .1)
 
 returns : tie.Need-returns
 returns c =
     let counted = c .before .before .before in
     let a = counted .before .before .before .args in
     row-told (a .rules) (linesOf (a .bytes .now)) (a .epoch) (a .satellite) (counted .before .first-of .result) (counted .count-of .result)
-    (counted .before .first-of .ensures) (counted .count-of .ensures) (c .place-of .result) (c .before .if1 .taken) (c .place-of .ensures)
+    (counted .before .first-of .ensures) (counted .count-of .ensures) (c .line-begins .result) (c .before .if1 .taken) (c .line-begins .ensures)
 
 returns-2 : tie.Need-returns-2
 returns-2 c =
@@ -47,4 +47,4 @@ returns-2 c =
 pub row-at-spec : {M : Type 1} → statement M
 row-at-spec =
     tie.close
-    (tie.spec (λ c κs. search needs) (λ c κs. search needs) mul-place-of add-place-of (λ c κs. search needs) returns (λ c κs. search needs) returns-2)
+    (tie.spec (λ c κs. search needs) (λ c κs. search needs) mul-line-begins add-line-begins (λ c κs. search needs) returns (λ c κs. search needs) returns-2)

@@ -1,4 +1,4 @@
--- `walk::beginning::begin` meets its contract.
+-- `row_walk::beginning::begin` meets its contract.
 -- Assumes nothing.
 use mathlib.Core.Path.{ap, _∙_}
 use mathlib.Core.Bool.{false}

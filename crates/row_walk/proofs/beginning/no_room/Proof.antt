@@ -1,4 +1,4 @@
--- `walk::beginning::no_room` meets its contract.
+-- `row_walk::beginning::no_room` meets its contract.
 -- Assumes nothing.
 use mathlib.Core.Path.{ap}
 use borrow.Author.Needs.{needs}

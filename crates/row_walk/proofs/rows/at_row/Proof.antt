@@ -1,4 +1,4 @@
--- `walk::rows::at_row` meets its contract. The loop's invariant: the next row from here is the next row from the start.
+-- `row_walk::rows::at_row` meets its contract. The loop's invariant: the next row from here is the next row from the start.
 -- Assumes nothing.
 use mathlib.Core.Path.{_≡_, refl, sym, _∙_, subst}
 use Prim.Native.Nat.{_-_}
@@ -7,33 +7,33 @@ use borrow.Author.Needs.{needs}
 use lib.ListN.{length}
 use Rattle.header.specs.Rules.{d}
 use Rattle.row_walk.specs.Rows.{rowAhead}
-use Rattle.line_walk.specs.declared.Place.{Place}
+use Rattle.line_walk.specs.declared.Spot.{Spot}
 use Rattle.row_walk.proofs.Going.{Turn, turn, row-here}
 use Rattle.row_walk.proofs.rows.at_row.Statement.{statement}
 use Rattle.row_walk.proofs.rows.at_row.Tie as tie
 
 abbrev Inv-loop : tie.InvT-loop
-Inv-loop file names place₀ place = rowAhead d file names place ≡ rowAhead d file names place₀
+Inv-loop file names spot₀ spot = rowAhead d file names spot ≡ rowAhead d file names spot₀
 
 abbrev μ-loop : tie.MeasureT-loop
-μ-loop file names place₀ place = length file - place .at
+μ-loop file names spot₀ spot = length file - spot .at
 
 returns : tie.Need-returns Inv-loop μ-loop
 returns c =
     let at-loop = c .before .before in
     let a = at-loop .before .before .before .args in
-    row-here d (a .file .now) (a .names .now) (at-loop .loop .place) (sym (c .before .is-row-at .ensures) ∙ c .if1 .taken) ∙ at-loop .loop .inv
+    row-here d (a .file .now) (a .names .now) (at-loop .loop .spot) (sym (c .before .is-row-at .ensures) ∙ c .if1 .taken) ∙ at-loop .loop .inv
 
--- the place after the line
-turned : (c : tie.After-place-past Inv-loop μ-loop) → let at-loop = c .before .before .before in
+-- the spot after the line
+turned : (c : tie.After-spot-past Inv-loop μ-loop) → let at-loop = c .before .before .before in
     let a = at-loop .before .before .before .args in
-    Turn d (a .file .now) (a .names .now) (at-loop .loop .place) (c .place-past .result)
+    Turn d (a .file .now) (a .names .now) (at-loop .loop .spot) (c .spot-past .result)
 turned c =
     let at-loop = c .before .before .before in
     let a = at-loop .before .before .before .args in
-    subst (λ (p : Place). Turn d (a .file .now) (a .names .now) (at-loop .loop .place) p)
-    (sym (c .place-past .ensures))
-    (turn d (a .file .now) (a .names .now) (at-loop .loop .place) (sym (c .before .before .is-row-at .ensures) ∙ c .before .if1 .left))
+    subst (λ (p : Spot). Turn d (a .file .now) (a .names .now) (at-loop .loop .spot) p)
+    (sym (c .spot-past .ensures))
+    (turn d (a .file .now) (a .names .now) (at-loop .loop .spot) (sym (c .before .before .is-row-at .ensures) ∙ c .before .if1 .left))
 
 returns-2 : tie.Need-returns-2 Inv-loop μ-loop
 returns-2 c = turned (c .before .before) .stays (c .if2 .taken) ∙ c .before .before .before .before .before .loop .inv

@@ -1,4 +1,4 @@
--- `walk::rows::epoch_of` meets its contract.
+-- `row_walk::rows::epoch_of` meets its contract.
 -- Assumes nothing.
 use borrow.Author.Needs.{needs}
 use borrow.Author.Tests.{eq-eqb, ne-eqb}

@@ -1,4 +1,4 @@
--- `walk::rows::front_of` meets its contract.
+-- `row_walk::rows::front_of` meets its contract.
 -- Assumes nothing.
 use mathlib.Core.Path.{sym, ap}
 use Prim.Native.Nat.{ℕ}

@@ -1,4 +1,4 @@
--- `walk::rows::is_row_at` meets its contract.
+-- `row_walk::rows::is_row_at` meets its contract.
 -- Assumes nothing.
 use mathlib.Core.Path.{sym, ap}
 use Prim.Native.Nat.{ℕ}

@@ -1,4 +1,4 @@
--- `walk::rows::line_number` meets its contract.
+-- `row_walk::rows::line_number` meets its contract.
 -- Assumes nothing.
 use mathlib.Core.Path.{ap, _∙_}
 use mathlib.Core.List.{List}

@@ -1,4 +1,4 @@
--- `walk::rows::next_row` meets its contract: the row, the end or the refusal at the place of the next row.
+-- `row_walk::rows::next_row` meets its contract: the row, the end or the refusal at the spot of the next row.
 -- Assumes nothing.
 use mathlib.Core.Path.{_≡_, refl, ap, _∙_}
 use Prim.Native.Nat.{ℕ}
@@ -13,7 +13,7 @@ use Rattle.row_walk.proofs.Stepping.{steps-so}
 use Rattle.row_walk.proofs.rows.next_row.Statement.{statement}
 use Rattle.row_walk.proofs.rows.next_row.Tie as tie
 
--- where the line at the place of the next row has been read
+-- where the line at the spot of the next row has been read
 read : (c : tie.After-read-known) (w : LineRead) (x : RowStep) → c .read-known .result ≡ w
     → let placed = c .before .before in
     let a = placed .before .before .before .before .args in
@@ -46,7 +46,7 @@ returns-4 c =
     read read-at _ _ (told .before .end .given .1)
     (c .row-given .ensures
     ∙ ap (λ (n : ℕ). rowGiven (a .file .now) (placed .at-row .result .at) (placed .at-row .result .state .satellites) (a .from .passed)
-    (record { place = record { at = there .0; state = there .1 .0 }; passed = n })) (c .before .wrapping-add-u64 .ensures))
+    (record { spot = record { at = there .0; state = there .1 .0 }; passed = n })) (c .before .wrapping-add-u64 .ensures))
 
 pub next-row-spec : {M : Type 1} → statement M
 next-row-spec =

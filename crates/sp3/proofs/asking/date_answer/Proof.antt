@@ -1,4 +1,4 @@
--- `abi::asking::date_answer` meets its contract.
+-- `sp3::asking::date_answer` meets its contract.
 -- Assumes nothing.
 use mathlib.Core.Path.{sym, ap}
 use borrow.Author.Needs.{needs}

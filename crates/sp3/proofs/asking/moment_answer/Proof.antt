@@ -1,4 +1,4 @@
--- `abi::asking::moment_answer` meets its contract.
+-- `sp3::asking::moment_answer` meets its contract.
 -- Assumes nothing.
 use mathlib.Core.Path.{sym, ap}
 use borrow.Author.Needs.{needs}

@@ -1,4 +1,4 @@
--- `abi::asking::sp3_date` meets its contract.
+-- `sp3::asking::sp3_date` meets its contract.
 -- Assumes nothing.
 use mathlib.Core.Path.{ap, _∙_}
 use borrow.Author.Needs.{needs}

@@ -1,4 +1,4 @@
--- `abi::lists::clock_answer` meets its contract.
+-- `sp3::lists::clock_answer` meets its contract.
 -- Assumes nothing.
 use mathlib.Core.Path.{sym, ap, _∙_}
 use borrow.Author.Needs.{needs}

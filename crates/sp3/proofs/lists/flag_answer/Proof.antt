@@ -1,4 +1,4 @@
--- `abi::lists::flag_answer` meets its contract.
+-- `sp3::lists::flag_answer` meets its contract.
 -- Assumes nothing.
 use mathlib.Core.Path.{sym, ap, _∙_}
 use borrow.Author.Needs.{needs}

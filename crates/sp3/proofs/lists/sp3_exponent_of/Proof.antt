@@ -1,4 +1,4 @@
--- `abi::lists::sp3_exponent_of` meets its contract.
+-- `sp3::lists::sp3_exponent_of` meets its contract.
 -- Assumes nothing.
 use mathlib.Core.Path.{ap, _∙_}
 use borrow.Author.Needs.{needs}

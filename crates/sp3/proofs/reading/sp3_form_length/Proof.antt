@@ -1,4 +1,4 @@
--- `abi::reading::sp3_form_length` meets its contract.
+-- `sp3::reading::sp3_form_length` meets its contract.
 -- Assumes nothing.
 use mathlib.Core.Path.{ap, _∙_}
 use borrow.Author.Needs.{needs}

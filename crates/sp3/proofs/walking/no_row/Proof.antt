@@ -1,4 +1,4 @@
--- `abi::walking::no_row` meets its contract: zero by zero is no number.
+-- `sp3::walking::no_row` meets its contract: zero by zero is no number.
 -- Assumes nothing.
 use mathlib.Core.Path.{refl}
 use lib.Ieee.{div, ofBits}

@@ -1,4 +1,4 @@
--- `abi::walking::row_answer` meets its contract.
+-- `sp3::walking::row_answer` meets its contract.
 -- Assumes nothing.
 use mathlib.Core.Path.{sym, ap, _∙_}
 use borrow.Author.Needs.{needs}

@@ -1,4 +1,4 @@
--- `abi::walking::sp3_next_row` meets its contract.
+-- `sp3::walking::sp3_next_row` meets its contract.
 -- Assumes nothing.
 use mathlib.Core.Path.{ap, _∙_}
 use borrow.Author.Needs.{needs}

@@ -1,4 +1,4 @@
--- `abi::walking::sp3_read_line` meets its contract.
+-- `sp3::walking::sp3_read_line` meets its contract.
 -- Assumes nothing.
 use mathlib.Core.Path.{ap, _∙_}
 use borrow.Author.Needs.{needs}
@@ -16,10 +16,10 @@ returns c =
     let ruled = done .before .before in
     let a = ruled .before .before .before .before .args in (
       c .line-answer .ensures
-          ∙ ap (lineDoor (a .place)) (toldRead-one _ _ (done .read-line .ensures .0
-          ∙ ap (λ (k : Rules). toldRead (lineRead k (a .bytes .now) (a .place .at) (a .place .state) (a .names .now))) (ruled .d .ensures))),
+          ∙ ap (lineDoor (a .spot)) (toldRead-one _ _ (done .read-line .ensures .0
+          ∙ ap (λ (k : Rules). toldRead (lineRead k (a .bytes .now) (a .spot .at) (a .spot .state) (a .names .now))) (ruled .d .ensures))),
       done .read-line .ensures .1
-          ∙ ap (λ (k : Rules). lineNames k (a .bytes .now) (a .place .at) (a .place .state) (a .names .now)) (ruled .d .ensures),
+          ∙ ap (λ (k : Rules). lineNames k (a .bytes .now) (a .spot .at) (a .spot .state) (a .names .now)) (ruled .d .ensures),
     )
 
 pub sp3-read-line-spec : {M : Type 1} → statement M

@@ -1,4 +1,4 @@
--- `stored::rows::flag_of` meets its contract.
+-- `stored_row::rows::flag_of` meets its contract.
 -- Assumes nothing.
 use mathlib.Core.Path.{_≡_, sym, _∙_, ap}
 use mathlib.Core.Bool.{Bool, true, false, _&&_}

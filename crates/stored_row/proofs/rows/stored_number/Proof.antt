@@ -1,4 +1,4 @@
--- `stored::rows::stored_number` meets its contract: the value that is answered, and 0 where there is none.
+-- `stored_row::rows::stored_number` meets its contract: the value that is answered, and 0 where there is none.
 -- Assumes nothing.
 use borrow.Author.Needs.{needs}
 use Rattle.stored_row.proofs.Storing.{stored-is, stored-none, stored-kept}

@@ -10,7 +10,7 @@ use lib.ListN.{length, take}
 use lib.Seq.{length-take-le}
 use Rattle.record.specs.Descriptors.{fixedLine}
 use Rattle.record.specs.Plain.{endItems}
-use Rattle.canon.specs.Table.{Table, tableOf, commentWidth, cellWidth, cellsIn, namesOf, exponentsOf, commentsOf, rowsOf}
+use Rattle.canon.specs.Table.{Table, tableOf, commentWidth, cellWidth, cellsIn, tableIdentifiers, exponentsOf, commentsOf, rowsOf}
 use Rattle.canon.specs.Canonical.{linesBefore, commentLines, epochsLines, canonicalLines, canonical}
 use Rattle.writer.proofs.Fitting.{Fitting, valid-fits, by-epochs}
 use Rattle.canon.proofs.HeaderBounds.{timed}
@@ -22,13 +22,13 @@ abbrev table : tie.Start → Table
 table c = tableOf (c .args .h) (c .args .identifiers .now) (c .args .exponents .now) (c .args .comments .now) (c .args .rows .now)
 
 abbrev opening : tie.Start → List (List ℕ)
-opening c = linesBefore (c .args .rules) (c .args .h) (namesOf (table c)) (exponentsOf (table c))
+opening c = linesBefore (c .args .rules) (c .args .h) (tableIdentifiers (table c)) (exponentsOf (table c))
 
 abbrev comments : tie.Start → List (List ℕ)
 comments c = commentLines (c .args .h .comments) (commentsOf (table c))
 
 abbrev epochs : tie.Start → List (List ℕ)
-epochs c = epochsLines (c .args .h .velocity) (namesOf (table c)) (c .args .h .interval8) (c .args .h .epochs) (c .args .h .start8) (rowsOf (table c))
+epochs c = epochsLines (c .args .h .velocity) (tableIdentifiers (table c)) (c .args .h .interval8) (c .args .h .epochs) (c .args .h .start8) (rowsOf (table c))
 
 abbrev ending : List (List ℕ)
 ending = fixedLine endItems ∷ []
@@ -92,13 +92,13 @@ lent-rows : (c : tie.After-cell-width)
     → take (cellsIn (c .before .before .before .before .before .before .args .h) * c .cell-width .result - 0) (c .before .before .before .before .before .before .args .rows .now) ≡ rowsOf (table (c .before .before .before .before .before .before))
 lent-rows c = ap (λ (n : ℕ). take n (c .before .before .before .before .before .before .args .rows .now)) (sub-zero _ ∙ numbers c)
 
-many-rows : (c : tie.Start) → length (rowsOf (table c)) ≡ c .args .h .epochs * (length (namesOf (table c)) * cellWidth (c .args .h .velocity))
+many-rows : (c : tie.Start) → length (rowsOf (table c)) ≡ c .args .h .epochs * (length (tableIdentifiers (table c)) * cellWidth (c .args .h .velocity))
 many-rows c =
     let h = c .args .h in
     let w = cellWidth (h .velocity) in
     length-take-le (cellsIn h * w) (c .args .rows .now) (fits c .rows)
     ∙ by-epochs (h .satellites) (h .epochs) w
-    ∙ ap (λ (n : ℕ). h .epochs * (n * w)) (sym (length-take-le (h .satellites) (c .args .identifiers .now) (fits c .names)))
+    ∙ ap (λ (n : ℕ). h .epochs * (n * w)) (sym (length-take-le (h .satellites) (c .args .identifiers .now) (fits c .listed)))
 
 put-epochs-requires : tie.Need-put-epochs-requires
 put-epochs-requires c κs =
@@ -134,7 +134,7 @@ put-table-spec =
     (tie.spec
     (λ c. search needs)
     (λ c. search needs)
-    (λ c. fits (c .before .before .before .before) .names)
+    (λ c. fits (c .before .before .before .before) .listed)
     (λ c. omega (arith, c .before .before .before .before .before .good, fits (c .before .before .before .before .before) .cells))
     (λ c κs. search needs)
     (λ c. omega (arith, c .before .before .before .before .before .before .good, numbers c, fits (c .before .before .before .before .before .before) .rows))

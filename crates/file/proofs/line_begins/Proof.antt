@@ -1,4 +1,4 @@
--- `file::place_of` meets its contract. The loop's invariant and its turn are in `Picking` of `lines`.
+-- `file::line_begins` meets its contract. The loop's invariant and its turn are in `Picking` of `lines`.
 -- Assumes nothing.
 use Prim.Native.Nat.{_-_}
 use mathlib.Core.Path.{sym, _∙_}
@@ -8,8 +8,8 @@ use borrow.Author.Tests.{eq-eqb, ne-eqb}
 use lib.ListN.{length}
 use Rattle.lines.proofs.Picking.{Seeking, seeking-first, seeking-none, seeking-other, seeking-place, seeking-later}
 use Rattle.file.specs.Kinds.{isKind}
-use Rattle.file.proofs.place_of.Statement.{statement}
-use Rattle.file.proofs.place_of.Tie as tie
+use Rattle.file.proofs.line_begins.Statement.{statement}
+use Rattle.file.proofs.line_begins.Tie as tie
 
 abbrev Inv-loop : tie.InvT-loop
 Inv-loop rules bytes kind k at₀ left₀ at left = Seeking (isKind rules kind) bytes k at left
@@ -51,8 +51,8 @@ loop-again c =
     (ne-eqb _ (a .kind) (λ e. w .0 .left (told .kind-in .ensures ∙ e)))))
     (c .if2 .came)
 
-pub place-of-spec : {M : Type 1} → statement M
-place-of-spec =
+pub line-begins-spec : {M : Type 1} → statement M
+line-begins-spec =
     tie.close
     (tie.spec
     Inv-loop

@@ -1,20 +1,20 @@
--- `walker::place_after` meets its contract.
+-- `line_walk::spot_after` meets its contract.
 -- Assumes nothing.
 use mathlib.Core.Path.{_≡_}
 use borrow.Author.Needs.{needs}
 use Rattle.header.specs.Rules.{d}
 use Rattle.machine.specs.declared.types.LineRead.{LineRead}
-use Rattle.line_walk.specs.Places.{goneTo, placeAfter}
-use Rattle.line_walk.proofs.Places.{place-read}
-use Rattle.line_walk.proofs.place_after.Statement.{statement}
-use Rattle.line_walk.proofs.place_after.Tie as tie
+use Rattle.line_walk.specs.Spots.{goneTo, spotAfter}
+use Rattle.line_walk.proofs.Spots.{spot-read}
+use Rattle.line_walk.proofs.spot_after.Statement.{statement}
+use Rattle.line_walk.proofs.spot_after.Tie as tie
 
 -- where the line has been read
 read : (c : tie.After-read-at) (w : LineRead) → c .read-at .result ≡ w
-    → let a = c .before .before .before .before .args in goneTo w (a .place) ≡ placeAfter d (a .file .now) (a .names .now) (a .place)
+    → let a = c .before .before .before .before .args in goneTo w (a .spot) ≡ spotAfter d (a .file .now) (a .names .now) (a .spot)
 read c w is =
     let a = c .before .before .before .before .args in
-    place-read d (a .file .now) (a .names .now) (a .place) (c .read-at .result) w (c .read-at .ensures .0) is
+    spot-read d (a .file .now) (a .names .now) (a .spot) (c .read-at .result) w (c .read-at .ensures .0) is
 
 returns : tie.Need-returns
 returns c = let done = c .before .before .before .before .before in (read done _ (c .before .at .given .1), done .read-at .ensures .1)
@@ -28,8 +28,8 @@ returns-3 c = let done = c .before .before .before .before in (read done _ (c .e
 returns-4 : tie.Need-returns-4
 returns-4 c = let done = c .before .before .before .before in (read done _ (c .enum-told3 .given .1), done .read-at .ensures .1)
 
-pub place-after-spec : {M : Type 1} → statement M
-place-after-spec =
+pub spot-after-spec : {M : Type 1} → statement M
+spot-after-spec =
     tie.close
     (tie.spec
     (λ c κs. search needs)

@@ -1,4 +1,4 @@
--- `questions::rows::row_place` meets its contract: the lines of an accepted file are within the bounds that `row_at` asks for.
+-- `questions::rows::row_begins` meets its contract: the lines of an accepted file are within the bounds that `row_at` asks for.
 -- Assumes nothing.
 use mathlib.Core.Path.{_≡_}
 use native.Mathlib.Omega.{arith}
@@ -6,11 +6,11 @@ use borrow.Author.Needs.{needs}
 use Rattle.scan.proofs.Told.{toldFront-one}
 use Rattle.header.specs.Rules.{d}
 use Rattle.reader.specs.Reading.{fileOf}
-use Rattle.questions.specs.Questions.{rowPlace}
+use Rattle.questions.specs.Questions.{rowBegins}
 use Rattle.scan.specs.declared.Front.the-variants as front
 use Rattle.questions.proofs.Asking.{found-as, row-as, row-found, bounded-as, file-within}
-use Rattle.questions.proofs.rows.row_place.Statement.{statement}
-use Rattle.questions.proofs.rows.row_place.Tie as tie
+use Rattle.questions.proofs.rows.row_begins.Statement.{statement}
+use Rattle.questions.proofs.rows.row_begins.Tie as tie
 
 -- what was found in the file
 found-file : (c : tie.After-tally) → fileOf d (c .before .before .before .before .before .args .file .now) ≡ front.File (c .tally .given .0 .0)
@@ -31,7 +31,7 @@ row-at-requires c κs =
     bounded-as (started .d .result) (started .d .ensures) (started .before .before .args .file .now) (known .tally .given .0 .0) (found-file known)
 
 returns : tie.Need-returns
-unfolding rowPlace
+unfolding rowBegins
 returns c =
     let known = c .before .before in
     let ran = known .before .before in
@@ -49,8 +49,8 @@ returns-2 c =
     row-as (start .args .file .now) (front.File t) (found-file known) (start .args .epoch) (start .args .satellite) (c .row-at .result)
     (row-found (started .d .result) (started .d .ensures) (start .args .file .now) t (start .args .epoch) (start .args .satellite) (c .row-at .result) (c .row-at .ensures))
 
-pub row-place-spec : {M : Type 1} → statement M
-row-place-spec =
+pub row-begins-spec : {M : Type 1} → statement M
+row-begins-spec =
     tie.close
     (tie.spec
     (λ c κs. search needs)

@@ -1,15 +1,15 @@
--- `machine::faults::place_fault` meets its contract.
+-- `machine::faults::standing_fault` meets its contract.
 -- Assumes nothing.
 use mathlib.Core.Path.{_≡_}
 use mathlib.Core.Bool.{true, false}
 use borrow.Author.Needs.{needs}
 use Rattle.machine.specs.State.{stands}
-use Rattle.machine.specs.Faults.{placeFault}
-use Rattle.machine.proofs.faults.place_fault.Statement.{statement}
-use Rattle.machine.proofs.faults.place_fault.Tie as tie
+use Rattle.machine.specs.Faults.{standingFault}
+use Rattle.machine.proofs.faults.standing_fault.Statement.{statement}
+use Rattle.machine.proofs.faults.standing_fault.Tie as tie
 
 returns : tie.Need-returns
-unfolding placeFault
+unfolding standingFault
 returns c =
     let number = c .before .before .before .before in
     let a = number .before .before .args in
@@ -17,12 +17,12 @@ returns c =
     rw here (c .record-fault .ensures)
 
 returns-2 : tie.Need-returns-2
-unfolding placeFault
+unfolding standingFault
 returns-2 c =
     let number = c .before .before .before in
     let a = number .before .before .args in
     let elsewhere : stands (a .state) (a .kind) ≡ false = rw (← (number .kind-number .ensures)) (c .if1 .left) in
     rw elsewhere
 
-pub place-fault-spec : {M : Type 1} → statement M
-place-fault-spec = tie.close (tie.spec (λ c κs. search needs) (λ c κs. search needs) returns returns-2)
+pub standing-fault-spec : {M : Type 1} → statement M
+standing-fault-spec = tie.close (tie.spec (λ c κs. search needs) (λ c κs. search needs) returns returns-2)

@@ -1,16 +1,16 @@
--- `machine::step::line_at` meets its contract.
+-- `machine::step::line_known` meets its contract.
 -- Assumes nothing.
 use mathlib.Core.Path.{_≡_, sym, ap, _∙_}
 use Prim.Native.Nat.{_+_}
 use borrow.Author.Needs.{needs}
 use lib.ListN.{take, drop}
-use Rattle.machine.specs.Step.{stepOf, readAs, lineAt}
+use Rattle.machine.specs.Step.{stepOf, readAs, lineKnown}
 use Rattle.machine.specs.Told.{toldRead}
 use Rattle.machine.specs.declared.types.Verdict.{Verdict}
 use Rattle.machine.proofs.Told.{toldVerdict-one}
 use Rattle.machine.proofs.Stepping.{none-left, judged-read}
-use Rattle.machine.proofs.step.line_at.Statement.{statement}
-use Rattle.machine.proofs.step.line_at.Tie as tie
+use Rattle.machine.proofs.step.line_known.Statement.{statement}
+use Rattle.machine.proofs.step.line_known.Tie as tie
 
 returns : tie.Need-returns
 returns c =
@@ -23,7 +23,7 @@ returns c =
 judged : (c : tie.After-step-line) (w : Verdict) → c .step-line .result ≡ w
     → let ended = c .before .before .before in
     let a = ended .before .before .before .args in
-    toldRead (readAs w (ended .line-end .result + 1)) ≡ toldRead (lineAt (a .rules) (a .bytes .now) (a .at) (a .state) (a .names .now))
+    toldRead (readAs w (ended .line-end .result + 1)) ≡ toldRead (lineKnown (a .rules) (a .bytes .now) (a .at) (a .state) (a .names .now))
 judged c w is =
     let ended = c .before .before .before in
     let a = ended .before .before .before .args in
@@ -40,8 +40,8 @@ returns-3 c = judged (c .before .before) _ (c .enum-told .given .1)
 returns-4 : tie.Need-returns-4
 returns-4 c = judged (c .before .before .before) _ (c .before .next .given .1)
 
-pub line-at-spec : {M : Type 1} → statement M
-line-at-spec =
+pub line-known-spec : {M : Type 1} → statement M
+line-known-spec =
     tie.close
     (tie.spec
     (λ c κs. search needs)
