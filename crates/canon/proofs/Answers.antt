@@ -6,7 +6,7 @@ use Prim.Native.Nat.{ℕ, _+_, _-_}
 use native.Mathlib.Omega.{arith}
 use borrow.Author.Tests.{le-leb, lt-leb}
 use Rattle.canon.specs.Table.{Table, cellsIn, tableIdentifiers, exponentsOf, commentsOf, rowsOf}
-use Rattle.canon.specs.Valid.{namesValid, exponentsValid, commentsValid, rowsValid, countsHold, valid}
+use Rattle.canon.specs.Valid.{identifiersValid, exponentsValid, commentsValid, rowsValid, countsHold, valid}
 use Rattle.canon.specs.Measured.{formLength, refusedAs, fitted, measured}
 use Rattle.header.specs.declared.types.Rules.{Rules}
 use Rattle.canon.specs.declared.types.Measured.{Measured}
@@ -18,7 +18,7 @@ module _ (rules : Rules) (t : Table) (room : ℕ) where
   no-counts e = rw e
 
   module _ (hold : countsHold rules t ≡ true) (listed : Bool)
-      (same : listed ≡ (namesValid (t .header .«file_type») (tableIdentifiers t)
+      (same : listed ≡ (identifiersValid (t .header .«file_type») (tableIdentifiers t)
       && (exponentsValid (exponentsOf t)
       && (commentsValid rules (t .header .comments) (commentsOf t) && rowsValid (t .header .velocity) (cellsIn (t .header)) (rowsOf t))))) where
     answer : valid rules t ≡ listed

@@ -25,48 +25,48 @@ use Rattle.canon.proofs.RowLengths.{row-length}
 pub flat-length : (a b : List (List ℕ)) → length (flat (a ++ b)) ≡ length (flat a) + length (flat b)
 flat-length a b = ap length (flat-append a b) ∙ length-append (flat a) (flat b)
 
-cell-length : (velocity : Bool) (name : ℕ) (cell : List ℤ) → cellValid velocity cell ≡ true
-    → length (flat (cellLines velocity name cell)) ≡ cellLength velocity cell
+cell-length : (velocity : Bool) (identifier : ℕ) (cell : List ℤ) → cellValid velocity cell ≡ true
+    → length (flat (cellLines velocity identifier cell)) ≡ cellLength velocity cell
 unfolding flat cellLines cellValid cellLength
-cell-length true name cell e =
-    let p = rowLine false (rowShown name (take 12 cell)) in
-    let v = rowLine true (rowShown name (drop 12 cell)) in
+cell-length true identifier cell e =
+    let p = rowLine false (rowShown identifier (take 12 cell)) in
+    let v = rowLine true (rowShown identifier (drop 12 cell)) in
     let both = both-true (rowValid false (take 12 cell)) (rowValid true (drop 12 cell)) e in
     omega (
       arith,
       length-append p (v ++ []),
       length-append v [],
-      row-length false name (take 12 cell) (both .0),
-      row-length true name (drop 12 cell) (both .1),
+      row-length false identifier (take 12 cell) (both .0),
+      row-length true identifier (drop 12 cell) (both .1),
     )
-cell-length false name cell e = omega (arith, length-append (rowLine false (rowShown name cell)) [], row-length false name cell e)
+cell-length false identifier cell e = omega (arith, length-append (rowLine false (rowShown identifier cell)) [], row-length false identifier cell e)
 
 module _ (velocity : Bool) where
   -- the satellites of an epoch, and the cells after them
-  record Cut (names : List ℕ) (more count : ℕ) (rows : List ℤ) : Type 0 where
-    long : length (flat (cellsLines velocity names rows)) + rowsLength velocity more (drop (length names * cellWidth velocity) rows)
+  record Cut (identifiers : List ℕ) (more count : ℕ) (rows : List ℤ) : Type 0 where
+    long : length (flat (cellsLines velocity identifiers rows)) + rowsLength velocity more (drop (length identifiers * cellWidth velocity) rows)
         ≡ rowsLength velocity count rows
-    good : rowsValid velocity more (drop (length names * cellWidth velocity) rows) ≡ true
+    good : rowsValid velocity more (drop (length identifiers * cellWidth velocity) rows) ≡ true
 
-  cut : (names : List ℕ) (more count : ℕ) (rows : List ℤ) → count ≡ length names + more → rowsValid velocity count rows ≡ true → Cut names more count rows
+  cut : (identifiers : List ℕ) (more count : ℕ) (rows : List ℤ) → count ≡ length identifiers + more → rowsValid velocity count rows ≡ true → Cut identifiers more count rows
   unfolding flat cellsLines rowsLength rowsValid
   cut [] more count rows e g =
       let none : 0 * cellWidth velocity ≡ 0 = omega arith in
       let same : count ≡ more = omega arith in
       record { long = rw (none, same) (omega arith); good = rw (none, ← same) g }
-  cut (name ∷ names) more count rows e g =
+  cut (identifier ∷ identifiers) more count rows e g =
       let w = cellWidth velocity in
-      let next : count ≡ suc (length names + more) = omega arith in
-      let both = both-true (cellValid velocity (take w rows)) (rowsValid velocity (length names + more) (drop w rows)) (rw next at g) in
-      let later = cut names more (length names + more) (drop w rows) refl (both .1) in
-      let all : w + length names * w ≡ suc (length names) * w = omega (arith, suc-mul (length names) w) in
-      let same : drop (length names * w) (drop w rows) ≡ drop (suc (length names) * w) rows =
-      drop-drop (length names * w) w rows ∙ ap (λ (n : ℕ). drop n rows) all in
+      let next : count ≡ suc (length identifiers + more) = omega arith in
+      let both = both-true (cellValid velocity (take w rows)) (rowsValid velocity (length identifiers + more) (drop w rows)) (rw next at g) in
+      let later = cut identifiers more (length identifiers + more) (drop w rows) refl (both .1) in
+      let all : w + length identifiers * w ≡ suc (length identifiers) * w = omega (arith, suc-mul (length identifiers) w) in
+      let same : drop (length identifiers * w) (drop w rows) ≡ drop (suc (length identifiers) * w) rows =
+      drop-drop (length identifiers * w) w rows ∙ ap (λ (n : ℕ). drop n rows) all in
       record {
         long = omega (
           arith,
-          flat-length (cellLines velocity name (take w rows)) (cellsLines velocity names (drop w rows)),
-          cell-length velocity name (take w rows) (both .0),
+          flat-length (cellLines velocity identifier (take w rows)) (cellsLines velocity identifiers (drop w rows)),
+          cell-length velocity identifier (take w rows) (both .0),
           later .long,
           ap (rowsLength velocity more) same,
           ap (λ (n : ℕ). rowsLength velocity n rows) next,
@@ -74,23 +74,23 @@ module _ (velocity : Bool) where
         good = rw (← same) (later .good);
       }
 
-  pub epochs-length : (names : List ℕ) (interval8 epochs at8 : ℕ) (rows : List ℤ) → rowsValid velocity (length names * epochs) rows ≡ true
-      → length (flat (epochsLines velocity names interval8 epochs at8 rows)) ≡ 32 * epochs + rowsLength velocity (length names * epochs) rows
+  pub epochs-length : (identifiers : List ℕ) (interval8 epochs at8 : ℕ) (rows : List ℤ) → rowsValid velocity (length identifiers * epochs) rows ≡ true
+      → length (flat (epochsLines velocity identifiers interval8 epochs at8 rows)) ≡ 32 * epochs + rowsLength velocity (length identifiers * epochs) rows
   unfolding flat epochsLines rowsLength
-  epochs-length names interval8 zero at8 rows g =
-      let none : length names * 0 ≡ 0 = omega arith in
+  epochs-length identifiers interval8 zero at8 rows g =
+      let none : length identifiers * 0 ≡ 0 = omega arith in
       rw none
-  epochs-length names interval8 (suc epochs) at8 rows g =
-      let n = length names in
+  epochs-length identifiers interval8 (suc epochs) at8 rows g =
+      let n = length identifiers in
       let all : n * suc epochs ≡ n + n * epochs = omega (arith, mul-suc n epochs) in
-      let here = cut names (n * epochs) (n * suc epochs) rows all g in
+      let here = cut identifiers (n * epochs) (n * suc epochs) rows all g in
       let rest = drop (n * cellWidth velocity) rows in
-      let later = epochsLines velocity names interval8 epochs (at8 + interval8) rest in
+      let later = epochsLines velocity identifiers interval8 epochs (at8 + interval8) rest in
       omega (
         arith,
-        length-append (epochLine (epochShown at8)) (flat (cellsLines velocity names rows ++ later)),
+        length-append (epochLine (epochShown at8)) (flat (cellsLines velocity identifiers rows ++ later)),
         epoch-length at8,
-        flat-length (cellsLines velocity names rows) later,
-        epochs-length names interval8 epochs (at8 + interval8) rest (here .good),
+        flat-length (cellsLines velocity identifiers rows) later,
+        epochs-length identifiers interval8 epochs (at8 + interval8) rest (here .good),
         here .long,
       )

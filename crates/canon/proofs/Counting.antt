@@ -74,13 +74,13 @@ pub record Long (h : Header) (i x c r : ℕ) : Type 0 where
 pub long : (rules : Rules) (h : Header) (i x c r : ℕ) → (headerValid rules h && listsLong h i x c r) ≡ true → Long h i x c r
 unfolding headerValid timesValid listsLong
 long rules h i x c r e =
-    let names = leb (h .satellites) i && leb (h .satellites) x in
+    let identifiers = leb (h .satellites) i && leb (h .satellites) x in
     let texts = leb (h .comments) (c / commentWidth) in
     let cells = leb (cellsIn h) (r / cellWidth (h .velocity)) in
     let begun = isInstant (h .start8) && within 1 maxEpochs (h .epochs) in
     let lists = and-right (headerValid rules h) (listsLong h i x c r) e in
-    let front = and-left names (texts && cells) lists in
-    let back = and-right names (texts && cells) lists in
+    let front = and-left identifiers (texts && cells) lists in
+    let back = and-right identifiers (texts && cells) lists in
     let times = and-left (timesValid h) (countsValid rules h && wordsValid h) (and-left (headerValid rules h) (listsLong h i x c r) e) in
     let start = and-left begun (within 1 maxInterval (h .interval8) && isInstant (lastEpoch h)) times in
     let each = le-div-iff-mul-le {k = cellWidth (h .velocity)} {x = cellsIn h} {y = r} (some-width (h .velocity)) in

@@ -12,7 +12,7 @@ use Rattle.laws.specs.Texts.{blanks}
 use Rattle.field.specs.Digits.{pointOf}
 use Rattle.field.specs.Show.{lastDigit, digitsIn, fixedDigits, minusText, signWidth, shownNegative, showInteger, fitsWhole, putWhole, showDecimal, fitsDecimal, putDecimal, pointText}
 use Rattle.field.specs.Sign.{largest}
-use Rattle.layout.specs.Kind.{showName}
+use Rattle.layout.specs.Kind.{showIdentifier}
 use Rattle.layout.specs.Line.{trimmed}
 use Rattle.field.proofs.Back.{integer-length, decimal-length}
 use Rattle.field.proofs.Fitting.{decimal-digits}
@@ -74,8 +74,8 @@ decimal-ends w n negative m fits =
     ∙ decimal-length w (suc n) negative m fits
 
 -- an identifier
-pub name-ends : (code : ℕ) → length (trimmed (showName code)) ≡ 3
-name-ends code =
+pub identifier-ends : (code : ℕ) → length (trimmed (showIdentifier code)) ≡ 3
+identifier-ends code =
     inked-after ((code / 10 / 10 % 128) ∷ (48 + code / 10 % 10) ∷ []) ((48 + code % 10) ∷ []) (inked-byte (48 + code % 10) (λ e. omega arith)) .whole
 
 -- a decimal without a minus, and one of a row, fit their columns

@@ -59,17 +59,17 @@ some-lines : (n : ℕ) → 1 ≤ slotLines n
 unfolding slotLines
 some-lines n = omega arith
 
-opening-length : (rules : Rules) (h : Header) (names exponents : List ℕ) → Bounded rules h → every small exponents ≡ true
-    → length (flat (linesBefore rules h names exponents)) ≡ openingLength h
+opening-length : (rules : Rules) (h : Header) (identifiers exponents : List ℕ) → Bounded rules h → every small exponents ≡ true
+    → length (flat (linesBefore rules h identifiers exponents)) ≡ openingLength h
 unfolding flat linesBefore openingLength
-opening-length rules h names exponents b ok =
+opening-length rules h identifiers exponents b ok =
     let s = slotLines (h .satellites) in
-    let more = slotLinesOf false (s - 1) (drop 17 names) in
+    let more = slotLinesOf false (s - 1) (drop 17 identifiers) in
     let weights = slotLinesOf true s exponents in
     let some = some-lines (h .satellites) in
     let slots : length (flat (more ++ (weights ++ descriptorLines h))) ≡ 61 * (s - 1) + (61 * s + 366) =
     flat-length more (weights ++ descriptorLines h)
-    ∙ ap₂ _+_ (slot-lines-length false (s - 1) (drop 17 names) refl)
+    ∙ ap₂ _+_ (slot-lines-length false (s - 1) (drop 17 identifiers) refl)
     (flat-length weights (descriptorLines h) ∙ ap₂ _+_ (slot-lines-length true s exponents ok) (descriptors-length h)) in
     let sum : firstLength (h .texts) + (61 + (61 + (61 * (s - 1) + (61 * s + 366)))) ≡ firstLength (h .texts) + 61 * (2 * s + 7) = omega arith in
     rw (
@@ -78,7 +78,7 @@ opening-length rules h names exponents b ok =
       length-append,
       first-length rules h (b .clock .epochs .1) (fits 5 (h .texts .«data_used») (b .used)) (fits 5 (h .texts .coordinates) (b .coordinates)) (fits 3 (h .texts .orbit) (b .orbit)) (fits 4 (h .texts .agency) (b .agency)),
       second-length h,
-      satellites-length rules (h .satellites) names,
+      satellites-length rules (h .satellites) identifiers,
       slots,
     )
     sum
@@ -93,8 +93,8 @@ canonical-length rules t v =
     let comments = commentLines (h .comments) (commentsOf t) in
     let epochs = epochsLines (h .velocity) (tableIdentifiers t) (h .interval8) (h .epochs) (h .start8) (rowsOf t) in
     let dated : length (flat epochs) ≡ 32 * h .epochs + rowsLength (h .velocity) (cellsIn h) (rowsOf t) =
-    epochs-length (h .velocity) (tableIdentifiers t) (h .interval8) (h .epochs) (h .start8) (rowsOf t) (rw (g .names-many) (g .rows))
-    ∙ ap (λ (n : ℕ). 32 * h .epochs + rowsLength (h .velocity) (n * h .epochs) (rowsOf t)) (g .names-many) in
+    epochs-length (h .velocity) (tableIdentifiers t) (h .interval8) (h .epochs) (h .start8) (rowsOf t) (rw (g .identifiers-many) (g .rows))
+    ∙ ap (λ (n : ℕ). 32 * h .epochs + rowsLength (h .velocity) (n * h .epochs) (rowsOf t)) (g .identifiers-many) in
     omega (
       arith,
       flat-length opening (comments ++ (epochs ++ (fixedLine endItems ∷ []))),

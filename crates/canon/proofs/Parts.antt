@@ -10,22 +10,22 @@ use lib.ListN.{length}
 use lib.Seq.{length-take-le}
 use Rattle.laws.specs.Texts.{every}
 use Rattle.laws.proofs.Bools.{and-left, and-right}
-use Rattle.layout.specs.Kind.{isName}
+use Rattle.layout.specs.Kind.{isIdentifier}
 use Rattle.header.specs.declared.types.Rules.{Rules}
 use Rattle.machine.specs.Checks.{repeats, typeAgrees}
 use Rattle.canon.specs.Table.{Table, commentWidth, cellWidth, cellsIn, tableIdentifiers, exponentsOf, commentsOf, rowsOf}
-use Rattle.canon.specs.Valid.{headerValid, namesValid, exponentsValid, commentsValid, rowsValid, countsHold, valid}
+use Rattle.canon.specs.Valid.{headerValid, identifiersValid, exponentsValid, commentsValid, rowsValid, countsHold, valid}
 use Rattle.canon.proofs.Counting.{Long, long}
 use Rattle.canon.proofs.HeaderBounds.{Bounded, bounded}
 
 pub record Parts (rules : Rules) (t : Table) : Type 0 where
   pub header : Bounded rules (t .header)
   pub lists : Long (t .header) (length (t .identifiers)) (length (t .exponents)) (length (t .comments)) (length (t .rows))
-  pub names-many : length (tableIdentifiers t) ≡ t .header .satellites
+  pub identifiers-many : length (tableIdentifiers t) ≡ t .header .satellites
   pub exponents-many : length (exponentsOf t) ≡ t .header .satellites
   pub comments-many : length (commentsOf t) ≡ t .header .comments * commentWidth
   pub rows-many : length (rowsOf t) ≡ cellsIn (t .header) * cellWidth (t .header .velocity)
-  pub names : every isName (tableIdentifiers t) ≡ true
+  pub identifiers : every isIdentifier (tableIdentifiers t) ≡ true
   pub different : repeats [] (tableIdentifiers t) ≡ false
   pub agreeing : typeAgrees (t .header .«file_type») (tableIdentifiers t) ≡ true
   pub exponents : every (λ n. leb n 999) (exponentsOf t) ≡ true
@@ -34,7 +34,7 @@ pub record Parts (rules : Rules) (t : Table) : Type 0 where
 
 module _ (rules : Rules) (t : Table) (v : valid rules t ≡ true) where
   abbrev named : Bool
-  named = namesValid (t .header .«file_type») (tableIdentifiers t)
+  named = identifiersValid (t .header .«file_type») (tableIdentifiers t)
 
   counts : countsHold rules t ≡ true
   unfolding valid
@@ -44,11 +44,11 @@ module _ (rules : Rules) (t : Table) (v : valid rules t ≡ true) where
   unfolding valid
   lists = and-right (countsHold rules t) _ v
 
-  after-names : (exponentsValid (exponentsOf t) && (commentsValid rules (t .header .comments) (commentsOf t) && rowsValid (t .header .velocity) (cellsIn (t .header)) (rowsOf t))) ≡ true
-  after-names = and-right named _ lists
+  after-identifiers : (exponentsValid (exponentsOf t) && (commentsValid rules (t .header .comments) (commentsOf t) && rowsValid (t .header .velocity) (cellsIn (t .header)) (rowsOf t))) ≡ true
+  after-identifiers = and-right named _ lists
 
   after-exponents : (commentsValid rules (t .header .comments) (commentsOf t) && rowsValid (t .header .velocity) (cellsIn (t .header)) (rowsOf t)) ≡ true
-  after-exponents = and-right (exponentsValid (exponentsOf t)) _ after-names
+  after-exponents = and-right (exponentsValid (exponentsOf t)) _ after-identifiers
 
   is-long : Long (t .header) (length (t .identifiers)) (length (t .exponents)) (length (t .comments)) (length (t .rows))
   unfolding countsHold
@@ -58,26 +58,26 @@ module _ (rules : Rules) (t : Table) (v : valid rules t ≡ true) where
   unfolding countsHold
   is-bounded = bounded rules (t .header) (and-left (headerValid rules (t .header)) _ counts)
 
-  named-parts : (every isName (tableIdentifiers t) && (not (repeats [] (tableIdentifiers t)) && typeAgrees (t .header .«file_type») (tableIdentifiers t))) ≡ true
-  unfolding namesValid
+  named-parts : (every isIdentifier (tableIdentifiers t) && (not (repeats [] (tableIdentifiers t)) && typeAgrees (t .header .«file_type») (tableIdentifiers t))) ≡ true
+  unfolding identifiersValid
   named-parts = and-left named _ lists
 
   exponents-low : every (λ n. leb n 999) (exponentsOf t) ≡ true
   unfolding exponentsValid
-  exponents-low = and-left (exponentsValid (exponentsOf t)) _ after-names
+  exponents-low = and-left (exponentsValid (exponentsOf t)) _ after-identifiers
 
   pub parts : Parts rules t
   parts =
       let n = t .header .satellites in
-      let others = and-right (every isName (tableIdentifiers t)) _ named-parts in
+      let others = and-right (every isIdentifier (tableIdentifiers t)) _ named-parts in
       record {
         header = is-bounded;
         lists = is-long;
-        names-many = length-take-le n (t .identifiers) (is-long .named);
+        identifiers-many = length-take-le n (t .identifiers) (is-long .named);
         exponents-many = length-take-le n (t .exponents) (is-long .weighed);
         comments-many = length-take-le (t .header .comments * commentWidth) (t .comments) (is-long .said);
         rows-many = length-take-le (cellsIn (t .header) * cellWidth (t .header .velocity)) (t .rows) (is-long .placed);
-        names = and-left (every isName (tableIdentifiers t)) _ named-parts;
+        identifiers = and-left (every isIdentifier (tableIdentifiers t)) _ named-parts;
         different = not-true (repeats [] (tableIdentifiers t)) (and-left (not (repeats [] (tableIdentifiers t))) _ others);
         agreeing = and-right (not (repeats [] (tableIdentifiers t))) _ others;
         exponents = exponents-low;

@@ -137,20 +137,20 @@ late-end velocity row f earlier after vs =
 unset : (v : ℤ) → natAbs v ≤ 0 → eqb (natAbs v) 0 ≡ true
 unset v h = eq-eqb (natAbs v) 0 (omega arith)
 
-pub row-length : (velocity : Bool) (name : ℕ) (row : List ℤ) → rowValid velocity row ≡ true → length (rowLine velocity (rowShown name row)) ≡ rowLength row
+pub row-length : (velocity : Bool) (identifier : ℕ) (row : List ℤ) → rowValid velocity row ≡ true → length (rowLine velocity (rowShown identifier row)) ≡ rowLength row
 unfolding rowLine rowShown rowLength
-row-length true name row e =
+row-length true identifier row e =
     let f = fine true row e in
-    let values = rowValues true (rowShown name row) in
+    let values = rowValues true (rowShown identifier row) in
     line-length (rowItems true) values (rows-tiled true)
     ∙ ap (λ (n : ℕ). n + 1)
     (late-end true row f (endFrom 0 (take 5 (rowItems true)) values) (columns 74 80 unused ∷ []) []
     ∙ rw (unset (entry row 8) (f .event), unset (entry row 9) (f .predicted), unset (entry row 10) (f .maneuver), unset (entry row 11) (f .orbit)))
-row-length false name row e =
+row-length false identifier row e =
     let f = fine false row e in
-    let values = rowValues false (rowShown name row) in
+    let values = rowValues false (rowShown identifier row) in
     line-length (rowItems false) values (rows-tiled false)
     ∙ ap (λ (n : ℕ). n + 1)
-    (late-end false row f (endFrom 0 (take 5 (rowItems false)) values) flagItems (flagValues (rowShown name row))
+    (late-end false row f (endFrom 0 (take 5 (rowItems false)) values) flagItems (flagValues (rowShown identifier row))
     ∙ flag-end 79 80 (entry row 11) refl
     (flag-end 78 77 (entry row 10) refl (flag-end 75 80 (entry row 9) refl (flag-end 74 69 (entry row 8) refl refl))))

@@ -25,7 +25,7 @@ use Rattle.field.proofs.Fitting.{fits-true}
 use Rattle.record.proofs.Tiled.{satellites-tiled, more-tiled}
 use Rattle.canon.proofs.Parted.{every-take, every-drop, every-at}
 use Rattle.canon.proofs.Ends.{endFrom, line-length}
-use Rattle.canon.proofs.Inked.{name-ends, whole-ends}
+use Rattle.canon.proofs.Inked.{identifier-ends, whole-ends}
 
 module _ (kind : Kind) (told : silent kind ≡ false) where
   slot-told : (used : Bool) → silent (slotFor used kind) ≡ false
@@ -76,19 +76,19 @@ seventeen-long ns =
     ∙ length-take-le 17 (ns ++ replicate 17 0) (omega (arith, length-append ns (replicate 17 0), length-replicate {A = ℕ} 17 0))
 
 -- the first `+ ` line
-name-slot : (used : Bool) (v : Held) → length (trimmed (shownIn (slotFor used identifier) 3 v)) ≡ 3
-name-slot true v = name-ends (numberIn v)
-name-slot false v = refl
+identifier-slot : (used : Bool) (v : Held) → length (trimmed (shownIn (slotFor used identifier) 3 v)) ≡ 3
+identifier-slot true v = identifier-ends (numberIn v)
+identifier-slot false v = refl
 
-pub satellites-length : (rules : Rules) (n : ℕ) (names : List ℕ) → length (satellitesLine rules (satellitesShown n names)) ≡ 61
+pub satellites-length : (rules : Rules) (n : ℕ) (identifiers : List ℕ) → length (satellitesLine rules (satellitesShown n identifiers)) ≡ 61
 unfolding satellitesLine satellitesShown
-satellites-length rules n names =
-    let values = satellitesValues (satellitesShown n names) in
-    let entries = onesOf (seventeen names) in
+satellites-length rules n identifiers =
+    let values = satellitesValues (satellitesShown n identifiers) in
+    let entries = onesOf (seventeen identifiers) in
     line-length (satelliteItems rules n) values (satellites-tiled rules n)
     ∙ ap (λ (k : ℕ). k + 1)
-    (slots-end identifier refl 16 n 9 (endFrom 0 (take 4 (satelliteItems rules n)) values) entries (columns 61 80 unused ∷ []) (seventeen-long names)
-    (λ used. name-slot used (getD entries 16 nothing)))
+    (slots-end identifier refl 16 n 9 (endFrom 0 (take 4 (satelliteItems rules n)) values) entries (columns 61 80 unused ∷ []) (seventeen-long identifiers)
+    (λ used. identifier-slot used (getD entries 16 nothing)))
 
 -- an exponent of the header is one of three digits
 abbrev pub small : ℕ → Bool
@@ -111,7 +111,7 @@ seventeen-small ns e =
 
 slot-ends : (accuracies used : Bool) (ns : List ℕ) → slotsFine accuracies ns ≡ true
     → length (trimmed (shownIn (slotFor used (slotKind accuracies)) 3 (getD (onesOf (seventeen ns)) 16 nothing))) ≡ 3
-slot-ends false used ns e = name-slot used (getD (onesOf (seventeen ns)) 16 nothing)
+slot-ends false used ns e = identifier-slot used (getD (onesOf (seventeen ns)) 16 nothing)
 slot-ends true false ns e = refl
 slot-ends true true ns e =
     let n = numberIn (getD (onesOf (seventeen ns)) 16 nothing) in

@@ -73,7 +73,7 @@ seventeen numbers = take 17 (numbers ++ replicate 17 0)
 
 -- the first `+ ` line of n satellites
 unfoldable pub satellitesShown : ℕ → List ℕ → Satellites
-satellitesShown n names = record { fault = 0; count = n; names = seventeen names }
+satellitesShown n identifiers = record { fault = 0; count = n; identifiers = seventeen identifiers }
 
 -- so many further `+ ` lines, or `++` lines, with the slots of these satellites
 abbrev pub slotsShown : List ℕ → Slots
@@ -104,11 +104,11 @@ descriptorLines h =
 
 -- every line before the comments, of these identifiers and exponents
 unfoldable pub linesBefore : Rules → Header → List ℕ → List ℕ → List (List ℕ)
-linesBefore rules h names exponents =
+linesBefore rules h identifiers exponents =
     firstLine rules (firstShown h)
     ∷ secondLine (secondShown h)
-    ∷ satellitesLine rules (satellitesShown (h .satellites) names)
-    ∷ (slotLinesOf false (slotLines (h .satellites) - 1) (drop 17 names)
+    ∷ satellitesLine rules (satellitesShown (h .satellites) identifiers)
+    ∷ (slotLinesOf false (slotLines (h .satellites) - 1) (drop 17 identifiers)
     ++ (slotLinesOf true (slotLines (h .satellites)) exponents ++ descriptorLines h))
 
 -- so many comments of 77 bytes
@@ -126,8 +126,8 @@ flagShown v = cond (eqb (natAbs v) 0) false true
 
 -- the row of a satellite of twelve stored numbers
 unfoldable pub rowShown : ℕ → List ℤ → Row
-rowShown name row = record {
-  satellite = name;
+rowShown identifier row = record {
+  satellite = identifier;
   x = signedShown (entry row 0);
   y = signedShown (entry row 1);
   z = signedShown (entry row 2);
@@ -144,14 +144,14 @@ rowShown name row = record {
 
 -- the lines of one satellite in one epoch: P, in mode V then V
 unfoldable pub cellLines : Bool → ℕ → List ℤ → List (List ℕ)
-cellLines true name cell = rowLine false (rowShown name (take 12 cell)) ∷ rowLine true (rowShown name (drop 12 cell)) ∷ []
-cellLines false name cell = rowLine false (rowShown name cell) ∷ []
+cellLines true identifier cell = rowLine false (rowShown identifier (take 12 cell)) ∷ rowLine true (rowShown identifier (drop 12 cell)) ∷ []
+cellLines false identifier cell = rowLine false (rowShown identifier cell) ∷ []
 
 -- those of each satellite, in header order
 unfoldable pub cellsLines : Bool → List ℕ → List ℤ → List (List ℕ)
 cellsLines velocity [] rows = []
-cellsLines velocity (name ∷ names) rows =
-    cellLines velocity name (take (cellWidth velocity) rows) ++ cellsLines velocity names (drop (cellWidth velocity) rows)
+cellsLines velocity (identifier ∷ identifiers) rows =
+    cellLines velocity identifier (take (cellWidth velocity) rows) ++ cellsLines velocity identifiers (drop (cellWidth velocity) rows)
 
 -- the line of an epoch at an instant
 unfoldable pub epochShown : ℕ → Epoch
@@ -159,11 +159,11 @@ epochShown at8 = record { fault = 0; moment = momentOf at8 }
 
 -- so many epochs, the first of them at this instant, each an interval after the one before
 unfoldable pub epochsLines : Bool → List ℕ → ℕ → ℕ → ℕ → List ℤ → List (List ℕ)
-epochsLines velocity names interval8 zero at8 rows = []
-epochsLines velocity names interval8 (suc epochs) at8 rows =
+epochsLines velocity identifiers interval8 zero at8 rows = []
+epochsLines velocity identifiers interval8 (suc epochs) at8 rows =
     epochLine (epochShown at8)
-    ∷ (cellsLines velocity names rows
-    ++ epochsLines velocity names interval8 epochs (at8 + interval8) (drop (length names * cellWidth velocity) rows))
+    ∷ (cellsLines velocity identifiers rows
+    ++ epochsLines velocity identifiers interval8 epochs (at8 + interval8) (drop (length identifiers * cellWidth velocity) rows))
 
 -- every line, each with its LF
 unfoldable pub canonicalLines : Rules → Table → List (List ℕ)

@@ -11,7 +11,7 @@ use Rattle.laws.specs.Texts.{every}
 use Rattle.calendar.specs.Gregorian.{firstMjd, lastMjd}
 use Rattle.calendar.specs.Clock.{dayUnits}
 use Rattle.field.specs.Sign.{largest, isNegative}
-use Rattle.layout.specs.Kind.{isOneOf, isListed, isName, printable, unknown}
+use Rattle.layout.specs.Kind.{isOneOf, isListed, isIdentifier, printable, unknown}
 use Rattle.layout.specs.Line.{trimmed}
 use Rattle.header.specs.Rules.{maxEpochs}
 use Rattle.header.specs.Header.{maxInterval, maxPlaceBase, maxClockBase}
@@ -64,8 +64,8 @@ listsLong h i x c r =
     (leb (h .satellites) i && leb (h .satellites) x) && (leb (h .comments) (c / commentWidth) && leb (cellsIn h) (r / cellWidth (h .velocity)))
 
 -- a capital letter and a number from 1 to 99 each, all different, and as the file type says
-unfoldable pub namesValid : ℕ → List ℕ → Bool
-namesValid fileType names = every isName names && (not (repeats [] names) && typeAgrees fileType names)
+unfoldable pub identifiersValid : ℕ → List ℕ → Bool
+identifiersValid fileType identifiers = every isIdentifier identifiers && (not (repeats [] identifiers) && typeAgrees fileType identifiers)
 
 -- exponents of the header, 0 to 999
 unfoldable pub exponentsValid : List ℕ → Bool
@@ -135,7 +135,7 @@ countsHold rules t =
 unfoldable pub valid : Rules → Table → Bool
 valid rules t =
     countsHold rules t
-    && (namesValid (t .header .«file_type») (tableIdentifiers t)
+    && (identifiersValid (t .header .«file_type») (tableIdentifiers t)
     && (exponentsValid (exponentsOf t)
     && (commentsValid rules (t .header .comments) (commentsOf t)
     && rowsValid (t .header .velocity) (cellsIn (t .header)) (rowsOf t))))

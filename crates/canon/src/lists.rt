@@ -5,40 +5,40 @@ ghost use Prim.Native.Nat.{_+_, _-_, _*_, _≤_};
 ghost use lib.Dec.{eqb};
 ghost use lib.ListN.{length};
 ghost use Rattle.laws.specs.Texts.{every};
-ghost use Rattle.layout.specs.Kind.{isName};
+ghost use Rattle.layout.specs.Kind.{isIdentifier};
 ghost use Rattle.canon.specs.Table.{commentWidth};
-ghost use Rattle.canon.specs.Valid.{namesValid, exponentsValid, commentColumns, commentValid, commentsValid};
+ghost use Rattle.canon.specs.Valid.{identifiersValid, exponentsValid, commentColumns, commentValid, commentsValid};
 ghost use Rattle.canon.specs.Measured.{commentLength, commentsLength};
 use crate::types::Spent;
 use header::Rules;
 use laws::within;
 
 // Whether a number is an identifier: 7107 is G07, 7100 is none.
-fn is_name(code: u64) -> bool
-    ensures { λ r. ⌜ r ≡ isName code ⌝ }
+fn is_identifier(code: u64) -> bool
+    ensures { λ r. ⌜ r ≡ isIdentifier code ⌝ }
 {
     within(65, 90, code / 10 / 10) & (0 < code / 10 % 10 * 10 + code % 10)
 }
 
 // Whether each of some numbers is one.
-fn are_names(names: &[u64]) -> bool
-    ensures { λ r. ⌜ r ≡ every isName (now (names .entry)) ⌝ }
+fn are_identifiers(identifiers: &[u64]) -> bool
+    ensures { λ r. ⌜ r ≡ every isIdentifier (now (identifiers .entry)) ⌝ }
 {
     let mut all = true;
     let mut i = 0;
-    while i < names.len() {
-        all = all & is_name(names[i]);
+    while i < identifiers.len() {
+        all = all & is_identifier(identifiers[i]);
         i += 1;
     }
     all
 }
 
 // Whether identifiers are such, all different, and as the file type says.
-pub(crate) fn names_valid(file_type: u8, names: &[u64]) -> bool
-    ensures { λ r. ⌜ r ≡ namesValid «file_type» (now (names .entry)) ⌝ }
+pub(crate) fn identifiers_valid(file_type: u8, identifiers: &[u64]) -> bool
+    ensures { λ r. ⌜ r ≡ identifiersValid «file_type» (now (identifiers .entry)) ⌝ }
 {
-    let different = !machine::repeats_name(&names[0..0], names);
-    are_names(names) & (different & machine::type_agrees(file_type, names))
+    let different = !machine::repeats_identifier(&identifiers[0..0], identifiers);
+    are_identifiers(identifiers) & (different & machine::type_agrees(file_type, identifiers))
 }
 
 // Whether every exponent is 0 to 999.

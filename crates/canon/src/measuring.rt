@@ -115,7 +115,7 @@ fn measure_within(
         return refuse(13);
     }
     let n = h.satellites as usize;
-    let named = lists::names_valid(h.file_type, &identifiers[0..n]);
+    let named = lists::identifiers_valid(h.file_type, &identifiers[0..n]);
     let room = most + 1;
     let spent = table_spent(rules, h, comments, rows, room);
     if !(named & (lists::exponents_valid(&exponents[0..n]) & spent.valid)) {

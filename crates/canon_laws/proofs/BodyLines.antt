@@ -12,7 +12,7 @@ use lib.IntN.{ℤ}
 use lib.ListN.{length, take, drop, length-drop, take-append-drop}
 use lib.Seq.{take-add, take-all, drop-drop, length-take-le}
 use Rattle.laws.specs.Texts.{every}
-use Rattle.layout.specs.Kind.{isName}
+use Rattle.layout.specs.Kind.{isIdentifier}
 use Rattle.layout.specs.Line.{lineOf}
 use Rattle.lines.specs.Lent.{flat}
 use Rattle.lines.specs.Lines.{select}
@@ -94,16 +94,16 @@ module _ (rules : Rules) where
   }
 
   -- A row of a satellite: a line with nothing noted after it.
-  row-holds : (velocity : Bool) (note : LineKind) (name : ℕ) (row : List ℤ) → isName name ≡ true → rowValid velocity row ≡ true → length row ≡ 12
-      → Carries rules (λ (ls : List (List ℕ)). Noted rules velocity note name ls) row (rowLine velocity (rowShown name row) ∷ [])
+  row-holds : (velocity : Bool) (note : LineKind) (identifier : ℕ) (row : List ℤ) → isIdentifier identifier ≡ true → rowValid velocity row ≡ true → length row ≡ 12
+      → Carries rules (λ (ls : List (List ℕ)). Noted rules velocity note identifier ls) row (rowLine velocity (rowShown identifier row) ∷ [])
   unfolding everyLine numbersOfRows select flat
-  row-holds velocity note name row named valid wide =
-      let is = row-is velocity name row valid named rules in
-      let kept : isRow rules (rowText velocity name row) ≡ true = ap (λ (k : ℕ). eqb k 10 || eqb k 11) (row-kind rules velocity name (rowText velocity name row) is) ∙ told velocity in
+  row-holds velocity note identifier row named valid wide =
+      let is = row-is velocity identifier row valid named rules in
+      let kept : isRow rules (rowText velocity identifier row) ≡ true = ap (λ (k : ℕ). eqb k 10 || eqb k 11) (row-kind rules velocity identifier (rowText velocity identifier row) is) ∙ told velocity in
       record {
-        are = record { row = rowText velocity name row; notes = []; lines-are = refl; is-row = is; are-notes = refl };
-        stored = rw kept (append-nil (rowNumbers (rowIn rules (rowText velocity name row))) ∙ row-numbers velocity name row valid named rules (omega arith) ∙ take-all 12 row (omega arith));
-        ends = (row-ends velocity name row valid named, tt);
+        are = record { row = rowText velocity identifier row; notes = []; lines-are = refl; is-row = is; are-notes = refl };
+        stored = rw kept (append-nil (rowNumbers (rowIn rules (rowText velocity identifier row))) ∙ row-numbers velocity identifier row valid named rules (omega arith) ∙ take-all 12 row (omega arith));
+        ends = (row-ends velocity identifier row valid named, tt);
       }
     where
       told : (v : Bool) → (eqb (toldKind (rowKind v)) 10 || eqb (toldKind (rowKind v)) 11) ≡ true
@@ -111,19 +111,19 @@ module _ (rules : Rules) where
       told false = refl
 
   -- The lines of one satellite in an epoch.
-  cell-holds : (velocity : Bool) (name : ℕ) (cell : List ℤ) → isName name ≡ true → cellValid velocity cell ≡ true → length cell ≡ cellWidth velocity
-      → Carries rules (λ (ls : List (List ℕ)). Satellite rules velocity name ls) cell (cellLines velocity name cell)
+  cell-holds : (velocity : Bool) (identifier : ℕ) (cell : List ℤ) → isIdentifier identifier ≡ true → cellValid velocity cell ≡ true → length cell ≡ cellWidth velocity
+      → Carries rules (λ (ls : List (List ℕ)). Satellite rules velocity identifier ls) cell (cellLines velocity identifier cell)
   unfolding cellValid cellLines
-  cell-holds true name cell named valid wide =
+  cell-holds true identifier cell named valid wide =
       holds-both
       (λ ls ms p q. record { position = ls; rest = ms; lines-are = refl; is-position = p; is-rest = q })
       (take-append-drop 12 cell)
-      (row-holds false kind.PositionCorrelation name (take 12 cell) named (and-left (rowValid false (take 12 cell)) _ valid) (length-take-le 12 cell (omega arith)))
-      (row-holds true kind.VelocityCorrelation name (drop 12 cell) named (and-right (rowValid false (take 12 cell)) _ valid) (omega (arith, length-drop 12 cell)))
-  cell-holds false name cell named valid wide =
+      (row-holds false kind.PositionCorrelation identifier (take 12 cell) named (and-left (rowValid false (take 12 cell)) _ valid) (length-take-le 12 cell (omega arith)))
+      (row-holds true kind.VelocityCorrelation identifier (drop 12 cell) named (and-right (rowValid false (take 12 cell)) _ valid) (omega (arith, length-drop 12 cell)))
+  cell-holds false identifier cell named valid wide =
       holds-as
       (λ ls p. record { position = ls; rest = []; lines-are = sym (append-nil ls); is-position = p; is-rest = refl })
-      (row-holds false kind.PositionCorrelation name cell named valid wide)
+      (row-holds false kind.PositionCorrelation identifier cell named valid wide)
 
   -- The line of an epoch.
   epoch-holds : (at8 : ℕ) → isInstant at8 ≡ true
@@ -136,34 +136,34 @@ module _ (rules : Rules) where
 
   module _ (velocity : Bool) where
     -- Those of each satellite.
-    cells-hold : (names : List ℕ) (rows : List ℤ) → every isName names ≡ true → rowsValid velocity (length names) rows ≡ true
-        → length names * cellWidth velocity ≤ length rows
-        → Carries rules (λ (ls : List (List ℕ)). Rows rules velocity names ls) (take (length names * cellWidth velocity) rows) (cellsLines velocity names rows)
+    cells-hold : (identifiers : List ℕ) (rows : List ℤ) → every isIdentifier identifiers ≡ true → rowsValid velocity (length identifiers) rows ≡ true
+        → length identifiers * cellWidth velocity ≤ length rows
+        → Carries rules (λ (ls : List (List ℕ)). Rows rules velocity identifiers ls) (take (length identifiers * cellWidth velocity) rows) (cellsLines velocity identifiers rows)
     unfolding rowsValid cellsLines numbersOfRows select flat
     cells-hold [] rows named valid long =
         record { are = refl; stored = ap (λ (k : ℕ). take k rows) (sym (zero-mul (cellWidth velocity))); ends = tt }
-    cells-hold (name ∷ names) rows named valid long =
+    cells-hold (identifier ∷ identifiers) rows named valid long =
         let w = cellWidth velocity in
         let own = cellValid velocity (take w rows) in
-        let size : suc (length names) * w ≡ w + length names * w = omega (arith, suc-mul (length names) w) in
+        let size : suc (length identifiers) * w ≡ w + length identifiers * w = omega (arith, suc-mul (length identifiers) w) in
         holds-both
         (λ ls ms p q. (ls, ms, refl, p, q))
-        (take-parts w (length names) rows)
-        (cell-holds velocity name (take w rows) (and-left (isName name) _ named) (and-left own _ valid) (length-take-le w rows (omega arith)))
-        (cells-hold names (drop w rows) (and-right (isName name) _ named) (and-right own _ valid) (omega (arith, length-drop w rows)))
+        (take-parts w (length identifiers) rows)
+        (cell-holds velocity identifier (take w rows) (and-left (isIdentifier identifier) _ named) (and-left own _ valid) (length-take-le w rows (omega arith)))
+        (cells-hold identifiers (drop w rows) (and-right (isIdentifier identifier) _ named) (and-right own _ valid) (omega (arith, length-drop w rows)))
 
     -- Those of so many epochs.
-    module _ (names : List ℕ) (named : every isName names ≡ true) (interval8 : ℕ) where
-      pub epochs-hold : (epochs at8 : ℕ) (rows : List ℤ) → Instants interval8 epochs at8 → rowsValid velocity (epochs * length names) rows ≡ true
-          → epochs * (length names * cellWidth velocity) ≤ length rows
-          → Carries rules (λ (ls : List (List ℕ)). Epochs rules velocity names interval8 epochs at8 ls) (take (epochs * (length names * cellWidth velocity)) rows)
-          (epochsLines velocity names interval8 epochs at8 rows)
+    module _ (identifiers : List ℕ) (named : every isIdentifier identifiers ≡ true) (interval8 : ℕ) where
+      pub epochs-hold : (epochs at8 : ℕ) (rows : List ℤ) → Instants interval8 epochs at8 → rowsValid velocity (epochs * length identifiers) rows ≡ true
+          → epochs * (length identifiers * cellWidth velocity) ≤ length rows
+          → Carries rules (λ (ls : List (List ℕ)). Epochs rules velocity identifiers interval8 epochs at8 ls) (take (epochs * (length identifiers * cellWidth velocity)) rows)
+          (epochsLines velocity identifiers interval8 epochs at8 rows)
       unfolding epochsLines numbersOfRows select flat
       epochs-hold zero at8 rows instants valid long =
-          record { are = refl; stored = ap (λ (k : ℕ). take k rows) (sym (zero-mul (length names * cellWidth velocity))); ends = tt }
+          record { are = refl; stored = ap (λ (k : ℕ). take k rows) (sym (zero-mul (length identifiers * cellWidth velocity))); ends = tt }
       epochs-hold (suc epochs) at8 rows instants valid long =
-          let w = length names * cellWidth velocity in
-          let parts = rows-valid-parts velocity (length names) (epochs * length names) rows (ap (λ (k : ℕ). rowsValid velocity k rows) (omega (arith, suc-mul epochs (length names))) ∙ valid) in
+          let w = length identifiers * cellWidth velocity in
+          let parts = rows-valid-parts velocity (length identifiers) (epochs * length identifiers) rows (ap (λ (k : ℕ). rowsValid velocity k rows) (omega (arith, suc-mul epochs (length identifiers))) ∙ valid) in
           let size : suc epochs * w ≡ w + epochs * w = omega (arith, suc-mul epochs w) in
           holds-both
           (λ ls ms p q. (p .0, q .0, q .1, ap₂ (λ (a b : List (List ℕ)). a ++ b) (p .1) (q .2), p .2, q .3, q .4))
@@ -174,21 +174,21 @@ module _ (rules : Rules) where
           (own : List (List ℕ))
           × (more : List (List ℕ))
           × (ls ≡ own ++ more)
-          × Rows rules velocity names own
-          × Epochs rules velocity names interval8 epochs (at8 + interval8) more}
+          × Rows rules velocity identifiers own
+          × Epochs rules velocity identifiers interval8 epochs (at8 + interval8) more}
           (λ ls ms p q. (ls, ms, refl, p, q))
           (take-parts w epochs rows)
-          (cells-hold names rows named (parts .0) (omega arith))
+          (cells-hold identifiers rows named (parts .0) (omega arith))
           (epochs-hold epochs (at8 + interval8) (drop w rows) (later-instants interval8 epochs at8 instants) (parts .1) (omega (arith, length-drop w rows))))
 
       -- of exactly the rows that there are
-      pub all-epochs-hold : (epochs at8 : ℕ) (rows : List ℤ) → Instants interval8 epochs at8 → rowsValid velocity (epochs * length names) rows ≡ true
-          → length rows ≡ epochs * (length names * cellWidth velocity)
-          → Carries rules (λ (ls : List (List ℕ)). Epochs rules velocity names interval8 epochs at8 ls) rows (epochsLines velocity names interval8 epochs at8 rows)
+      pub all-epochs-hold : (epochs at8 : ℕ) (rows : List ℤ) → Instants interval8 epochs at8 → rowsValid velocity (epochs * length identifiers) rows ≡ true
+          → length rows ≡ epochs * (length identifiers * cellWidth velocity)
+          → Carries rules (λ (ls : List (List ℕ)). Epochs rules velocity identifiers interval8 epochs at8 ls) rows (epochsLines velocity identifiers interval8 epochs at8 rows)
       all-epochs-hold epochs at8 rows instants valid long =
           let h = epochs-hold epochs at8 rows instants valid (omega arith) in
           record {
             are = h .are;
-            stored = h .stored ∙ take-all (epochs * (length names * cellWidth velocity)) rows (omega arith);
+            stored = h .stored ∙ take-all (epochs * (length identifiers * cellWidth velocity)) rows (omega arith);
             ends = h .ends;
           }

@@ -35,14 +35,14 @@ module _ (rules : Rules) (h : Header) (b : Bounded rules h) where
   unfolding descriptorLine descriptorShown
   descriptor-read = bare-back descriptorItems (descriptorValues (descriptorShown h)) descriptor-tiled descriptor-can descriptorFrom
 
-  pub descriptor-is : (names : List ℕ) → typeAgrees (h .«file_type») names ≡ true
-      → isDescriptorLine rules names (lineOf (descriptorLine (descriptorShown h))) ≡ true
+  pub descriptor-is : (identifiers : List ℕ) → typeAgrees (h .«file_type») identifiers ≡ true
+      → isDescriptorLine rules identifiers (lineOf (descriptorLine (descriptorShown h))) ≡ true
   unfolding descriptorLine descriptorShown kindOf
-  descriptor-is names agrees =
+  descriptor-is identifiers agrees =
       let l = lineOf (descriptorLine (descriptorShown h)) in
       and-both (isRecord rules kind.Characters (descriptorOf (padded l) .fault) l) _
       (bare-record descriptorItems (descriptorValues (descriptorShown h)) descriptor-tiled descriptor-can rules kind.Characters _ refl refl (ap (λ (x : Descriptor). x .fault) descriptor-read))
-      (ap (λ (x : Descriptor). typeAgrees (x .«file_type») names) descriptor-read ∙ agrees)
+      (ap (λ (x : Descriptor). typeAgrees (x .«file_type») identifiers) descriptor-read ∙ agrees)
 
   bases-can : canShow baseItems (baseValues (basesShown h)) ≡ true
   unfolding basesShown

@@ -29,7 +29,7 @@ use Rattle.canon_laws.specs.Held.{Proper}
 use Rattle.canon.proofs.Parts.{Parts}
 use Rattle.canon_laws.proofs.Moments.{moment-is, moment-fits, moment-back}
 use Rattle.canon_laws.proofs.FirstLines.{first-read, first-is, second-read, second-is}
-use Rattle.canon_laws.proofs.NamesShown.{count-read, count-is, names-hold}
+use Rattle.canon_laws.proofs.IdentifiersShown.{count-read, count-is, identifiers-hold}
 use Rattle.canon.proofs.Parted.{every-drop}
 use Rattle.canon_laws.proofs.SlotsShown.{slots-are, slots-many}
 use Rattle.canon_laws.proofs.DescriptorLines.{descriptor-is, characters-is, bases-is, floats-is, integers-is, last-is}
@@ -51,8 +51,8 @@ module _ (rules : Rules) (proper : Proper rules) (t : Table) (v : Parts rules t)
   abbrev n : ℕ
   n = h .satellites
 
-  abbrev names : List ℕ
-  names = table.slotIdentifiers t
+  abbrev identifiers : List ℕ
+  identifiers = table.slotIdentifiers t
 
   abbrev bound : Bounded rules h
   bound = v .header
@@ -65,10 +65,10 @@ module _ (rules : Rules) (proper : Proper rules) (t : Table) (v : Parts rules t)
   second = lineOf (secondLine (secondShown h))
 
   abbrev count : List ℕ
-  count = lineOf (satellitesLine rules (satellitesShown n names))
+  count = lineOf (satellitesLine rules (satellitesShown n identifiers))
 
   abbrev slots : List (List ℕ)
-  slots = map lineOf (slotLinesOf false (slotLines n - 1) (drop 17 names))
+  slots = map lineOf (slotLinesOf false (slotLines n - 1) (drop 17 identifiers))
 
   abbrev accuracies : List (List ℕ)
   accuracies = map lineOf (slotLinesOf true (slotLines n) (table.exponentsOf t))
@@ -83,7 +83,7 @@ module _ (rules : Rules) (proper : Proper rules) (t : Table) (v : Parts rules t)
   comments = map lineOf (commentLines (h .comments) (table.commentsOf t))
 
   abbrev pub epochs : List (List ℕ)
-  epochs = map lineOf (epochsLines (h .velocity) names (h .interval8) (h .epochs) (h .start8) (table.rowsOf t))
+  epochs = map lineOf (epochsLines (h .velocity) identifiers (h .interval8) (h .epochs) (h .start8) (table.rowsOf t))
 
   -- all of them
   abbrev pub formLines : List (List ℕ)
@@ -105,9 +105,9 @@ module _ (rules : Rules) (proper : Proper rules) (t : Table) (v : Parts rules t)
   unfolding canonicalLines linesBefore descriptorLines
   lines-are =
       let said = commentLines (h .comments) (table.commentsOf t) in
-      let dated = epochsLines (h .velocity) names (h .interval8) (h .epochs) (h .start8) (table.rowsOf t) in
+      let dated = epochsLines (h .velocity) identifiers (h .interval8) (h .epochs) (h .start8) (table.rowsOf t) in
       let rest = said ++ (dated ++ (fixedLine endItems ∷ [])) in
-      let plus = slotLinesOf false (slotLines n - 1) (drop 17 names) in
+      let plus = slotLinesOf false (slotLines n - 1) (drop 17 identifiers) in
       let doubles = slotLinesOf true (slotLines n) (table.exponentsOf t) in
       let rest-is : map lineOf rest ≡ comments ++ (epochs ++ (lineOf (fixedLine endItems) ∷ [])) =
       map-append lineOf said (dated ++ (fixedLine endItems ∷ []))
@@ -153,15 +153,15 @@ module _ (rules : Rules) (proper : Proper rules) (t : Table) (v : Parts rules t)
 
   pub says-count : satellitesOf rules (padded count) .count ≡ n
   unfolding satellitesShown
-  says-count = ap (λ (s : Satellites). s .count) (count-read rules proper n names (bound .satellites) (v .names-many) (v .names))
+  says-count = ap (λ (s : Satellites). s .count) (count-read rules proper n identifiers (bound .satellites) (v .identifiers-many) (v .identifiers))
 
-  pub says-names : slotIdentifiers (satellitesOf rules (padded count) .count) (count ∷ slots) ≡ names
-  says-names = ap (λ (k : ℕ). slotIdentifiers k (count ∷ slots)) says-count ∙ names-hold rules proper n names (bound .satellites) (v .names-many) (v .names)
+  pub says-identifiers : slotIdentifiers (satellitesOf rules (padded count) .count) (count ∷ slots) ≡ identifiers
+  says-identifiers = ap (λ (k : ℕ). slotIdentifiers k (count ∷ slots)) says-count ∙ identifiers-hold rules proper n identifiers (bound .satellites) (v .identifiers-many) (v .identifiers)
 
   pub further-are : areSlots rules false (n - 17) slots ≡ true
   further-are =
-      ap (λ (k : ℕ). areSlots rules false k slots) (sym (length-drop 17 names ∙ ap (λ (k : ℕ). k - 17) (v .names-many)))
-      ∙ slots-are false rules (slotLines n - 1) (drop 17 names) (every-drop _ 17 names (v .names))
+      ap (λ (k : ℕ). areSlots rules false k slots) (sym (length-drop 17 identifiers ∙ ap (λ (k : ℕ). k - 17) (v .identifiers-many)))
+      ∙ slots-are false rules (slotLines n - 1) (drop 17 identifiers) (every-drop _ 17 identifiers (v .identifiers))
 
   pub accuracies-are : areSlots rules true n accuracies ≡ true
   accuracies-are =
@@ -169,7 +169,7 @@ module _ (rules : Rules) (proper : Proper rules) (t : Table) (v : Parts rules t)
       ∙ slots-are true rules (slotLines n) (table.exponentsOf t) (v .exponents)
 
   -- THE FORM: its lines are those of an accepted file
-  unfoldable pub form-plain : Epochs rules (h .velocity) names (h .interval8) (h .epochs) (h .start8) epochs → Plain rules formLines
+  unfoldable pub form-plain : Epochs rules (h .velocity) identifiers (h .interval8) (h .epochs) (h .start8) epochs → Plain rules formLines
   form-plain dated = record {
     first = first;
     second = second;
@@ -188,13 +188,13 @@ module _ (rules : Rules) (proper : Proper rules) (t : Table) (v : Parts rules t)
     lines-are = lines-are;
     is-first = first-is rules proper h bound (moment-fits (momentOf (h .start8)) (moment-is (h .start8) (bound .clock .start)));
     is-second = ap (λ (at8 : ℕ). isSecondLine rules at8 second) says-start ∙ second-is rules h bound;
-    is-count = count-is rules proper n names (bound .satellites) (v .names-many) (v .names);
+    is-count = count-is rules proper n identifiers (bound .satellites) (v .identifiers-many) (v .identifiers);
     are-slots = ap (λ (k : ℕ). areSlots rules false (k - 17) slots) says-count ∙ further-are;
-    slots-many = ap suc (slots-many false (slotLines n - 1) (drop 17 names)) ∙ lines-back n ∙ ap slotLines (sym says-count);
-    all-different = ap (repeats []) says-names ∙ v .different;
+    slots-many = ap suc (slots-many false (slotLines n - 1) (drop 17 identifiers)) ∙ lines-back n ∙ ap slotLines (sym says-count);
+    all-different = ap (repeats []) says-identifiers ∙ v .different;
     are-accuracies = ap (λ (k : ℕ). areSlots rules true k accuracies) says-count ∙ accuracies-are;
     accuracies-many = slots-many true (slotLines n) (table.exponentsOf t) ∙ ap slotLines (sym says-count);
-    is-descriptor = ap (λ (ns : List ℕ). isDescriptorLine rules ns descriptor) says-names ∙ descriptor-is rules h bound names (v .agreeing);
+    is-descriptor = ap (λ (ns : List ℕ). isDescriptorLine rules ns descriptor) says-identifiers ∙ descriptor-is rules h bound identifiers (v .agreeing);
     is-characters = characters-is rules;
     is-bases = bases-is rules h bound;
     is-floats = floats-is rules;
@@ -206,9 +206,9 @@ module _ (rules : Rules) (proper : Proper rules) (t : Table) (v : Parts rules t)
         ∙ bound .comments;
     are-epochs =
         subst (λ (b : Bool). Epochs rules b (slotIdentifiers (satellitesOf rules (padded count) .count) (count ∷ slots)) (secondOf (padded second) .interval8) (firstOf rules (padded first) .epochs) (instantIn (firstOf rules (padded first) .start)) epochs) (sym says-mode)
-        (subst (λ (ns : List ℕ). Epochs rules (h .velocity) ns (secondOf (padded second) .interval8) (firstOf rules (padded first) .epochs) (instantIn (firstOf rules (padded first) .start)) epochs) (sym says-names)
-        (subst (λ (i : ℕ). Epochs rules (h .velocity) names i (firstOf rules (padded first) .epochs) (instantIn (firstOf rules (padded first) .start)) epochs) (sym says-interval)
-        (subst (λ (k : ℕ). Epochs rules (h .velocity) names (h .interval8) k (instantIn (firstOf rules (padded first) .start)) epochs) (sym says-epochs)
-        (subst (λ (at8 : ℕ). Epochs rules (h .velocity) names (h .interval8) (h .epochs) at8 epochs) (sym says-start) dated))));
+        (subst (λ (ns : List ℕ). Epochs rules (h .velocity) ns (secondOf (padded second) .interval8) (firstOf rules (padded first) .epochs) (instantIn (firstOf rules (padded first) .start)) epochs) (sym says-identifiers)
+        (subst (λ (i : ℕ). Epochs rules (h .velocity) identifiers i (firstOf rules (padded first) .epochs) (instantIn (firstOf rules (padded first) .start)) epochs) (sym says-interval)
+        (subst (λ (k : ℕ). Epochs rules (h .velocity) identifiers (h .interval8) k (instantIn (firstOf rules (padded first) .start)) epochs) (sym says-epochs)
+        (subst (λ (at8 : ℕ). Epochs rules (h .velocity) identifiers (h .interval8) (h .epochs) at8 epochs) (sym says-start) dated))));
     is-last = last-is rules;
   }

@@ -6,7 +6,7 @@ pub mod FirstLines
 pub mod DescriptorLines
 pub mod CommentLines
 pub mod SlotsShown
-pub mod NamesShown
+pub mod IdentifiersShown
 pub mod RowLines
 pub mod EpochLines
 pub mod BodyLines

@@ -20,7 +20,7 @@ use Rattle.header.specs.declared.types.Header.{Header}
 use Rattle.file.specs.Table.{countOf, headerIn, slotsIn, commentsIn, rowsIn}
 use Rattle.file.specs.Plain.{Plain, Accepted}
 use Rattle.file_laws.proofs.Selected.{satellites, velocities, epochs}
-use Rattle.file_laws.proofs.Slots.{names-many}
+use Rattle.file_laws.proofs.Slots.{identifiers-many}
 use Rattle.file_laws.proofs.Counts as plain
 use Rattle.scan_laws.proofs.Files.{plain-lines}
 use Rattle.canon.specs.Table.{Table, cellWidth, cellsIn, tableIdentifiers, exponentsOf, commentsOf, rowsOf}
@@ -33,11 +33,11 @@ use Rattle.canon_laws.proofs.Trips.{form-accepted, form-holds}
 module _ (rules : Rules) where
   -- the form of a header and of what belongs to its table
   abbrev formOf : Header → List ℕ → List ℕ → List ℕ → List ℤ → List ℕ
-  formOf h names exponents comments rows =
+  formOf h identifiers exponents comments rows =
       flat
-      (linesBefore rules h names exponents
+      (linesBefore rules h identifiers exponents
       ++ (commentLines (h .comments) comments
-      ++ (epochsLines (h .velocity) names (h .interval8) (h .epochs) (h .start8) rows ++ (fixedLine endItems ∷ []))))
+      ++ (epochsLines (h .velocity) identifiers (h .interval8) (h .epochs) (h .start8) rows ++ (fixedLine endItems ∷ []))))
 
   form-is : (t : Table) → canonical rules t ≡ formOf (t .header) (tableIdentifiers t) (exponentsOf t) (commentsOf t) (rowsOf t)
   unfolding canonical canonicalLines
@@ -54,7 +54,7 @@ module _ (rules : Rules) where
       record {
         header-is = refl;
         identifiers-are =
-            sym (take-all (h .satellites) (slotsIn rules false (countOf rules lines) lines) (omega (arith, n, plain.count-is p, ap length (plain.identifiers-are p), names-many p)));
+            sym (take-all (h .satellites) (slotsIn rules false (countOf rules lines) lines) (omega (arith, n, plain.count-is p, ap length (plain.identifiers-are p), identifiers-many p)));
         exponents-are =
             sym (take-all (h .satellites) (slotsIn rules true (countOf rules lines) lines)
             (omega (arith, n, plain.count-is p, ap (λ (m : ℕ). length (slotsIn rules true m lines)) (plain.count-is p), plain.exponents-room p)));
@@ -66,12 +66,12 @@ module _ (rules : Rules) where
   pub one-form : (lines : List (List ℕ)) (t u : Table) → Holds rules lines t → Holds rules lines u → canonical rules t ≡ canonical rules u
   one-form lines t u p q =
       let header : t .header ≡ u .header = sym (p .header-is) ∙ q .header-is in
-      let names : tableIdentifiers t ≡ tableIdentifiers u = sym (p .identifiers-are) ∙ q .identifiers-are in
+      let identifiers : tableIdentifiers t ≡ tableIdentifiers u = sym (p .identifiers-are) ∙ q .identifiers-are in
       let exponents : exponentsOf t ≡ exponentsOf u = sym (p .exponents-are) ∙ q .exponents-are in
       let comments : commentsOf t ≡ commentsOf u = sym (p .comments-are) ∙ q .comments-are in
       let rows : rowsOf t ≡ rowsOf u = sym (p .rows-are) ∙ q .rows-are in
       form-is t
-      ∙ ap₂ (λ (h : Header) (ns : List ℕ). formOf h ns (exponentsOf t) (commentsOf t) (rowsOf t)) header names
+      ∙ ap₂ (λ (h : Header) (ns : List ℕ). formOf h ns (exponentsOf t) (commentsOf t) (rowsOf t)) header identifiers
       ∙ ap₂ (λ (xs cs : List ℕ). formOf (u .header) (tableIdentifiers u) xs cs (rowsOf t)) exponents comments
       ∙ ap (λ (rs : List ℤ). formOf (u .header) (tableIdentifiers u) (exponentsOf u) (commentsOf u) rs) rows
       ∙ sym (form-is u)

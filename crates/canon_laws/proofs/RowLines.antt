@@ -13,7 +13,7 @@ use lib.ListN.{length, take, drop}
 use lib.Seq.{drop-cons}
 use Rattle.field.specs.Show.{fitsInteger, fitsWhole, fitsDecimal}
 use Rattle.field.specs.Sign.{largest, isNegative, signedInt}
-use Rattle.layout.specs.Kind.{unknown, isName, canAmount, nameCode}
+use Rattle.layout.specs.Kind.{unknown, isIdentifier, canAmount, identifierCode}
 use Rattle.layout.specs.Fault.{clean}
 use Rattle.layout.specs.Kind.Kind.{unused}
 use Rattle.layout.specs.Layout.{Item, Values, columns, canShow, showLine}
@@ -141,10 +141,10 @@ by-entries (suc n) at row h =
 
 -- the line of a row of a satellite, without its LF
 abbrev pub rowText : Bool → ℕ → List ℤ → List ℕ
-rowText velocity name row = lineOf (rowLine velocity (rowShown name row))
+rowText velocity identifier row = lineOf (rowLine velocity (rowShown identifier row))
 
 -- A valid row of a satellite.
-module _ (velocity : Bool) (name : ℕ) (row : List ℤ) (valid : rowValid velocity row ≡ true) where
+module _ (velocity : Bool) (identifier : ℕ) (row : List ℤ) (valid : rowValid velocity row ≡ true) where
   amounts : Four amountValid amountValid 0 row
   unfolding rowValid
   amounts = four amountValid amountValid 0 row (and-left (fourValid amountValid amountValid 0 row) _ valid)
@@ -160,7 +160,7 @@ module _ (velocity : Bool) (name : ℕ) (row : List ℤ) (valid : rowValid veloc
   flags = four (flagValid velocity) (flagValid velocity) 8 row (and-right (fourValid (exponentValid false) (exponentValid true) 4 row) _ rest)
 
   -- columns 2 to 73 can show it, and what stands after them decides
-  body-shows : isName name ≡ true → (items : List Item) (vs : Values) → canShow (bodyItems ++ items) (bodyValues (rowShown name row) ++ vs) ≡ canShow items vs
+  body-shows : isIdentifier identifier ≡ true → (items : List Item) (vs : Values) → canShow (bodyItems ++ items) (bodyValues (rowShown identifier row) ++ vs) ≡ canShow items vs
   unfolding rowShown
   body-shows named items vs =
       let a = amounts in
@@ -177,15 +177,15 @@ module _ (velocity : Bool) (name : ℕ) (row : List ℤ) (valid : rowValid veloc
         exponent-fits true (entry row 7) (x .fourth),
       )
 
-  pub row-can-show : isName name ≡ true → canShow (rowItems velocity) (rowValues velocity (rowShown name row)) ≡ true
+  pub row-can-show : isIdentifier identifier ≡ true → canShow (rowItems velocity) (rowValues velocity (rowShown identifier row)) ≡ true
   row-can-show named = go velocity
     where
-      go : (v : Bool) → canShow (rowItems v) (rowValues v (rowShown name row)) ≡ true
+      go : (v : Bool) → canShow (rowItems v) (rowValues v (rowShown identifier row)) ≡ true
       go true = body-shows named (columns 74 80 unused ∷ []) []
-      go false = body-shows named flagItems (flagValues (rowShown name row))
+      go false = body-shows named flagItems (flagValues (rowShown identifier row))
 
   -- a row of V has no flags
-  pub row-flagless : velocity ≡ true → flagless (rowShown name row) ≡ true
+  pub row-flagless : velocity ≡ true → flagless (rowShown identifier row) ≡ true
   unfolding rowShown
   row-flagless is =
       let f = flags in
@@ -197,7 +197,7 @@ module _ (velocity : Bool) (name : ℕ) (row : List ℤ) (valid : rowValid veloc
       )
 
   -- what is stored of it are its numbers
-  pub row-stored : 12 ≤ length row → rowNumbers (rowShown name row) ≡ take 12 row
+  pub row-stored : 12 ≤ length row → rowNumbers (rowShown identifier row) ≡ take 12 row
   unfolding rowShown rowNumbers listed
   row-stored wide =
       let a = amounts in
@@ -220,24 +220,24 @@ module _ (velocity : Bool) (name : ℕ) (row : List ℤ) (valid : rowValid veloc
       (by-entries 12 0 row wide)
 
   -- its line is read as the row
-  module _ (named : isName name ≡ true) where
-    read : (rowFault velocity (padded (rowText velocity name row)) ≡ clean) × (rowOf velocity (rowText velocity name row) ≡ rowShown name row)
-    read = rw append-nil at (row-back velocity (rowShown name row) [] row-flagless (row-can-show named))
+  module _ (named : isIdentifier identifier ≡ true) where
+    read : (rowFault velocity (padded (rowText velocity identifier row)) ≡ clean) × (rowOf velocity (rowText velocity identifier row) ≡ rowShown identifier row)
+    read = rw append-nil at (row-back velocity (rowShown identifier row) [] row-flagless (row-can-show named))
 
-    pub row-of : rowOf velocity (rowText velocity name row) ≡ rowShown name row
+    pub row-of : rowOf velocity (rowText velocity identifier row) ≡ rowShown identifier row
     row-of = read .1
 
     -- with its LF it ends so
-    pub row-ends : EndsLine (rowLine velocity (rowShown name row))
+    pub row-ends : EndsLine (rowLine velocity (rowShown identifier row))
     unfolding rowLine
-    row-ends = bare-ended (rowItems velocity) (rowValues velocity (rowShown name row)) (rows-tiled velocity) (row-can-show named)
+    row-ends = bare-ended (rowItems velocity) (rowValues velocity (rowShown identifier row)) (rows-tiled velocity) (row-can-show named)
 
     module _ (rules : Rules) where
-      is-record : isRecord rules (rowKind velocity) (rowFault velocity (padded (rowText velocity name row))) (rowText velocity name row) ≡ true
+      is-record : isRecord rules (rowKind velocity) (rowFault velocity (padded (rowText velocity identifier row))) (rowText velocity identifier row) ≡ true
       unfolding rowLine kindOf
       is-record =
-          bare-record (rowItems velocity) (rowValues velocity (rowShown name row)) (rows-tiled velocity) (row-can-show named) rules (rowKind velocity)
-          (rowFault velocity (padded (rowText velocity name row)))
+          bare-record (rowItems velocity) (rowValues velocity (rowShown identifier row)) (rows-tiled velocity) (row-can-show named) rules (rowKind velocity)
+          (rowFault velocity (padded (rowText velocity identifier row)))
           (wide velocity)
           (begins velocity)
           (read .0)
@@ -246,17 +246,17 @@ module _ (velocity : Bool) (name : ℕ) (row : List ℤ) (valid : rowValid veloc
           wide true = refl
           wide false = refl
 
-          begins : (v : Bool) → kindOf rules (showLine (rowItems v) (rowValues v (rowShown name row))) ≡ rowKind v
+          begins : (v : Bool) → kindOf rules (showLine (rowItems v) (rowValues v (rowShown identifier row))) ≡ rowKind v
           begins true = refl
           begins false = refl
 
       -- it is a P or V line of its satellite
-      pub row-is : isRowLine rules velocity name (rowText velocity name row) ≡ true
+      pub row-is : isRowLine rules velocity identifier (rowText velocity identifier row) ≡ true
       unfolding rowTaken rowShown
       row-is =
-          and-both (isRecord rules (rowKind velocity) (rowFault velocity (padded (rowText velocity name row))) (rowText velocity name row)) _ is-record
-          (eq-eqb (nameCode (cut 2 4 (padded (rowText velocity name row)))) name (ap (λ (p : Row). p .satellite) row-of))
+          and-both (isRecord rules (rowKind velocity) (rowFault velocity (padded (rowText velocity identifier row))) (rowText velocity identifier row)) _ is-record
+          (eq-eqb (identifierCode (cut 2 4 (padded (rowText velocity identifier row)))) identifier (ap (λ (p : Row). p .satellite) row-of))
 
       -- and what is stored of it are the numbers of the row
-      pub row-numbers : 12 ≤ length row → rowNumbers (rowIn rules (rowText velocity name row)) ≡ take 12 row
-      row-numbers wide = ap rowNumbers (row-in rules velocity name (rowText velocity name row) row-is ∙ row-of) ∙ row-stored wide
+      pub row-numbers : 12 ≤ length row → rowNumbers (rowIn rules (rowText velocity identifier row)) ≡ take 12 row
+      row-numbers wide = ap rowNumbers (row-in rules velocity identifier (rowText velocity identifier row) row-is ∙ row-of) ∙ row-stored wide

@@ -15,7 +15,7 @@ use Rattle.laws.proofs.Bools.{and-left, and-right, and-both}
 use Rattle.laws.proofs.Lists.{one-less}
 use Rattle.lines.specs.Lent.{flat}
 use Rattle.lines.proofs.Each.{Each}
-use Rattle.layout.specs.Kind.{holdsIn, isName}
+use Rattle.layout.specs.Kind.{holdsIn, isIdentifier}
 use Rattle.layout.specs.Kind.Kind.{unused}
 use Rattle.layout.specs.Kind.Held.{one}
 use Rattle.layout.specs.Layout.{columns, canShow, slotsFrom, onesOf}
@@ -38,7 +38,7 @@ use Rattle.canon_laws.proofs.Fits.{can-whole}
 -- what a slot of a satellite may hold: an identifier, or an accuracy exponent
 abbrev pub slotHolds : Bool → ℕ → Bool
 slotHolds true n = leb n 999
-slotHolds false n = isName n
+slotHolds false n = isIdentifier n
 
 slot-can : (accuracies : Bool) (n : ℕ) → slotHolds accuracies n ≡ true → holdsIn (slotKind accuracies) 3 (one n) ≡ true
 slot-can true n h = can-whole 3 0 999 n (omega arith) (omega arith) (omega arith) (leb-true n 999 h) (omega (arith, leb-true n 999 h))

@@ -27,8 +27,8 @@ module _ (rules : Rules) (t : Table) (v : Parts rules t) where
   table-epochs =
       let n = length (tableIdentifiers t) in
       let w = cellWidth (t .header .velocity) in
-      let cells : t .header .epochs * n ≡ cellsIn (t .header) = ap (λ (k : ℕ). t .header .epochs * k) (v .names-many) ∙ mul-comm (t .header .epochs) (t .header .satellites) in
+      let cells : t .header .epochs * n ≡ cellsIn (t .header) = ap (λ (k : ℕ). t .header .epochs * k) (v .identifiers-many) ∙ mul-comm (t .header .epochs) (t .header .satellites) in
       let size : length (rowsOf t) ≡ t .header .epochs * (n * w) = v .rows-many ∙ ap (λ (k : ℕ). k * w) (sym cells) ∙ mul-assoc (t .header .epochs) n w in
-      all-epochs-hold rules (t .header .velocity) (tableIdentifiers t) (v .names) (t .header .interval8) (t .header .epochs) (t .header .start8) (rowsOf t) instants
+      all-epochs-hold rules (t .header .velocity) (tableIdentifiers t) (v .identifiers) (t .header .interval8) (t .header .epochs) (t .header .start8) (rowsOf t) instants
       (ap (λ (k : ℕ). rowsValid (t .header .velocity) k (rowsOf t)) cells ∙ v .rows)
       size

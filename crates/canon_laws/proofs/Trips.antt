@@ -32,13 +32,13 @@ use Rattle.canon_laws.specs.Held.{Proper}
 use Rattle.canon.proofs.Parts.{Parts, parts}
 use Rattle.canon_laws.proofs.Moments.{moment-is, moment-fits, moment-back}
 use Rattle.canon_laws.proofs.FirstLines.{first-ends, second-ends}
-use Rattle.canon_laws.proofs.NamesShown.{count-ends}
+use Rattle.canon_laws.proofs.IdentifiersShown.{count-ends}
 use Rattle.canon.proofs.Parted.{every-drop}
 use Rattle.canon_laws.proofs.SlotsShown.{slots-end, slots-hold}
 use Rattle.canon_laws.proofs.DescriptorLines.{descriptor-read, bases-read, descriptors-end, last-ends}
 use Rattle.canon_laws.proofs.CommentLines as comment
 use Rattle.canon_laws.proofs.TableLines.{table-epochs}
-use Rattle.canon_laws.proofs.Forms.{formLines, form-plain, mode-back, reads-first, says-interval, says-count, says-names}
+use Rattle.canon_laws.proofs.Forms.{formLines, form-plain, mode-back, reads-first, says-interval, says-count, says-identifiers}
 use Rattle.canon_laws.specs.Held.{Holds}
 
 -- so many `++` lines have room for the exponents
@@ -64,21 +64,21 @@ module _ (rules : Rules) (proper : Proper rules) (t : Table) (ok : valid rules t
   unfolding canonicalLines linesBefore
   all-end =
       let bound = v .header in
-      let names = table.tableIdentifiers t in
+      let identifiers = table.tableIdentifiers t in
       let exponents = table.exponentsOf t in
       let fits = moment-fits (momentOf (h .start8)) (moment-is (h .start8) (bound .clock .start)) in
-      let plus = slotLinesOf false (slotLines (h .satellites) - 1) (drop 17 names) in
+      let plus = slotLinesOf false (slotLines (h .satellites) - 1) (drop 17 identifiers) in
       let doubles = slotLinesOf true (slotLines (h .satellites)) exponents in
       let said = commentLines (h .comments) (table.commentsOf t) in
-      let dated = epochsLines (h .velocity) names (h .interval8) (h .epochs) (h .start8) (table.rowsOf t) in
+      let dated = epochsLines (h .velocity) identifiers (h .interval8) (h .epochs) (h .start8) (table.rowsOf t) in
       let last = fixedLine endItems ∷ [] in
-      each-append EndsLine (linesBefore rules h names exponents) (said ++ (dated ++ last)) (
+      each-append EndsLine (linesBefore rules h identifiers exponents) (said ++ (dated ++ last)) (
         first-ends rules proper h bound fits,
         (
           second-ends rules h bound,
           (
-            count-ends rules proper (h .satellites) names (bound .satellites) (v .names-many) (v .names),
-            each-append EndsLine plus (doubles ++ descriptorLines h) (slots-end false (slotLines (h .satellites) - 1) (drop 17 names) (every-drop _ 17 names (v .names)))
+            count-ends rules proper (h .satellites) identifiers (bound .satellites) (v .identifiers-many) (v .identifiers),
+            each-append EndsLine plus (doubles ++ descriptorLines h) (slots-end false (slotLines (h .satellites) - 1) (drop 17 identifiers) (every-drop _ 17 identifiers (v .identifiers)))
                 (each-append EndsLine doubles (descriptorLines h) (slots-end true (slotLines (h .satellites)) exponents (v .exponents)) (descriptors-end rules h bound)),
           ),
         ),
@@ -158,7 +158,7 @@ module _ (rules : Rules) (proper : Proper rules) (t : Table) (ok : valid rules t
   unfolding form-plain
   form-holds = subst (λ (ls : List (List ℕ)). Holds rules ls t) (sym form-lines) (record {
     header-is = header-same;
-    identifiers-are = plain.identifiers-are its-plain ∙ says-names rules proper t v;
+    identifiers-are = plain.identifiers-are its-plain ∙ says-identifiers rules proper t v;
     exponents-are = ap (λ (n : ℕ). slotsIn rules true n bare) count-same ∙ exponents-same;
     comments-are = comments-same;
     rows-are = rows-same;

@@ -36,7 +36,7 @@ use Rattle.laws.proofs.Bounds.{within-true, true-within}
 use Rattle.calendar.proofs.Days.{date-within}
 use Rattle.layout.proofs.Again.{lower-clean, passed}
 use Rattle.file_laws.proofs.Clean.{record-clean}
-use Rattle.file_laws.proofs.Selected.{satellites, names, start8, interval8, epochs}
+use Rattle.file_laws.proofs.Selected.{satellites, identifiers, start8, interval8, epochs}
 use Rattle.file_laws.proofs.Rule.{instant-at}
 use Rattle.file_laws.proofs.Counts.{header-is, satellites-bounds, epochs-bounds}
 use Rattle.canon_laws.proofs.ValidFields.{inLine, holdsOwn, itemOf, field-holds, record-plain, record-holds}
@@ -138,7 +138,7 @@ module _ {rules : Rules} {lines : List (List ℕ)} (p : Plain rules lines) where
   words-valid =
       let d = descriptorOf (padded (p .descriptor)) in
       let b = baseOf (padded (p .bases)) .bases in
-      let own = and-left (isRecord rules kind.Characters (d .fault) (p .descriptor)) (typeAgrees (d .«file_type») (names p)) (p .is-descriptor) in
+      let own = and-left (isRecord rules kind.Characters (d .fault) (p .descriptor)) (typeAgrees (d .«file_type») (identifiers p)) (p .is-descriptor) in
       let character = record-holds rules kind.Characters descriptorItems (p .descriptor) own in
       let base = record-holds rules kind.Floats baseItems (p .bases) (p .is-bases) in
       let type : isOneOf (d .«file_type») fileTypes ≡ true = character 2 (omega arith) refl in

@@ -15,7 +15,7 @@ use Rattle.laws.specs.Tests.{within}
 use Rattle.laws.specs.Texts.{every, isPrintable, blanks}
 use Rattle.field.specs.Show.{fitsWhole}
 use Rattle.layout.specs.Fault.{clean, lower}
-use Rattle.layout.specs.Kind.{Kind, Held, silent, isBlank, isName, printable, numberIn, numberWith, fitsIn, holdsIn}
+use Rattle.layout.specs.Kind.{Kind, Held, silent, isBlank, isIdentifier, printable, numberIn, numberWith, fitsIn, holdsIn}
 use Rattle.layout.specs.Kind.Kind.{unused}
 use Rattle.layout.specs.Kind.Held.{nothing, one, amount, mark, words}
 use Rattle.layout.specs.Layout.{Item, columns, widthOf, faultAt, heldAt, faultFrom, valuesOf, slotAt, slotsFrom, numbersOf}
@@ -30,12 +30,12 @@ use Rattle.header.specs.declared.types.Rules.{Rules}
 use Rattle.record.specs.declared.types.LineKind.the-variants as kind
 use Rattle.file.specs.Plain.{isLine, isRecord, everyLine, slotsOfKind, areSlots, isCommentLine, Plain}
 use Rattle.file.specs.Table.{slotNumbers, slotsIn, commentText, commentsIn}
-use Rattle.canon.specs.Valid.{namesValid, exponentsValid, commentColumns, commentValid, commentsValid}
+use Rattle.canon.specs.Valid.{identifiersValid, exponentsValid, commentColumns, commentValid, commentsValid}
 use Rattle.laws.proofs.Bools.{and-left, and-right, and-both}
 use Rattle.laws.proofs.Lists.{one-less, every-replicate}
 use Rattle.layout.proofs.Again.{item-clean}
 use Rattle.file_laws.proofs.Clean.{record-clean}
-use Rattle.file_laws.proofs.Selected.{satellites, names, kind-4, kind-8}
+use Rattle.file_laws.proofs.Selected.{satellites, identifiers, kind-4, kind-8}
 use Rattle.file_laws.proofs.Slots.{slots-wide}
 use Rattle.file_laws.proofs.Counts.{comment-wide}
 use Rattle.canon.proofs.Parted.{every-take, every-drop}
@@ -86,7 +86,7 @@ module _ (kind : Kind) (loud : silent kind ≡ false) (fits : fitsIn kind 3 ≡ 
 -- an exponent of the header is at most 999, an identifier a name
 abbrev slotValid : Bool → ℕ → Bool
 slotValid true n = leb n 999
-slotValid false n = isName n
+slotValid false n = isIdentifier n
 
 -- what passes a test of numbers is a number that passes it
 number-with : (test : ℕ → Bool) (v : Held) → numberWith test v ≡ true → test (numberIn v) ≡ true
@@ -105,7 +105,7 @@ line-slots true l plain left lowest sound =
     (λ w v h. and-right (leb 0 (numberIn v)) _ (and-left (within 0 999 (numberIn v)) _ (number-with (λ n. within 0 999 n && fitsWhole w n) v h)))
     l plain 17 left 10 lowest (omega arith) (omega arith) sound
 line-slots false l plain left lowest sound =
-    slots-hold (slotKind false) refl refl (slotValid false) (λ w v h. number-with isName v h) l plain 17 left 10 lowest (omega arith) (omega arith) sound
+    slots-hold (slotKind false) refl refl (slotValid false) (λ w v h. number-with isIdentifier v h) l plain 17 left 10 lowest (omega arith) (omega arith) sound
 
 module _ (rules : Rules) (accuracies : Bool) where
   -- one line and those after it
@@ -191,19 +191,19 @@ lines-valid rules (l ∷ ls) are =
 
 module _ {rules : Rules} {lines : List (List ℕ)} (p : Plain rules lines) where
   -- EVERY IDENTIFIER IS A NAME, AND EVERY EXPONENT AT MOST 999.
-  every-name : every isName (names p) ≡ true
-  every-name =
+  every-identifier : every isIdentifier (identifiers p) ≡ true
+  every-identifier =
       let fault = satellitesOf rules (padded (p .count)) .fault in
       next-slots rules false (satellites p) (p .count) (p .slots)
       (line-slots false (p .count) (record-plain rules kind.Satellites fault (p .count) (p .is-count)) (satellites p) _
       (record-clean rules kind.Satellites fault (p .count) (p .is-count)))
       (slots-valid rules false (satellites p - 17) (p .slots) (p .are-slots))
 
-  pub names-valid : namesValid (descriptorOf (padded (p .descriptor)) .«file_type») (names p) ≡ true
-  unfolding namesValid
-  names-valid =
+  pub identifiers-valid : identifiersValid (descriptorOf (padded (p .descriptor)) .«file_type») (identifiers p) ≡ true
+  unfolding identifiersValid
+  identifiers-valid =
       let d = descriptorOf (padded (p .descriptor)) in
-      rw (every-name, p .all-different) (and-right (isRecord rules kind.Characters (d .fault) (p .descriptor)) (typeAgrees (d .«file_type») (names p)) (p .is-descriptor))
+      rw (every-identifier, p .all-different) (and-right (isRecord rules kind.Characters (d .fault) (p .descriptor)) (typeAgrees (d .«file_type») (identifiers p)) (p .is-descriptor))
 
   pub exponents-valid : exponentsValid (slotsIn rules true (satellites p) lines) ≡ true
   unfolding exponentsValid slotsIn

@@ -75,12 +75,12 @@ flag-valid false true = refl
 flag-valid false false = refl
 
 -- THE ROW OF A P OR V LINE IS VALID.
-module _ (rules : Rules) (v : Bool) (name : ℕ) (l : List ℕ) (is : isRowLine rules v name l ≡ true) where
+module _ (rules : Rules) (v : Bool) (identifier : ℕ) (l : List ℕ) (is : isRowLine rules v identifier l ≡ true) where
   pub row-valid : rowValid v (exactNumbers (rowOf v l)) ≡ true
   unfolding rowValid exactNumbers rowTaken
   row-valid =
       let r = rowOf v l in
-      let b = row-bounded rules v name l is in
+      let b = row-bounded rules v identifier l is in
       rw (
         amount-valid (r .x .negative) (r .x .magnitude) (b .x),
         amount-valid (r .y .negative) (r .y .magnitude) (b .y),

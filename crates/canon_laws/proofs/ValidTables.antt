@@ -19,15 +19,15 @@ use Rattle.header.specs.declared.types.Header.{Header}
 use Rattle.file.specs.Plain.{Plain}
 use Rattle.file.specs.Table.{headerFrom, slotsIn, rowsIn}
 use Rattle.canon.specs.Table.{Table, commentWidth, cellWidth, cellsIn, tableIdentifiers, exponentsOf, commentsOf, rowsOf}
-use Rattle.canon.specs.Valid.{headerValid, listsLong, namesValid, exponentsValid, commentsValid, rowsValid, countsHold, valid}
-use Rattle.file_laws.proofs.Selected.{satellites, names, velocities, interval8, epochs}
-use Rattle.file_laws.proofs.Slots.{names-many}
+use Rattle.canon.specs.Valid.{headerValid, listsLong, identifiersValid, exponentsValid, commentsValid, rowsValid, countsHold, valid}
+use Rattle.file_laws.proofs.Selected.{satellites, identifiers, velocities, interval8, epochs}
+use Rattle.file_laws.proofs.Slots.{identifiers-many}
 use Rattle.file_laws.proofs.Counts as plain
 use Rattle.file_laws.proofs.Counts.{count-is, exponents-room, comments-room, places-room, motions-room}
 use Rattle.canon.proofs.Counting.{some-width}
 use Rattle.canon_laws.specs.Held.{Holds}
 use Rattle.canon_laws.proofs.ValidHeads.{header-valid}
-use Rattle.canon_laws.proofs.ValidLists.{names-valid, exponents-valid, comments-valid}
+use Rattle.canon_laws.proofs.ValidLists.{identifiers-valid, exponents-valid, comments-valid}
 use Rattle.canon_laws.proofs.ValidRows.{rows-valid}
 
 -- a list of which n places can be taken has them
@@ -62,7 +62,7 @@ module _ (rules : Rules) (lines : List (List ℕ)) (p : Plain rules lines) where
     satellites-are : t .header .satellites ≡ satellites p
     satellites-are = ap (λ (x : Header). x .satellites) said
 
-    taken-are : tableIdentifiers t ≡ names p
+    taken-are : tableIdentifiers t ≡ identifiers p
     taken-are = sym (h .identifiers-are) ∙ plain.identifiers-are p
 
     exponents-are : exponentsOf t ≡ slotsIn rules true (satellites p) lines
@@ -75,7 +75,7 @@ module _ (rules : Rules) (lines : List (List ℕ)) (p : Plain rules lines) where
         let x = t .header in
         let c : x .comments ≡ length (p .comments) = ap (λ (y : Header). y .comments) said in
         let some : leb (x .satellites) (length (t .identifiers)) ≡ true =
-        le-leb (x .satellites) (length (t .identifiers)) (has-places (x .satellites) (t .identifiers) (ap length taken-are ∙ names-many p ∙ sym satellites-are)) in
+        le-leb (x .satellites) (length (t .identifiers)) (has-places (x .satellites) (t .identifiers) (ap length taken-are ∙ identifiers-many p ∙ sym satellites-are)) in
         let same : leb (x .satellites) (length (t .exponents)) ≡ true =
         le-leb (x .satellites) (length (t .exponents)) (has-places (x .satellites) (t .exponents) (ap length exponents-are ∙ exponents-room p ∙ sym satellites-are)) in
         let whole : leb (x .comments) (length (t .comments) / commentWidth) ≡ true =
@@ -89,8 +89,8 @@ module _ (rules : Rules) (lines : List (List ℕ)) (p : Plain rules lines) where
     unfolding countsHold
     counts-hold = rw (ap (headerValid rules) (sym (h .header-is)) ∙ header-valid p, lists-long)
 
-    its-names : namesValid (t .header .«file_type») (tableIdentifiers t) ≡ true
-    its-names = ap₂ namesValid (ap (λ (x : Header). x .«file_type») said) taken-are ∙ names-valid p
+    its-identifiers : identifiersValid (t .header .«file_type») (tableIdentifiers t) ≡ true
+    its-identifiers = ap₂ identifiersValid (ap (λ (x : Header). x .«file_type») said) taken-are ∙ identifiers-valid p
 
     its-exponents : exponentsValid (exponentsOf t) ≡ true
     its-exponents = ap exponentsValid exponents-are ∙ exponents-valid p
@@ -108,7 +108,7 @@ unfolding valid
 held-valid rules lines p t h =
     rw (
       counts-hold rules lines p t h,
-      its-names rules lines p t h,
+      its-identifiers rules lines p t h,
       its-exponents rules lines p t h,
       its-comments rules lines p t h,
       its-rows rules lines p t h,

@@ -68,24 +68,24 @@ fn numbers(text: &[u8], at: usize, list: &mut [u64]) -> usize
 }
 
 // The answers to one case: `front` has whether it is walked, and the room for identifiers.
-fn answer<'a>(room: u64, front: &[u64; 4], names: &'a [u64], bytes: &'a [u8]) {
+fn answer<'a>(room: u64, front: &[u64; 4], identifiers: &'a [u64], bytes: &'a [u8]) {
     print::text(b"case");
     print::value(bytes.len() as u64);
     print::text(b"\n");
     divided::shown(bytes, room);
     if front[0] == 1 {
-        walked::shown(bytes, front[1], names);
+        walked::shown(bytes, front[1], identifiers);
     }
 }
 
 // A case of which the names, as many as this list has, stand at `second`; gives where the next one begins.
-fn named(input: &[u8], room: u64, front: &[u64; 4], second: usize, names: &mut [u64]) -> usize
+fn named(input: &[u8], room: u64, front: &[u64; 4], second: usize, identifiers: &mut [u64]) -> usize
     requires { ⌜ second ≤ length (now input) ⌝ }
     ensures { λ r. ⌜ (second ≤ r) × (r ≤ length (now (input .entry))) ⌝ }
 {
-    let from = numbers(input, second, names);
+    let from = numbers(input, second, identifiers);
     let to = from + at_most(front[3], input.len() - from);
-    answer(room, front, names, &input[from..to]);
+    answer(room, front, identifiers, &input[from..to]);
     to
 }
 
@@ -97,9 +97,9 @@ fn case(input: &[u8], at: usize) -> usize
     let room = number(input, at);
     let mut front = [0u64; 4];
     let second = numbers(input, room.next, &mut front);
-    let mut names = [0u64; 300];
+    let mut identifiers = [0u64; 300];
     let n = at_most(front[2], 300);
-    named(input, room.value, &front, second, &mut names[0..n])
+    named(input, room.value, &front, second, &mut identifiers[0..n])
 }
 
 // Every case of the input.

@@ -150,19 +150,19 @@ fn stands(word: &[u8], k: usize, at: Spot) {
 
 // The spot after the first k lines.
 fn after(file: &[u8], k: usize) -> Spot {
-    let mut names = [0; 255];
-    line_walk::after_lines(file, line_walk::first_spot(), k, &mut names)
+    let mut identifiers = [0; 255];
+    line_walk::after_lines(file, line_walk::first_spot(), k, &mut identifiers)
 }
 
 // The spot after n lines, half of them first.
 fn in_two(file: &[u8], n: usize) {
-    let mut names = [0; 255];
-    let half = line_walk::after_lines(file, line_walk::first_spot(), n / 2, &mut names);
+    let mut identifiers = [0; 255];
+    let half = line_walk::after_lines(file, line_walk::first_spot(), n / 2, &mut identifiers);
     stands(b"spot", n / 2, half);
     stands(
         b"then",
         n,
-        line_walk::after_lines(file, half, n - n / 2, &mut names),
+        line_walk::after_lines(file, half, n - n / 2, &mut identifiers),
     );
 }
 
@@ -190,11 +190,11 @@ fn brought(at: Spot) -> u64 {
 }
 
 // The spot after all lines with no more room for identifiers than this, and those that they brought.
-fn short(file: &[u8], names: &mut [u64]) {
+fn short(file: &[u8], identifiers: &mut [u64]) {
     let n = line_count(file);
-    let at = line_walk::after_lines(file, line_walk::first_spot(), n, names);
+    let at = line_walk::after_lines(file, line_walk::first_spot(), n, identifiers);
     stands(b"short", n, at);
-    lent::shown(true, names, brought(at));
+    lent::shown(true, identifiers, brought(at));
 }
 
 // A walk over rows with these names for those of the header, and over lines.
@@ -227,6 +227,6 @@ pub(crate) fn shown<'a>(file: &'a [u8], size: u64, given: &'a [u64]) {
     let mut identifiers = [lent::MARK; 300];
     let n = at_most(size, 300);
     into(file, &mut identifiers[0..n], given);
-    let mut names = [lent::MARK; 300];
-    short(file, &mut names[0..n]);
+    let mut identifiers = [lent::MARK; 300];
+    short(file, &mut identifiers[0..n]);
 }

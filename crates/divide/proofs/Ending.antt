@@ -19,8 +19,8 @@ use Rattle.record.specs.LineKinds.{toldKind}
 use Rattle.record.specs.declared.types.LineKind.{LineKind}
 use Rattle.record.specs.declared.types.LineKind.the-variants as kind
 use Rattle.machine.specs.Next.{nextOf}
-use Rattle.machine.specs.Step.{namesBrought}
-use Rattle.machine.specs.State.{startState, noNames}
+use Rattle.machine.specs.Step.{identifiersBrought}
+use Rattle.machine.specs.State.{startState, noIdentifiers}
 use Rattle.machine.specs.declared.types.State.{State}
 use Rattle.machine.specs.declared.types.Verdict.the-variants as verdict
 use Rattle.file.specs.Kinds.{isKind}
@@ -64,16 +64,16 @@ module _ (rules : Rules) where
     pub some : 0 < length (select isLast ls)
     pub behind : beginsFrom isLast 0 from ls + length (nth 0 (select isLast ls)) + 1 ≡ end
 
-  last-line : (ls : List (List ℕ)) (s : State) (names : List ℕ) (t t′ : Tally) → run rules s names t ls ≡ front.File t′ → Last ls (t .end) (t′ .end)
+  last-line : (ls : List (List ℕ)) (s : State) (identifiers : List ℕ) (t t′ : Tally) → run rules s identifiers t ls ≡ front.File t′ → Last ls (t .end) (t′ .end)
   unfolding run counted
-  last-line [] s names t t′ e = absurd (some-line rules s names t t′ e)
-  last-line (l ∷ ls) s names t t′ e =
-      let g = good rules s names l (counted rules t l) t′ _ e in
+  last-line [] s identifiers t t′ e = absurd (some-line rules s identifiers t t′ e)
+  last-line (l ∷ ls) s identifiers t t′ e =
+      let g = good rules s identifiers l (counted rules t l) t′ _ e in
       go (ends-or-on (kindHere rules l) s (padded l)) (g .goes) (last-line ls)
     where
       go : ((toldKind (kindHere rules l) ≡ 14) × (nextOf (kindHere rules l) rules s (padded l) ≡ verdict.Finished))
           ⊎ ((s′ : State) × (eqb (toldKind (kindHere rules l)) 14 ≡ false) × (nextOf (kindHere rules l) rules s (padded l) ≡ verdict.Next s′))
-          → after rules (kindHere rules l) s names t l ls ≡ front.File t′
+          → after rules (kindHere rules l) s identifiers t l ls ≡ front.File t′
           → ((s₁ : State) (n₁ : List ℕ) (t₁ t₂ : Tally) → run rules s₁ n₁ t₁ ls ≡ front.File t₂ → Last ls (t₁ .end) (t₂ .end))
           → Last (l ∷ ls) (t .end) (t′ .end)
       go (inl (is, ends)) goes more =
@@ -86,7 +86,7 @@ module _ (rules : Rules) where
             behind = omega (arith, place-here isLast l ls refl 0 (t .end) (eq-eqb (toldKind (kindHere rules l)) 14 is) refl, ap length line, ap (λ (x : Tally). x .end) tally);
           }
       go (inr (s′, other, on)) goes more =
-          let later = more s′ (namesBrought rules s names l) (counted rules t l) t′ (rw on at goes) in
+          let later = more s′ (identifiersBrought rules s identifiers l) (counted rules t l) t′ (rw on at goes) in
           let chosen = select-other isLast l ls refl other in
           record {
             some = omega (arith, ap length chosen, later .some);
@@ -97,7 +97,7 @@ module _ (rules : Rules) where
   pub file-ends : (bytes : List ℕ) (t : Tally) → scanOf rules bytes ≡ front.File t
       → beginsFrom isLast 0 0 (linesOf bytes) + lineLength (drop (beginsFrom isLast 0 0 (linesOf bytes)) bytes) + 1 ≡ t .end
   file-ends bytes t e =
-      let last = last-line (linesOf bytes) startState noNames nothingSeen t e in
+      let last = last-line (linesOf bytes) startState noIdentifiers nothingSeen t e in
       let p = placed isLast 0 bytes (last .some) in
       let f = first (drop (beginsFrom isLast 0 0 (linesOf bytes)) bytes) (nth 0 (select isLast (linesOf bytes))) (p .more) (p .there) in
       ap (λ (n : ℕ). beginsFrom isLast 0 0 (linesOf bytes) + n + 1) (ap lineLength (f .bytes-are) ∙ line-length (nth 0 (select isLast (linesOf bytes))) (f .rest) (f .text))

@@ -4,7 +4,7 @@ ghost use mathlib.Core.Bool.{cond};
 ghost use mathlib.Core.List.{[], _∷_};
 ghost use Prim.Native.Nat.{_+_, _-_, _≤_};
 ghost use lib.ListN.{length};
-ghost use Rattle.layout.specs.Kind.{shownIn, shownText, showName};
+ghost use Rattle.layout.specs.Kind.{shownIn, shownText, showIdentifier};
 ghost use Rattle.layout.specs.Kind.Kind.{whole, decimal, signed, exponent, flag, identifier};
 ghost use Rattle.layout.specs.Kind.Held.{one, amount, mark};
 ghost use Rattle.layout.specs.Layout.{overlaid};
@@ -49,16 +49,16 @@ fn put_text(out: &mut [u8], text: &[u8])
 }
 
 // An identifier in all of `out`.
-pub(crate) fn put_name(out: &mut [u8], code: u64)
+pub(crate) fn put_identifier(out: &mut [u8], code: u64)
     requires { ⌜ length (now out) ≡ 3 ⌝ }
-    ensures { λ _. ⌜ now (out .exit) ≡ showName code ⌝ }
+    ensures { λ _. ⌜ now (out .exit) ≡ showIdentifier code ⌝ }
 {
-    let name = [
+    let text = [
         (code / 10 / 10 % 128) as u8,
         48 + (code / 10 % 10) as u8,
         48 + (code % 10) as u8,
     ];
-    layout::copy_front(out, &name);
+    layout::copy_front(out, &text);
 }
 
 // A line with a field in its columns: a symbol or a placeholder.
@@ -154,12 +154,12 @@ pub(crate) fn with_flag(line: [u8; 80], sign: u8, set: bool, at: usize) -> [u8; 
     with_fixed(line, &text, at, at)
 }
 
-pub(crate) fn with_name(line: [u8; 80], code: u64, first: usize, last: usize) -> [u8; 80]
+pub(crate) fn with_identifier(line: [u8; 80], code: u64, first: usize, last: usize) -> [u8; 80]
     requires { ⌜ (1 ≤ first) × (last ≤ 80) × (last ≡ first + 2) ⌝ }
     ensures { λ r. ⌜ r ≡ overlaid first last (shownIn identifier 3 (one code)) line ⌝ }
 {
     let mut shown = line;
     let from = first - 1;
-    put_name(&mut shown[from..last], code);
+    put_identifier(&mut shown[from..last], code);
     shown
 }

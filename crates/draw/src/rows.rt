@@ -14,7 +14,7 @@ fn with_body(line: [u8; 80], p: Row) -> [u8; 80]
     let y = p.y;
     let z = p.z;
     let clock = p.clock;
-    let a = columns::with_name(line, p.satellite, 2, 4);
+    let a = columns::with_identifier(line, p.satellite, 2, 4);
     let b = columns::with_signed(a, x, 5, 18);
     let c = columns::with_signed(b, y, 19, 32);
     let d = columns::with_signed(c, z, 33, 46);

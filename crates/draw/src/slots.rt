@@ -25,7 +25,7 @@ fn put_slot(out: &mut [u8], accuracies: bool, used: bool, value: u64)
         columns::put_number(out, value);
         return;
     }
-    columns::put_name(out, value);
+    columns::put_identifier(out, value);
 }
 
 // The slots of a line, of which the first `left` are of satellites.
@@ -50,10 +50,10 @@ fn with_slots(line: [u8; 80], accuracies: bool, left: u64, values: &[u64; 17]) -
 pub fn write_satellites(rules: Rules, s: Satellites, out: &mut [u8]) -> usize
     ensures lays { λ r. ⌜ Lays (satellitesLine rules s) (now (out .entry)) r (now (out .exit)) ⌝ }
 {
-    let names = s.names;
+    let identifiers = s.identifiers;
     let a = columns::with_fixed([b' '; 80], b"+ ", 1, 2);
     let b = columns::with_whole(a, s.count, 4, 6);
-    let line = with_slots(b, false, s.count, &names);
+    let line = with_slots(b, false, s.count, &identifiers);
     layout::lay_line(&line, out)
 }
 

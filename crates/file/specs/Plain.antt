@@ -8,7 +8,7 @@ use lib.ListN.{length, take}
 use Rattle.laws.specs.Tests.{within}
 use Rattle.laws.specs.Texts.{every, isPrintable}
 use Rattle.header.specs.Rules.{slotLines, maxSatellites}
-use Rattle.layout.specs.Kind.{nameCode}
+use Rattle.layout.specs.Kind.{identifierCode}
 use Rattle.layout.specs.Layout.{faultOf}
 use Rattle.layout.specs.Line.{padded}
 use Rattle.lines.specs.Lent.{flat}
@@ -69,8 +69,8 @@ slotIdentifiers n lines = take n (flat (map (slotNumbers false) lines))
 
 -- 5: the first `%c`, whose file type agrees with the identifiers, and the second
 abbrev pub isDescriptorLine : Rules → List ℕ → List ℕ → Bool
-isDescriptorLine rules names l =
-    isRecord rules kind.Characters (descriptorOf (padded l) .fault) l && typeAgrees (descriptorOf (padded l) .«file_type») names
+isDescriptorLine rules identifiers l =
+    isRecord rules kind.Characters (descriptorOf (padded l) .fault) l && typeAgrees (descriptorOf (padded l) .«file_type») identifiers
 
 abbrev pub isCharactersLine : Rules → List ℕ → Bool
 isCharactersLine rules l = isRecord rules kind.Characters (faultOf characterItems (padded l)) l
@@ -100,51 +100,51 @@ rowKind true = kind.Velocity
 rowKind false = kind.Position
 
 abbrev pub isRowLine : Rules → Bool → ℕ → List ℕ → Bool
-isRowLine rules velocity name l =
-    isRecord rules (rowKind velocity) (rowFault velocity (padded l)) l && eqb (nameCode (cut 2 4 (padded l))) name
+isRowLine rules velocity identifier l =
+    isRecord rules (rowKind velocity) (rowFault velocity (padded l)) l && eqb (identifierCode (cut 2 4 (padded l))) identifier
 
 -- one correlation record of a kind at most
 abbrev pub areNotes : Rules → LineKind → List (List ℕ) → Bool
 areNotes rules kind ls = leb (length ls) 1 && everyLine (isLine rules kind) ls
 
 -- P or V with what may stand after it
-pub record Noted (rules : Rules) (velocity : Bool) (note : LineKind) (name : ℕ) (lines : List (List ℕ)) : Type 0 where
+pub record Noted (rules : Rules) (velocity : Bool) (note : LineKind) (identifier : ℕ) (lines : List (List ℕ)) : Type 0 where
   pub row : List ℕ
   pub notes : List (List ℕ)
   pub lines-are : lines ≡ row ∷ notes
-  pub is-row : isRowLine rules velocity name row ≡ true
+  pub is-row : isRowLine rules velocity identifier row ≡ true
   pub are-notes : areNotes rules note notes ≡ true
 
 -- what follows in mode V: V; in mode P nothing
 abbrev pub Rest : Rules → Bool → ℕ → List (List ℕ) → Type 0
-Rest rules true name lines = Noted rules true kind.VelocityCorrelation name lines
-Rest rules false name lines = lines ≡ []
+Rest rules true identifier lines = Noted rules true kind.VelocityCorrelation identifier lines
+Rest rules false identifier lines = lines ≡ []
 
 -- the lines of one satellite in an epoch: P; in mode V then V
-pub record Satellite (rules : Rules) (velocity : Bool) (name : ℕ) (lines : List (List ℕ)) : Type 0 where
+pub record Satellite (rules : Rules) (velocity : Bool) (identifier : ℕ) (lines : List (List ℕ)) : Type 0 where
   pub position : List (List ℕ)
   pub rest : List (List ℕ)
   pub lines-are : lines ≡ position ++ rest
-  pub is-position : Noted rules false kind.PositionCorrelation name position
-  pub is-rest : Rest rules velocity name rest
+  pub is-position : Noted rules false kind.PositionCorrelation identifier position
+  pub is-rest : Rest rules velocity identifier rest
 
 -- the lines of each satellite in header order
 abbrev pub Rows : Rules → Bool → List ℕ → List (List ℕ) → Type 0
 Rows rules velocity [] lines = lines ≡ []
-Rows rules velocity (name ∷ names) lines =
-    (own : List (List ℕ)) × (more : List (List ℕ)) × (lines ≡ own ++ more) × Satellite rules velocity name own × Rows rules velocity names more
+Rows rules velocity (identifier ∷ identifiers) lines =
+    (own : List (List ℕ)) × (more : List (List ℕ)) × (lines ≡ own ++ more) × Satellite rules velocity identifier own × Rows rules velocity identifiers more
 
 -- so many epochs, the first of them at this instant, each an interval after the one before
 abbrev pub Epochs : Rules → Bool → List ℕ → ℕ → ℕ → ℕ → List (List ℕ) → Type 0
-Epochs rules velocity names interval8 zero at8 lines = lines ≡ []
-Epochs rules velocity names interval8 (suc n) at8 lines =
+Epochs rules velocity identifiers interval8 zero at8 lines = lines ≡ []
+Epochs rules velocity identifiers interval8 (suc n) at8 lines =
     (epoch : List ℕ)
     × (rows : List (List ℕ))
     × (more : List (List ℕ))
     × (lines ≡ epoch ∷ (rows ++ more))
     × (isEpochLine rules at8 epoch ≡ true)
-    × Rows rules velocity names rows
-    × Epochs rules velocity names interval8 n (at8 + interval8) more
+    × Rows rules velocity identifiers rows
+    × Epochs rules velocity identifiers interval8 n (at8 + interval8) more
 
 -- 10: EOF
 abbrev pub isLastLine : Rules → List ℕ → Bool
@@ -207,5 +207,5 @@ Accepted rules bytes = (lines : List (List ℕ)) × (bytes ≡ joinLines lines) 
 
 -- rules that a version can have: room for its identifiers, and no fewer comments at most than at least
 pub record Sound (rules : Rules) : Type 0 where
-  pub names-fit : rules .«most_satellites» ≤ maxSatellites
+  pub identifiers-fit : rules .«most_satellites» ≤ maxSatellites
   pub comments-fit : rules .«fewest_comments» ≤ rules .«most_comments»

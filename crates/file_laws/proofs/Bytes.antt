@@ -36,10 +36,10 @@ use Rattle.file_laws.proofs.Reach.{decimal-reaches, symbol-reaches}
 use Rattle.file_laws.proofs.Walk.{isOther, other-apart, Covers, every-line}
 
 -- a P or V line has at least 60 characters
-pub row-long : (rules : Rules) (v : Bool) (name : ℕ) (l : List ℕ) → isRowLine rules v name l ≡ true → 60 ≤ length l
-row-long rules v name l e =
+pub row-long : (rules : Rules) (v : Bool) (identifier : ℕ) (l : List ℕ) → isRowLine rules v identifier l ≡ true → 60 ≤ length l
+row-long rules v identifier l e =
     let fault = rowFault v (padded l) in
-    let sound : fault ≡ clean = record-clean rules (rowKind v) fault l (row-record rules v name l e) in
+    let sound : fault ≡ clean = record-clean rules (rowKind v) fault l (row-record rules v identifier l e) in
     decimal-reaches l 47 60 (omega arith) (omega arith) (omega arith) 6 true 47 0 largest (omega arith) (go v sound)
   where
     go : (t : Bool) → rowFault t (padded l) ≡ clean → faultAt (columns 47 60 (clock 6)) (padded l) ≡ clean
@@ -77,7 +77,7 @@ module _ (rules : Rules) where
   -- each line of an accepted file is so long
   lengths : Covers rules Long
   lengths = record {
-    row = λ v name l e. long (toldKind (rowKind v)) l (row-kind rules v name l e) (omega (arith, row-weight v, row-long rules v name l e));
+    row = λ v identifier l e. long (toldKind (rowKind v)) l (row-kind rules v identifier l e) (omega (arith, row-weight v, row-long rules v identifier l e));
     epoch = λ at8 l e. long 9 l (epoch-kind rules at8 l e) (omega (arith, epoch-long rules at8 l e));
     comment = λ l e. long 8 l (comment-kind rules l e) (omega (arith, comment-long rules l e));
     other = λ l e. omega (arith, other-weight (kindIn rules l) e);

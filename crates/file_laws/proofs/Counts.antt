@@ -34,8 +34,8 @@ use Rattle.layout.proofs.Lines.{padded-length}
 use Rattle.lines.proofs.Each.{each-map}
 use Rattle.lines.proofs.Picking.{length-flat}
 use Rattle.file_laws.proofs.Sorting.{both-selected}
-use Rattle.file_laws.proofs.Selected.{satellites, names, velocities, interval8, epochs, by-epochs, kind-1, kind-2, kind-3, kind-5, kind-6, kind-8, kind-rows}
-use Rattle.file_laws.proofs.Slots.{names-many, names-in, accuracies-many}
+use Rattle.file_laws.proofs.Selected.{satellites, identifiers, velocities, interval8, epochs, by-epochs, kind-1, kind-2, kind-3, kind-5, kind-6, kind-8, kind-rows}
+use Rattle.file_laws.proofs.Slots.{identifiers-many, identifiers-in, accuracies-many}
 use Rattle.file_laws.proofs.Places as place
 use Rattle.file_laws.proofs.Rule.{places-many, rows-are-places, absentIn}
 use Rattle.file_laws.proofs.Clean.{record-clean, item-at, whole-bounds}
@@ -55,8 +55,8 @@ module _ {rules : Rules} {lines : List (List ℕ)} (p : Plain rules lines) where
   count-is = rw (kind-3 p)
 
   -- and the names by that number are the header's
-  pub identifiers-are : slotsIn rules false (countOf rules lines) lines ≡ names p
-  identifiers-are = ap (λ (n : ℕ). slotsIn rules false n lines) count-is ∙ names-in p
+  pub identifiers-are : slotsIn rules false (countOf rules lines) lines ≡ identifiers p
+  identifiers-are = ap (λ (n : ℕ). slotsIn rules false n lines) count-is ∙ identifiers-in p
 
   -- the table's header has what the header lines say, and the number of the comments
   pub header-is : headerIn rules lines
@@ -94,7 +94,7 @@ module _ {rules : Rules} {lines : List (List ℕ)} (p : Plain rules lines) where
 
   -- THE ROOM: n identifiers and n exponents
   pub identifiers-room : length (slotsIn rules false (satellites p) lines) ≡ satellites p
-  identifiers-room = ap length (names-in p) ∙ names-many p
+  identifiers-room = ap length (identifiers-in p) ∙ identifiers-many p
 
   pub exponents-room : length (slotsIn rules true (satellites p) lines) ≡ satellites p
   exponents-room = accuracies-many p
@@ -124,7 +124,7 @@ module _ {rules : Rules} {lines : List (List ℕ)} (p : Plain rules lines) where
   rows-many-both both =
       ap length (kind-rows p)
       ∙ place.rows-many-both (by-epochs p) both
-      ∙ ap (λ (n : ℕ). epochs p * n * 2) (names-many p)
+      ∙ ap (λ (n : ℕ). epochs p * n * 2) (identifiers-many p)
       ∙ ap (λ (n : ℕ). n * 2) (mul-comm (epochs p) (satellites p))
       ∙ mul-comm (satellites p * epochs p) 2
 

@@ -10,7 +10,7 @@ use native.Mathlib.Omega.{arith}
 use borrow.Author.Tests.{eqb-true, eqb-false}
 use lib.Dec.{eqb}
 use lib.ListN.{length, getD}
-use Rattle.layout.specs.Kind.{nameCode, isOneOf}
+use Rattle.layout.specs.Kind.{identifierCode, isOneOf}
 use Rattle.layout.specs.Line.{padded}
 use Rattle.lines.specs.Lines.{nth}
 use Rattle.machine.specs.Checks.{repeats}
@@ -20,8 +20,8 @@ use Rattle.file.specs.Kinds.{ofKind}
 use Rattle.file.specs.Plain.{isRecord, rowKind, isRowLine, Plain}
 use Rattle.laws.proofs.Bools.{and-right}
 use Rattle.laws.proofs.Bounds.{sides}
-use Rattle.file_laws.proofs.Selected.{satellites, names}
-use Rattle.file_laws.proofs.Slots.{names-many}
+use Rattle.file_laws.proofs.Selected.{satellites, identifiers}
+use Rattle.file_laws.proofs.Slots.{identifiers-many}
 use Rattle.file_laws.proofs.Places.{rowNumber}
 use Rattle.file_laws.proofs.Rule.{InOrder}
 
@@ -38,45 +38,45 @@ not-among b c (k ∷ known) e =
     (rw (here .0, more .0), more .1)
 
 -- where nothing repeats, no name is known before
-not-known : (known names : List ℕ) → repeats known names ≡ false → (j : ℕ) → j < length names → isOneOf (getD names j 0) known ≡ false
+not-known : (known identifiers : List ℕ) → repeats known identifiers ≡ false → (j : ℕ) → j < length identifiers → isOneOf (getD identifiers j 0) known ≡ false
 unfolding repeats
 not-known known [] e j h = absurd (not-suc-le-zero h)
-not-known known (name ∷ names) e zero h = neither (isOneOf name known) (repeats (known ++ (name ∷ [])) names) e .0
-not-known known (name ∷ names) e (suc j) h =
-    not-among (getD names j 0) name known
-    (not-known (known ++ (name ∷ [])) names (neither (isOneOf name known) (repeats (known ++ (name ∷ [])) names) e .1) j (le-of-suc-le-suc h)) .0
+not-known known (identifier ∷ identifiers) e zero h = neither (isOneOf identifier known) (repeats (known ++ (identifier ∷ [])) identifiers) e .0
+not-known known (identifier ∷ identifiers) e (suc j) h =
+    not-among (getD identifiers j 0) identifier known
+    (not-known (known ++ (identifier ∷ [])) identifiers (neither (isOneOf identifier known) (repeats (known ++ (identifier ∷ [])) identifiers) e .1) j (le-of-suc-le-suc h)) .0
 
 -- and no name stands twice
-not-twice : (known names : List ℕ) → repeats known names ≡ false → (i j : ℕ) → i < j → j < length names → getD names i 0 ≡ getD names j 0 → ⊥
+not-twice : (known identifiers : List ℕ) → repeats known identifiers ≡ false → (i j : ℕ) → i < j → j < length identifiers → getD identifiers i 0 ≡ getD identifiers j 0 → ⊥
 unfolding repeats
 not-twice known [] e i j less h same = not-suc-le-zero h
-not-twice known (name ∷ names) e i zero less h same = not-suc-le-zero less
-not-twice known (name ∷ names) e zero (suc j) less h same =
-    not-among (getD names j 0) name known
-    (not-known (known ++ (name ∷ [])) names (neither (isOneOf name known) (repeats (known ++ (name ∷ [])) names) e .1) j (le-of-suc-le-suc h)) .1
+not-twice known (identifier ∷ identifiers) e i zero less h same = not-suc-le-zero less
+not-twice known (identifier ∷ identifiers) e zero (suc j) less h same =
+    not-among (getD identifiers j 0) identifier known
+    (not-known (known ++ (identifier ∷ [])) identifiers (neither (isOneOf identifier known) (repeats (known ++ (identifier ∷ [])) identifiers) e .1) j (le-of-suc-le-suc h)) .1
     (sym same)
-not-twice known (name ∷ names) e (suc i) (suc j) less h same =
-    not-twice (known ++ (name ∷ [])) names (neither (isOneOf name known) (repeats (known ++ (name ∷ [])) names) e .1) i j (le-of-suc-le-suc less) (le-of-suc-le-suc h) same
+not-twice known (identifier ∷ identifiers) e (suc i) (suc j) less h same =
+    not-twice (known ++ (identifier ∷ [])) identifiers (neither (isOneOf identifier known) (repeats (known ++ (identifier ∷ [])) identifiers) e .1) i j (le-of-suc-le-suc less) (le-of-suc-le-suc h) same
 
 module _ {rules : Rules} {lines : List (List ℕ)} (p : Plain rules lines) where
   -- two satellites of one name are one
-  pub names-differ : (i j : ℕ) → i < satellites p → j < satellites p → getD (names p) i 0 ≡ getD (names p) j 0 → i ≡ j
-  names-differ i j hi hj same = go (sides i j)
+  pub identifiers-differ : (i j : ℕ) → i < satellites p → j < satellites p → getD (identifiers p) i 0 ≡ getD (identifiers p) j 0 → i ≡ j
+  identifiers-differ i j hi hj same = go (sides i j)
     where
       go : (i < j) ⊎ ((i ≡ j) ⊎ (j < i)) → i ≡ j
-      go (inl less) = absurd (not-twice [] (names p) (p .all-different) i j less (omega (arith, names-many p)) same)
+      go (inl less) = absurd (not-twice [] (identifiers p) (p .all-different) i j less (omega (arith, identifiers-many p)) same)
       go (inr (inl e)) = e
-      go (inr (inr less)) = absurd (not-twice [] (names p) (p .all-different) j i less (omega (arith, names-many p)) (sym same))
+      go (inr (inr less)) = absurd (not-twice [] (identifiers p) (p .all-different) j i less (omega (arith, identifiers-many p)) (sym same))
 
   -- a line names one satellite
-  named : (v : Bool) (name : ℕ) (l : List ℕ) → isRowLine rules v name l ≡ true → nameCode (cut 2 4 (padded l)) ≡ name
-  named v name l e =
-      eqb-true (nameCode (cut 2 4 (padded l))) name
-      (and-right (isRecord rules (rowKind v) (rowFault v (padded l)) l) (eqb (nameCode (cut 2 4 (padded l))) name) e)
+  named : (v : Bool) (identifier : ℕ) (l : List ℕ) → isRowLine rules v identifier l ≡ true → identifierCode (cut 2 4 (padded l)) ≡ identifier
+  named v identifier l e =
+      eqb-true (identifierCode (cut 2 4 (padded l))) identifier
+      (and-right (isRecord rules (rowKind v) (rowFault v (padded l)) l) (eqb (identifierCode (cut 2 4 (padded l))) identifier) e)
 
   -- the row of an epoch that names satellite j is the j-th
   pub one-of-each : (v : Bool) (k : ℕ) (block : List (List ℕ)) → InOrder p v k block → (i j : ℕ) → i < satellites p → j < satellites p
-      → isRowLine rules v (getD (names p) j 0) (nth i (ofKind rules (rowNumber v) block)) ≡ true → i ≡ j
+      → isRowLine rules v (getD (identifiers p) j 0) (nth i (ofKind rules (rowNumber v) block)) ≡ true → i ≡ j
   one-of-each v k block order i j hi hj e =
       let l = nth i (ofKind rules (rowNumber v) block) in
-      names-differ i j hi hj (sym (named v (getD (names p) i 0) l (order .each i hi)) ∙ named v (getD (names p) j 0) l e)
+      identifiers-differ i j hi hj (sym (named v (getD (identifiers p) i 0) l (order .each i hi)) ∙ named v (getD (identifiers p) j 0) l e)

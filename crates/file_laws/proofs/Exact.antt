@@ -118,9 +118,9 @@ held-bounded false line f = record {
   clock = amount-bounds 47 0 largest (decimalOf (cut 47 60 line) 6 true) (item-at (rowItems false) 5 (columns 5 18 (signed 6)) line clean (omega arith) f) .1;
 }
 
-module _ (rules : Rules) (v : Bool) (name : ℕ) (l : List ℕ) (is : isRowLine rules v name l ≡ true) where
+module _ (rules : Rules) (v : Bool) (identifier : ℕ) (l : List ℕ) (is : isRowLine rules v identifier l ≡ true) where
   sound : rowFault v (padded l) ≡ clean
-  sound = record-clean rules (rowKind v) (rowFault v (padded l)) l (row-record rules v name l is)
+  sound = record-clean rules (rowKind v) (rowFault v (padded l)) l (row-record rules v identifier l is)
 
   -- the row of a P or V line is what its columns hold, and its magnitudes are within the bound
   pub row-held : rowOf v l ≡ rowFrom v (valuesOf (rowItems v) (padded l))
@@ -131,7 +131,7 @@ module _ (rules : Rules) (v : Bool) (name : ℕ) (l : List ℕ) (is : isRowLine 
 
   -- the table takes it as the kind of row that it is
   pub row-in : rowIn rules l ≡ rowOf v l
-  row-in = ap (λ (t : Bool). rowOf t l) (ap (λ (k : ℕ). eqb k 11) (row-kind rules v name l is) ∙ go v)
+  row-in = ap (λ (t : Bool). rowOf t l) (ap (λ (k : ℕ). eqb k 11) (row-kind rules v identifier l is) ∙ go v)
     where
       go : (t : Bool) → eqb (toldKind (rowKind t)) 11 ≡ t
       go true = refl
@@ -193,7 +193,7 @@ module _ (rules : Rules) where
   kept : Covers rules Kept
   unfolding Kept
   kept = record {
-    row = λ v name l e is. row-exact rules v name l e ∙ ap exactNumbers (sym (row-in rules v name l e));
+    row = λ v identifier l e is. row-exact rules v identifier l e ∙ ap exactNumbers (sym (row-in rules v identifier l e));
     epoch = λ at8 l e. no-row 9 l (epoch-kind rules at8 l e) refl;
     comment = λ l e. no-row 8 l (comment-kind rules l e) refl;
     other = λ l e. no-row (kindIn rules l) l refl (apart (kindIn rules l) e);

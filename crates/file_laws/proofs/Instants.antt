@@ -18,27 +18,27 @@ use Rattle.lines.proofs.Picking.{select-append}
 use Rattle.file_laws.proofs.Parted.{before, after}
 use Rattle.file_laws.proofs.Body.{Block, by-satellite, ByEpoch, blockAt, blockIs, rows-many, block-picked, body-many, body-nth, body-before, no-lines}
 use Rattle.file_laws.proofs.Sorting.{Of}
-use Rattle.file_laws.proofs.Selected.{first-kind, second-kind, names-kind, accuracies-kind, characters-kind, floats-kind, integers-kind, comments-kind, kind-9}
+use Rattle.file_laws.proofs.Selected.{first-kind, second-kind, identifiers-kind, accuracies-kind, characters-kind, floats-kind, integers-kind, comments-kind, kind-9}
 
 abbrev isEpochKind : ℕ → Bool
 isEpochKind n = eqb n 9
 
-module _ (rules : Rules) (velocity : Bool) (names : List ℕ) where
+module _ (rules : Rules) (velocity : Bool) (identifiers : List ℕ) where
   -- in an epoch its first line alone
-  pub rows-no-epoch : (at8 : ℕ) (block : List (List ℕ)) (b : Block rules velocity names at8 block) → ofKind rules 9 (b .rows) ≡ []
+  pub rows-no-epoch : (at8 : ℕ) (block : List (List ℕ)) (b : Block rules velocity identifiers at8 block) → ofKind rules 9 (b .rows) ≡ []
   rows-no-epoch at8 block b =
       no-lines (ofKind rules 9 (b .rows))
-      (rows-many rules velocity isEpochKind refl refl names (b .rows) (by-satellite rules velocity names (b .rows) (b .are-rows)) ∙ mul-zero (length names))
+      (rows-many rules velocity isEpochKind refl refl identifiers (b .rows) (by-satellite rules velocity identifiers (b .rows) (b .are-rows)) ∙ mul-zero (length identifiers))
 
-  pub epoch-alone : (at8 : ℕ) (block : List (List ℕ)) (b : Block rules velocity names at8 block) → ofKind rules 9 block ≡ b .epoch ∷ []
+  pub epoch-alone : (at8 : ℕ) (block : List (List ℕ)) (b : Block rules velocity identifiers at8 block) → ofKind rules 9 block ≡ b .epoch ∷ []
   epoch-alone at8 block b =
-      block-picked rules velocity isEpochKind refl refl names at8 block b
+      block-picked rules velocity isEpochKind refl refl identifiers at8 block b
       ∙ ap (λ (ls : List (List ℕ)). b .epoch ∷ ls) (rows-no-epoch at8 block b)
 
-module _ {rules : Rules} {velocity : Bool} {names : List ℕ} {interval8 epochs at8 : ℕ} {lines : List (List ℕ)}
-    (d : ByEpoch rules velocity names interval8 epochs at8 lines) where
-  one-wide : 1 + length names * 0 ≡ 1
-  one-wide = omega (arith, mul-zero (length names))
+module _ {rules : Rules} {velocity : Bool} {identifiers : List ℕ} {interval8 epochs at8 : ℕ} {lines : List (List ℕ)}
+    (d : ByEpoch rules velocity identifiers interval8 epochs at8 lines) where
+  one-wide : 1 + length identifiers * 0 ≡ 1
+  one-wide = omega (arith, mul-zero (length identifiers))
 
   pub epochs-many : length (ofKind rules 9 lines) ≡ epochs
   epochs-many =
@@ -55,10 +55,10 @@ module _ {rules : Rules} {velocity : Bool} {names : List ℕ} {interval8 epochs 
   pub epochs-nth : (k : ℕ) (h : k < epochs) → nth k (ofKind rules 9 lines) ≡ blockIs d k h .epoch
   unfolding nth
   epochs-nth k h =
-      let place : k ≡ k * (1 + length names * 0) + 0 = sym (ap (λ (w : ℕ). k * w + 0) one-wide ∙ omega arith) in
+      let place : k ≡ k * (1 + length identifiers * 0) + 0 = sym (ap (λ (w : ℕ). k * w + 0) one-wide ∙ omega arith) in
       ap (λ (m : ℕ). nth m (ofKind rules 9 lines)) place
       ∙ body-nth rules velocity isEpochKind refl refl d k 0 h (omega (arith, one-wide))
-      ∙ ap (nth 0) (epoch-alone rules velocity names (at8 + k * interval8) (blockAt d k) (blockIs d k h))
+      ∙ ap (nth 0) (epoch-alone rules velocity identifiers (at8 + k * interval8) (blockAt d k) (blockIs d k h))
 
 module _ {rules : Rules} {lines : List (List ℕ)} (p : Plain rules lines) where
   -- the lines before the first epoch
@@ -95,7 +95,7 @@ module _ {rules : Rules} {lines : List (List ℕ)} (p : Plain rules lines) where
       let five = told 5 (p .descriptor ∷ p .characters ∷ []) refl (characters-kind p) in
       let six = told 6 (p .bases ∷ p .floats ∷ []) refl (floats-kind p) in
       let seven = told 7 (p .integers ∷ p .integers′ ∷ []) refl (integers-kind p) in
-      let three = told 3 (p .count ∷ p .slots) refl (names-kind p) in (
+      let three = told 3 (p .count ∷ p .slots) refl (identifiers-kind p) in (
         told 1 (p .first ∷ []) refl (first-kind p) .0,
         (
           told 2 (p .second ∷ []) refl (second-kind p) .0,

@@ -27,82 +27,82 @@ Has velocities true = velocities ≡ true
 Has velocities false = Unit
 
 -- a satellite's lines have one of each kind of row
-pub record OneRow (rules : Rules) (v : Bool) (name : ℕ) (own : List (List ℕ)) : Type 0 where
+pub record OneRow (rules : Rules) (v : Bool) (identifier : ℕ) (own : List (List ℕ)) : Type 0 where
   pub row : List ℕ
-  pub is-row : isRowLine rules v name row ≡ true
+  pub is-row : isRowLine rules v identifier row ≡ true
   pub alone : ofKind rules (rowNumber v) own ≡ row ∷ []
 
-pub one-row : (rules : Rules) (velocity v : Bool) → Has velocity v → (name : ℕ) (own : List (List ℕ)) → Satellite rules velocity name own → OneRow rules v name own
-one-row rules velocity false h name own s = record {
+pub one-row : (rules : Rules) (velocity v : Bool) → Has velocity v → (identifier : ℕ) (own : List (List ℕ)) → Satellite rules velocity identifier own → OneRow rules v identifier own
+one-row rules velocity false h identifier own s = record {
   row = s .is-position .row;
   is-row = s .is-position .is-row;
-  alone = satellite-picked rules velocity (λ (n : ℕ). eqb n 10) refl refl name own s;
+  alone = satellite-picked rules velocity (λ (n : ℕ). eqb n 10) refl refl identifier own s;
 }
-one-row rules true true h name own s = record {
+one-row rules true true h identifier own s = record {
   row = s .is-rest .row;
   is-row = s .is-rest .is-row;
-  alone = satellite-picked rules true (λ (n : ℕ). eqb n 11) refl refl name own s;
+  alone = satellite-picked rules true (λ (n : ℕ). eqb n 11) refl refl identifier own s;
 }
-one-row rules false true h name own s = absurd (false≢true h)
+one-row rules false true h identifier own s = absurd (false≢true h)
 
 -- with velocities they are P, then V
 hasBoth : (velocity : Bool) → velocity ≡ true → (v : Bool) → Has velocity v
 hasBoth velocity both true = both
 hasBoth velocity both false = tt
 
-two-rows : (rules : Rules) (velocity : Bool) (both : velocity ≡ true) (v : Bool) (name : ℕ) (own : List (List ℕ)) (s : Satellite rules velocity name own)
-    → nth (markNumber v) (rowLines rules own) ≡ one-row rules velocity v (hasBoth velocity both v) name own s .row
+two-rows : (rules : Rules) (velocity : Bool) (both : velocity ≡ true) (v : Bool) (identifier : ℕ) (own : List (List ℕ)) (s : Satellite rules velocity identifier own)
+    → nth (markNumber v) (rowLines rules own) ≡ one-row rules velocity v (hasBoth velocity both v) identifier own s .row
 unfolding one-row nth hasBoth
-two-rows rules true both true name own s = ap (nth 1) (satellite-picked rules true (λ (n : ℕ). eqb n 10 || eqb n 11) refl refl name own s)
-two-rows rules true both false name own s = ap (nth 0) (satellite-picked rules true (λ (n : ℕ). eqb n 10 || eqb n 11) refl refl name own s)
-two-rows rules false both v name own s = absurd (false≢true both)
+two-rows rules true both true identifier own s = ap (nth 1) (satellite-picked rules true (λ (n : ℕ). eqb n 10 || eqb n 11) refl refl identifier own s)
+two-rows rules true both false identifier own s = ap (nth 0) (satellite-picked rules true (λ (n : ℕ). eqb n 10 || eqb n 11) refl refl identifier own s)
+two-rows rules false both v identifier own s = absurd (false≢true both)
 
 -- the lines of the satellites of one epoch
-abbrev pub ownIn : {rules : Rules} {velocity : Bool} {names : List ℕ} {at8 : ℕ} {block : List (List ℕ)} (b : Block rules velocity names at8 block)
-    → BySatellite rules velocity names (b .rows)
-ownIn {rules} {velocity} {names} b = by-satellite rules velocity names (b .rows) (b .are-rows)
+abbrev pub ownIn : {rules : Rules} {velocity : Bool} {identifiers : List ℕ} {at8 : ℕ} {block : List (List ℕ)} (b : Block rules velocity identifiers at8 block)
+    → BySatellite rules velocity identifiers (b .rows)
+ownIn {rules} {velocity} {identifiers} b = by-satellite rules velocity identifiers (b .rows) (b .are-rows)
 
 -- A choice of kinds without epoch lines, EP and EV, of which each satellite has w lines in an epoch.
-module _ {rules : Rules} {velocity : Bool} {names : List ℕ} {interval8 epochs at8 : ℕ} {lines : List (List ℕ)}
-    (d : ByEpoch rules velocity names interval8 epochs at8 lines)
+module _ {rules : Rules} {velocity : Bool} {identifiers : List ℕ} {interval8 epochs at8 : ℕ} {lines : List (List ℕ)}
+    (d : ByEpoch rules velocity identifiers interval8 epochs at8 lines)
     (pick : ℕ → Bool) (no-epoch : pick 9 ≡ false) (no-ep : pick 12 ≡ false) (no-ev : pick 13 ≡ false)
     (w : ℕ) (wide : width rules velocity pick no-ep no-ev ≡ w) where
   in-rows : (k : ℕ) (h : k < epochs) → picked rules pick (blockAt d k) ≡ picked rules pick (blockIs d k h .rows)
   in-rows k h =
-      block-picked rules velocity pick no-ep no-ev names (at8 + k * interval8) (blockAt d k) (blockIs d k h)
+      block-picked rules velocity pick no-ep no-ev identifiers (at8 + k * interval8) (blockAt d k) (blockIs d k h)
       ∙ ap (λ (t : Bool). cond t (blockIs d k h .epoch ∷ []) [] ++ picked rules pick (blockIs d k h .rows)) no-epoch
 
-  by-width : epochWidth rules velocity pick no-ep no-ev names ≡ length names * w
+  by-width : epochWidth rules velocity pick no-ep no-ev identifiers ≡ length identifiers * w
   by-width = rw (no-epoch, wide) (omega arith)
 
   -- an epoch has n times w, the whole file as many for each epoch
-  pub epoch-many : (k : ℕ) → k < epochs → length (picked rules pick (blockAt d k)) ≡ length names * w
+  pub epoch-many : (k : ℕ) → k < epochs → length (picked rules pick (blockAt d k)) ≡ length identifiers * w
   epoch-many k h =
       ap length (in-rows k h)
-      ∙ rows-many rules velocity pick no-ep no-ev names (blockIs d k h .rows) (ownIn (blockIs d k h))
-      ∙ ap (λ (m : ℕ). length names * m) wide
+      ∙ rows-many rules velocity pick no-ep no-ev identifiers (blockIs d k h .rows) (ownIn (blockIs d k h))
+      ∙ ap (λ (m : ℕ). length identifiers * m) wide
 
-  pub file-many : length (picked rules pick lines) ≡ epochs * length names * w
+  pub file-many : length (picked rules pick lines) ≡ epochs * length identifiers * w
   file-many =
       body-many rules velocity pick no-ep no-ev d
       ∙ ap (λ (m : ℕ). epochs * m) by-width
-      ∙ sym (mul-assoc epochs (length names) w)
+      ∙ sym (mul-assoc epochs (length identifiers) w)
 
   -- those of the j-th satellite stand at the j-th place of the epoch
-  pub epoch-nth : (k : ℕ) (h : k < epochs) (j i : ℕ) → j < length names → i < w
+  pub epoch-nth : (k : ℕ) (h : k < epochs) (j i : ℕ) → j < length identifiers → i < w
       → nth (j * w + i) (picked rules pick (blockAt d k)) ≡ nth i (picked rules pick (partAt (ownIn (blockIs d k h)) j))
   epoch-nth k h j i hj hi =
       ap (nth (j * w + i)) (in-rows k h)
       ∙ ap (λ (m : ℕ). nth (j * m + i) (picked rules pick (blockIs d k h .rows))) (sym wide)
-      ∙ rows-nth rules velocity pick no-ep no-ev names (blockIs d k h .rows) (ownIn (blockIs d k h)) j i hj (omega arith)
+      ∙ rows-nth rules velocity pick no-ep no-ev identifiers (blockIs d k h .rows) (ownIn (blockIs d k h)) j i hj (omega arith)
 
   -- and those of the k-th epoch at the k-th place of the file
-  pub file-nth : (k j i : ℕ) → k < epochs → j < length names → i < w
-      → nth ((k * length names + j) * w + i) (picked rules pick lines) ≡ nth (j * w + i) (picked rules pick (blockAt d k))
+  pub file-nth : (k j i : ℕ) → k < epochs → j < length identifiers → i < w
+      → nth ((k * length identifiers + j) * w + i) (picked rules pick lines) ≡ nth (j * w + i) (picked rules pick (blockAt d k))
   file-nth k j i hk hj hi =
-      let place : (k * length names + j) * w + i ≡ k * (length names * w) + (j * w + i) =
-      omega (arith, add-mul (k * length names) j w, mul-assoc k (length names) w) in
-      let fits : j * w + i < length names * w = omega (arith, mul-le-mul-right w hj, suc-mul j w) in
+      let place : (k * length identifiers + j) * w + i ≡ k * (length identifiers * w) + (j * w + i) =
+      omega (arith, add-mul (k * length identifiers) j w, mul-assoc k (length identifiers) w) in
+      let fits : j * w + i < length identifiers * w = omega (arith, mul-le-mul-right w hj, suc-mul j w) in
       ap (λ (m : ℕ). nth m (picked rules pick lines)) place
       ∙ ap (λ (m : ℕ). nth (k * m + (j * w + i)) (picked rules pick lines)) (sym by-width)
       ∙ body-nth rules velocity pick no-ep no-ev d k (j * w + i) hk (omega (arith, by-width))
@@ -121,39 +121,39 @@ one-wide velocity false h = refl
 one-wide true true h = refl
 one-wide false true h = absurd (false≢true h)
 
-module _ {rules : Rules} {velocity : Bool} {names : List ℕ} {interval8 epochs at8 : ℕ} {lines : List (List ℕ)}
-    (d : ByEpoch rules velocity names interval8 epochs at8 lines) where
+module _ {rules : Rules} {velocity : Bool} {identifiers : List ℕ} {interval8 epochs at8 : ℕ} {lines : List (List ℕ)}
+    (d : ByEpoch rules velocity identifiers interval8 epochs at8 lines) where
   module _ (v : Bool) (has : Has velocity v) where
     abbrev chosen : ℕ → Bool
     chosen n = eqb n (rowNumber v)
 
-    pub kind-many : length (ofKind rules (rowNumber v) lines) ≡ epochs * length names
+    pub kind-many : length (ofKind rules (rowNumber v) lines) ≡ epochs * length identifiers
     kind-many =
         file-many d chosen (no-epochs v) (no-notes v .0) (no-notes v .1) 1 (one-wide velocity v has)
-        ∙ mul-one (epochs * length names)
+        ∙ mul-one (epochs * length identifiers)
 
-    pub kind-in-epoch : (k : ℕ) → k < epochs → length (ofKind rules (rowNumber v) (blockAt d k)) ≡ length names
+    pub kind-in-epoch : (k : ℕ) → k < epochs → length (ofKind rules (rowNumber v) (blockAt d k)) ≡ length identifiers
     kind-in-epoch k h =
         epoch-many d chosen (no-epochs v) (no-notes v .0) (no-notes v .1) 1 (one-wide velocity v has) k h
-        ∙ mul-one (length names)
+        ∙ mul-one (length identifiers)
 
     -- the j-th of an epoch is the one of the j-th satellite
-    pub kind-own : (k : ℕ) (h : k < epochs) (j : ℕ) (hj : j < length names)
+    pub kind-own : (k : ℕ) (h : k < epochs) (j : ℕ) (hj : j < length identifiers)
         → nth j (ofKind rules (rowNumber v) (blockAt d k))
-        ≡ one-row rules velocity v has (getD names j 0) _ (ownIn (blockIs d k h) .each j hj) .row
+        ≡ one-row rules velocity v has (getD identifiers j 0) _ (ownIn (blockIs d k h) .each j hj) .row
     unfolding nth
     kind-own k h j hj =
         let rows = ownIn (blockIs d k h) in
         let same : j ≡ j * 1 + 0 = omega arith in
         ap (λ (m : ℕ). nth m (ofKind rules (rowNumber v) (blockAt d k))) same
         ∙ epoch-nth d chosen (no-epochs v) (no-notes v .0) (no-notes v .1) 1 (one-wide velocity v has) k h j 0 hj (omega arith)
-        ∙ ap (nth 0) (one-row rules velocity v has (getD names j 0) (partAt rows j) (rows .each j hj) .alone)
+        ∙ ap (nth 0) (one-row rules velocity v has (getD identifiers j 0) (partAt rows j) (rows .each j hj) .alone)
 
     -- and that of the k-th epoch stands in the file at the place k * n + j
-    pub kind-nth : (k j : ℕ) → k < epochs → j < length names
-        → nth (k * length names + j) (ofKind rules (rowNumber v) lines) ≡ nth j (ofKind rules (rowNumber v) (blockAt d k))
+    pub kind-nth : (k j : ℕ) → k < epochs → j < length identifiers
+        → nth (k * length identifiers + j) (ofKind rules (rowNumber v) lines) ≡ nth j (ofKind rules (rowNumber v) (blockAt d k))
     kind-nth k j hk hj =
-        let same : k * length names + j ≡ (k * length names + j) * 1 + 0 = omega arith in
+        let same : k * length identifiers + j ≡ (k * length identifiers + j) * 1 + 0 = omega arith in
         let back : j * 1 + 0 ≡ j = omega arith in
         ap (λ (m : ℕ). nth m (ofKind rules (rowNumber v) lines)) same
         ∙ file-nth d chosen (no-epochs v) (no-notes v .0) (no-notes v .1) 1 (one-wide velocity v has) k j 0 hk hj (omega arith)
@@ -164,18 +164,18 @@ module _ {rules : Rules} {velocity : Bool} {names : List ℕ} {interval8 epochs 
     two-wide : cond (eqb 10 10 || eqb 10 11) 1 0 + cond (eqb 11 10 || eqb 11 11) (cond velocity 1 0) 0 ≡ 2
     two-wide = rw both
 
-    pub rows-many-both : length (rowLines rules lines) ≡ epochs * length names * 2
+    pub rows-many-both : length (rowLines rules lines) ≡ epochs * length identifiers * 2
     rows-many-both =
         file-many d (λ (n : ℕ). eqb n 10 || eqb n 11) refl refl refl 2 two-wide
 
-    pub rows-nth-both : (v : Bool) (k j : ℕ) → k < epochs → j < length names
-        → nth (2 * (k * length names + j) + markNumber v) (rowLines rules lines) ≡ nth (k * length names + j) (ofKind rules (rowNumber v) lines)
+    pub rows-nth-both : (v : Bool) (k j : ℕ) → k < epochs → j < length identifiers
+        → nth (2 * (k * length identifiers + j) + markNumber v) (rowLines rules lines) ≡ nth (k * length identifiers + j) (ofKind rules (rowNumber v) lines)
     rows-nth-both v k j hk hj =
-        let same : 2 * (k * length names + j) + markNumber v ≡ (k * length names + j) * 2 + markNumber v = omega arith in
+        let same : 2 * (k * length identifiers + j) + markNumber v ≡ (k * length identifiers + j) * 2 + markNumber v = omega arith in
         ap (λ (i : ℕ). nth i (rowLines rules lines)) same
         ∙ file-nth d pick refl refl refl 2 two-wide k j (markNumber v) hk hj (below-two v)
         ∙ epoch-nth d pick refl refl refl 2 two-wide k hk j (markNumber v) hj (below-two v)
-        ∙ two-rows rules velocity both v (getD names j 0) (partAt (ownIn (blockIs d k hk)) j) (ownIn (blockIs d k hk) .each j hj)
+        ∙ two-rows rules velocity both v (getD identifiers j 0) (partAt (ownIn (blockIs d k hk)) j) (ownIn (blockIs d k hk) .each j hj)
         ∙ sym (kind-own v (hasBoth velocity both v) k hk j hj)
         ∙ sym (kind-nth v (hasBoth velocity both v) k j hk hj)
       where
@@ -192,7 +192,7 @@ module _ {rules : Rules} {velocity : Bool} {names : List ℕ} {interval8 epochs 
     no-motion =
         let zero-wide : cond (eqb 10 11) 1 0 + cond (eqb 11 11) (cond velocity 1 0) 0 ≡ 0 = rw none in
         no-lines (ofKind rules 11 lines)
-        (file-many d (λ (n : ℕ). eqb n 11) refl refl refl 0 zero-wide ∙ mul-zero (epochs * length names))
+        (file-many d (λ (n : ℕ). eqb n 11) refl refl refl 0 zero-wide ∙ mul-zero (epochs * length identifiers))
 
     pub rows-are-places : rowLines rules lines ≡ ofKind rules 10 lines
     rows-are-places = other-selected (isKind rules 10) (isKind rules 11) lines no-motion

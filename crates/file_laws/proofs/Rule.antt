@@ -19,8 +19,8 @@ use Rattle.lines.proofs.Picking.{select-append}
 use Rattle.file_laws.proofs.Sorting.{both-selected}
 use Rattle.file_laws.proofs.Parted.{partAt, before, after, split}
 use Rattle.file_laws.proofs.Body.{blockAt, blockIs}
-use Rattle.file_laws.proofs.Selected.{satellites, names, velocities, start8, interval8, epochs, by-epochs, kind-9, kind-10, kind-11, kind-rows}
-use Rattle.file_laws.proofs.Slots.{names-many}
+use Rattle.file_laws.proofs.Selected.{satellites, identifiers, velocities, start8, interval8, epochs, by-epochs, kind-9, kind-10, kind-11, kind-rows}
+use Rattle.file_laws.proofs.Slots.{identifiers-many}
 use Rattle.file_laws.proofs.Places as place
 use Rattle.file_laws.proofs.Places.{rowNumber, Has, one-row, ownIn}
 use Rattle.file_laws.proofs.Instants.{header, three-parts, header-no-epoch, rows-no-epoch, epochs-before, epochs-nth}
@@ -30,7 +30,7 @@ use Rattle.file_laws.proofs.Instants as instant
 -- k * n + j.
 pub record InOrder {rules : Rules} {lines : List (List ℕ)} (p : Plain rules lines) (v : Bool) (k : ℕ) (block : List (List ℕ)) : Type 0 where
   pub many : length (ofKind rules (rowNumber v) block) ≡ satellites p
-  pub each : (j : ℕ) → j < satellites p → isRowLine rules v (getD (names p) j 0) (nth j (ofKind rules (rowNumber v) block)) ≡ true
+  pub each : (j : ℕ) → j < satellites p → isRowLine rules v (getD (identifiers p) j 0) (nth j (ofKind rules (rowNumber v) block)) ≡ true
   pub numbered : (j : ℕ) → j < satellites p
       → nth (k * satellites p + j) (ofKind rules (rowNumber v) lines) ≡ nth j (ofKind rules (rowNumber v) block)
 
@@ -61,7 +61,7 @@ module _ {rules : Rules} {lines : List (List ℕ)} (p : Plain rules lines) where
   rows-many v has =
       ap length (of-kind v)
       ∙ place.kind-many (by-epochs p) v has
-      ∙ ap (λ (n : ℕ). epochs p * n) (names-many p)
+      ∙ ap (λ (n : ℕ). epochs p * n) (identifiers-many p)
       ∙ mul-comm (epochs p) (satellites p)
 
   pub places-many : length (ofKind rules 10 lines) ≡ satellites p * epochs p
@@ -77,12 +77,12 @@ module _ {rules : Rules} {lines : List (List ℕ)} (p : Plain rules lines) where
   in-order : (v : Bool) → Has (velocities p) v → (k : ℕ) → k < epochs p → InOrder p v k (blockAt (by-epochs p) k)
   in-order v has k h =
       let d = by-epochs p in
-      let named : length (names p) ≡ satellites p = names-many p in
+      let named : length (identifiers p) ≡ satellites p = identifiers-many p in
       record {
         many = place.kind-in-epoch d v has k h ∙ named;
         each = λ j hj.
-            ap (isRowLine rules v (getD (names p) j 0)) (place.kind-own d v has k h j (omega arith))
-            ∙ one-row rules (velocities p) v has (getD (names p) j 0) (partAt (ownIn (blockIs d k h)) j) (ownIn (blockIs d k h) .each j (omega arith)) .is-row;
+            ap (isRowLine rules v (getD (identifiers p) j 0)) (place.kind-own d v has k h j (omega arith))
+            ∙ one-row rules (velocities p) v has (getD (identifiers p) j 0) (partAt (ownIn (blockIs d k h)) j) (ownIn (blockIs d k h) .each j (omega arith)) .is-row;
         numbered = λ j hj.
             ap₂ (λ (m : ℕ) (ls : List (List ℕ)). nth (k * m + j) ls) (sym named) (of-kind v)
             ∙ place.kind-nth d v has k j h (omega arith);
@@ -108,7 +108,7 @@ module _ {rules : Rules} {lines : List (List ℕ)} (p : Plain rules lines) where
             ap length (select-append (isKind rules 9) (header p) (before (d .divided) k))
             ∙ ap (λ (ls : List (List ℕ)). length (ls ++ ofKind rules 9 (before (d .divided) k))) (header-no-epoch p)
             ∙ epochs-before d k (omega arith);
-        no-other-epoch = rows-no-epoch rules (velocities p) (names p) (start8 p + k * interval8 p) (blockAt d k) b;
+        no-other-epoch = rows-no-epoch rules (velocities p) (identifiers p) (start8 p + k * interval8 p) (blockAt d k) b;
         places = subst (InOrder p false k) (b .block-is) (in-order false tt k h);
         motions = λ both. subst (InOrder p true k) (b .block-is) (in-order true both k h);
       }
@@ -120,17 +120,17 @@ module _ {rules : Rules} {lines : List (List ℕ)} (p : Plain rules lines) where
 
   -- the line numbered k * n + j among the P lines is the P line of satellite j, and it stands in epoch k
   pub place-at : (k j : ℕ) → k < epochs p → j < satellites p
-      → isRowLine rules false (getD (names p) j 0) (nth (k * satellites p + j) (ofKind rules 10 lines)) ≡ true
+      → isRowLine rules false (getD (identifiers p) j 0) (nth (k * satellites p + j) (ofKind rules 10 lines)) ≡ true
   place-at k j hk hj =
       let order = in-order false tt k hk in
-      ap (isRowLine rules false (getD (names p) j 0)) (order .numbered j hj) ∙ order .each j hj
+      ap (isRowLine rules false (getD (identifiers p) j 0)) (order .numbered j hj) ∙ order .each j hj
 
   -- the same of the V lines
   pub motion-at : velocities p ≡ true → (k j : ℕ) → k < epochs p → j < satellites p
-      → isRowLine rules true (getD (names p) j 0) (nth (k * satellites p + j) (ofKind rules 11 lines)) ≡ true
+      → isRowLine rules true (getD (identifiers p) j 0) (nth (k * satellites p + j) (ofKind rules 11 lines)) ≡ true
   motion-at both k j hk hj =
       let order = in-order true both k hk in
-      ap (isRowLine rules true (getD (names p) j 0)) (order .numbered j hj) ∙ order .each j hj
+      ap (isRowLine rules true (getD (identifiers p) j 0)) (order .numbered j hj) ∙ order .each j hj
 
   -- the k-th epoch line stands k intervals after the start
   pub instant-at : (k : ℕ) → k < epochs p → isEpochLine rules (start8 p + k * interval8 p) (nth k (ofKind rules 9 lines)) ≡ true
@@ -154,7 +154,7 @@ module _ {rules : Rules} {lines : List (List ℕ)} (p : Plain rules lines) where
   module _ (both : velocities p ≡ true) (k j : ℕ) (hk : k < epochs p) (hj : j < satellites p) where
     in-turn : (v : Bool) → nth (2 * (k * satellites p + j) + markNumber v) (rowLines rules lines) ≡ nth (k * satellites p + j) (ofKind rules (rowNumber v) lines)
     in-turn v =
-        let named : length (names p) ≡ satellites p = names-many p in
+        let named : length (identifiers p) ≡ satellites p = identifiers-many p in
         ap₂ (λ (m : ℕ) (ls : List (List ℕ)). nth (2 * (k * m + j) + markNumber v) ls) (sym named) (kind-rows p)
         ∙ place.rows-nth-both (by-epochs p) both v k j hk (omega arith)
         ∙ ap₂ (λ (m : ℕ) (ls : List (List ℕ)). nth (k * m + j) ls) named (sym (of-kind v))

@@ -30,8 +30,8 @@ module _ {rules : Rules} {lines : List (List ℕ)} (p : Plain rules lines) where
   abbrev pub satellites : ℕ
   satellites = countIn rules (padded (p .count))
 
-  abbrev pub names : List ℕ
-  names = slotIdentifiers satellites (p .count ∷ p .slots)
+  abbrev pub identifiers : List ℕ
+  identifiers = slotIdentifiers satellites (p .count ∷ p .slots)
 
   abbrev pub velocities : Bool
   velocities = eqb (firstOf rules (padded (p .first)) .mode) 86
@@ -46,8 +46,8 @@ module _ {rules : Rules} {lines : List (List ℕ)} (p : Plain rules lines) where
   epochs = firstOf rules (padded (p .first)) .epochs
 
   -- the lines of the epochs, divided
-  pub by-epochs : ByEpoch rules velocities names interval8 epochs start8 (p .epochs)
-  by-epochs = by-epoch rules velocities names interval8 epochs start8 (p .epochs) (p .are-epochs)
+  pub by-epochs : ByEpoch rules velocities identifiers interval8 epochs start8 (p .epochs)
+  by-epochs = by-epoch rules velocities identifiers interval8 epochs start8 (p .epochs) (p .are-epochs)
 
   -- the parts of the header, each of its kind
   pub first-kind : Of rules 1 (p .first ∷ [])
@@ -56,8 +56,8 @@ module _ {rules : Rules} {lines : List (List ℕ)} (p : Plain rules lines) where
   pub second-kind : Of rules 2 (p .second ∷ [])
   second-kind = (record-kind rules kind.Second (secondOf (padded (p .second)) .fault) (p .second) (and-left _ (secondAgrees start8 (secondOf (padded (p .second)))) (p .is-second)), tt)
 
-  pub names-kind : Of rules 3 (p .count ∷ p .slots)
-  names-kind = (
+  pub identifiers-kind : Of rules 3 (p .count ∷ p .slots)
+  identifiers-kind = (
     record-kind rules kind.Satellites (satellitesOf rules (padded (p .count)) .fault) (p .count) (p .is-count),
     slots-kind rules false _ (p .slots) (p .are-slots),
   )
@@ -67,7 +67,7 @@ module _ {rules : Rules} {lines : List (List ℕ)} (p : Plain rules lines) where
 
   pub characters-kind : Of rules 5 (p .descriptor ∷ p .characters ∷ [])
   characters-kind = (
-    record-kind rules kind.Characters (descriptorOf (padded (p .descriptor)) .fault) (p .descriptor) (and-left _ (typeAgrees (descriptorOf (padded (p .descriptor)) .«file_type») names) (p .is-descriptor)),
+    record-kind rules kind.Characters (descriptorOf (padded (p .descriptor)) .fault) (p .descriptor) (and-left _ (typeAgrees (descriptorOf (padded (p .descriptor)) .«file_type») identifiers) (p .is-descriptor)),
     (record-kind rules kind.Characters (faultOf characterItems (padded (p .characters))) (p .characters) (p .is-characters), tt),
   )
 
@@ -108,7 +108,7 @@ module _ {rules : Rules} {lines : List (List ℕ)} (p : Plain rules lines) where
         ap (picked rules pick) (p .lines-are)
         ∙ next 1 (p .first ∷ []) _ _ first-kind
         (next 2 (p .second ∷ []) _ _ second-kind
-        (next 3 (p .count ∷ p .slots) _ _ names-kind
+        (next 3 (p .count ∷ p .slots) _ _ identifiers-kind
         (next 4 (p .accuracies) _ _ accuracies-kind
         (next 5 (p .descriptor ∷ p .characters ∷ []) _ _ characters-kind
         (next 6 (p .bases ∷ p .floats ∷ []) _ _ floats-kind

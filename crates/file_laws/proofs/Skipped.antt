@@ -20,7 +20,7 @@ use Rattle.laws.proofs.Bounds.{within-true, below-within}
 use Rattle.lines.proofs.Each.{Each, each-weaken}
 use Rattle.record.proofs.Determined.{toldKind-one}
 use Rattle.file_laws.proofs.Sorting.{line-kind, row-kind, epoch-kind}
-use Rattle.file_laws.proofs.Selected.{velocities, names, interval8, epochs, start8, last-kind}
+use Rattle.file_laws.proofs.Selected.{velocities, identifiers, interval8, epochs, start8, last-kind}
 use Rattle.file_laws.proofs.Instants.{header, header-with, three-parts, header-kinds}
 use Rattle.file_laws.proofs.Notes.{beside-turned, SameLine, SameBut}
 
@@ -96,17 +96,17 @@ module _ (rules : Rules) where
       (note-lines note a b (and-right (isLine rules note l) (everyLine (isLine rules note) a) h) (s .1))
 
   -- so do the lines of a satellite, of an epoch and of all epochs
-  row-ordinary : (v : Bool) (name : ℕ) (l : List ℕ) → isRowLine rules v name l ≡ true → Ordinary l
-  row-ordinary v name l e =
-      ap (within 12 13) (row-kind rules v name l e) ∙ go v
+  row-ordinary : (v : Bool) (identifier : ℕ) (l : List ℕ) → isRowLine rules v identifier l ≡ true → Ordinary l
+  row-ordinary v identifier l e =
+      ap (within 12 13) (row-kind rules v identifier l e) ∙ go v
     where
       go : (t : Bool) → within 12 13 (toldKind (rowKind t)) ≡ false
       go true = refl
       go false = refl
 
-  same-noted : (v : Bool) (note : LineKind) (name : ℕ) (a b : List (List ℕ)) → Noted rules v note name a → SameBut rules a b → Noted rules v note name b
-  same-noted v note name a b n s =
-      let more = same-first (n .row) (n .notes) b (row-ordinary v name (n .row) (n .is-row)) (subst (λ (ls : List (List ℕ)). SameBut rules ls b) (n .lines-are) s) in
+  same-noted : (v : Bool) (note : LineKind) (identifier : ℕ) (a b : List (List ℕ)) → Noted rules v note identifier a → SameBut rules a b → Noted rules v note identifier b
+  same-noted v note identifier a b n s =
+      let more = same-first (n .row) (n .notes) b (row-ordinary v identifier (n .row) (n .is-row)) (subst (λ (ls : List (List ℕ)). SameBut rules ls b) (n .lines-are) s) in
       let few : leb (length (more .0)) 1 ≡ true =
       ap (λ (k : ℕ). leb k 1) (sym (same-length (n .notes) (more .0) (more .2)))
       ∙ and-left (leb (length (n .notes)) 1) (everyLine (isLine rules note) (n .notes)) (n .are-notes) in
@@ -120,36 +120,36 @@ module _ (rules : Rules) where
             (note-lines note (n .notes) (more .0) (and-right (leb (length (n .notes)) 1) (everyLine (isLine rules note) (n .notes)) (n .are-notes)) (more .2));
       }
 
-  same-rest : (v : Bool) (name : ℕ) (a b : List (List ℕ)) → Rest rules v name a → SameBut rules a b → Rest rules v name b
-  same-rest true name a b r s = same-noted true kind.VelocityCorrelation name a b r s
-  same-rest false name a b r s = no-more b (subst (λ (ls : List (List ℕ)). SameBut rules ls b) r s)
+  same-rest : (v : Bool) (identifier : ℕ) (a b : List (List ℕ)) → Rest rules v identifier a → SameBut rules a b → Rest rules v identifier b
+  same-rest true identifier a b r s = same-noted true kind.VelocityCorrelation identifier a b r s
+  same-rest false identifier a b r s = no-more b (subst (λ (ls : List (List ℕ)). SameBut rules ls b) r s)
 
-  same-satellite : (v : Bool) (name : ℕ) (a b : List (List ℕ)) → Satellite rules v name a → SameBut rules a b → Satellite rules v name b
-  same-satellite v name a b t s =
+  same-satellite : (v : Bool) (identifier : ℕ) (a b : List (List ℕ)) → Satellite rules v identifier a → SameBut rules a b → Satellite rules v identifier b
+  same-satellite v identifier a b t s =
       let d = divided (t .position) (t .rest) b (subst (λ (ls : List (List ℕ)). SameBut rules ls b) (t .lines-are) s) in
       record {
         position = d .front;
         rest = d .back;
         lines-are = d .lines-are;
-        is-position = same-noted false kind.PositionCorrelation name (t .position) (d .front) (t .is-position) (d .same-front);
-        is-rest = same-rest v name (t .rest) (d .back) (t .is-rest) (d .same-back);
+        is-position = same-noted false kind.PositionCorrelation identifier (t .position) (d .front) (t .is-position) (d .same-front);
+        is-rest = same-rest v identifier (t .rest) (d .back) (t .is-rest) (d .same-back);
       }
 
-  same-in-epoch : (v : Bool) (names : List ℕ) (a b : List (List ℕ)) → Rows rules v names a → SameBut rules a b → Rows rules v names b
+  same-in-epoch : (v : Bool) (identifiers : List ℕ) (a b : List (List ℕ)) → Rows rules v identifiers a → SameBut rules a b → Rows rules v identifiers b
   same-in-epoch v [] a b r s = no-more b (subst (λ (ls : List (List ℕ)). SameBut rules ls b) r s)
-  same-in-epoch v (name ∷ names) a b r s =
+  same-in-epoch v (identifier ∷ identifiers) a b r s =
       let d = divided (r .0) (r .1) b (subst (λ (ls : List (List ℕ)). SameBut rules ls b) (r .2) s) in (
         d .front,
         d .back,
         d .lines-are,
-        same-satellite v name (r .0) (d .front) (r .3) (d .same-front),
-        same-in-epoch v names (r .1) (d .back) (r .4) (d .same-back),
+        same-satellite v identifier (r .0) (d .front) (r .3) (d .same-front),
+        same-in-epoch v identifiers (r .1) (d .back) (r .4) (d .same-back),
       )
 
-  same-epochs : (v : Bool) (names : List ℕ) (interval8 n at8 : ℕ) (a b : List (List ℕ)) → Epochs rules v names interval8 n at8 a → SameBut rules a b
-      → Epochs rules v names interval8 n at8 b
-  same-epochs v names interval8 zero at8 a b e s = no-more b (subst (λ (ls : List (List ℕ)). SameBut rules ls b) e s)
-  same-epochs v names interval8 (suc n) at8 a b e s =
+  same-epochs : (v : Bool) (identifiers : List ℕ) (interval8 n at8 : ℕ) (a b : List (List ℕ)) → Epochs rules v identifiers interval8 n at8 a → SameBut rules a b
+      → Epochs rules v identifiers interval8 n at8 b
+  same-epochs v identifiers interval8 zero at8 a b e s = no-more b (subst (λ (ls : List (List ℕ)). SameBut rules ls b) e s)
+  same-epochs v identifiers interval8 (suc n) at8 a b e s =
       let l = e .0 in
       let one = same-first l (e .1 ++ e .2) b (ap (within 12 13) (epoch-kind rules at8 l (e .4))) (subst (λ (ls : List (List ℕ)). SameBut rules ls b) (e .3) s) in
       let d = divided (e .1) (e .2) (one .0) (one .2) in (
@@ -158,8 +158,8 @@ module _ (rules : Rules) where
         d .back,
         one .1 ∙ ap (λ (ls : List (List ℕ)). l ∷ ls) (d .lines-are),
         e .4,
-        same-in-epoch v names (e .1) (d .front) (e .5) (d .same-front),
-        same-epochs v names interval8 n (at8 + interval8) (e .2) (d .back) (e .6) (d .same-back),
+        same-in-epoch v identifiers (e .1) (d .front) (e .5) (d .same-front),
+        same-epochs v identifiers interval8 n (at8 + interval8) (e .2) (d .back) (e .6) (d .same-back),
       )
 
 -- ONE IS ACCEPTED WHERE THE OTHER IS.
@@ -206,7 +206,7 @@ same-plain rules a b s p =
       is-integers′ = p .is-integers′;
       are-comments = p .are-comments;
       comments-many = p .comments-many;
-      are-epochs = same-epochs rules (velocities p) (names p) (interval8 p) (epochs p) (start8 p) (p .epochs) (e .front) (p .are-epochs) (e .same-front);
+      are-epochs = same-epochs rules (velocities p) (identifiers p) (interval8 p) (epochs p) (start8 p) (p .epochs) (e .front) (p .are-epochs) (e .same-front);
       is-last = p .is-last;
     }
   where

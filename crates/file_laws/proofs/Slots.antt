@@ -15,7 +15,7 @@ use Rattle.file.specs.Plain.{Plain}
 use Rattle.file.specs.Table.{slotNumbers, slotsIn}
 use Rattle.lines.proofs.Each.{Each, each-map}
 use Rattle.lines.proofs.Picking.{length-flat}
-use Rattle.file_laws.proofs.Selected.{satellites, names, kind-3, kind-4}
+use Rattle.file_laws.proofs.Selected.{satellites, identifiers, kind-3, kind-4}
 
 -- a line has seventeen
 pub slots-wide : (accuracies : Bool) (l : List ℕ) → length (slotNumbers accuracies l) ≡ 17
@@ -38,13 +38,13 @@ module _ (accuracies : Bool) (n : ℕ) (ls : List (List ℕ)) (enough : length l
 
 module _ {rules : Rules} {lines : List (List ℕ)} (p : Plain rules lines) where
   -- there are as many names as satellites
-  pub names-many : length (names p) ≡ satellites p
-  names-many = slots-many false (satellites p) (p .count ∷ p .slots) (p .slots-many)
+  pub identifiers-many : length (identifiers p) ≡ satellites p
+  identifiers-many = slots-many false (satellites p) (p .count ∷ p .slots) (p .slots-many)
 
   -- the table has these names
-  pub names-in : slotsIn rules false (satellites p) lines ≡ names p
+  pub identifiers-in : slotsIn rules false (satellites p) lines ≡ identifiers p
   unfolding slotsIn
-  names-in = ap (λ (ls : List (List ℕ)). take (satellites p) (flat (map (slotNumbers false) ls))) (kind-3 p)
+  identifiers-in = ap (λ (ls : List (List ℕ)). take (satellites p) (flat (map (slotNumbers false) ls))) (kind-3 p)
 
   -- and as many accuracy exponents
   pub accuracies-many : length (slotsIn rules true (satellites p) lines) ≡ satellites p

@@ -9,7 +9,7 @@ use borrow.Author.Tests.{eqb-true}
 use lib.Dec.{leb, eqb}
 use lib.ListN.{length}
 use Rattle.laws.specs.Texts.{every, isPrintable}
-use Rattle.layout.specs.Kind.{nameCode}
+use Rattle.layout.specs.Kind.{identifierCode}
 use Rattle.layout.specs.Layout.{faultOf}
 use Rattle.layout.specs.Line.{padded}
 use Rattle.lines.specs.Lines.{select}
@@ -88,11 +88,11 @@ module _ (rules : Rules) where
   record-kind kind fault l e = line-kind kind l (and-left (isLine rules kind l) (eqb fault 0) e)
 
   -- so are a P or V line, an epoch line and a comment
-  pub row-record : (v : Bool) (name : ℕ) (l : List ℕ) → isRowLine rules v name l ≡ true → isRecord rules (rowKind v) (rowFault v (padded l)) l ≡ true
-  row-record v name l e = and-left (isRecord rules (rowKind v) (rowFault v (padded l)) l) (eqb (nameCode (cut 2 4 (padded l))) name) e
+  pub row-record : (v : Bool) (identifier : ℕ) (l : List ℕ) → isRowLine rules v identifier l ≡ true → isRecord rules (rowKind v) (rowFault v (padded l)) l ≡ true
+  row-record v identifier l e = and-left (isRecord rules (rowKind v) (rowFault v (padded l)) l) (eqb (identifierCode (cut 2 4 (padded l))) identifier) e
 
-  pub row-kind : (v : Bool) (name : ℕ) (l : List ℕ) → isRowLine rules v name l ≡ true → kindIn rules l ≡ toldKind (rowKind v)
-  row-kind v name l e = record-kind (rowKind v) (rowFault v (padded l)) l (row-record v name l e)
+  pub row-kind : (v : Bool) (identifier : ℕ) (l : List ℕ) → isRowLine rules v identifier l ≡ true → kindIn rules l ≡ toldKind (rowKind v)
+  row-kind v identifier l e = record-kind (rowKind v) (rowFault v (padded l)) l (row-record v identifier l e)
 
   pub epoch-record : (at8 : ℕ) (l : List ℕ) → isEpochLine rules at8 l ≡ true → isRecord rules kind.Epoch (epochOf (padded l) .fault) l ≡ true
   epoch-record at8 l e = and-left (isRecord rules kind.Epoch (epochOf (padded l) .fault) l) (eqb (instantIn (epochOf (padded l) .moment)) at8) e

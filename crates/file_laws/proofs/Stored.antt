@@ -16,7 +16,7 @@ use Rattle.header.specs.declared.types.Rules.{Rules}
 use Rattle.file.specs.Kinds.{ofKind}
 use Rattle.file.specs.Plain.{Plain}
 use Rattle.file.specs.Table.{slotNumbers, slotLineKind, slotsIn, commentText, commentsIn, rowIn, rowNumbers, numbersOfRows, rowLines, rowsIn}
-use Rattle.file_laws.proofs.Selected.{satellites, names, velocities, epochs}
+use Rattle.file_laws.proofs.Selected.{satellites, identifiers, velocities, epochs}
 use Rattle.file_laws.proofs.Slots.{slots-wide}
 use Rattle.file_laws.proofs.Rule.{place-at, motion-at, rows-are-places, row-begins, row-motion}
 use Rattle.file_laws.proofs.Counts.{comment-wide, row-wide, rows-many, rows-many-both}
@@ -83,7 +83,7 @@ module _ {rules : Rules} {lines : List (List ℕ)} (p : Plain rules lines) (k j 
   place-stored alone =
       row-stored rules lines rowAt (omega (arith, rows-many p alone, below k (epochs p) (satellites p) j hk hj))
       ∙ ap (λ (ls : List (List ℕ)). rowNumbers (rowIn rules (nth rowAt ls))) (rows-are-places p alone)
-      ∙ row-exact rules false (getD (names p) j 0) placeLine (place-at p k j hk hj)
+      ∙ row-exact rules false (getD (identifiers p) j 0) placeLine (place-at p k j hk hj)
 
   -- with velocities: those of its P line at 12 * (2 * (k * n + j)), those of its V line after them
   module _ (both : velocities p ≡ true) where
@@ -91,10 +91,10 @@ module _ {rules : Rules} {lines : List (List ℕ)} (p : Plain rules lines) (k j 
     place-stored-both =
         row-stored rules lines (2 * rowAt) (omega (arith, rows-many-both p both, below k (epochs p) (satellites p) j hk hj))
         ∙ ap (λ (l : List ℕ). rowNumbers (rowIn rules l)) (row-begins p both k j hk hj)
-        ∙ row-exact rules false (getD (names p) j 0) placeLine (place-at p k j hk hj)
+        ∙ row-exact rules false (getD (identifiers p) j 0) placeLine (place-at p k j hk hj)
 
     pub motion-stored : take 12 (drop (12 * (2 * rowAt + 1)) (rowsIn rules lines)) ≡ exactNumbers (rowOf true motionLine)
     motion-stored =
         row-stored rules lines (2 * rowAt + 1) (omega (arith, rows-many-both p both, below k (epochs p) (satellites p) j hk hj))
         ∙ ap (λ (l : List ℕ). rowNumbers (rowIn rules l)) (row-motion p both k j hk hj)
-        ∙ row-exact rules true (getD (names p) j 0) motionLine (motion-at p both k j hk hj)
+        ∙ row-exact rules true (getD (identifiers p) j 0) motionLine (motion-at p both k j hk hj)

@@ -15,7 +15,7 @@ use Rattle.field.specs.Read.{wholeOf, exponentOf, decimalOf, minusFirst}
 use Rattle.field.specs.Show.{fitsWhole, fitsDecimal}
 use Rattle.field.specs.Sign.{largest}
 use Rattle.layout.specs.Fault.{clean, keyed, lower, lowerOf, lowerUnless}
-use Rattle.layout.specs.Kind.{Kind, silent, unknown, sameBytes, isOneOf, isListed, isBlank, isLettered, isName, named, nameCode, nameNumber, canAmount, unless, boundFault, wholeFault, amountFault, exponentFault, faultIn, heldIn, wholeHeld, amountHeld, signHeld, exponentHeld, fitsIn, holdsIn, printable}
+use Rattle.layout.specs.Kind.{Kind, silent, unknown, sameBytes, isOneOf, isListed, isBlank, isLettered, isIdentifier, named, identifierCode, identifierNumber, canAmount, unless, boundFault, wholeFault, amountFault, exponentFault, faultIn, heldIn, wholeHeld, amountHeld, signHeld, exponentHeld, fitsIn, holdsIn, printable}
 use Rattle.layout.specs.Kind.Kind.{unused, fixed, whole, decimal, signed, clock, exponent, flag, letter, listed, identifier, filler, zeroWhole, zeroDecimal, text}
 use Rattle.layout.specs.Kind.Held.{nothing}
 use Rattle.layout.specs.Layout.{hasOwn, ownOf, othersOf, Item, Values, widthOf, partOf, faultAt, tiledFrom, tiled, faultFrom, faultOf, valuesOf, canShow, entered}
@@ -28,7 +28,7 @@ use Rattle.field.specs.declared.Amount.the-variants as amounts
 use Rattle.laws.proofs.Bools.{and-left, and-right, and-both}
 use Rattle.field.proofs.Accepted.{decimal-taken, integer-minus}
 use Rattle.field.proofs.Again.{whole-again, exponent-again, decimal-again}
-use Rattle.layout.proofs.Names.{name-again}
+use Rattle.layout.proofs.Identifiers.{identifier-again}
 use Rattle.layout.proofs.Fields.{not-false-true, same-one}
 use Rattle.layout.proofs.Layouts.{stands, start-bound}
 
@@ -89,10 +89,10 @@ holds-exponent column bs (exponents.Value n) e f = either (eqb n unknown) (expon
 holds-exponent column bs exponents.Unknown e f = refl
 holds-exponent column bs exponents.Malformed e f = absurd (no-key 6 column (omega arith) f)
 
-holds-name : (column : ℕ) (bs : List ℕ) (t : Bool) → named bs ≡ t → cond t (boundFault column 1 99 (nameNumber bs)) (keyed 6 column) ≡ clean
-    → isName (cond t (nameCode bs) 0) ≡ true
-holds-name column bs true e f = name-again bs e (bound-passed column 1 99 (nameNumber bs) f)
-holds-name column bs false e f = absurd (no-key 6 column (omega arith) f)
+holds-identifier : (column : ℕ) (bs : List ℕ) (t : Bool) → named bs ≡ t → cond t (boundFault column 1 99 (identifierNumber bs)) (keyed 6 column) ≡ clean
+    → isIdentifier (cond t (identifierCode bs) 0) ≡ true
+holds-identifier column bs true e f = identifier-again bs e (bound-passed column 1 99 (identifierNumber bs) f)
+holds-identifier column bs false e f = absurd (no-key 6 column (omega arith) f)
 
 -- what a field without fault holds, it can hold
 pub holds-again : (kind : Kind) (column : ℕ) (bs : List ℕ) → fitsIn kind (length bs) ≡ true → printable bs ≡ true → faultIn kind column bs ≡ clean → holdsIn kind (length bs) (heldIn kind bs) ≡ true
@@ -109,7 +109,7 @@ holds-again (flag sign) column bs w p f = refl
 holds-again (letter these) column bs w p f =
     and-left (isOneOf (getD bs 0 0) these) (every isBlank (drop 1 bs)) (passed (isLettered bs these) 6 column (omega arith) f)
 holds-again (listed these) column bs w p f = passed (isListed bs these) 6 column (omega arith) f
-holds-again identifier column bs w p f = holds-name column bs (named bs) refl f
+holds-again identifier column bs w p f = holds-identifier column bs (named bs) refl f
 holds-again filler column bs w p f = refl
 holds-again zeroWhole column bs w p f = refl
 holds-again (zeroDecimal places) column bs w p f = refl

@@ -13,7 +13,7 @@ use Rattle.laws.specs.Texts.{isPrintable, blanks}
 use Rattle.field.specs.Show.{fitsWhole, putWhole, fitsDecimal, shownNegative}
 use Rattle.field.specs.Sign.{largest}
 use Rattle.layout.specs.Fault.{clean}
-use Rattle.layout.specs.Kind.{Kind, Held, numberIn, negativeIn, magnitudeIn, wordsIn, unknown, sameBytes, isOneOf, isListed, isName, canAmount, faultIn, heldIn, shownIn, fitsIn, wordsFit, holdsIn, printable, isNothing, numberWith, amountWith, isMark, wordsWith}
+use Rattle.layout.specs.Kind.{Kind, Held, numberIn, negativeIn, magnitudeIn, wordsIn, unknown, sameBytes, isOneOf, isListed, isIdentifier, canAmount, faultIn, heldIn, shownIn, fitsIn, wordsFit, holdsIn, printable, isNothing, numberWith, amountWith, isMark, wordsWith}
 use Rattle.layout.specs.Kind.Kind.{unused, fixed, whole, decimal, signed, clock, exponent, flag, letter, listed, identifier, filler, zeroWhole, zeroDecimal, text}
 use Rattle.layout.specs.Kind.Held.{nothing, one, amount, mark, words}
 use Rattle.field.specs.declared.Exponent.the-variants as exponents
@@ -22,7 +22,7 @@ use Rattle.field.proofs.Back.{whole-back, exponent-back, decimal-back}
 use Rattle.field.proofs.Shown.{integer-printable, decimal-printable}
 use Rattle.layout.proofs.Lines.{blanks-length}
 use Rattle.layout.proofs.Shown.{whole-put, whole-wide, places-put, places-wide, printable-byte, blanks-clean, blanks-printable, blanks-blank, text-wide, text-whole}
-use Rattle.layout.proofs.Names.{name-named, name-bounds, name-code, name-printable}
+use Rattle.layout.proofs.Identifiers.{identifier-named, identifier-bounds, identifier-code, identifier-printable}
 
 pub not-false-true : false ≡ true → ⊥
 not-false-true e = let z : _≡_ {A = ℕ} 0 1 = ap (λ (t : Bool). cond t 1 0) e in omega arith
@@ -214,11 +214,11 @@ keeps-listed these w bs f h =
     let all = text-whole w bs (fits .0) in
     record { plain = rw all (fits .1); sound = λ column. rw (all, h); back = ap words all }
 
-keeps-name : (w code : ℕ) → isName code ≡ true → Keeps identifier w (one code)
-keeps-name w code h = record {
-  plain = name-printable code h;
-  sound = λ column. rw (name-named code h, name-bounds code h);
-  back = rw (name-named code h, name-code code h);
+keeps-identifier : (w code : ℕ) → isIdentifier code ≡ true → Keeps identifier w (one code)
+keeps-identifier w code h = record {
+  plain = identifier-printable code h;
+  sound = λ column. rw (identifier-named code h, identifier-bounds code h);
+  back = rw (identifier-named code h, identifier-code code h);
 }
 
 keeps-zero : (w : ℕ) → fitsWhole w 0 ≡ true → Keeps zeroWhole w nothing
@@ -272,8 +272,8 @@ keeps (listed these) w v f h =
     let one = some-words (λ bytes. isListed bytes these) v h in
     rw (one .1) (keeps-listed these w (one .0) f (one .2))
 keeps identifier w v f h =
-    let one = a-number isName v h in
-    rw (one .1) (keeps-name w (one .0) (one .2))
+    let one = a-number isIdentifier v h in
+    rw (one .1) (keeps-identifier w (one .0) (one .2))
 keeps filler w v f h =
     let one = a-number (λ n. eqb n 0) v h in
     rw (one .1, eqb-true (one .0) 0 (one .2)) (record { plain = refl; sound = λ column. refl; back = refl })

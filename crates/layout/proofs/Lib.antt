@@ -1,7 +1,7 @@
 pub mod Keys
 pub mod Lines
 pub mod Shown
-pub mod Names
+pub mod Identifiers
 pub mod Fields
 pub mod Layouts
 pub mod Again

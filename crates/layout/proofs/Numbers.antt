@@ -18,7 +18,7 @@ use Rattle.field.specs.declared.Exponent.the-variants as exponents
 use Rattle.field.specs.declared.Amount.{Amount}
 use Rattle.field.specs.declared.Amount.the-variants as amounts
 use Rattle.layout.specs.Fault.{clean, keyed, keyNumber}
-use Rattle.layout.specs.Kind.{Kind, unusedFault, sameBytes, isListed, isLettered, unless, boundFault, wholeFault, amountFault, exponentFault, isZero, isZeros, named, nameNumber, zeroSlot, faultIn}
+use Rattle.layout.specs.Kind.{Kind, unusedFault, sameBytes, isListed, isLettered, unless, boundFault, wholeFault, amountFault, exponentFault, isZero, isZeros, named, identifierNumber, zeroSlot, faultIn}
 use Rattle.layout.specs.Kind.Kind.{unused, fixed, whole, decimal, signed, clock, exponent, flag, letter, listed, identifier, filler, zeroWhole, zeroDecimal, text}
 
 -- what the document fixes has its own number; every other kind of field has one of 5 to 8
@@ -73,9 +73,9 @@ module _ (column : ℕ) (c : column ≤ 128) where
   of-exponent exponents.Unknown = numbered-clean
   of-exponent exponents.Malformed = six
 
-  of-name : (t : Bool) (n : ℕ) → Numbered (cond t (boundFault column 1 99 n) (keyed 6 column))
-  of-name true n = bound 1 99 n
-  of-name false n = six
+  of-identifier : (t : Bool) (n : ℕ) → Numbered (cond t (boundFault column 1 99 n) (keyed 6 column))
+  of-identifier true n = bound 1 99 n
+  of-identifier false n = six
 
 of-unused : (bs : List ℕ) (at : ℕ) → at + length bs ≤ 128 → Numbered (unusedFault at bs)
 of-unused [] at c = numbered-clean
@@ -99,7 +99,7 @@ fault-numbered exponent column bs e c = of-exponent column (omega arith) (expone
 fault-numbered (flag sign) column bs e c = numbered-unless (eqb (getD bs 0 0) sign || eqb (getD bs 0 0) 32) 6 column (omega arith) (omega arith) (omega arith)
 fault-numbered (letter these) column bs e c = numbered-unless (isLettered bs these) 6 column (omega arith) (omega arith) (omega arith)
 fault-numbered (listed these) column bs e c = numbered-unless (isListed bs these) 6 column (omega arith) (omega arith) (omega arith)
-fault-numbered identifier column bs e c = of-name column (omega arith) (named bs) (nameNumber bs)
+fault-numbered identifier column bs e c = of-identifier column (omega arith) (named bs) (identifierNumber bs)
 fault-numbered filler column bs e c = numbered-unless (sameBytes bs zeroSlot) 8 column (omega arith) (omega arith) (omega arith)
 fault-numbered zeroWhole column bs e c = numbered-unless (isZero (wholeOf bs)) 5 column (omega arith) (omega arith) (omega arith)
 fault-numbered (zeroDecimal places) column bs e c = numbered-unless (isZeros (decimalOf bs places false)) 5 column (omega arith) (omega arith) (omega arith)

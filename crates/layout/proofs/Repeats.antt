@@ -68,13 +68,13 @@ module _ (kind : Kind) (loud : silent kind ≡ false) (used : isUnused kind ≡ 
   slot-drawn true at code vs items line p = let three : at + 2 - (at - 1) ≡ 3 = omega arith in rw (loud, used, three)
   slot-drawn false at code vs items line p = refl
 
-  pub next-drawn : (m n left k at : ℕ) → 1 ≤ at → m ≡ suc n → (names line : List ℕ) → k < length names
-      → drawn (slotsFrom kind m (left - k) at) (onesOf (drop k names)) line
-      ≡ drawn (slotsFrom kind n (left - (k + 1)) (at + 3)) (onesOf (drop (k + 1) names))
-      (overlaid at (at + 2) (shownIn (slotFor (ltb k left) kind) 3 (one (getD names k 0))) line)
-  next-drawn m n left k at p e names line h =
-      rw (next-slot kind m n left k at e, drop-cons names k 0 h, add-one k)
-      (slot-drawn (ltb k left) at (getD names k 0) (onesOf (drop (suc k) names)) (slotsFrom kind n (left - suc k) (at + 3)) line p)
+  pub next-drawn : (m n left k at : ℕ) → 1 ≤ at → m ≡ suc n → (identifiers line : List ℕ) → k < length identifiers
+      → drawn (slotsFrom kind m (left - k) at) (onesOf (drop k identifiers)) line
+      ≡ drawn (slotsFrom kind n (left - (k + 1)) (at + 3)) (onesOf (drop (k + 1) identifiers))
+      (overlaid at (at + 2) (shownIn (slotFor (ltb k left) kind) 3 (one (getD identifiers k 0))) line)
+  next-drawn m n left k at p e identifiers line h =
+      rw (next-slot kind m n left k at e, drop-cons identifiers k 0 h, add-one k)
+      (slot-drawn (ltb k left) at (getD identifiers k 0) (onesOf (drop (suc k) identifiers)) (slotsFrom kind n (left - suc k) (at + 3)) line p)
 
 -- a slot fills its three columns
 pub slot-length : (kind : Kind) → fitsIn kind 3 ≡ true → (t : Bool) (code : ℕ) → length (shownIn (slotFor t kind) 3 (one code)) ≡ 3

@@ -188,12 +188,12 @@ abbrev pub named : List ℕ → Bool
 named bs = within 65 90 (getD bs 0 0) && (isDigit (getD bs 1 0) && isDigit (getD bs 2 0))
 
 -- its two digits as a number
-abbrev pub nameNumber : List ℕ → ℕ
-nameNumber bs = (getD bs 1 0 - 48) * 10 + (getD bs 2 0 - 48)
+abbrev pub identifierNumber : List ℕ → ℕ
+identifierNumber bs = (getD bs 1 0 - 48) * 10 + (getD bs 2 0 - 48)
 
 -- the whole as one number, the letter's byte times 100 and the number: G07 is 7107
-abbrev pub nameCode : List ℕ → ℕ
-nameCode bs = getD bs 0 0 * 100 + nameNumber bs
+abbrev pub identifierCode : List ℕ → ℕ
+identifierCode bs = getD bs 0 0 * 100 + identifierNumber bs
 
 -- a slot after the last satellite holds `  0`
 abbrev pub zeroSlot : List ℕ
@@ -211,7 +211,7 @@ faultIn exponent column bs = exponentFault column (exponentOf bs)
 faultIn (flag sign) column bs = unless (eqb (getD bs 0 0) sign || eqb (getD bs 0 0) 32) 6 column
 faultIn (letter these) column bs = unless (isLettered bs these) 6 column
 faultIn (listed these) column bs = unless (isListed bs these) 6 column
-faultIn identifier column bs = cond (named bs) (boundFault column 1 99 (nameNumber bs)) (keyed 6 column)
+faultIn identifier column bs = cond (named bs) (boundFault column 1 99 (identifierNumber bs)) (keyed 6 column)
 faultIn filler column bs = unless (sameBytes bs zeroSlot) 8 column
 faultIn zeroWhole column bs = unless (isZero (wholeOf bs)) 5 column
 faultIn (zeroDecimal places) column bs = unless (isZeros (decimalOf bs places false)) 5 column
@@ -252,7 +252,7 @@ heldIn exponent bs = one (exponentHeld (exponentOf bs))
 heldIn (flag sign) bs = mark (eqb (getD bs 0 0) sign)
 heldIn (letter these) bs = one (getD bs 0 0)
 heldIn (listed these) bs = words bs
-heldIn identifier bs = one (cond (named bs) (nameCode bs) 0)
+heldIn identifier bs = one (cond (named bs) (identifierCode bs) 0)
 heldIn filler bs = one 0
 heldIn zeroWhole bs = nothing
 heldIn (zeroDecimal places) bs = nothing
@@ -263,8 +263,8 @@ abbrev pub silent : Kind → Bool
 silent kind = isNothing (heldIn kind [])
 
 -- an identifier by its number: the letter, which is a byte below 128, and two digits
-abbrev pub showName : ℕ → List ℕ
-showName code = (code / 10 / 10 % 128) ∷ (48 + code / 10 % 10) ∷ (48 + code % 10) ∷ []
+abbrev pub showIdentifier : ℕ → List ℕ
+showIdentifier code = (code / 10 / 10 % 128) ∷ (48 + code / 10 % 10) ∷ (48 + code % 10) ∷ []
 
 -- a text in w columns
 abbrev pub shownText : ℕ → List ℕ → List ℕ
@@ -282,7 +282,7 @@ shownIn exponent w v = cond (eqb (numberIn v) unknown) (blanks w) (putWhole (num
 shownIn (flag sign) w v = cond (markIn v) sign 32 ∷ []
 shownIn (letter these) w v = shownText w (numberIn v ∷ [])
 shownIn (listed these) w v = shownText w (wordsIn v)
-shownIn identifier w v = showName (numberIn v)
+shownIn identifier w v = showIdentifier (numberIn v)
 shownIn filler w v = zeroSlot
 shownIn zeroWhole w v = putWhole 0 (blanks w)
 shownIn (zeroDecimal places) w v = putDecimal places false 0 (blanks w)
@@ -342,8 +342,8 @@ isMark (mark set) = true
 isMark (words bytes) = false
 
 -- the letter of an identifier is a capital, and its number is not 0
-abbrev pub isName : ℕ → Bool
-isName code = within 65 90 (code / 10 / 10) && ltb 0 (code / 10 % 10 * 10 + code % 10)
+abbrev pub isIdentifier : ℕ → Bool
+isIdentifier code = within 65 90 (code / 10 / 10) && ltb 0 (code / 10 % 10 * 10 + code % 10)
 
 -- a magnitude within its bound that fits its columns, and no minus zero
 abbrev pub canAmount : ℕ → ℕ → Bool → ℕ → Bool
@@ -361,7 +361,7 @@ holdsIn exponent w v = numberWith (λ n. eqb n unknown || fitsWhole w n) v
 holdsIn (flag sign) w v = isMark v
 holdsIn (letter these) w v = numberWith (λ b. isOneOf b these) v
 holdsIn (listed these) w v = wordsWith (λ bytes. isListed bytes these) v
-holdsIn identifier w v = numberWith isName v
+holdsIn identifier w v = numberWith isIdentifier v
 holdsIn filler w v = numberWith (λ n. eqb n 0) v
 holdsIn zeroWhole w v = isNothing v
 holdsIn (zeroDecimal places) w v = isNothing v

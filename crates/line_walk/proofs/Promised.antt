@@ -16,7 +16,7 @@ use prog.Memory.{Memory}
 use prog.Routine.{Routine}
 use prog.Wp.{Heap}
 use Rattle.header.specs.Rules.{d}
-use Rattle.machine.specs.Step.{lineNames}
+use Rattle.machine.specs.Step.{lineIdentifiers}
 use Rattle.line_walk.specs.Spots.{spotAfter}
 use Rattle.line_walk.specs.declared.Spot.{Spot}
 use Rattle.line_walk.specs.declared.Walker.{Walker}
@@ -30,10 +30,10 @@ pub record Begins (file : RefT (List ℕ)) (spot : Spot) (w : Walker) : Type 0 w
   pub spot-is : w .spot ≡ spot
 
 -- a walker v, moved from w with these names, which are then `kept`: the same file, the spot after the line, the list after it
-pub record Moves (w : Walker) (names : List ℕ) (v : Walker) (kept : List ℕ) : Type 0 where
+pub record Moves (w : Walker) (identifiers : List ℕ) (v : Walker) (kept : List ℕ) : Type 0 where
   pub file : v .file ≡ w .file
-  pub spot : v .spot ≡ spotAfter d (now (w .file)) names (w .spot)
-  pub names-are : kept ≡ lineNames d (now (w .file)) (w .spot .at) (w .spot .state) names
+  pub spot : v .spot ≡ spotAfter d (now (w .file)) identifiers (w .spot)
+  pub identifiers-are : kept ≡ lineIdentifiers d (now (w .file)) (w .spot .at) (w .spot .state) identifiers
 
 module _ {M : Type 1} (𝓤 : URA M) (H : Heap 𝓤) (A : Atoms 𝓤) (mem : Memory → SProp 𝓤) (run : Routine → Fun 𝓤) where
   -- THE CONTRACT OF `new`: of every outcome that it allows this is so
@@ -47,4 +47,4 @@ module _ {M : Type 1} (𝓤 : URA M) (H : Heap 𝓤) (A : Atoms 𝓤) (mem : Mem
   pub moved-moves : (κs : Lfts 2) (a : Args moved.signature κs) (v : Res moved.signature κs) (s : AtExit moved.ended κs)
       → ent 𝓤 (moved.clauses 𝓤 H A mem run κs a .ensures tt v s) (fact 𝓤 (Moves (a .0) (now (a .1 .0)) v (now (s .1 .0))))
   moved-moves κs a v s =
-      both 𝓤 _ _ (Moves (a .0) (now (a .1 .0)) v (now (s .1 .0))) (λ p q. record { file = p .0; spot = p .1; names-are = q })
+      both 𝓤 _ _ (Moves (a .0) (now (a .1 .0)) v (now (s .1 .0))) (λ p q. record { file = p .0; spot = p .1; identifiers-are = q })

@@ -4,7 +4,7 @@ use mathlib.Core.List.{List}
 use Prim.Native.Nat.{ℕ, zero, suc}
 use Rattle.header.specs.declared.types.Rules.{Rules}
 use Rattle.machine.specs.State.{startState}
-use Rattle.machine.specs.Step.{lineRead, lineNames}
+use Rattle.machine.specs.Step.{lineRead, lineIdentifiers}
 use Rattle.machine.specs.declared.types.LineRead.{LineRead}
 use Rattle.machine.specs.declared.types.LineRead.the-variants as found
 use Rattle.line_walk.specs.declared.Spot.{Spot}
@@ -22,13 +22,13 @@ goneTo (found.Finished at) p = p
 
 -- the spot after the line at a spot
 unfoldable pub spotAfter : Rules → List ℕ → List ℕ → Spot → Spot
-spotAfter rules file names p = goneTo (lineRead rules file (p .at) (p .state) names) p
+spotAfter rules file identifiers p = goneTo (lineRead rules file (p .at) (p .state) identifiers) p
 
 -- so many lines further, where each line's identifiers are kept: the spot, and the identifiers there
 unfoldable pub spotsAfter : Rules → List ℕ → List ℕ → Spot → ℕ → Spot
-spotsAfter rules file names p zero = p
-spotsAfter rules file names p (suc k) = spotsAfter rules file (lineNames rules file (p .at) (p .state) names) (spotAfter rules file names p) k
+spotsAfter rules file identifiers p zero = p
+spotsAfter rules file identifiers p (suc k) = spotsAfter rules file (lineIdentifiers rules file (p .at) (p .state) identifiers) (spotAfter rules file identifiers p) k
 
 unfoldable pub identifiersPast : Rules → List ℕ → List ℕ → Spot → ℕ → List ℕ
-identifiersPast rules file names p zero = names
-identifiersPast rules file names p (suc k) = identifiersPast rules file (lineNames rules file (p .at) (p .state) names) (spotAfter rules file names p) k
+identifiersPast rules file identifiers p zero = identifiers
+identifiersPast rules file identifiers p (suc k) = identifiersPast rules file (lineIdentifiers rules file (p .at) (p .state) identifiers) (spotAfter rules file identifiers p) k

@@ -2,7 +2,7 @@
 // a walker takes it apart and calls the plain line reader; `after_lines` stands above them and has plain parameters.
 ghost use mathlib.Core.Path.{_≡_};
 ghost use Rattle.header.specs.Rules.{d};
-ghost use Rattle.machine.specs.Step.{lineRead, lineNames};
+ghost use Rattle.machine.specs.Step.{lineRead, lineIdentifiers};
 ghost use Rattle.machine.specs.Told.{toldRead};
 ghost use Rattle.line_walk.specs.Spots.{firstSpot, spotAfter, spotsAfter, identifiersPast};
 use header::Rules;
@@ -32,22 +32,22 @@ pub fn first_spot() -> Spot
     }
 }
 
-// The plain line reader at a spot: what the line there does, and where the next begins; a `+ ` line leaves its identifiers in `names`.
-pub fn read_at<'a, 'b>(file: &'a [u8], spot: Spot, names: &'b mut [u64]) -> LineRead
-    ensures result { λ r. ⌜ toldRead r ≡ toldRead (lineRead d (now (file .entry)) (spot .at) (spot .state) (now (names .entry))) ⌝ }
-    ensures lent { λ _. ⌜ now (names .exit) ≡ lineNames d (now (file .entry)) (spot .at) (spot .state) (now (names .entry)) ⌝ }
+// The plain line reader at a spot: what the line there does, and where the next begins; a `+ ` line leaves its identifiers in `identifiers`.
+pub fn read_at<'a, 'b>(file: &'a [u8], spot: Spot, identifiers: &'b mut [u64]) -> LineRead
+    ensures result { λ r. ⌜ toldRead r ≡ toldRead (lineRead d (now (file .entry)) (spot .at) (spot .state) (now (identifiers .entry))) ⌝ }
+    ensures lent { λ _. ⌜ now (identifiers .exit) ≡ lineIdentifiers d (now (file .entry)) (spot .at) (spot .state) (now (identifiers .entry)) ⌝ }
 {
     let at = spot.at;
     let state = spot.state;
-    machine::read_line(Rules::d(), file, at, state, names)
+    machine::read_line(Rules::d(), file, at, state, identifiers)
 }
 
 // The spot after that line; the same spot where no line is left, where the line is refused and where it ends the file.
-pub fn spot_after<'a, 'b>(file: &'a [u8], spot: Spot, names: &'b mut [u64]) -> Spot
-    ensures result { λ r. ⌜ r ≡ spotAfter d (now (file .entry)) (now (names .entry)) spot ⌝ }
-    ensures lent { λ _. ⌜ now (names .exit) ≡ lineNames d (now (file .entry)) (spot .at) (spot .state) (now (names .entry)) ⌝ }
+pub fn spot_after<'a, 'b>(file: &'a [u8], spot: Spot, identifiers: &'b mut [u64]) -> Spot
+    ensures result { λ r. ⌜ r ≡ spotAfter d (now (file .entry)) (now (identifiers .entry)) spot ⌝ }
+    ensures lent { λ _. ⌜ now (identifiers .exit) ≡ lineIdentifiers d (now (file .entry)) (spot .at) (spot .state) (now (identifiers .entry)) ⌝ }
 {
-    match read_at(file, spot, names) {
+    match read_at(file, spot, identifiers) {
         LineRead::Next { at, state } => Spot { at, state },
         LineRead::NoLine => spot,
         LineRead::Fault {
@@ -66,23 +66,20 @@ pub fn new<'a>(file: &'a [u8], spot: Spot) -> Walker<'a>
 }
 
 // What the line at the walker's spot does.
-pub fn next<'a, 'b>(w: Walker<'a>, names: &'b mut [u64]) -> LineRead
-    ensures result { λ r. ⌜ toldRead r ≡ toldRead (lineRead d (now (w .entry .file)) (w .entry .spot .at) (w .entry .spot .state) (now (names .entry))) ⌝ }
-    ensures lent { λ _. ⌜ now (names .exit) ≡ lineNames d (now (w .entry .file)) (w .entry .spot .at) (w .entry .spot .state) (now (names .entry)) ⌝ }
+pub fn next<'a, 'b>(w: Walker<'a>, identifiers: &'b mut [u64]) -> LineRead
+    ensures result { λ r. ⌜ toldRead r ≡ toldRead (lineRead d (now (w .entry .file)) (w .entry .spot .at) (w .entry .spot .state) (now (identifiers .entry))) ⌝ }
+    ensures lent { λ _. ⌜ now (identifiers .exit) ≡ lineIdentifiers d (now (w .entry .file)) (w .entry .spot .at) (w .entry .spot .state) (now (identifiers .entry)) ⌝ }
 {
-    read_at(w.file, w.spot, names)
+    read_at(w.file, w.spot, identifiers)
 }
 
 // The walker after that line: the same file, and the next spot.
-pub fn moved<'a, 'b>(w: Walker<'a>, names: &'b mut [u64]) -> Walker<'a>
-    ensures result { λ v. ⌜ (v .file ≡ w .entry .file) × (v .spot ≡ spotAfter d (now (w .entry .file)) (now (names .entry)) (w .entry .spot)) ⌝ }
-    ensures lent { λ _. ⌜ now (names .exit) ≡ lineNames d (now (w .entry .file)) (w .entry .spot .at) (w .entry .spot .state) (now (names .entry)) ⌝ }
+pub fn moved<'a, 'b>(w: Walker<'a>, identifiers: &'b mut [u64]) -> Walker<'a>
+    ensures result { λ v. ⌜ (v .file ≡ w .entry .file) × (v .spot ≡ spotAfter d (now (w .entry .file)) (now (identifiers .entry)) (w .entry .spot)) ⌝ }
+    ensures lent { λ _. ⌜ now (identifiers .exit) ≡ lineIdentifiers d (now (w .entry .file)) (w .entry .spot .at) (w .entry .spot .state) (now (identifiers .entry)) ⌝ }
 {
-    let spot = spot_after(w.file, w.spot, names);
-    Walker {
-        file: w.file,
-        spot,
-    }
+    let spot = spot_after(w.file, w.spot, identifiers);
+    Walker { file: w.file, spot }
 }
 
 // The spot alone.
@@ -97,15 +94,15 @@ pub fn after_lines<'a, 'b>(
     file: &'a [u8],
     spot: Spot,
     lines: usize,
-    names: &'b mut [u64],
+    identifiers: &'b mut [u64],
 ) -> Spot
-    ensures result { λ r. ⌜ r ≡ spotsAfter d (now (file .entry)) (now (names .entry)) spot lines ⌝ }
-    ensures lent { λ _. ⌜ now (names .exit) ≡ identifiersPast d (now (file .entry)) (now (names .entry)) spot lines ⌝ }
+    ensures result { λ r. ⌜ r ≡ spotsAfter d (now (file .entry)) (now (identifiers .entry)) spot lines ⌝ }
+    ensures lent { λ _. ⌜ now (identifiers .exit) ≡ identifiersPast d (now (file .entry)) (now (identifiers .entry)) spot lines ⌝ }
 {
     let mut w = new(file, spot);
     let mut left = lines;
     while 0 < left {
-        w = moved(w, names);
+        w = moved(w, identifiers);
         left -= 1;
     }
     spot_of(w)

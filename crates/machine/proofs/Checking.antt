@@ -57,12 +57,12 @@ module _ (s : List ℕ) (i : ℕ) where
   unprintable-end h = rw (rest-none s i h) (omega arith)
 
 -- one name more of those among which one is looked for, or of which each must begin with a letter
-pub among-step : (name : ℕ) (names : List ℕ) (i : ℕ) → i < length names
-    → isOneOf name (drop i names) ≡ (eqb name (getD names i 0) || isOneOf name (drop (i + 1) names))
-among-step name names i h = rw (rest-step names i h)
+pub among-step : (identifier : ℕ) (identifiers : List ℕ) (i : ℕ) → i < length identifiers
+    → isOneOf identifier (drop i identifiers) ≡ (eqb identifier (getD identifiers i 0) || isOneOf identifier (drop (i + 1) identifiers))
+among-step identifier identifiers i h = rw (rest-step identifiers i h)
 
-pub among-end : (name : ℕ) (names : List ℕ) (i : ℕ) → length names ≤ i → isOneOf name (drop i names) ≡ false
-among-end name names i h = rw (rest-none names i h)
+pub among-end : (identifier : ℕ) (identifiers : List ℕ) (i : ℕ) → length identifiers ≤ i → isOneOf identifier (drop i identifiers) ≡ false
+among-end identifier identifiers i h = rw (rest-none identifiers i h)
 
 pub every-step : (test : ℕ → Bool) (s : List ℕ) (i : ℕ) → i < length s
     → every test (drop i s) ≡ (test (getD s i 0) && every test (drop (i + 1) s))
@@ -72,10 +72,10 @@ pub every-end : (test : ℕ → Bool) (s : List ℕ) (i : ℕ) → length s ≤ 
 every-end test s i h = rw (rest-none s i h)
 
 -- among the names of two lists: among those of one
-pub among-append : (name : ℕ) (s t : List ℕ) → isOneOf name (s ++ t) ≡ (isOneOf name s || isOneOf name t)
-among-append name [] t = refl
-among-append name (n ∷ s) t =
-    ap (λ (b : Bool). eqb name n || b) (among-append name s t) ∙ sym (or-assoc (eqb name n) (isOneOf name s) (isOneOf name t))
+pub among-append : (identifier : ℕ) (s t : List ℕ) → isOneOf identifier (s ++ t) ≡ (isOneOf identifier s || isOneOf identifier t)
+among-append identifier [] t = refl
+among-append identifier (n ∷ s) t =
+    ap (λ (b : Bool). eqb identifier n || b) (among-append identifier s t) ∙ sym (or-assoc (eqb identifier n) (isOneOf identifier s) (isOneOf identifier t))
 
 -- the names of a line one after the other, those before the place known too; `take (i - 0)` is the part `[0..i]`
 pub repeats-start : (known new : List ℕ) → repeats (known ++ take 0 new) (drop 0 new) ≡ repeats known new

@@ -25,9 +25,9 @@ use Rattle.record.proofs.Determined.{toldKind-one}
 use Rattle.header.specs.declared.types.Rules.{Rules}
 use Rattle.record.specs.declared.types.LineKind.{LineKind}
 use Rattle.machine.specs.Checks.{firstUnprintable}
-use Rattle.machine.specs.State.{seen, namesIn, fitBehind, laidBehind, hasRoom, identifiersJoined}
+use Rattle.machine.specs.State.{seen, identifiersIn, fitBehind, laidBehind, hasRoom, identifiersJoined}
 use Rattle.machine.specs.Faults.{longest}
-use Rattle.machine.specs.Step.{judgedLine, printedLine, stepOf, namesBrought, keptOn, namesKept, findsRoom, ifRoom, stepWithin, readAs, readFirst, namesFirst, lineKnown, lineRead, lineNames}
+use Rattle.machine.specs.Step.{judgedLine, printedLine, stepOf, identifiersBrought, keptOn, identifiersKept, findsRoom, ifRoom, stepWithin, readAs, readFirst, identifiersFirst, lineKnown, lineRead, lineIdentifiers}
 use Rattle.machine.specs.Told.{toldRead}
 use Rattle.machine.proofs.Told.{toldRead-one}
 use Rattle.machine.proofs.types.LineRead.{the-type}
@@ -53,10 +53,10 @@ pub padded-plain : (line : List ℕ) → length line ≤ 80 → every isPrintabl
 unfolding padded
 padded-plain line h = columns-plain line 80 80 h
 
-module _ (rules : Rules) (s : State) (names line : List ℕ) where
+module _ (rules : Rules) (s : State) (identifiers line : List ℕ) where
   -- a byte outside 32 to 126
   pub unprintable : (column : ℕ) → every isPrintable line ≡ false → column ≡ firstUnprintable line
-      → verdict.Fault 2 column ≡ stepOf rules s names line
+      → verdict.Fault 2 column ≡ stepOf rules s identifiers line
   unfolding stepOf
   unprintable column e at = rw (e, at)
 
@@ -66,23 +66,23 @@ module _ (rules : Rules) (s : State) (names line : List ℕ) where
     kind-is : kind ≡ kindOf rules (padded line)
     kind-is = toldKind-one kind (kindOf rules pad) told ∙ ap (kindOf rules) pad-is
 
-    printed : printedLine kind rules s names line ≡ stepOf rules s names line
+    printed : printedLine kind rules s identifiers line ≡ stepOf rules s identifiers line
     unfolding stepOf
     printed = rw (printable, sym kind-is)
 
-    long : most < length line → verdict.Fault 3 (most + 1) ≡ printedLine kind rules s names line
+    long : most < length line → verdict.Fault 3 (most + 1) ≡ printedLine kind rules s identifiers line
     unfolding printedLine
     long h = rw (← most-is, lt-leb (length line) most h)
 
-    pub too-long : most < length line → verdict.Fault 3 (most + 1) ≡ stepOf rules s names line
+    pub too-long : most < length line → verdict.Fault 3 (most + 1) ≡ stepOf rules s identifiers line
     too-long h = long h ∙ printed
 
-    fits : length line ≤ most → judgedLine kind rules s names (padded line) ≡ printedLine kind rules s names line
+    fits : length line ≤ most → judgedLine kind rules s identifiers (padded line) ≡ printedLine kind rules s identifiers line
     unfolding printedLine
     fits h = rw (← most-is, le-leb (length line) most h)
 
-    pub short-enough : (v : Verdict) → length line ≤ most → v ≡ judgedLine kind rules s names pad → v ≡ stepOf rules s names line
-    short-enough v h e = e ∙ ap (judgedLine kind rules s names) pad-is ∙ fits h ∙ printed
+    pub short-enough : (v : Verdict) → length line ≤ most → v ≡ judgedLine kind rules s identifiers pad → v ≡ stepOf rules s identifiers line
+    short-enough v h e = e ∙ ap (judgedLine kind rules s identifiers) pad-is ∙ fits h ∙ printed
 
 -- Numbers laid into a list behind its first `from`, where they fit and where not.
 module _ (from : ℕ) (new list : List ℕ) where
@@ -122,27 +122,27 @@ module _ (from : ℕ) (new list : List ℕ) where
 
 -- those of the first `+ ` line, and those of a further one
 module _ (rules : Rules) (s : State) (line new : List ℕ) where
-  pub first-names : s .satellites ≡ 0 → new ≡ take (satellitesOf rules line .count) (satellitesOf rules line .names) → new ≡ namesIn rules s line
-  unfolding namesIn
-  first-names e is = is ∙ rw (eq-eqb (s .satellites) 0 e)
+  pub first-identifiers : s .satellites ≡ 0 → new ≡ take (satellitesOf rules line .count) (satellitesOf rules line .identifiers) → new ≡ identifiersIn rules s line
+  unfolding identifiersIn
+  first-identifiers e is = is ∙ rw (eq-eqb (s .satellites) 0 e)
 
-  pub further-names : (s .satellites ≡ 0 → ⊥) → new ≡ take (s .left) (moreOf false (s .left) line .values) → new ≡ namesIn rules s line
-  unfolding namesIn
-  further-names e is = is ∙ rw (ne-eqb (s .satellites) 0 e)
+  pub further-identifiers : (s .satellites ≡ 0 → ⊥) → new ≡ take (s .left) (moreOf false (s .left) line .values) → new ≡ identifiersIn rules s line
+  unfolding identifiersIn
+  further-identifiers e is = is ∙ rw (ne-eqb (s .satellites) 0 e)
 
 -- the room for them and the list after them, by what the code has in hand
-pub kept-so : (rules : Rules) (s : State) (names line pad new : List ℕ) (from : ℕ) → pad ≡ padded line → from ≡ seen s → new ≡ namesIn rules s pad
-    → (fitBehind from new names ≡ hasRoom rules s names (padded line)) × (laidBehind from new names ≡ identifiersJoined rules s names (padded line))
+pub kept-so : (rules : Rules) (s : State) (identifiers line pad new : List ℕ) (from : ℕ) → pad ≡ padded line → from ≡ seen s → new ≡ identifiersIn rules s pad
+    → (fitBehind from new identifiers ≡ hasRoom rules s identifiers (padded line)) × (laidBehind from new identifiers ≡ identifiersJoined rules s identifiers (padded line))
 unfolding hasRoom identifiersJoined
-kept-so rules s names line pad new from pad-is from-is new-is = rw (new-is, from-is, pad-is) (refl, refl)
+kept-so rules s identifiers line pad new from pad-is from-is new-is = rw (new-is, from-is, pad-is) (refl, refl)
 
 -- a line keeps the number of places for identifiers
-pub brought-length : (rules : Rules) (s : State) (names line : List ℕ) → length (namesBrought rules s names line) ≡ length names
-unfolding namesBrought identifiersJoined
-brought-length rules s names line = go (eqb (s .due) 3) refl
+pub brought-length : (rules : Rules) (s : State) (identifiers line : List ℕ) → length (identifiersBrought rules s identifiers line) ≡ length identifiers
+unfolding identifiersBrought identifiersJoined
+brought-length rules s identifiers line = go (eqb (s .due) 3) refl
   where
-    go : (due : Bool) → eqb (s .due) 3 ≡ due → length (namesBrought rules s names line) ≡ length names
-    go true e = rw e (laid-length (seen s) (namesIn rules s (padded line)) names)
+    go : (due : Bool) → eqb (s .due) 3 ≡ due → length (identifiersBrought rules s identifiers line) ≡ length identifiers
+    go true e = rw e (laid-length (seen s) (identifiersIn rules s (padded line)) identifiers)
     go false e = rw e
 
 -- The line at a place of some bytes, by what lines do.
@@ -168,27 +168,27 @@ module _ (does : List ℕ → Verdict) (bytes : List ℕ) (at end : ℕ) (ended 
     judged-read v judged = rw (first-line bytes at end ended h, ← judged, next-place)
 
 -- What the line reader makes of the line that was found where the identifiers are known.
-module _ (rules : Rules) (bytes : List ℕ) (at : ℕ) (s : State) (names : List ℕ) where
+module _ (rules : Rules) (bytes : List ℕ) (at : ℕ) (s : State) (identifiers : List ℕ) where
   -- a reading and the identifiers beside it are those of the line reader
   abbrev pub ReadAs : LineRead → List ℕ → Type 0
-  ReadAs r kept = (toldRead r ≡ toldRead (lineRead rules bytes at s names)) × (kept ≡ lineNames rules bytes at s names)
+  ReadAs r kept = (toldRead r ≡ toldRead (lineRead rules bytes at s identifiers)) × (kept ≡ lineIdentifiers rules bytes at s identifiers)
 
   -- where no line goes on: the same, and no identifier is kept
-  none-brought : (ls : List (List ℕ)) → OneOf (0 ∷ 1 ∷ 3 ∷ []) (tagOf the-type (readFirst (stepOf rules s names) at ls))
-      → (readFirst (stepOf rules s names) at ls ≡ readFirst (stepWithin rules s names) at ls) × (names ≡ namesFirst rules s names ls)
-  unfolding readFirst namesFirst namesKept stepWithin
+  none-brought : (ls : List (List ℕ)) → OneOf (0 ∷ 1 ∷ 3 ∷ []) (tagOf the-type (readFirst (stepOf rules s identifiers) at ls))
+      → (readFirst (stepOf rules s identifiers) at ls ≡ readFirst (stepWithin rules s identifiers) at ls) × (identifiers ≡ identifiersFirst rules s identifiers ls)
+  unfolding readFirst identifiersFirst identifiersKept stepWithin
   none-brought [] k = (refl, refl)
-  none-brought (l ∷ ls) k = go (findsRoom rules s names l) (stepOf rules s names l) k
+  none-brought (l ∷ ls) k = go (findsRoom rules s identifiers l) (stepOf rules s identifiers l) k
     where
       go : (roomy : Bool) (v : Verdict) → OneOf (0 ∷ 1 ∷ 3 ∷ []) (tagOf the-type (readAs v (at + length l + 1)))
-          → (readAs v (at + length l + 1) ≡ readAs (ifRoom roomy v) (at + length l + 1)) × (names ≡ keptOn v rules s names l)
+          → (readAs v (at + length l + 1) ≡ readAs (ifRoom roomy v) (at + length l + 1)) × (identifiers ≡ keptOn v rules s identifiers l)
       go roomy (verdict.Fault number column) h = (refl, refl)
       go roomy (verdict.Next s′) h = absurd (miss (0 ∷ 1 ∷ 3 ∷ []) 2 tt h)
       go roomy verdict.Finished h = (refl, refl)
 
-  pub read-same : (r : LineRead) → toldRead r ≡ toldRead (lineKnown rules bytes at s names) → OneOf (0 ∷ 1 ∷ 3 ∷ []) (tagOf the-type r) → ReadAs r names
+  pub read-same : (r : LineRead) → toldRead r ≡ toldRead (lineKnown rules bytes at s identifiers) → OneOf (0 ∷ 1 ∷ 3 ∷ []) (tagOf the-type r) → ReadAs r identifiers
   read-same r told k =
-      let same = toldRead-one r (lineKnown rules bytes at s names) told in
+      let same = toldRead-one r (lineKnown rules bytes at s identifiers) told in
       let none = none-brought (linesOf (drop at bytes)) (subst (λ (x : LineRead). OneOf (0 ∷ 1 ∷ 3 ∷ []) (tagOf the-type x)) same k) in
       (ap toldRead (same ∙ none .0), none .1)
 
@@ -199,17 +199,17 @@ module _ (rules : Rules) (bytes : List ℕ) (at : ℕ) (s : State) (names : List
     lines-are : linesOf (drop at bytes) ≡ line ∷ after
     place-is : at + length line + 1 ≡ place
     pub lined-so : Lined bytes at place line after
-    does : stepOf rules s names line ≡ verdict.Next s′
+    does : stepOf rules s identifiers line ≡ verdict.Next s′
 
-  goes-by : (ls : List (List ℕ)) (place : ℕ) (s′ : State) → linesOf (drop at bytes) ≡ ls → readFirst (stepOf rules s names) at ls ≡ found.Next place s′ → Goes place s′
+  goes-by : (ls : List (List ℕ)) (place : ℕ) (s′ : State) → linesOf (drop at bytes) ≡ ls → readFirst (stepOf rules s identifiers) at ls ≡ found.Next place s′ → Goes place s′
   unfolding readFirst
   goes-by [] place s′ e r = absurd (other-tag r)
     where
       other-tag : found.NoLine ≡ found.Next place s′ → ⊥
       other-tag x = let z : _≡_ {A = ℕ} 0 1 = cc in absurd (omega arith)
-  goes-by (l ∷ ls) place s′ e r = go (stepOf rules s names l) refl r
+  goes-by (l ∷ ls) place s′ e r = go (stepOf rules s identifiers l) refl r
     where
-      go : (v : Verdict) → stepOf rules s names l ≡ v → readAs v (at + length l + 1) ≡ found.Next place s′ → Goes place s′
+      go : (v : Verdict) → stepOf rules s identifiers l ≡ v → readAs v (at + length l + 1) ≡ found.Next place s′ → Goes place s′
       go (verdict.Fault number column) is x = let z : _≡_ {A = ℕ} 0 1 = cc in absurd (omega arith)
       go verdict.Finished is x = let z : _≡_ {A = ℕ} 0 1 = cc in absurd (omega arith)
       go (verdict.Next s″) is x =
@@ -224,9 +224,9 @@ module _ (rules : Rules) (bytes : List ℕ) (at : ℕ) (s : State) (names : List
             does = is ∙ ap verdict.Next state;
           }
 
-  module _ (r : LineRead) (place : ℕ) (s′ : State) (told : toldRead r ≡ toldRead (lineKnown rules bytes at s names)) (is : r ≡ found.Next place s′) where
+  module _ (r : LineRead) (place : ℕ) (s′ : State) (told : toldRead r ≡ toldRead (lineKnown rules bytes at s identifiers)) (is : r ≡ found.Next place s′) where
     pub goes-on : Goes place s′
-    goes-on = goes-by (linesOf (drop at bytes)) place s′ refl (sym (toldRead-one r (lineKnown rules bytes at s names) told) ∙ is)
+    goes-on = goes-by (linesOf (drop at bytes)) place s′ refl (sym (toldRead-one r (lineKnown rules bytes at s identifiers) told) ∙ is)
 
     abbrev g : Goes place s′
     g = goes-on
@@ -235,49 +235,49 @@ module _ (rules : Rules) (bytes : List ℕ) (at : ℕ) (s : State) (names : List
     text-is = g .lined-so .text
 
     -- the line reader's answer and the list after it, by the room for a line
-    read-by : (roomy : Bool) → roomy ≡ findsRoom rules s names (g .line) → readAs (ifRoom roomy (verdict.Next s′)) place ≡ lineRead rules bytes at s names
+    read-by : (roomy : Bool) → roomy ≡ findsRoom rules s identifiers (g .line) → readAs (ifRoom roomy (verdict.Next s′)) place ≡ lineRead rules bytes at s identifiers
     unfolding readFirst stepWithin
     read-by roomy e = rw (g .lines-are, g .does, g .place-is, ← e)
 
-    kept-by : namesBrought rules s names (g .line) ≡ lineNames rules bytes at s names
-    unfolding namesFirst namesKept
+    kept-by : identifiersBrought rules s identifiers (g .line) ≡ lineIdentifiers rules bytes at s identifiers
+    unfolding identifiersFirst identifiersKept
     kept-by = rw (g .lines-are, g .does)
 
     -- where no `+ ` line is due
-    pub read-other : (s .due ≡ 3 → ⊥) → ReadAs (found.Next place s′) names
-    unfolding namesBrought
+    pub read-other : (s .due ≡ 3 → ⊥) → ReadAs (found.Next place s′) identifiers
+    unfolding identifiersBrought
     read-other not-due =
         let not-three = ne-eqb (s .due) 3 not-due in
-        let free : true ≡ findsRoom rules s names (g .line) = rw not-three in
-        let same : names ≡ namesBrought rules s names (g .line) = rw not-three in
+        let free : true ≡ findsRoom rules s identifiers (g .line) = rw not-three in
+        let same : identifiers ≡ identifiersBrought rules s identifiers (g .line) = rw not-three in
         (ap toldRead (read-by true free), same ∙ kept-by)
 
     -- where one is due, by the room for what it brings
-    pub read-names : s .due ≡ 3 → (roomy : Bool) (kept : List ℕ) → let text = take (place - 1 - at) (drop at bytes) in
-        roomy ≡ hasRoom rules s names (padded text) → kept ≡ identifiersJoined rules s names (padded text)
+    pub read-identifiers : s .due ≡ 3 → (roomy : Bool) (kept : List ℕ) → let text = take (place - 1 - at) (drop at bytes) in
+        roomy ≡ hasRoom rules s identifiers (padded text) → kept ≡ identifiersJoined rules s identifiers (padded text)
         → ReadAs (readAs (ifRoom roomy (verdict.Next s′)) place) kept
-    unfolding namesBrought
-    read-names due roomy kept e k =
+    unfolding identifiersBrought
+    read-identifiers due roomy kept e k =
         let three = eq-eqb (s .due) 3 due in
-        let room : roomy ≡ findsRoom rules s names (g .line) = rw three (e ∙ ap (λ (l : List ℕ). hasRoom rules s names (padded l)) text-is) in
-        let new : kept ≡ namesBrought rules s names (g .line) = rw three (k ∙ ap (λ (l : List ℕ). identifiersJoined rules s names (padded l)) text-is) in
+        let room : roomy ≡ findsRoom rules s identifiers (g .line) = rw three (e ∙ ap (λ (l : List ℕ). hasRoom rules s identifiers (padded l)) text-is) in
+        let new : kept ≡ identifiersBrought rules s identifiers (g .line) = rw three (k ∙ ap (λ (l : List ℕ). identifiersJoined rules s identifiers (padded l)) text-is) in
         (ap toldRead (read-by roomy room), new ∙ kept-by)
 
 -- The list after a line, by what the line reader makes of it: without room it is as it was.
-module _ (rules : Rules) (s : State) (names l : List ℕ) where
-  no-room : findsRoom rules s names l ≡ false → namesBrought rules s names l ≡ names
-  unfolding namesBrought identifiersJoined laidBehind hasRoom
+module _ (rules : Rules) (s : State) (identifiers l : List ℕ) where
+  no-room : findsRoom rules s identifiers l ≡ false → identifiersBrought rules s identifiers l ≡ identifiers
+  unfolding identifiersBrought identifiersJoined laidBehind hasRoom
   no-room e = go (eqb (s .due) 3) refl
     where
-      go : (due : Bool) → eqb (s .due) 3 ≡ due → namesBrought rules s names l ≡ names
-      go true three = let none : hasRoom rules s names (padded l) ≡ false = rw three at e in rw (three, none)
+      go : (due : Bool) → eqb (s .due) 3 ≡ due → identifiersBrought rules s identifiers l ≡ identifiers
+      go true three = let none : hasRoom rules s identifiers (padded l) ≡ false = rw three at e in rw (three, none)
       go false three = rw three
 
-  pub kept-within : (v : Verdict) → stepWithin rules s names l ≡ v → namesKept rules s names l ≡ keptOn v rules s names l
-  unfolding stepWithin namesKept
-  kept-within v e = go (findsRoom rules s names l) refl (stepOf rules s names l) ∙ ap (λ (x : Verdict). keptOn x rules s names l) e
+  pub kept-within : (v : Verdict) → stepWithin rules s identifiers l ≡ v → identifiersKept rules s identifiers l ≡ keptOn v rules s identifiers l
+  unfolding stepWithin identifiersKept
+  kept-within v e = go (findsRoom rules s identifiers l) refl (stepOf rules s identifiers l) ∙ ap (λ (x : Verdict). keptOn x rules s identifiers l) e
     where
-      go : (roomy : Bool) → findsRoom rules s names l ≡ roomy → (w : Verdict) → keptOn w rules s names l ≡ keptOn (ifRoom (findsRoom rules s names l) w) rules s names l
+      go : (roomy : Bool) → findsRoom rules s identifiers l ≡ roomy → (w : Verdict) → keptOn w rules s identifiers l ≡ keptOn (ifRoom (findsRoom rules s identifiers l) w) rules s identifiers l
       go roomy is (verdict.Fault number column) = refl
       go true is (verdict.Next s′) = rw is
       go false is (verdict.Next s′) = rw is (no-room is)

@@ -38,12 +38,12 @@ secondAgrees start8 s =
 -- one of the new identifiers stands among those known or earlier among the new
 unfoldable pub repeats : List ℕ → List ℕ → Bool
 repeats known [] = false
-repeats known (name ∷ names) = isOneOf name known || repeats (known ++ (name ∷ [])) names
+repeats known (identifier ∷ identifiers) = isOneOf identifier known || repeats (known ++ (identifier ∷ [])) identifiers
 
 -- the letter of an identifier that is held as one number
 abbrev pub letterOf : ℕ → ℕ
-letterOf name = name / 100
+letterOf identifier = identifier / 100
 
 -- "A type other than M needs all identifiers to begin with it."
 unfoldable pub typeAgrees : ℕ → List ℕ → Bool
-typeAgrees fileType names = eqb fileType 77 || every (λ name. eqb (letterOf name) fileType) names
+typeAgrees fileType identifiers = eqb fileType 77 || every (λ identifier. eqb (letterOf identifier) fileType) identifiers

@@ -7,7 +7,7 @@ use Prim.Native.Nat.{ℕ, _+_, min}
 use lib.Dec.{eqb}
 use lib.ListN.{take}
 use Rattle.layout.specs.Fault.{keyed, lower}
-use Rattle.layout.specs.Kind.{unless, nameCode}
+use Rattle.layout.specs.Kind.{unless, identifierCode}
 use Rattle.layout.specs.Layout.{faultOf}
 use Rattle.record.specs.Opening.{firstOf, secondOf, epochOf}
 use Rattle.record.specs.SlotLines.{satellitesOf, moreOf}
@@ -18,7 +18,7 @@ use Rattle.header.specs.declared.types.Rules.{Rules}
 use Rattle.record.specs.declared.types.LineKind.{LineKind}
 use Rattle.record.specs.declared.types.LineKind.the-variants as kind
 use Rattle.machine.specs.Checks.{instantIn, secondAgrees, repeats, typeAgrees}
-use Rattle.machine.specs.State.{stands, knownNames, nameDue, isFirst, namesIn}
+use Rattle.machine.specs.State.{stands, knownIdentifiers, identifierDue, isFirst, identifiersIn}
 use Rattle.machine.specs.declared.types.State.{State}
 
 -- the columns that a line of a kind may have: 80, or fewer of a comment where the version says so
@@ -45,15 +45,15 @@ secondFault s line = lower (secondOf line .fault) (unless (secondAgrees (s .at8)
 
 -- a `+ ` line: no identifier repeats
 unfoldable pub satellitesFault : Rules → State → List ℕ → List ℕ → ℕ
-satellitesFault rules s names line =
+satellitesFault rules s identifiers line =
     lower (cond (isFirst s) (satellitesOf rules line .fault) (moreOf false (s .left) line .fault))
-    (unless (not (repeats (knownNames s names) (namesIn rules s line))) 8 0)
+    (unless (not (repeats (knownIdentifiers s identifiers) (identifiersIn rules s line))) 8 0)
 
 -- the first `%c` agrees with the identifiers; the second has placeholders alone
 unfoldable pub charactersFault : State → List ℕ → List ℕ → ℕ
-charactersFault s names line =
+charactersFault s identifiers line =
     cond (eqb (s .lines) 2)
-    (lower (descriptorOf line .fault) (unless (typeAgrees (descriptorOf line .«file_type») (take (s .satellites) names)) 8 0))
+    (lower (descriptorOf line .fault) (unless (typeAgrees (descriptorOf line .«file_type») (take (s .satellites) identifiers)) 8 0))
     (faultOf characterItems line)
 
 -- the first `%f` has the bases; the second has placeholders alone
@@ -66,26 +66,26 @@ epochFault s line = lower (epochOf line .fault) (unless (eqb (instantIn (epochOf
 
 -- a P or V line names the satellite that the header has here
 unfoldable pub namedFault : Bool → State → List ℕ → List ℕ → ℕ
-namedFault velocity s names line = lower (rowFault velocity line) (unless (eqb (nameCode (cut 2 4 line)) (nameDue s names)) 10 0)
+namedFault velocity s identifiers line = lower (rowFault velocity line) (unless (eqb (identifierCode (cut 2 4 line)) (identifierDue s identifiers)) 10 0)
 
 -- the fault of a line of 80 columns, by its kind
 abbrev pub recordFault : LineKind → Rules → State → List ℕ → List ℕ → ℕ
-recordFault kind.Other rules s names line = keyed 4 0
-recordFault kind.First rules s names line = firstOf rules line .fault
-recordFault kind.Second rules s names line = secondFault s line
-recordFault kind.Satellites rules s names line = satellitesFault rules s names line
-recordFault kind.Accuracies rules s names line = moreOf true (s .left) line .fault
-recordFault kind.Characters rules s names line = charactersFault s names line
-recordFault kind.Floats rules s names line = floatsFault s line
-recordFault kind.Integers rules s names line = faultOf integerItems line
-recordFault kind.Comment rules s names line = faultOf commentItems line
-recordFault kind.Epoch rules s names line = epochFault s line
-recordFault kind.Position rules s names line = namedFault false s names line
-recordFault kind.Velocity rules s names line = namedFault true s names line
-recordFault kind.PositionCorrelation rules s names line = faultOf (correlationItems false) line
-recordFault kind.VelocityCorrelation rules s names line = faultOf (correlationItems true) line
-recordFault kind.EndOfFile rules s names line = faultOf endItems line
+recordFault kind.Other rules s identifiers line = keyed 4 0
+recordFault kind.First rules s identifiers line = firstOf rules line .fault
+recordFault kind.Second rules s identifiers line = secondFault s line
+recordFault kind.Satellites rules s identifiers line = satellitesFault rules s identifiers line
+recordFault kind.Accuracies rules s identifiers line = moreOf true (s .left) line .fault
+recordFault kind.Characters rules s identifiers line = charactersFault s identifiers line
+recordFault kind.Floats rules s identifiers line = floatsFault s line
+recordFault kind.Integers rules s identifiers line = faultOf integerItems line
+recordFault kind.Comment rules s identifiers line = faultOf commentItems line
+recordFault kind.Epoch rules s identifiers line = epochFault s line
+recordFault kind.Position rules s identifiers line = namedFault false s identifiers line
+recordFault kind.Velocity rules s identifiers line = namedFault true s identifiers line
+recordFault kind.PositionCorrelation rules s identifiers line = faultOf (correlationItems false) line
+recordFault kind.VelocityCorrelation rules s identifiers line = faultOf (correlationItems true) line
+recordFault kind.EndOfFile rules s identifiers line = faultOf endItems line
 
 -- the fault of a line of 80 columns at its place: 4 where its kind may not stand here
 unfoldable pub standingFault : LineKind → Rules → State → List ℕ → List ℕ → ℕ
-standingFault kind rules s names line = cond (stands s kind) (recordFault kind rules s names line) (keyed 4 0)
+standingFault kind rules s identifiers line = cond (stands s kind) (recordFault kind rules s identifiers line) (keyed 4 0)

@@ -117,15 +117,15 @@ abbrev pub lineLess : ℕ → ℕ → State → State
 lineLess next many s = cond (eqb (s .lines - 1) 0) (expect next many s) (expect (s .due) (s .lines - 1) s)
 
 -- 3, further: seventeen slots less; after the last line as many `++` lines (4), with the slots of all satellites
-unfoldable pub afterNames : State → State
-afterNames s =
+unfoldable pub afterIdentifiers : State → State
+afterIdentifiers s =
     cond (eqb (s .lines - 1) 0)
     (leave (s .satellites) (expect 4 (slotLines (s .satellites)) s))
     (leave (s .left - 17) (expect 3 (s .lines - 1) s))
 
 -- 3: the first, or a further one
 unfoldable pub afterSatellites : Rules → State → List ℕ → State
-afterSatellites rules s line = cond (isFirst s) (afterCount (satellitesOf rules line .count) s) (afterNames s)
+afterSatellites rules s line = cond (isFirst s) (afterCount (satellitesOf rules line .count) s) (afterIdentifiers s)
 
 -- 4: seventeen slots less; after the last line two `%c` (5)
 unfoldable pub afterAccuracies : State → State

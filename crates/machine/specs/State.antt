@@ -29,8 +29,8 @@ startState = record {
 }
 
 -- no identifier is known before the first `+ ` line
-abbrev pub noNames : List ℕ
-noNames = replicate maxSatellites 0
+abbrev pub noIdentifiers : List ℕ
+noIdentifiers = replicate maxSatellites 0
 
 -- a kind of line may stand here: the one that must come, or the other that may
 abbrev pub stands : State → LineKind → Bool
@@ -41,22 +41,22 @@ abbrev pub seen : State → ℕ
 seen s = s .satellites - s .left
 
 -- the identifiers known so far
-abbrev pub knownNames : State → List ℕ → List ℕ
-knownNames s names = take (seen s) names
+abbrev pub knownIdentifiers : State → List ℕ → List ℕ
+knownIdentifiers s identifiers = take (seen s) identifiers
 
 -- the identifier of the satellite whose row must come
-abbrev pub nameDue : State → List ℕ → ℕ
-nameDue s names = getD names (seen s) 0
+abbrev pub identifierDue : State → List ℕ → ℕ
+identifierDue s identifiers = getD identifiers (seen s) 0
 
 -- the first `+ ` line is due as long as no number of satellites is known
 abbrev pub isFirst : State → Bool
 isFirst s = eqb (s .satellites) 0
 
 -- the identifiers that a `+ ` line of 80 columns brings: the first `+ ` line as many as its own number says, a further one as many as are left
-unfoldable pub namesIn : Rules → State → List ℕ → List ℕ
-namesIn rules s line =
+unfoldable pub identifiersIn : Rules → State → List ℕ → List ℕ
+identifiersIn rules s line =
     cond (isFirst s)
-    (take (satellitesOf rules line .count) (satellitesOf rules line .names))
+    (take (satellitesOf rules line .count) (satellitesOf rules line .identifiers))
     (take (s .left) (moreOf false (s .left) line .values))
 
 -- new numbers fit into a list behind its first so many
@@ -69,8 +69,8 @@ laidBehind from new list = cond (fitBehind from new list) (take from list ++ ove
 
 -- the list has room for the identifiers that a `+ ` line brings, behind those known
 unfoldable pub hasRoom : Rules → State → List ℕ → List ℕ → Bool
-hasRoom rules s names line = fitBehind (seen s) (namesIn rules s line) names
+hasRoom rules s identifiers line = fitBehind (seen s) (identifiersIn rules s line) identifiers
 
 -- the identifiers after a `+ ` line
 unfoldable pub identifiersJoined : Rules → State → List ℕ → List ℕ → List ℕ
-identifiersJoined rules s names line = laidBehind (seen s) (namesIn rules s line) names
+identifiersJoined rules s identifiers line = laidBehind (seen s) (identifiersIn rules s line) identifiers

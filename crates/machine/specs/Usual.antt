@@ -4,12 +4,12 @@ use mathlib.Core.List.{List}
 use Prim.Native.Nat.{ℕ}
 use lib.Dec.{eqb, leb}
 use lib.ListN.{length}
-use Rattle.layout.specs.Kind.{nameCode}
+use Rattle.layout.specs.Kind.{identifierCode}
 use Rattle.record.specs.Rows.{cut}
 use Rattle.picture.specs.Picture.{usual}
-use Rattle.machine.specs.State.{nameDue}
+use Rattle.machine.specs.State.{identifierDue}
 use Rattle.machine.specs.declared.types.State.{State}
 
 abbrev pub dueRow : State → List ℕ → List ℕ → List ℕ → Bool
-dueRow s names line columns =
-    (eqb (s .due) 10 && leb (length line) 80) && (usual columns && eqb (nameCode (cut 2 4 columns)) (nameDue s names))
+dueRow s identifiers line columns =
+    (eqb (s .due) 10 && leb (length line) 80) && (usual columns && eqb (identifierCode (cut 2 4 columns)) (identifierDue s identifiers))

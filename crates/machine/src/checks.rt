@@ -58,12 +58,12 @@ pub(crate) fn second_agrees(start8: u64, second: Second) -> bool
 }
 
 // Whether a name stands among others.
-pub(crate) fn is_among(name: u64, names: &[u64]) -> bool
-    ensures { λ r. ⌜ r ≡ isOneOf name (now (names .entry)) ⌝ }
+pub(crate) fn is_among(identifier: u64, identifiers: &[u64]) -> bool
+    ensures { λ r. ⌜ r ≡ isOneOf identifier (now (identifiers .entry)) ⌝ }
 {
     let mut i = 0;
-    while i < names.len() {
-        if name == names[i] {
+    while i < identifiers.len() {
+        if identifier == identifiers[i] {
             return true;
         }
         i += 1;
@@ -72,7 +72,7 @@ pub(crate) fn is_among(name: u64, names: &[u64]) -> bool
 }
 
 // Whether one of the new names stands among those known or earlier among the new.
-pub fn repeats_name(known: &[u64], new: &[u64]) -> bool
+pub fn repeats_identifier(known: &[u64], new: &[u64]) -> bool
     ensures result { λ r. ⌜ r ≡ repeats (now (known .entry)) (now (new .entry)) ⌝ }
 {
     let mut i = 0;
@@ -89,12 +89,12 @@ pub fn repeats_name(known: &[u64], new: &[u64]) -> bool
 }
 
 // Whether every name begins with a letter.
-fn all_begin(letter: u64, names: &[u64]) -> bool
-    ensures { λ r. ⌜ r ≡ every (λ name. eqb (letterOf name) letter) (now (names .entry)) ⌝ }
+fn all_begin(letter: u64, identifiers: &[u64]) -> bool
+    ensures { λ r. ⌜ r ≡ every (λ identifier. eqb (letterOf identifier) letter) (now (identifiers .entry)) ⌝ }
 {
     let mut i = 0;
-    while i < names.len() {
-        if names[i] / 100 != letter {
+    while i < identifiers.len() {
+        if identifiers[i] / 100 != letter {
             return false;
         }
         i += 1;
@@ -103,11 +103,11 @@ fn all_begin(letter: u64, names: &[u64]) -> bool
 }
 
 // Whether a file type agrees with the names: M with all, another with those that begin with it.
-pub fn type_agrees(file_type: u8, names: &[u64]) -> bool
-    ensures result { λ r. ⌜ r ≡ typeAgrees «file_type» (now (names .entry)) ⌝ }
+pub fn type_agrees(file_type: u8, identifiers: &[u64]) -> bool
+    ensures result { λ r. ⌜ r ≡ typeAgrees «file_type» (now (identifiers .entry)) ⌝ }
 {
     if file_type == b'M' {
         return true;
     }
-    all_begin(file_type as u64, names)
+    all_begin(file_type as u64, identifiers)
 }

@@ -6,7 +6,7 @@ ghost use lib.ListN.{take};
 ghost use Rattle.layout.specs.Fault.{lower};
 ghost use Rattle.layout.specs.Kind.{unless};
 ghost use Rattle.record.specs.LineKinds.{toldKind};
-ghost use Rattle.machine.specs.State.{seen, nameDue};
+ghost use Rattle.machine.specs.State.{seen, identifierDue};
 ghost use Rattle.machine.specs.Faults.{longest, secondFault, satellitesFault, charactersFault, floatsFault, epochFault, namedFault, recordFault, standingFault};
 use crate::checks;
 use crate::types::State;
@@ -38,22 +38,22 @@ pub(crate) fn seen_so_far(state: State) -> usize
 }
 
 // The first names, as many as there are.
-pub(crate) fn front_of(names: &[u64], n: usize) -> &[u64]
-    ensures { λ r. ⌜ now r ≡ take n (now (names .entry)) ⌝ }
+pub(crate) fn front_of(identifiers: &[u64], n: usize) -> &[u64]
+    ensures { λ r. ⌜ now r ≡ take n (now (identifiers .entry)) ⌝ }
 {
-    if n < names.len() {
-        return &names[0..n];
+    if n < identifiers.len() {
+        return &identifiers[0..n];
     }
-    names
+    identifiers
 }
 
 // The name of the satellite whose row must come.
-pub(crate) fn name_due(state: State, names: &[u64]) -> u64
-    ensures { λ r. ⌜ r ≡ nameDue state (now (names .entry)) ⌝ }
+pub(crate) fn identifier_due(state: State, identifiers: &[u64]) -> u64
+    ensures { λ r. ⌜ r ≡ identifierDue state (now (identifiers .entry)) ⌝ }
 {
     let at = seen_so_far(state);
-    if at < names.len() {
-        return names[at];
+    if at < identifiers.len() {
+        return identifiers[at];
     }
     0
 }
@@ -68,31 +68,31 @@ fn second_fault(state: State, line: &[u8; 80]) -> usize
 }
 
 // A `+ ` line: no identifier repeats.
-fn satellites_fault(rules: Rules, state: State, names: &[u64], line: &[u8; 80]) -> usize
-    ensures { λ r. ⌜ r ≡ satellitesFault rules state (now (names .entry)) (now (line .entry)) ⌝ }
+fn satellites_fault(rules: Rules, state: State, identifiers: &[u64], line: &[u8; 80]) -> usize
+    ensures { λ r. ⌜ r ≡ satellitesFault rules state (now (identifiers .entry)) (now (line .entry)) ⌝ }
 {
-    let known = front_of(names, seen_so_far(state));
+    let known = front_of(identifiers, seen_so_far(state));
     if state.satellites == 0 {
         let first = record::slots::read_satellites(rules, line);
-        let all = first.names;
-        let repeated = checks::repeats_name(known, front_of(&all, first.count as usize));
+        let all = first.identifiers;
+        let repeated = checks::repeats_identifier(known, front_of(&all, first.count as usize));
         return lower_unless(first.fault, !repeated, 8);
     }
     let more = record::slots::read_slots(line, false, state.left);
     let all = more.values;
-    let repeated = checks::repeats_name(known, front_of(&all, state.left as usize));
+    let repeated = checks::repeats_identifier(known, front_of(&all, state.left as usize));
     lower_unless(more.fault, !repeated, 8)
 }
 
 // The first `%c` agrees with the identifiers; the second has placeholders alone.
-fn characters_fault(state: State, names: &[u64], line: &[u8; 80]) -> usize
-    ensures { λ r. ⌜ r ≡ charactersFault state (now (names .entry)) (now (line .entry)) ⌝ }
+fn characters_fault(state: State, identifiers: &[u64], line: &[u8; 80]) -> usize
+    ensures { λ r. ⌜ r ≡ charactersFault state (now (identifiers .entry)) (now (line .entry)) ⌝ }
 {
     if state.lines != 2 {
         return record::descriptors::characters_fault(line);
     }
     let descriptor = record::descriptors::read_descriptor(line);
-    let all = front_of(names, state.satellites as usize);
+    let all = front_of(identifiers, state.satellites as usize);
     let agrees = checks::type_agrees(descriptor.file_type, all);
     lower_unless(descriptor.fault, agrees, 8)
 }
@@ -129,21 +129,27 @@ fn epoch_fault(state: State, line: &[u8; 80]) -> usize
 }
 
 // A P line, or a V line where `velocity` says so, names the satellite that the header has here.
-fn named_fault(velocity: bool, state: State, names: &[u64], line: &[u8; 80]) -> usize
-    ensures { λ r. ⌜ r ≡ namedFault velocity state (now (names .entry)) (now (line .entry)) ⌝ }
+fn named_fault(velocity: bool, state: State, identifiers: &[u64], line: &[u8; 80]) -> usize
+    ensures { λ r. ⌜ r ≡ namedFault velocity state (now (identifiers .entry)) (now (line .entry)) ⌝ }
 {
     let fault = record::rows::row_fault(line, velocity);
-    let named = record::rows::satellite_in(line) == name_due(state, names);
+    let named = record::rows::satellite_in(line) == identifier_due(state, identifiers);
     lower_unless(fault, named, 10)
 }
 
 // The fault of a line by its kind.
-fn record_fault(kind: LineKind, rules: Rules, state: State, names: &[u64], line: &[u8; 80]) -> usize
-    ensures { λ r. ⌜ r ≡ recordFault kind rules state (now (names .entry)) (now (line .entry)) ⌝ }
+fn record_fault(
+    kind: LineKind,
+    rules: Rules,
+    state: State,
+    identifiers: &[u64],
+    line: &[u8; 80],
+) -> usize
+    ensures { λ r. ⌜ r ≡ recordFault kind rules state (now (identifiers .entry)) (now (line .entry)) ⌝ }
 {
     match kind {
-        LineKind::Position => named_fault(false, state, names, line),
-        LineKind::Velocity => named_fault(true, state, names, line),
+        LineKind::Position => named_fault(false, state, identifiers, line),
+        LineKind::Velocity => named_fault(true, state, identifiers, line),
         LineKind::PositionCorrelation => record::plain::correlation_fault(line, false),
         LineKind::VelocityCorrelation => record::plain::correlation_fault(line, true),
         LineKind::Epoch => epoch_fault(state, line),
@@ -153,12 +159,12 @@ fn record_fault(kind: LineKind, rules: Rules, state: State, names: &[u64], line:
             first.fault
         }
         LineKind::Second => second_fault(state, line),
-        LineKind::Satellites => satellites_fault(rules, state, names, line),
+        LineKind::Satellites => satellites_fault(rules, state, identifiers, line),
         LineKind::Accuracies => {
             let slots = record::slots::read_slots(line, true, state.left);
             slots.fault
         }
-        LineKind::Characters => characters_fault(state, names, line),
+        LineKind::Characters => characters_fault(state, identifiers, line),
         LineKind::Floats => floats_fault(state, line),
         LineKind::Integers => record::descriptors::integers_fault(line),
         LineKind::EndOfFile => record::plain::end_fault(line),
@@ -194,14 +200,14 @@ pub(crate) fn standing_fault(
     kind: LineKind,
     rules: Rules,
     state: State,
-    names: &[u64],
+    identifiers: &[u64],
     line: &[u8; 80],
 ) -> usize
-    ensures { λ r. ⌜ r ≡ standingFault kind rules state (now (names .entry)) (now (line .entry)) ⌝ }
+    ensures { λ r. ⌜ r ≡ standingFault kind rules state (now (identifiers .entry)) (now (line .entry)) ⌝ }
 {
     let number = kind_number(kind);
     if (number == state.due) | (number == state.also) {
-        return record_fault(kind, rules, state, names, line);
+        return record_fault(kind, rules, state, identifiers, line);
     }
     NOT_HERE
 }

@@ -6,10 +6,10 @@ mod step;
 mod types;
 
 pub use checks::instant_in;
-pub use checks::repeats_name;
+pub use checks::repeats_identifier;
 pub use checks::type_agrees;
 pub use faults::kind_number;
-pub use step::keep_names;
+pub use step::keep_identifiers;
 pub use step::line_known;
 pub use step::read_line;
 pub use step::start;

@@ -1,7 +1,7 @@
 // What must stand after a line without fault.
 ghost use mathlib.Core.Path.{_≡_};
 ghost use Prim.Native.Nat.{_-_};
-ghost use Rattle.machine.specs.Next.{expect, lineLess, afterFirst, afterSecond, afterCount, afterNames, afterSatellites, afterAccuracies, commentsDue, afterIntegers, afterEpoch, rowDue, satelliteDone, afterPosition, nextOf};
+ghost use Rattle.machine.specs.Next.{expect, lineLess, afterFirst, afterSecond, afterCount, afterIdentifiers, afterSatellites, afterAccuracies, commentsDue, afterIntegers, afterEpoch, rowDue, satelliteDone, afterPosition, nextOf};
 use crate::checks;
 use crate::types::State;
 use crate::types::Verdict;
@@ -87,8 +87,8 @@ fn after_count(n: u64, state: State) -> State
 }
 
 // A further `+ ` line: after the last as many `++` lines.
-fn after_names(state: State) -> State
-    ensures { λ r. ⌜ r ≡ afterNames state ⌝ }
+fn after_identifiers(state: State) -> State
+    ensures { λ r. ⌜ r ≡ afterIdentifiers state ⌝ }
 {
     let lines = less(state.lines, 1);
     if lines == 0 {
@@ -216,7 +216,7 @@ fn after_satellites(rules: Rules, state: State, line: &[u8; 80]) -> State
         let first = record::slots::read_satellites(rules, line);
         return after_count(first.count, state);
     }
-    after_names(state)
+    after_identifiers(state)
 }
 
 // What a line without fault does.

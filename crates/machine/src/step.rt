@@ -5,7 +5,7 @@ ghost use Rattle.layout.specs.Line.{padded};
 ghost use Rattle.machine.specs.State.{startState, fitBehind, laidBehind, hasRoom, identifiersJoined};
 ghost use Rattle.machine.specs.Told.{toldVerdict, toldRead};
 ghost use Rattle.machine.specs.Usual.{dueRow};
-ghost use Rattle.machine.specs.Step.{judgedLine, stepOf, lineKnown, lineRead, lineNames};
+ghost use Rattle.machine.specs.Step.{judgedLine, stepOf, lineKnown, lineRead, lineIdentifiers};
 use crate::checks;
 use crate::faults;
 use crate::next;
@@ -35,10 +35,16 @@ pub fn start() -> State
 }
 
 // A line of 80 columns by its kind.
-fn judge_line(kind: LineKind, rules: Rules, state: State, names: &[u64], line: &[u8; 80]) -> Verdict
-    ensures { λ r. ⌜ r ≡ judgedLine kind rules state (now (names .entry)) (now (line .entry)) ⌝ }
+fn judge_line(
+    kind: LineKind,
+    rules: Rules,
+    state: State,
+    identifiers: &[u64],
+    line: &[u8; 80],
+) -> Verdict
+    ensures { λ r. ⌜ r ≡ judgedLine kind rules state (now (identifiers .entry)) (now (line .entry)) ⌝ }
 {
-    let key = faults::standing_fault(kind, rules, state, names, line);
+    let key = faults::standing_fault(kind, rules, state, identifiers, line);
     if key == 0 {
         return next::after_line(kind, rules, state, line);
     }
@@ -62,23 +68,23 @@ fn is_plain(line: &[u8], columns: &[u8; 80]) -> bool
 }
 
 // Whether a line is the P line that is due, without fault and of the usual kind: most lines of a file are, and no more is asked of them.
-fn is_due_row(state: State, names: &[u64], line: &[u8], columns: &[u8; 80]) -> bool
-    ensures { λ r. ⌜ r ≡ dueRow state (now (names .entry)) (now (line .entry)) (now (columns .entry)) ⌝ }
+fn is_due_row(state: State, identifiers: &[u64], line: &[u8], columns: &[u8; 80]) -> bool
+    ensures { λ r. ⌜ r ≡ dueRow state (now (identifiers .entry)) (now (line .entry)) (now (columns .entry)) ⌝ }
 {
     let due = (state.due == 10) & (line.len() <= 80);
     if !due {
         return false;
     }
-    let named = record::rows::satellite_in(columns) == faults::name_due(state, names);
+    let named = record::rows::satellite_in(columns) == faults::identifier_due(state, identifiers);
     picture::is_usual(columns) & named
 }
 
-// What a line does where the header's identifiers so far are `names`: CR in column 61 is 2 at column 61, 81 blanks are 3 at column 81.
-pub fn step_line(rules: Rules, state: State, names: &[u64], line: &[u8]) -> Verdict
-    ensures result { λ r. ⌜ toldVerdict r ≡ toldVerdict (stepOf rules state (now (names .entry)) (now (line .entry))) ⌝ }
+// What a line does where the header's identifiers so far are `identifiers`: CR in column 61 is 2 at column 61, 81 blanks are 3 at column 81.
+pub fn step_line(rules: Rules, state: State, identifiers: &[u64], line: &[u8]) -> Verdict
+    ensures result { λ r. ⌜ toldVerdict r ≡ toldVerdict (stepOf rules state (now (identifiers .entry)) (now (line .entry))) ⌝ }
 {
     let padded = layout::pad(line);
-    if is_due_row(state, names, line, &padded) {
+    if is_due_row(state, identifiers, line, &padded) {
         return Verdict::Next(next::after_position(state));
     }
     if !is_plain(line, &padded) {
@@ -95,7 +101,7 @@ pub fn step_line(rules: Rules, state: State, names: &[u64], line: &[u8]) -> Verd
             column: longest + 1,
         };
     }
-    judge_line(kind, rules, state, names, &padded)
+    judge_line(kind, rules, state, identifiers, &padded)
 }
 
 // Lays numbers into a list behind its first `from`, and tells whether they fit; where they do not nothing changes.
@@ -115,31 +121,45 @@ fn lay_behind(list: &mut [u64], from: usize, new: &[u64]) -> bool
 
 // Keeps the identifiers that a `+ ` line without fault brings, behind those known, and tells whether there is room for them; where there is none
 // nothing changes.
-pub fn keep_names(rules: Rules, state: State, names: &mut [u64], line: &[u8]) -> bool
-    ensures result { λ r. ⌜ r ≡ hasRoom rules state (now (names .entry)) (padded (now (line .entry))) ⌝ }
-    ensures lent { λ _. ⌜ now (names .exit) ≡ identifiersJoined rules state (now (names .entry)) (padded (now (line .entry))) ⌝ }
+pub fn keep_identifiers(rules: Rules, state: State, identifiers: &mut [u64], line: &[u8]) -> bool
+    ensures result { λ r. ⌜ r ≡ hasRoom rules state (now (identifiers .entry)) (padded (now (line .entry))) ⌝ }
+    ensures lent { λ _. ⌜ now (identifiers .exit) ≡ identifiersJoined rules state (now (identifiers .entry)) (padded (now (line .entry))) ⌝ }
 {
     let padded = layout::pad(line);
     let from = faults::seen_so_far(state);
     if state.satellites == 0 {
         let first = record::slots::read_satellites(rules, &padded);
-        let all = first.names;
-        return lay_behind(names, from, faults::front_of(&all, first.count as usize));
+        let all = first.identifiers;
+        return lay_behind(
+            identifiers,
+            from,
+            faults::front_of(&all, first.count as usize),
+        );
     }
     let more = record::slots::read_slots(&padded, false, state.left);
     let all = more.values;
-    lay_behind(names, from, faults::front_of(&all, state.left as usize))
+    lay_behind(
+        identifiers,
+        from,
+        faults::front_of(&all, state.left as usize),
+    )
 }
 
-// What the line at a place does, where the header's identifiers so far are `names`, and where the next begins. No LF from the place on: no line.
-pub fn line_known(rules: Rules, bytes: &[u8], at: usize, state: State, names: &[u64]) -> LineRead
-    ensures result { λ r. ⌜ toldRead r ≡ toldRead (lineKnown rules (now (bytes .entry)) at state (now (names .entry))) ⌝ }
+// What the line at a place does, where the header's identifiers so far are `identifiers`, and where the next begins. No LF from the place on: no line.
+pub fn line_known(
+    rules: Rules,
+    bytes: &[u8],
+    at: usize,
+    state: State,
+    identifiers: &[u64],
+) -> LineRead
+    ensures result { λ r. ⌜ toldRead r ≡ toldRead (lineKnown rules (now (bytes .entry)) at state (now (identifiers .entry))) ⌝ }
 {
     let end = lines::line_end(bytes, at);
     if end >= bytes.len() {
         return LineRead::NoLine;
     }
-    match step_line(rules, state, names, &bytes[at..end]) {
+    match step_line(rules, state, identifiers, &bytes[at..end]) {
         Verdict::Fault { number, column } => LineRead::Fault { number, column },
         Verdict::Finished => LineRead::Finished { at: end + 1 },
         Verdict::Next(next) => LineRead::Next {
@@ -149,20 +169,26 @@ pub fn line_known(rules: Rules, bytes: &[u8], at: usize, state: State, names: &[
     }
 }
 
-// The plain line reader: the same, and a `+ ` line leaves its identifiers in `names`. Where a `+ ` line without fault brings more than fit: 12, and
+// The plain line reader: the same, and a `+ ` line leaves its identifiers in `identifiers`. Where a `+ ` line without fault brings more than fit: 12, and
 // nothing changes.
-pub fn read_line(rules: Rules, bytes: &[u8], at: usize, state: State, names: &mut [u64]) -> LineRead
-    ensures result { λ r. ⌜ toldRead r ≡ toldRead (lineRead rules (now (bytes .entry)) at state (now (names .entry))) ⌝ }
-    ensures lent { λ _. ⌜ now (names .exit) ≡ lineNames rules (now (bytes .entry)) at state (now (names .entry)) ⌝ }
+pub fn read_line(
+    rules: Rules,
+    bytes: &[u8],
+    at: usize,
+    state: State,
+    identifiers: &mut [u64],
+) -> LineRead
+    ensures result { λ r. ⌜ toldRead r ≡ toldRead (lineRead rules (now (bytes .entry)) at state (now (identifiers .entry))) ⌝ }
+    ensures lent { λ _. ⌜ now (identifiers .exit) ≡ lineIdentifiers rules (now (bytes .entry)) at state (now (identifiers .entry)) ⌝ }
 {
-    let found = line_known(rules, bytes, at, state, names);
+    let found = line_known(rules, bytes, at, state, identifiers);
     let LineRead::Next { at: next, state: _ } = found else {
         return found;
     };
     if state.due != 3 {
         return found;
     }
-    if keep_names(rules, state, names, &bytes[at..next - 1]) {
+    if keep_identifiers(rules, state, identifiers, &bytes[at..next - 1]) {
         return found;
     }
     LineRead::Fault {

@@ -56,18 +56,18 @@ module _ (line : List ℕ) (n : ℕ) (told : n ≡ length (trimmed (wordsOf line
   text-told = ap (λ (k : ℕ). take k (wordsOf line)) (sub-zero n ∙ told) ∙ trimmed-front (wordsOf line) ∙ ap trimmed (rest-part line 3)
 
 -- a name's number, from a place on
-module _ (name : ℕ) (names : List ℕ) (i : ℕ) where
-  pub index-here : i < length names → name ≡ getD names i 0 → i + indexOf name (drop i names) ≡ i
+module _ (identifier : ℕ) (identifiers : List ℕ) (i : ℕ) where
+  pub index-here : i < length identifiers → identifier ≡ getD identifiers i 0 → i + indexOf identifier (drop i identifiers) ≡ i
   unfolding indexOf
-  index-here h e = rw (rest-step names i h, eq-eqb name (getD names i 0) e, add-zero)
+  index-here h e = rw (rest-step identifiers i h, eq-eqb identifier (getD identifiers i 0) e, add-zero)
 
-  pub index-later : i < length names → (name ≡ getD names i 0 → ⊥) → (i + 1) + indexOf name (drop (i + 1) names) ≡ i + indexOf name (drop i names)
+  pub index-later : i < length identifiers → (identifier ≡ getD identifiers i 0 → ⊥) → (i + 1) + indexOf identifier (drop (i + 1) identifiers) ≡ i + indexOf identifier (drop i identifiers)
   unfolding indexOf
-  index-later h n = rw (rest-step names i h, ne-eqb name (getD names i 0) n) (omega arith)
+  index-later h n = rw (rest-step identifiers i h, ne-eqb identifier (getD identifiers i 0) n) (omega arith)
 
-  pub index-none : length names ≤ i → i + indexOf name (drop i names) ≡ i
+  pub index-none : length identifiers ≤ i → i + indexOf identifier (drop i identifiers) ≡ i
   unfolding indexOf
-  index-none h = rw (rest-none names i h, add-zero)
+  index-none h = rw (rest-none identifiers i h, add-zero)
 
 -- where a comment's text lies, by its line's place, its line and the text
 pub comment-told : (rules : Rules) (lines : List (List ℕ)) (k place indent : ℕ) (line text : List ℕ)
@@ -141,8 +141,8 @@ module _ (bytes : List ℕ) (f : Front) (e : fileOf d bytes ≡ f) where
   pub words-as : (k : ℕ) (s : List ℕ) → s ≡ commentWords d bytes f k → s ≡ commentWords d bytes (fileOf d bytes) k
   words-as k s is = is ∙ ap (λ (x : Front). commentWords d bytes x k) (sym e)
 
-  pub satellite-as : (name : ℕ) (a : SatelliteAnswer) → a ≡ satelliteAnswer d bytes f name → a ≡ satelliteAnswer d bytes (fileOf d bytes) name
-  satellite-as name a is = is ∙ ap (λ (x : Front). satelliteAnswer d bytes x name) (sym e)
+  pub satellite-as : (identifier : ℕ) (a : SatelliteAnswer) → a ≡ satelliteAnswer d bytes f identifier → a ≡ satelliteAnswer d bytes (fileOf d bytes) identifier
+  satellite-as identifier a is = is ∙ ap (λ (x : Front). satelliteAnswer d bytes x identifier) (sym e)
 
   pub row-as : (epoch satellite : ℕ) (a : RowBegins) → a ≡ rowBegins d bytes f epoch satellite → a ≡ rowBegins d bytes (fileOf d bytes) epoch satellite
   row-as epoch satellite a is = is ∙ ap (λ (x : Front). rowBegins d bytes x epoch satellite) (sym e)
@@ -164,9 +164,9 @@ module _ (rules : Rules) (r : rules ≡ d) (bytes : List ℕ) (t : Tally) where
   unfolding rowBegins
   row-found epoch satellite a is = is ∙ rw (r, lines-as)
 
-  pub satellite-found : (name : ℕ) (a : SatelliteAnswer) → a ≡ satelliteIn name (identifiersOf rules (linesTo (t .end - 0) bytes)) → a ≡ satelliteAnswer d bytes (front.File t) name
+  pub satellite-found : (identifier : ℕ) (a : SatelliteAnswer) → a ≡ satelliteIn identifier (identifiersOf rules (linesTo (t .end - 0) bytes)) → a ≡ satelliteAnswer d bytes (front.File t) identifier
   unfolding satelliteAnswer
-  satellite-found name a is = is ∙ rw (r, lines-as)
+  satellite-found identifier a is = is ∙ rw (r, lines-as)
 
   pub counted-as : fileOf d bytes ≡ front.File t
       → (length (identifiersOf rules (linesTo (t .end - 0) bytes)) ≡ countOf rules (linesTo (t .end - 0) bytes)) × (countOf rules (linesTo (t .end - 0) bytes) ≤ 255)
@@ -201,12 +201,12 @@ pub file-within : (bytes : List ℕ) (t : Tally) → fileOf d bytes ≡ front.Fi
 file-within bytes t e = omega (arith, whole-ends d bytes t e .1)
 
 -- names laid over the front of others, as many as there are or fewer
-module _ (names old now : List ℕ) (is : now ≡ laid names old) (fits : length names ≤ length old) where
-  named : now ≡ names ++ drop (length names) old
-  named = is ∙ laid-fits names old fits
+module _ (identifiers old now : List ℕ) (is : now ≡ laid identifiers old) (fits : length identifiers ≤ length old) where
+  named : now ≡ identifiers ++ drop (length identifiers) old
+  named = is ∙ laid-fits identifiers old fits
 
-  pub first-names : (n : ℕ) → n ≡ length names → take (n - 0) now ≡ names
-  first-names n e = ap₂ (λ (k : ℕ) (l : List ℕ). take k l) (sub-zero n ∙ e) named ∙ take-append-seam names (drop (length names) old)
+  pub first-identifiers : (n : ℕ) → n ≡ length identifiers → take (n - 0) now ≡ identifiers
+  first-identifiers n e = ap₂ (λ (k : ℕ) (l : List ℕ). take k l) (sub-zero n ∙ e) named ∙ take-append-seam identifiers (drop (length identifiers) old)
 
-  pub all-names : length old ≤ length names → now ≡ names
-  all-names h = named ∙ ap (λ (l : List ℕ). names ++ l) (drop-of-length-le old h) ∙ append-nil names
+  pub all-identifiers : length old ≤ length identifiers → now ≡ identifiers
+  all-identifiers h = named ∙ ap (λ (l : List ℕ). identifiers ++ l) (drop-of-length-le old h) ∙ append-nil identifiers

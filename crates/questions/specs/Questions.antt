@@ -7,7 +7,7 @@ use Prim.Native.Nat.{ℕ, suc, _+_, _*_, min}
 use lib.Dec.{eqb, ltb}
 use lib.ListN.{length, drop}
 use Rattle.layout.specs.Line.{trimmed}
-use Rattle.layout.specs.Kind.{named, nameNumber, nameCode}
+use Rattle.layout.specs.Kind.{named, identifierNumber, identifierCode}
 use Rattle.lines.specs.Lines.{nth, beginsFrom}
 use Rattle.file.specs.Kinds.{isKind, ofKind}
 use Rattle.file.specs.Table.{firstIn, countOf}
@@ -53,24 +53,24 @@ commentWords rules bytes (front.Refused number line column) k = []
 
 -- the identifier that a text names: a capital letter and 01 to 99, as one number (G07 is 7107); 0, which is no satellite, for any other text
 unfoldable pub identifierNamed : List ℕ → ℕ
-identifierNamed text = cond (eqb (length text) 3 && (named text && not (eqb (nameNumber text) 0))) (nameCode text) 0
+identifierNamed text = cond (eqb (length text) 3 && (named text && not (eqb (identifierNumber text) 0))) (identifierCode text) 0
 
 -- the number of the first that is this one, counted from 0; as many as there are where none is
 unfoldable pub indexOf : ℕ → List ℕ → ℕ
-indexOf name [] = 0
-indexOf name (x ∷ xs) = cond (eqb name x) 0 (suc (indexOf name xs))
+indexOf identifier [] = 0
+indexOf identifier (x ∷ xs) = cond (eqb identifier x) 0 (suc (indexOf identifier xs))
 
 abbrev pub noSatellite : ℕ → ℕ → SatelliteAnswer
 noSatellite number line = record { refusal = number; line = line; number = 0 }
 
 -- the number of an identifier among those of the header
 abbrev pub satelliteIn : ℕ → List ℕ → SatelliteAnswer
-satelliteIn name names =
-    cond (ltb (indexOf name names) (length names)) (record { refusal = 0; line = 0; number = indexOf name names }) (noSatellite 13 0)
+satelliteIn identifier identifiers =
+    cond (ltb (indexOf identifier identifiers) (length identifiers)) (record { refusal = 0; line = 0; number = indexOf identifier identifiers }) (noSatellite 13 0)
 
 unfoldable pub satelliteAnswer : Rules → List ℕ → Front → ℕ → SatelliteAnswer
-satelliteAnswer rules bytes (front.File t) name = satelliteIn name (identifiersOf rules (linesTo (t .end) bytes))
-satelliteAnswer rules bytes (front.Refused number line column) name = noSatellite number line
+satelliteAnswer rules bytes (front.File t) identifier = satelliteIn identifier (identifiersOf rules (linesTo (t .end) bytes))
+satelliteAnswer rules bytes (front.Refused number line column) identifier = noSatellite number line
 
 -- Where the P line of (epoch, satellite) lies in an accepted file: it is the (epoch times n plus satellite)-th P line.
 abbrev pub epochsOf : Rules → List (List ℕ) → ℕ

@@ -15,12 +15,12 @@ use header::Rules;
 use scan::Front;
 
 // The number of a name among others, or how many there are.
-fn index_of(name: u64, names: &[u64]) -> usize
-    ensures { λ r. ⌜ r ≡ indexOf name (now (names .entry)) ⌝ }
+fn index_of(identifier: u64, identifiers: &[u64]) -> usize
+    ensures { λ r. ⌜ r ≡ indexOf identifier (now (identifiers .entry)) ⌝ }
 {
     let mut i = 0;
-    while i < names.len() {
-        if name == names[i] {
+    while i < identifiers.len() {
+        if identifier == identifiers[i] {
             return i;
         }
         i += 1;
@@ -40,11 +40,11 @@ fn no_satellite(number: usize, line: u64) -> SatelliteAnswer
 }
 
 // The number of a name among those of a header.
-fn satellite_in(name: u64, names: &[u64]) -> SatelliteAnswer
-    ensures { λ r. ⌜ r ≡ satelliteIn name (now (names .entry)) ⌝ }
+fn satellite_in(identifier: u64, identifiers: &[u64]) -> SatelliteAnswer
+    ensures { λ r. ⌜ r ≡ satelliteIn identifier (now (identifiers .entry)) ⌝ }
 {
-    let number = index_of(name, names);
-    if number < names.len() {
+    let number = index_of(identifier, identifiers);
+    if number < identifiers.len() {
         return SatelliteAnswer {
             refusal: 0,
             line: 0,
@@ -55,19 +55,19 @@ fn satellite_in(name: u64, names: &[u64]) -> SatelliteAnswer
 }
 
 // The number of a name among the identifiers of some lines, as many as they say and at most 255.
-fn satellite_among(rules: Rules, bytes: &[u8], name: u64) -> SatelliteAnswer
+fn satellite_among(rules: Rules, bytes: &[u8], identifier: u64) -> SatelliteAnswer
     requires { ⌜ (length (identifiersOf rules (linesOf (now bytes))) ≡ countOf rules (linesOf (now bytes))) × (countOf rules (linesOf (now bytes)) ≤ 255) ⌝ }
-    ensures { λ r. ⌜ r ≡ satelliteIn name (identifiersOf rules (linesOf (now (bytes .entry)))) ⌝ }
+    ensures { λ r. ⌜ r ≡ satelliteIn identifier (identifiersOf rules (linesOf (now (bytes .entry)))) ⌝ }
 {
-    let mut names = [0u64; 255];
+    let mut identifiers = [0u64; 255];
     let n = file::count_of(rules, bytes);
-    fill::fill_slots(rules, bytes, false, n, &mut names);
-    let all = &names[..];
+    fill::fill_slots(rules, bytes, false, n, &mut identifiers);
+    let all = &identifiers[..];
     if n < 255 {
         let few = n as usize;
-        return satellite_in(name, &all[0..few]);
+        return satellite_in(identifier, &all[0..few]);
     }
-    satellite_in(name, all)
+    satellite_in(identifier, all)
 }
 
 // Whether three bytes are an identifier's letter and digits.
@@ -95,7 +95,7 @@ fn two_digits(tens: u8, ones: u8) -> u64
 }
 
 // A letter's byte times 100, and a number.
-fn name_code(letter: u8, number: u64) -> u64
+fn identifier_code(letter: u8, number: u64) -> u64
     requires { ⌜ number ≤ 2277 ⌝ }
     ensures { λ r. ⌜ r ≡ letter * 100 + number ⌝ }
 {
@@ -114,7 +114,7 @@ pub fn identifier_of(text: &[u8]) -> u64
     if !(is_named(text[0], text[1], text[2]) & (number != 0)) {
         return 0;
     }
-    name_code(text[0], number)
+    identifier_code(text[0], number)
 }
 
 // The number in the header of the satellite with this identifier, held as its letter's byte times 100 and its number (7107 for G07): 13 where

@@ -55,25 +55,25 @@ filled-same true some all old h = ap (λ new. over new old) (h refl)
 filled-same false some all old h = refl
 
 -- the four lists, which a flag fills with what fits of some lines, or leaves as they were
-module _ (room : Bool) (rules : Rules) (n count : ℕ) (used : List (List ℕ)) (names exponents comments : List ℕ) (rows : List ℤ) where
+module _ (room : Bool) (rules : Rules) (n count : ℕ) (used : List (List ℕ)) (identifiers exponents comments : List ℕ) (rows : List ℤ) where
   abbrev pub Filled : List ℕ → List ℕ → List ℕ → List ℤ → Type 0
-  Filled names′ exponents′ comments′ rows′ =
-      (names′ ≡ filled room (take (length names) (slotsIn rules false n used)) names)
+  Filled identifiers′ exponents′ comments′ rows′ =
+      (identifiers′ ≡ filled room (take (length identifiers) (slotsIn rules false n used)) identifiers)
       × ((exponents′ ≡ filled room (take (length exponents) (slotsIn rules true n used)) exponents)
       × ((comments′ ≡ filled room (take (length comments) (flat (map commentText (take count (ofKind rules 8 used))))) comments)
       × (rows′ ≡ filled room (numbersOfRows rules (take (length rows / rowWidth) (rowLines rules used))) rows)))
 
-  pub lists-left : room ≡ false → Filled names exponents comments rows
+  pub lists-left : room ≡ false → Filled identifiers exponents comments rows
   lists-left e = (rw e, (rw e, (rw e, rw e)))
 
-  pub lists-filled : (names′ exponents′ comments′ : List ℕ) (rows′ : List ℤ) → room ≡ true
-      → names′ ≡ laid (slotsIn rules false n used) names
+  pub lists-filled : (identifiers′ exponents′ comments′ : List ℕ) (rows′ : List ℤ) → room ≡ true
+      → identifiers′ ≡ laid (slotsIn rules false n used) identifiers
       → exponents′ ≡ laid (slotsIn rules true n used) exponents
       → comments′ ≡ laid (flat (map commentText (take count (ofKind rules 8 used)))) comments
       → rows′ ≡ over (numbersOfRows rules (take (length rows / rowWidth) (rowLines rules used))) rows
-      → Filled names′ exponents′ comments′ rows′
-  lists-filled names′ exponents′ comments′ rows′ e i x c r = (
-    laid-all room _ names names′ e i,
+      → Filled identifiers′ exponents′ comments′ rows′
+  lists-filled identifiers′ exponents′ comments′ rows′ e i x c r = (
+    laid-all room _ identifiers identifiers′ e i,
     (
       laid-all room _ exponents exponents′ e x,
       (laid-all room _ comments comments′ e c, r ∙ rw e),
@@ -154,9 +154,9 @@ module _ (rules : Rules) (bytes : List ℕ) (f : Front) (i x c r : ℕ) where
       roomy : roomFor n t i x c r ≡ true
       roomy = sym asked ∙ e
 
-      names-fit : n ≤ i
+      identifiers-fit : n ≤ i
       unfolding roomFor
-      names-fit = leb-true n i (and-left (leb n i) (leb n x) (and-left (leb n i && leb n x) _ roomy))
+      identifiers-fit = leb-true n i (and-left (leb n i) (leb n x) (and-left (leb n i && leb n x) _ roomy))
 
       exponents-fit : n ≤ x
       unfolding roomFor
@@ -203,15 +203,15 @@ module _ (rules : Rules) (bytes : List ℕ) (f : Front) (i x c r : ℕ) where
     delivers : {A : Type 0} (some all old now : List A) → (room ≡ true → some ≡ all) → now ≡ filled room some old → now ≡ filled (enough rules bytes f i x c r) all old
     delivers {A} some all old now h e = e ∙ filled-same room some all old h ∙ ap (λ (b : Bool). filled b all old) (sym room-enough)
 
-    pub lists-delivered : (names exponents comments names′ exponents′ comments′ : List ℕ) (rows rows′ : List ℤ)
-        → length names ≡ i → length exponents ≡ x → length comments ≡ c → length rows ≡ r
-        → Filled room rules n (t .comments) used names exponents comments rows names′ exponents′ comments′ rows′
-        → (names′ ≡ filled (enough rules bytes f i x c r) (identifiersOf rules (linesIn bytes f)) names)
+    pub lists-delivered : (identifiers exponents comments identifiers′ exponents′ comments′ : List ℕ) (rows rows′ : List ℤ)
+        → length identifiers ≡ i → length exponents ≡ x → length comments ≡ c → length rows ≡ r
+        → Filled room rules n (t .comments) used identifiers exponents comments rows identifiers′ exponents′ comments′ rows′
+        → (identifiers′ ≡ filled (enough rules bytes f i x c r) (identifiersOf rules (linesIn bytes f)) identifiers)
         × ((exponents′ ≡ filled (enough rules bytes f i x c r) (exponentsOf rules (linesIn bytes f)) exponents)
         × ((comments′ ≡ filled (enough rules bytes f i x c r) (commentsIn rules (linesIn bytes f)) comments)
         × (rows′ ≡ filled (enough rules bytes f i x c r) (rowsIn rules (linesIn bytes f)) rows)))
-    lists-delivered names exponents comments names′ exponents′ comments′ rows rows′ si sx sc sr (pi, (px, (pc, pr))) = (
-      delivers _ _ names names′ (λ e. slots-all e false names (omega (arith, names-fit e))) pi,
+    lists-delivered identifiers exponents comments identifiers′ exponents′ comments′ rows rows′ si sx sc sr (pi, (px, (pc, pr))) = (
+      delivers _ _ identifiers identifiers′ (λ e. slots-all e false identifiers (omega (arith, identifiers-fit e))) pi,
       (
         delivers _ _ exponents exponents′ (λ e. slots-all e true exponents (omega (arith, exponents-fit e))) px,
         (

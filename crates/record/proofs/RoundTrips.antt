@@ -65,7 +65,7 @@ module _ (rules : Rules) (s : Satellites) (rest : List ℕ) (can : canShow (sate
   satellites-back e =
       ap (λ (n : ℕ). satellitesFrom (faultOf (satelliteItems rules n) shown) (valuesOf (satelliteItems rules n) shown)) count-back
       ∙ line-back (satelliteItems rules (s .count)) satellitesFrom (satellitesValues s) rest (satellites-tiled rules (s .count)) can
-      ∙ rw (numbers-back (s .names), e)
+      ∙ rw (numbers-back (s .identifiers), e)
 
 -- a further `+ ` line, and a `++` line
 pub slots-back : (accuracies : Bool) (left : ℕ) (s : Slots) (rest : List ℕ) → s .fault ≡ clean → canShow (moreItems accuracies left) (onesOf (s .values)) ≡ true

@@ -9,7 +9,7 @@ use lib.ListN.{length, drop, length-take}
 use Rattle.field.specs.Read.{decimalOf}
 use Rattle.field.specs.Sign.{largest}
 use Rattle.layout.specs.Fault.{clean, keyed, lower}
-use Rattle.layout.specs.Kind.{named, nameNumber, boundFault, amountFault, signHeld, amountHeld}
+use Rattle.layout.specs.Kind.{named, identifierNumber, boundFault, amountFault, signHeld, amountHeld}
 use Rattle.layout.specs.Kind.Kind.{unused, fixed, signed, clock, identifier}
 use Rattle.layout.specs.Layout.{Item, columns, partAt, faultAt, faultFrom, valuesOf}
 use Rattle.record.specs.Rows.{bodyItems, flagItems, rowItems, rowFrom, rowFault, rowTaken, signedIn, cut}
@@ -36,10 +36,10 @@ module _ (bs : List ℕ) (narrow : length bs ≤ 17) (column : ℕ) where
   signed-taken f = taken-by (decimalOf bs 6 true) refl f
 
 -- an identifier without fault is named
-name-taken : (bs : List ℕ) (column : ℕ) (t : Bool) → named bs ≡ t → cond t (boundFault column 1 99 (nameNumber bs)) (keyed 6 column) ≡ clean
+identifier-taken : (bs : List ℕ) (column : ℕ) (t : Bool) → named bs ≡ t → cond t (boundFault column 1 99 (identifierNumber bs)) (keyed 6 column) ≡ clean
     → named bs ≡ true
-name-taken bs column true e f = e
-name-taken bs column false e f = absurd (omega arith)
+identifier-taken bs column true e f = e
+identifier-taken bs column false e f = absurd (omega arith)
 
 -- a part of 14 columns
 part-narrow : (first last : ℕ) (line : List ℕ) → last - (first - 1) ≤ 17 → length (cut first last line) ≤ 17
@@ -77,7 +77,7 @@ record Parts (line : List ℕ) : Type 0 where
 
 parts : (line : List ℕ) → Sound line → Parts line
 parts line s = record {
-  name = name-taken (cut 2 4 line) 2 (named (cut 2 4 line)) refl (s .name);
+  name = identifier-taken (cut 2 4 line) 2 (named (cut 2 4 line)) refl (s .name);
   x = signed-taken (cut 5 18 line) (part-narrow 5 18 line (omega arith)) 5 (s .x);
   y = signed-taken (cut 19 32 line) (part-narrow 19 32 line (omega arith)) 19 (s .y);
   z = signed-taken (cut 33 46 line) (part-narrow 33 46 line (omega arith)) 33 (s .z);

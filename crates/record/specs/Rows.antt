@@ -8,7 +8,7 @@ use lib.Dec.{eqb}
 use lib.ListN.{getD, take, drop}
 use Rattle.field.specs.Read.{exponentOf}
 use Rattle.field.specs.Known.{knownMagnitude, knownNegative}
-use Rattle.layout.specs.Kind.{nameCode, exponentHeld}
+use Rattle.layout.specs.Kind.{identifierCode, exponentHeld}
 use Rattle.layout.specs.Kind.Kind.{unused, fixed, signed, clock, exponent, flag, identifier}
 use Rattle.layout.specs.Kind.Held.{one, amount, mark}
 use Rattle.layout.specs.Layout.{Item, Values, columns, column, partAt, numberAt, negativeAt, magnitudeAt, markAt, faultOf, showLine}
@@ -123,7 +123,7 @@ flagIn velocity sign bytes = not velocity && eqb (getD bytes 0 0) sign
 -- the row of a line of 80 columns
 unfoldable pub rowTaken : Bool → List ℕ → Row
 rowTaken velocity line = record {
-  satellite = nameCode (cut 2 4 line);
+  satellite = identifierCode (cut 2 4 line);
   x = signedIn (cut 5 18 line);
   y = signedIn (cut 19 32 line);
   z = signedIn (cut 33 46 line);

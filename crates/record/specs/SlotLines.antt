@@ -42,8 +42,8 @@ satelliteItems rules n =
 
 -- the entries are the number and then the slots
 abbrev pub satellitesFrom : ℕ → Values → Satellites
-satellitesFrom fault [] = record { fault = fault; count = 0; names = [] }
-satellitesFrom fault (n ∷ vs) = record { fault = fault; count = numberIn n; names = numbersOf vs }
+satellitesFrom fault [] = record { fault = fault; count = 0; identifiers = [] }
+satellitesFrom fault (n ∷ vs) = record { fault = fault; count = numberIn n; identifiers = numbersOf vs }
 
 -- the number of satellites that a line says, 0 where it is malformed
 abbrev pub countIn : Rules → List ℕ → ℕ
@@ -55,7 +55,7 @@ satellitesOf rules line =
     satellitesFrom (faultOf (satelliteItems rules (countIn rules line)) line) (valuesOf (satelliteItems rules (countIn rules line)) line)
 
 abbrev pub satellitesValues : Satellites → Values
-satellitesValues s = one (s .count) ∷ onesOf (s .names)
+satellitesValues s = one (s .count) ∷ onesOf (s .identifiers)
 
 unfoldable pub satellitesLine : Rules → Satellites → List ℕ
 satellitesLine rules s = ended (showLine (satelliteItems rules (s .count)) (satellitesValues s))

@@ -7,7 +7,7 @@ ghost use lib.ListN.{length};
 ghost use Rattle.field.specs.Digits.{isDigit};
 ghost use Rattle.laws.specs.Tests.{within};
 ghost use Rattle.layout.specs.Fault.{lower};
-ghost use Rattle.layout.specs.Kind.{unless, unusedFault, sameBytes, isListed, faultIn, nameCode};
+ghost use Rattle.layout.specs.Kind.{unless, unusedFault, sameBytes, isListed, faultIn, identifierCode};
 ghost use Rattle.layout.specs.Kind.Kind.{unused, fixed, whole, decimal, signed, clock, exponent, flag, letter, listed, identifier, zeroWhole, zeroDecimal, text};
 ghost use Rattle.layout.specs.Layout.{columns, column, partAt, partOf, faultAt};
 ghost use Rattle.header.specs.Letters.{modes, fileTypes, timeSystems};
@@ -317,7 +317,7 @@ fn two_digits(tens: u8, ones: u8) -> u64
 }
 
 // A letter's byte times 100, and a number.
-fn name_code(letter: u8, number: u64) -> u64
+fn identifier_code(letter: u8, number: u64) -> u64
     requires { ⌜ number ≤ 2277 ⌝ }
     ensures { λ r. ⌜ r ≡ letter * 100 + number ⌝ }
 {
@@ -342,7 +342,7 @@ fn read_identifier(lowest: usize, bytes: &[u8], first: usize) -> Judged
     let bounded = laws::within(1, 99, number);
     Judged {
         fault: fault_unless(lowest, bounded, 7, first),
-        value: name_code(letter, number),
+        value: identifier_code(letter, number),
     }
 }
 
@@ -356,12 +356,12 @@ pub(crate) fn identifier_in(lowest: usize, line: &[u8; 80], first: usize, last: 
 }
 
 // The number of an identifier that was judged before.
-pub(crate) fn name_of(bytes: &[u8]) -> u64
+pub(crate) fn identifier_of(bytes: &[u8]) -> u64
     requires { ⌜ length (now bytes) ≡ 3 ⌝ }
-    ensures { λ r. ⌜ r ≡ nameCode (now (bytes .entry)) ⌝ }
+    ensures { λ r. ⌜ r ≡ identifierCode (now (bytes .entry)) ⌝ }
 {
     let number = two_digits(bytes[1], bytes[2]);
-    name_code(bytes[0], number)
+    identifier_code(bytes[0], number)
 }
 
 // A coordinate or velocity of 14 columns, judged and not kept: rows are read when they have been judged.

@@ -2,7 +2,7 @@
 ghost use mathlib.Core.Path.{_≡_};
 ghost use Prim.Native.Nat.{_≤_};
 ghost use lib.ListN.{length};
-ghost use Rattle.layout.specs.Kind.{nameCode};
+ghost use Rattle.layout.specs.Kind.{identifierCode};
 ghost use Rattle.layout.specs.Layout.{faultFrom};
 ghost use Rattle.record.specs.Rows.{bodyItems, flagItems, rowFault, cut, signedIn, exponentIn, flagIn, rowTaken, rowOf};
 use crate::fields;
@@ -17,8 +17,8 @@ pub const UNKNOWN: u64 = 1000;
 fn body_fault(lowest: usize, line: &[u8; 80]) -> usize
     ensures { λ r. ⌜ r ≡ faultFrom lowest bodyItems (now (line .entry)) ⌝ }
 {
-    let name = fields::identifier_in(lowest, line, 2, 4);
-    let a = fields::signed_in(name.fault, line, 5, 18);
+    let identifier = fields::identifier_in(lowest, line, 2, 4);
+    let a = fields::signed_in(identifier.fault, line, 5, 18);
     let b = fields::signed_in(a, line, 19, 32);
     let c = fields::signed_in(b, line, 33, 46);
     let d = fields::clock_in(c, line, 47, 60);
@@ -116,10 +116,10 @@ fn mark_of(line: &[u8; 80], velocity: bool, sign: u8, at: usize) -> bool
 
 // The identifier in columns 2 to 4 as one number: 7107 of `PG07`.
 pub fn satellite_in(line: &[u8; 80]) -> u64
-    ensures result { λ r. ⌜ r ≡ nameCode (cut 2 4 (now (line .entry))) ⌝ }
+    ensures result { λ r. ⌜ r ≡ identifierCode (cut 2 4 (now (line .entry))) ⌝ }
 {
     let s = &line[..];
-    fields::name_of(&s[1..4])
+    fields::identifier_of(&s[1..4])
 }
 
 // The row of a line of 80 columns.

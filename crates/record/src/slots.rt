@@ -54,12 +54,12 @@ pub fn read_satellites(rules: Rules, line: &[u8; 80]) -> Satellites
     let count = fields::whole_in(b, line, 1, rules.most_satellites, 4, 4, 6);
     let c = fields::unused_in(count.fault, line, 7, 9);
     let slots = slots_in(c, line, false, count.value);
-    let names = slots.values;
+    let identifiers = slots.values;
     let d = fields::unused_in(slots.fault, line, 61, 80);
     Satellites {
         fault: d,
         count: count.value,
-        names,
+        identifiers,
     }
 }
 

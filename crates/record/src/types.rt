@@ -63,7 +63,7 @@ pub struct Epoch {
 pub struct Satellites {
     pub fault: usize,
     pub count: u64,
-    pub names: [u64; 17],
+    pub identifiers: [u64; 17],
 }
 
 // A further `+ ` line or a `++` line: the identifiers or accuracy exponents of its 17 slots, 0 in those after the last.

@@ -109,26 +109,26 @@ passed file at l ls e =
     }
 
 -- the line at a spot, or none: what the next step of a walk over the lines does
-module _ (rules : Rules) (file names : List ℕ) (p : Spot) where
+module _ (rules : Rules) (file identifiers : List ℕ) (p : Spot) where
   -- nothing is left
-  stays-none : linesOf (drop (p .at) file) ≡ [] → (p ≡ rowAhead rules file names p) × (spotPast rules file names p ≡ p)
+  stays-none : linesOf (drop (p .at) file) ≡ [] → (p ≡ rowAhead rules file identifiers p) × (spotPast rules file identifiers p ≡ p)
   unfolding toRow spotPast readFirst
   stays-none e = (rw e, rw e)
 
   module _ (l : List ℕ) (ls : List (List ℕ)) (e : linesOf (drop (p .at) file) ≡ l ∷ ls) where
     -- a P line stops the walk
-    stays-row : isKind rules 10 l ≡ true → p ≡ rowAhead rules file names p
+    stays-row : isKind rules 10 l ≡ true → p ≡ rowAhead rules file identifiers p
     unfolding toRow
     stays-row is = rw (e, is)
 
     -- another that is refused or ends the file does
-    stays-fault : (m c : ℕ) → isKind rules 10 l ≡ false → stepOf rules (p .state) names l ≡ verdict.Fault m c
-        → (p ≡ rowAhead rules file names p) × (spotPast rules file names p ≡ p)
+    stays-fault : (m c : ℕ) → isKind rules 10 l ≡ false → stepOf rules (p .state) identifiers l ≡ verdict.Fault m c
+        → (p ≡ rowAhead rules file identifiers p) × (spotPast rules file identifiers p ≡ p)
     unfolding toRow spotPast readFirst
     stays-fault m c is v = (rw (e, is, v), rw (e, v))
 
-    stays-end : isKind rules 10 l ≡ false → stepOf rules (p .state) names l ≡ verdict.Finished
-        → (p ≡ rowAhead rules file names p) × (spotPast rules file names p ≡ p)
+    stays-end : isKind rules 10 l ≡ false → stepOf rules (p .state) identifiers l ≡ verdict.Finished
+        → (p ≡ rowAhead rules file identifiers p) × (spotPast rules file identifiers p ≡ p)
     unfolding toRow spotPast readFirst
     stays-end is v = (rw (e, is, v), rw (e, v))
 
@@ -136,30 +136,30 @@ module _ (rules : Rules) (file names : List ℕ) (p : Spot) where
     abbrev behind : State → Spot
     behind s = record { at = p .at + length l + 1; state = s }
 
-    moves : (s : State) → isKind rules 10 l ≡ false → stepOf rules (p .state) names l ≡ verdict.Next s
-        → (rowAhead rules file names (behind s) ≡ rowAhead rules file names p) × (spotPast rules file names p ≡ behind s)
+    moves : (s : State) → isKind rules 10 l ≡ false → stepOf rules (p .state) identifiers l ≡ verdict.Next s
+        → (rowAhead rules file identifiers (behind s) ≡ rowAhead rules file identifiers p) × (spotPast rules file identifiers p ≡ behind s)
     unfolding toRow spotPast readFirst
     moves s is v = (rw (e, is, v, passed file (p .at) l ls e .rest), rw (e, v))
 
   -- a turn of the walk to the next row
   pub record Turn (next : Spot) : Type 0 where
-    pub stays : next .at ≡ p .at → p ≡ rowAhead rules file names p
-    pub goes : (next .at ≡ p .at → ⊥) → rowAhead rules file names next ≡ rowAhead rules file names p
+    pub stays : next .at ≡ p .at → p ≡ rowAhead rules file identifiers p
+    pub goes : (next .at ≡ p .at → ⊥) → rowAhead rules file identifiers next ≡ rowAhead rules file identifiers p
     pub nearer : (next .at ≡ p .at → ⊥) → (p .at < next .at) × (next .at ≤ length file)
 
-  still : (p ≡ rowAhead rules file names p) × (spotPast rules file names p ≡ p) → Turn (spotPast rules file names p)
+  still : (p ≡ rowAhead rules file identifiers p) × (spotPast rules file identifiers p ≡ p) → Turn (spotPast rules file identifiers p)
   still (here, same) =
-      let at : spotPast rules file names p .at ≡ p .at = ap (λ (x : Spot). x .at) same in
+      let at : spotPast rules file identifiers p .at ≡ p .at = ap (λ (x : Spot). x .at) same in
       record { stays = λ e. here; goes = λ not. absurd (not at); nearer = λ not. absurd (not at) }
 
   turned : (s : State) (l : List ℕ) (ls : List (List ℕ)) → linesOf (drop (p .at) file) ≡ l ∷ ls
-      → (rowAhead rules file names (record { at = p .at + length l + 1; state = s }) ≡ rowAhead rules file names p) × (spotPast rules file names p ≡ record { at = p .at + length l + 1; state = s })
-      → Turn (spotPast rules file names p)
+      → (rowAhead rules file identifiers (record { at = p .at + length l + 1; state = s }) ≡ rowAhead rules file identifiers p) × (spotPast rules file identifiers p ≡ record { at = p .at + length l + 1; state = s })
+      → Turn (spotPast rules file identifiers p)
   turned s l ls e (same, next) =
-      let at : spotPast rules file names p .at ≡ p .at + length l + 1 = ap (λ (x : Spot). x .at) next in
+      let at : spotPast rules file identifiers p .at ≡ p .at + length l + 1 = ap (λ (x : Spot). x .at) next in
       record {
         stays = λ stay. absurd (omega arith);
-        goes = λ not. ap (rowAhead rules file names) next ∙ same;
+        goes = λ not. ap (rowAhead rules file identifiers) next ∙ same;
         nearer = λ not. (omega arith, omega (arith, passed file (p .at) l ls e .within));
       }
 
@@ -167,26 +167,26 @@ module _ (rules : Rules) (file names : List ℕ) (p : Spot) where
   here-byte = getD-drop (p .at) file 0 0 ∙ ap (λ (n : ℕ). getD file n 0) (add-zero (p .at))
 
   -- where no P line begins here
-  pub turn : eqb (getD file (p .at) 0) 80 ≡ false → Turn (spotPast rules file names p)
+  pub turn : eqb (getD file (p .at) 0) 80 ≡ false → Turn (spotPast rules file identifiers p)
   turn none = go (linesOf (drop (p .at) file)) refl
     where
-      go : (ls : List (List ℕ)) → linesOf (drop (p .at) file) ≡ ls → Turn (spotPast rules file names p)
+      go : (ls : List (List ℕ)) → linesOf (drop (p .at) file) ≡ ls → Turn (spotPast rules file identifiers p)
       go [] e = still (stays-none e)
-      go (l ∷ ls) e = by (stepOf rules (p .state) names l) refl
+      go (l ∷ ls) e = by (stepOf rules (p .state) identifiers l) refl
         where
           is : isKind rules 10 l ≡ false
           is = row-begins rules (drop (p .at) file) l ls e ∙ ap (λ (b : ℕ). eqb b 80) here-byte ∙ none
 
-          by : (v : Verdict) → stepOf rules (p .state) names l ≡ v → Turn (spotPast rules file names p)
+          by : (v : Verdict) → stepOf rules (p .state) identifiers l ≡ v → Turn (spotPast rules file identifiers p)
           by (verdict.Fault m c) v = still (stays-fault l ls e m c is v)
           by verdict.Finished v = still (stays-end l ls e is v)
           by (verdict.Next s) v = turned s l ls e (moves l ls e s is v)
 
   -- where one does
-  pub row-here : eqb (getD file (p .at) 0) 80 ≡ true → p ≡ rowAhead rules file names p
+  pub row-here : eqb (getD file (p .at) 0) 80 ≡ true → p ≡ rowAhead rules file identifiers p
   row-here some = go (linesOf (drop (p .at) file)) refl
     where
-      go : (ls : List (List ℕ)) → linesOf (drop (p .at) file) ≡ ls → p ≡ rowAhead rules file names p
+      go : (ls : List (List ℕ)) → linesOf (drop (p .at) file) ≡ ls → p ≡ rowAhead rules file identifiers p
       go [] e = stays-none e .0
       go (l ∷ ls) e = stays-row l ls e (row-begins rules (drop (p .at) file) l ls e ∙ ap (λ (b : ℕ). eqb b 80) here-byte ∙ some)
 

@@ -18,7 +18,7 @@ use Rattle.machine.specs.Told.{toldRead}
 use Rattle.machine.proofs.Told.{toldRead-one}
 use Rattle.reader.specs.Reading.{refusedWith}
 use Rattle.float_row.specs.Floats.{floatRow, lineFrom}
-use Rattle.row_walk.specs.Begin.{begunAs, namesBegun}
+use Rattle.row_walk.specs.Begin.{begunAs, identifiersBegun}
 use Rattle.row_walk.specs.Rows.{epochOf, satelliteOf, shown, rowGiven, rowAhead, stepAt, stepFrom, rowStep}
 use Rattle.row_walk.specs.Told.{toldStep}
 use Rattle.header.specs.declared.types.Rules.{Rules}
@@ -54,32 +54,32 @@ module _ (file : List ℕ) (at n passed : ℕ) (next : RowWalk) (line : List ℕ
   given-at e = at-shown epoch satellite floats next e ∙ all-shown
 
 -- what the line at the spot of the next row is to the walk
-module _ (rules : Rules) (file names : List ℕ) (from : RowWalk) (p : Spot) (p-is : p ≡ rowAhead rules file names (from .spot)) where
-  from-there : stepFrom rules file names (from .passed) p ≡ rowStep rules file names from
-  from-there = ap (stepFrom rules file names (from .passed)) p-is
+module _ (rules : Rules) (file identifiers : List ℕ) (from : RowWalk) (p : Spot) (p-is : p ≡ rowAhead rules file identifiers (from .spot)) where
+  from-there : stepFrom rules file identifiers (from .passed) p ≡ rowStep rules file identifiers from
+  from-there = ap (stepFrom rules file identifiers (from .passed)) p-is
 
-  step-there : stepAt file p (from .passed) (lineKnown rules file (p .at) (p .state) names) ≡ stepFrom rules file names (from .passed) p
+  step-there : stepAt file p (from .passed) (lineKnown rules file (p .at) (p .state) identifiers) ≡ stepFrom rules file identifiers (from .passed) p
   unfolding stepFrom
   step-there = refl
 
-  pub steps-so : (r w : LineRead) (x : RowStep) → toldRead r ≡ toldRead (lineKnown rules file (p .at) (p .state) names) → r ≡ w
-      → x ≡ stepAt file p (from .passed) w → toldStep x ≡ toldStep (rowStep rules file names from)
+  pub steps-so : (r w : LineRead) (x : RowStep) → toldRead r ≡ toldRead (lineKnown rules file (p .at) (p .state) identifiers) → r ≡ w
+      → x ≡ stepAt file p (from .passed) w → toldStep x ≡ toldStep (rowStep rules file identifiers from)
   steps-so r w x told is so =
       ap toldStep
       (so
-      ∙ ap (stepAt file p (from .passed)) (sym is ∙ toldRead-one r (lineKnown rules file (p .at) (p .state) names) told)
+      ∙ ap (stepAt file p (from .passed)) (sym is ∙ toldRead-one r (lineKnown rules file (p .at) (p .state) identifiers) told)
       ∙ step-there
       ∙ from-there)
 
 -- the judgement of a file, and room for its identifiers
 module _ (r : Reading) (file old : List ℕ) where
-  pub refused-begins : (r .refusal ≡ 0 → ⊥) → (r ≡ begunAs r (length old)) × (old ≡ namesBegun r file old)
-  unfolding begunAs namesBegun
+  pub refused-begins : (r .refusal ≡ 0 → ⊥) → (r ≡ begunAs r (length old)) × (old ≡ identifiersBegun r file old)
+  unfolding begunAs identifiersBegun
   refused-begins some = let no = ne-eqb (r .refusal) 0 some in (rw no, rw no)
 
   module _ (zero : r .refusal ≡ 0) where
-    pub short-begins : length old < r .header .satellites → (refusedWith 12 0 ≡ begunAs r (length old)) × (old ≡ namesBegun r file old)
-    unfolding begunAs namesBegun
+    pub short-begins : length old < r .header .satellites → (refusedWith 12 0 ≡ begunAs r (length old)) × (old ≡ identifiersBegun r file old)
+    unfolding begunAs identifiersBegun
     short-begins h =
         let yes = eq-eqb (r .refusal) 0 zero in
         let short = lt-leb (r .header .satellites) (length old) h in
@@ -90,8 +90,8 @@ module _ (r : Reading) (file old : List ℕ) where
     slots-fit h = simp length-take (omega arith)
 
     pub begins-so : (now : List ℕ) → r .header .satellites ≤ length old → now ≡ laid (slotsIn d false (r .header .satellites) (linesOf file)) old
-        → (r ≡ begunAs r (length old)) × (now ≡ namesBegun r file old)
-    unfolding begunAs namesBegun
+        → (r ≡ begunAs r (length old)) × (now ≡ identifiersBegun r file old)
+    unfolding begunAs identifiersBegun
     begins-so now h e =
         let yes = eq-eqb (r .refusal) 0 zero in
         let room = le-leb (r .header .satellites) (length old) h in (

@@ -30,7 +30,7 @@ firstWalk = record { spot = firstSpot; passed = 0 }
 
 -- the spot after the line at a spot, where the identifiers are known
 unfoldable pub spotPast : Rules → List ℕ → List ℕ → Spot → Spot
-spotPast rules file names p = goneTo (lineKnown rules file (p .at) (p .state) names) p
+spotPast rules file identifiers p = goneTo (lineKnown rules file (p .at) (p .state) identifiers) p
 
 -- a line that goes on leads to the lines after it; one that is refused or ends the file stays
 abbrev pub onward : Verdict → Spot → (State → Spot) → Spot
@@ -40,13 +40,13 @@ onward verdict.Finished p more = p
 
 -- the spot of the next P line (10) among the lines that follow a spot; or of the line before it that is refused or ends the file
 unfoldable pub toRow : Rules → List ℕ → Spot → List (List ℕ) → Spot
-toRow rules names p [] = p
-toRow rules names p (l ∷ ls) =
+toRow rules identifiers p [] = p
+toRow rules identifiers p (l ∷ ls) =
     cond (isKind rules 10 l) p
-    (onward (stepOf rules (p .state) names l) p (λ s. toRow rules names (record { at = p .at + length l + 1; state = s }) ls))
+    (onward (stepOf rules (p .state) identifiers l) p (λ s. toRow rules identifiers (record { at = p .at + length l + 1; state = s }) ls))
 
 abbrev pub rowAhead : Rules → List ℕ → List ℕ → Spot → Spot
-rowAhead rules file names p = toRow rules names p (linesOf (drop (p .at) file))
+rowAhead rules file identifiers p = toRow rules identifiers p (linesOf (drop (p .at) file))
 
 -- the number of the line that begins at a spot, counted from 1
 abbrev pub lineNumber : List ℕ → ℕ → ℕ
@@ -80,7 +80,7 @@ stepAt file p passed (found.Finished at) = step.End
 
 -- the next row of a file from between two rows
 unfoldable pub stepFrom : Rules → List ℕ → List ℕ → ℕ → Spot → RowStep
-stepFrom rules file names passed p = stepAt file p passed (lineKnown rules file (p .at) (p .state) names)
+stepFrom rules file identifiers passed p = stepAt file p passed (lineKnown rules file (p .at) (p .state) identifiers)
 
 abbrev pub rowStep : Rules → List ℕ → List ℕ → RowWalk → RowStep
-rowStep rules file names w = stepFrom rules file names (w .passed) (rowAhead rules file names (w .spot))
+rowStep rules file identifiers w = stepFrom rules file identifiers (w .passed) (rowAhead rules file identifiers (w .spot))

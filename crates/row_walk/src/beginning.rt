@@ -3,7 +3,7 @@ ghost use mathlib.Core.Path.{_≡_};
 ghost use lib.ListN.{length};
 ghost use Rattle.header.specs.Rules.{d};
 ghost use Rattle.reader.specs.Reading.{refusedWith, fileOf, judged};
-ghost use Rattle.row_walk.specs.Begin.{begunAs, namesBegun};
+ghost use Rattle.row_walk.specs.Begin.{begunAs, identifiersBegun};
 use header::Header;
 use header::Rules;
 use reader::Reading;
@@ -24,7 +24,7 @@ fn no_room() -> Reading
 // line 0 where there is less room than satellites. On every refusal the list is as it was.
 pub fn begin(file: &[u8], identifiers: &mut [u64]) -> Reading
     ensures result { λ r. ⌜ r ≡ begunAs (judged d (now (file .entry)) (fileOf d (now (file .entry)))) (length (now (identifiers .entry))) ⌝ }
-    ensures lent { λ _. ⌜ now (identifiers .exit) ≡ namesBegun (judged d (now (file .entry)) (fileOf d (now (file .entry)))) (now (file .entry)) (now (identifiers .entry)) ⌝ }
+    ensures lent { λ _. ⌜ now (identifiers .exit) ≡ identifiersBegun (judged d (now (file .entry)) (fileOf d (now (file .entry)))) (now (file .entry)) (now (identifiers .entry)) ⌝ }
 {
     let reading = reader::judge(file);
     if reading.refusal != 0 {

@@ -36,18 +36,18 @@ fn is_row_at(file: &[u8], at: usize) -> bool
 }
 
 // The plain line reader where the identifiers of the header are known: what the line at a spot does, and where the next begins.
-pub fn read_known<'a>(file: &'a [u8], names: &'a [u64], spot: Spot) -> LineRead
-    ensures result { λ r. ⌜ toldRead r ≡ toldRead (lineKnown d (now (file .entry)) (spot .at) (spot .state) (now (names .entry))) ⌝ }
+pub fn read_known<'a>(file: &'a [u8], identifiers: &'a [u64], spot: Spot) -> LineRead
+    ensures result { λ r. ⌜ toldRead r ≡ toldRead (lineKnown d (now (file .entry)) (spot .at) (spot .state) (now (identifiers .entry))) ⌝ }
 {
     let state = spot.state;
-    machine::line_known(Rules::d(), file, spot.at, state, names)
+    machine::line_known(Rules::d(), file, spot.at, state, identifiers)
 }
 
 // The spot after the line at a spot; the same spot where no line is left, where the line is refused and where it ends the file.
-fn spot_past<'a>(file: &'a [u8], names: &'a [u64], spot: Spot) -> Spot
-    ensures { λ r. ⌜ r ≡ spotPast d (now (file .entry)) (now (names .entry)) spot ⌝ }
+fn spot_past<'a>(file: &'a [u8], identifiers: &'a [u64], spot: Spot) -> Spot
+    ensures { λ r. ⌜ r ≡ spotPast d (now (file .entry)) (now (identifiers .entry)) spot ⌝ }
 {
-    match read_known(file, names, spot) {
+    match read_known(file, identifiers, spot) {
         LineRead::Next { at, state } => Spot { at, state },
         LineRead::NoLine => spot,
         LineRead::Fault {
@@ -59,8 +59,8 @@ fn spot_past<'a>(file: &'a [u8], names: &'a [u64], spot: Spot) -> Spot
 }
 
 // The spot of the next P line; or of the line before it that is refused or ends the file.
-fn at_row<'a>(file: &'a [u8], names: &'a [u64], from: Spot) -> Spot
-    ensures { λ r. ⌜ r ≡ rowAhead d (now (file .entry)) (now (names .entry)) from ⌝ }
+fn at_row<'a>(file: &'a [u8], identifiers: &'a [u64], from: Spot) -> Spot
+    ensures { λ r. ⌜ r ≡ rowAhead d (now (file .entry)) (now (identifiers .entry)) from ⌝ }
 {
     let mut spot = from;
     loop {
@@ -68,7 +68,7 @@ fn at_row<'a>(file: &'a [u8], names: &'a [u64], from: Spot) -> Spot
         if is_row_at(file, at) {
             return spot;
         }
-        let next = spot_past(file, names, spot);
+        let next = spot_past(file, identifiers, spot);
         if next.at == at {
             return spot;
         }
@@ -146,17 +146,17 @@ fn row_given(file: &[u8], at: usize, satellites: u64, passed: u64, next: RowWalk
     }
 }
 
-// The next P row of a file in order, in mode V too, where `names` are the identifiers of its header; each line on the way is judged. A file
+// The next P row of a file in order, in mode V too, where `identifiers` are the identifiers of its header; each line on the way is judged. A file
 // that `begin` accepted gives all its rows and then the end.
-pub fn next_row<'a>(file: &'a [u8], names: &'a [u64], from: RowWalk) -> RowStep
-    ensures result { λ r. ⌜ toldStep r ≡ toldStep (rowStep d (now (file .entry)) (now (names .entry)) from) ⌝ }
+pub fn next_row<'a>(file: &'a [u8], identifiers: &'a [u64], from: RowWalk) -> RowStep
+    ensures result { λ r. ⌜ toldStep r ≡ toldStep (rowStep d (now (file .entry)) (now (identifiers .entry)) from) ⌝ }
 {
     let start = from.spot;
     let passed = from.passed;
-    let spot = at_row(file, names, start);
+    let spot = at_row(file, identifiers, start);
     let at = spot.at;
     let state = spot.state;
-    match read_known(file, names, spot) {
+    match read_known(file, identifiers, spot) {
         LineRead::NoLine => RowStep::Refused {
             number: 1,
             line: line_number(file, at),

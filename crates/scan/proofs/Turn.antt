@@ -14,8 +14,8 @@ use Rattle.lines.proofs.Lined.{Lined, lined}
 use Rattle.file.specs.Kinds.{kindIn, isKind, isRow}
 use Rattle.file.proofs.Finding.{kind-told}
 use Rattle.header.specs.declared.types.Rules.{Rules}
-use Rattle.machine.specs.State.{startState, noNames, identifiersJoined}
-use Rattle.machine.specs.Step.{stepOf, namesBrought, readAs, readFirst, lineKnown}
+use Rattle.machine.specs.State.{startState, noIdentifiers, identifiersJoined}
+use Rattle.machine.specs.Step.{stepOf, identifiersBrought, readAs, readFirst, lineKnown}
 use Rattle.machine.specs.declared.types.State.{State}
 use Rattle.machine.specs.declared.types.Verdict.{Verdict}
 use Rattle.machine.specs.declared.types.Verdict.the-variants as verdict
@@ -41,15 +41,15 @@ more-or-not : (b : Bool) (n : ℕ) → oneMore b n ≤ n + 1
 more-or-not true n = omega arith
 more-or-not false n = omega arith
 
-pub record Going (rules : Rules) (bytes names : List ℕ) (s : State) (t : Tally) : Type 0 where
-  pub size : length names ≡ 255
+pub record Going (rules : Rules) (bytes identifiers : List ℕ) (s : State) (t : Tally) : Type 0 where
+  pub size : length identifiers ≡ 255
   pub within : t .end ≤ length bytes
   pub lines : t .lines ≤ t .end
   pub comments : t .comments ≤ t .end
   pub rows : t .rows ≤ t .end
-  pub same : run rules s names t (linesOf (drop (t .end) bytes)) ≡ scanOf rules bytes
+  pub same : run rules s identifiers t (linesOf (drop (t .end) bytes)) ≡ scanOf rules bytes
 
-pub going-first : (rules : Rules) (bytes : List ℕ) (s : State) → s ≡ startState → Going rules bytes noNames s nothingSeen
+pub going-first : (rules : Rules) (bytes : List ℕ) (s : State) → s ≡ startState → Going rules bytes noIdentifiers s nothingSeen
 going-first rules bytes s e =
     record { size = refl; within = zero-le; lines = zero-le; comments = zero-le; rows = zero-le; same = rw e }
 
@@ -60,39 +60,39 @@ pub record Ended (rules : Rules) (bytes : List ℕ) (t : Tally) (end : ℕ) : Ty
   pub finished : (t′ : Tally) → t′ ≡ counted rules t (take (end - 1 - t .end) (drop (t .end) bytes)) → front.File t′ ≡ scanOf rules bytes
 
 -- after another line, which ends before `end` and after which the state is `next`
-pub record Passed (rules : Rules) (bytes names : List ℕ) (s : State) (t : Tally) (end : ℕ) (next : State) : Type 0 where
+pub record Passed (rules : Rules) (bytes identifiers : List ℕ) (s : State) (t : Tally) (end : ℕ) (next : State) : Type 0 where
   pub starts : t .end < end
   pub within : end ≤ length bytes
   pub goes-on : let text = take (end - 1 - t .end) (drop (t .end) bytes) in
-      (names′ : List ℕ) (t′ : Tally) → names′ ≡ namesBrought rules s names text → t′ ≡ counted rules t text → Going rules bytes names′ next t′
+      (identifiers′ : List ℕ) (t′ : Tally) → identifiers′ ≡ identifiersBrought rules s identifiers text → t′ ≡ counted rules t text → Going rules bytes identifiers′ next t′
   pub falls : (t′ : Tally) → t′ ≡ counted rules t (take (end - 1 - t .end) (drop (t .end) bytes)) → length bytes - t′ .end < length bytes - t .end
 
 -- by what was found at a state, with these identifiers
 abbrev pub Turned : Rules → List ℕ → List ℕ → State → Tally → LineRead → Type 0
-Turned rules bytes names s t found.NoLine = front.Refused 1 (t .lines + 1) 0 ≡ scanOf rules bytes
-Turned rules bytes names s t (found.Fault number column) = front.Refused number (t .lines + 1) column ≡ scanOf rules bytes
-Turned rules bytes names s t (found.Next end next) = Passed rules bytes names s t end next
-Turned rules bytes names s t (found.Finished end) = Ended rules bytes t end
+Turned rules bytes identifiers s t found.NoLine = front.Refused 1 (t .lines + 1) 0 ≡ scanOf rules bytes
+Turned rules bytes identifiers s t (found.Fault number column) = front.Refused number (t .lines + 1) column ≡ scanOf rules bytes
+Turned rules bytes identifiers s t (found.Next end next) = Passed rules bytes identifiers s t end next
+Turned rules bytes identifiers s t (found.Finished end) = Ended rules bytes t end
 
-module _ (rules : Rules) (bytes names : List ℕ) (s : State) (t : Tally) (g : Going rules bytes names s t) where
+module _ (rules : Rules) (bytes identifiers : List ℕ) (s : State) (t : Tally) (g : Going rules bytes identifiers s t) where
   module _ (l : List ℕ) (ls : List (List ℕ)) (e : linesOf (drop (t .end) bytes) ≡ l ∷ ls) where
     here : Lined bytes (t .end) (t .end + length l + 1) l ls
     here = lined bytes (t .end) l ls e
 
-    judged : onVerdict (stepOf rules s names l) (counted rules t l) (λ s′. run rules s′ (namesBrought rules s names l) (counted rules t l) ls) ≡ scanOf rules bytes
+    judged : onVerdict (stepOf rules s identifiers l) (counted rules t l) (λ s′. run rules s′ (identifiersBrought rules s identifiers l) (counted rules t l) ls) ≡ scanOf rules bytes
     unfolding run
-    judged = sym (ap (run rules s names t) e) ∙ g .same
+    judged = sym (ap (run rules s identifiers t) e) ∙ g .same
 
-    goes : (s′ : State) → stepOf rules s names l ≡ verdict.Next s′ → (names′ : List ℕ) (t′ : Tally) → names′ ≡ namesBrought rules s names l → t′ ≡ counted rules t l
-        → Going rules bytes names′ s′ t′
+    goes : (s′ : State) → stepOf rules s identifiers l ≡ verdict.Next s′ → (identifiers′ : List ℕ) (t′ : Tally) → identifiers′ ≡ identifiersBrought rules s identifiers l → t′ ≡ counted rules t l
+        → Going rules bytes identifiers′ s′ t′
     unfolding counted
-    goes s′ w names′ t′ x y =
+    goes s′ w identifiers′ t′ x y =
         let ends : t′ .end ≡ t .end + length l + 1 = ap (λ (x : Tally). x .end) y in
-        let after : run rules s′ (namesBrought rules s names l) t′ (linesOf (drop (t′ .end) bytes)) ≡ scanOf rules bytes =
-        ap₂ (λ (x : Tally) (k : List (List ℕ)). run rules s′ (namesBrought rules s names l) x k) y (ap (λ (n : ℕ). linesOf (drop n bytes)) ends ∙ here .rest)
+        let after : run rules s′ (identifiersBrought rules s identifiers l) t′ (linesOf (drop (t′ .end) bytes)) ≡ scanOf rules bytes =
+        ap₂ (λ (x : Tally) (k : List (List ℕ)). run rules s′ (identifiersBrought rules s identifiers l) x k) y (ap (λ (n : ℕ). linesOf (drop n bytes)) ends ∙ here .rest)
         ∙ (rw w at judged) in
         record {
-          size = ap length x ∙ brought-length rules s names l ∙ g .size;
+          size = ap length x ∙ brought-length rules s identifiers l ∙ g .size;
           within = omega (arith, here .within);
           lines = omega (arith, ap (λ (x : Tally). x .lines) y, g .lines);
           comments = omega (arith, ap (λ (x : Tally). x .comments) y, more-or-not (isKind rules 8 l) (t .comments), g .comments);
@@ -104,7 +104,7 @@ module _ (rules : Rules) (bytes names : List ℕ) (s : State) (t : Tally) (g : G
     unfolding counted
     drops t′ y = omega (arith, ap (λ (x : Tally). x .end) y, here .starts, here .within)
 
-    line-turned : (v : Verdict) → stepOf rules s names l ≡ v → Turned rules bytes names s t (readAs v (t .end + length l + 1))
+    line-turned : (v : Verdict) → stepOf rules s identifiers l ≡ v → Turned rules bytes identifiers s t (readAs v (t .end + length l + 1))
     unfolding counted
     line-turned (verdict.Fault number column) w = rw w at judged
     line-turned (verdict.Next s′) w =
@@ -112,44 +112,44 @@ module _ (rules : Rules) (bytes names : List ℕ) (s : State) (t : Tally) (g : G
         record {
           starts = here .starts;
           within = here .within;
-          goes-on = λ names′ t′ x y. goes s′ w names′ t′ (x ∙ ap (namesBrought rules s names) (here .text)) (y ∙ known);
+          goes-on = λ identifiers′ t′ x y. goes s′ w identifiers′ t′ (x ∙ ap (identifiersBrought rules s identifiers) (here .text)) (y ∙ known);
           falls = λ t′ y. drops t′ (y ∙ known);
         }
     line-turned verdict.Finished w =
         let known = ap (counted rules t) (here .text) in
         record { starts = here .starts; within = here .within; finished = λ t′ y. ap front.File (y ∙ known) ∙ (rw w at judged) }
 
-  first-turned : (ks : List (List ℕ)) → linesOf (drop (t .end) bytes) ≡ ks → Turned rules bytes names s t (readFirst (stepOf rules s names) (t .end) ks)
+  first-turned : (ks : List (List ℕ)) → linesOf (drop (t .end) bytes) ≡ ks → Turned rules bytes identifiers s t (readFirst (stepOf rules s identifiers) (t .end) ks)
   unfolding readFirst run
-  first-turned [] e = sym (ap (run rules s names t) e) ∙ g .same
-  first-turned (l ∷ ls) e = line-turned l ls e (stepOf rules s names l) refl
+  first-turned [] e = sym (ap (run rules s identifiers t) e) ∙ g .same
+  first-turned (l ∷ ls) e = line-turned l ls e (stepOf rules s identifiers l) refl
 
-  pub turned : (v w : LineRead) → v ≡ lineKnown rules bytes (t .end) s names → v ≡ w → Turned rules bytes names s t w
+  pub turned : (v w : LineRead) → v ≡ lineKnown rules bytes (t .end) s identifiers → v ≡ w → Turned rules bytes identifiers s t w
   turned v w p e =
-      subst (λ (x : LineRead). Turned rules bytes names s t x) (sym p ∙ e) (first-turned (linesOf (drop (t .end) bytes)) refl)
+      subst (λ (x : LineRead). Turned rules bytes identifiers s t x) (sym p ∙ e) (first-turned (linesOf (drop (t .end) bytes)) refl)
 
 -- the identifiers after a line, whether it brings some or not
-pub brought-so : (rules : Rules) (s : State) (names line kept : List ℕ) → s .due ≡ 3 → kept ≡ identifiersJoined rules s names (padded line) → kept ≡ namesBrought rules s names line
-unfolding namesBrought
-brought-so rules s names line kept due e = rw (eq-eqb (s .due) 3 due) e
+pub brought-so : (rules : Rules) (s : State) (identifiers line kept : List ℕ) → s .due ≡ 3 → kept ≡ identifiersJoined rules s identifiers (padded line) → kept ≡ identifiersBrought rules s identifiers line
+unfolding identifiersBrought
+brought-so rules s identifiers line kept due e = rw (eq-eqb (s .due) 3 due) e
 
-pub none-brought : (rules : Rules) (s : State) (names line : List ℕ) → (s .due ≡ 3 → ⊥) → names ≡ namesBrought rules s names line
-unfolding namesBrought
-none-brought rules s names line not-due = rw (ne-eqb (s .due) 3 not-due)
+pub none-brought : (rules : Rules) (s : State) (identifiers line : List ℕ) → (s .due ≡ 3 → ⊥) → identifiers ≡ identifiersBrought rules s identifiers line
+unfolding identifiersBrought
+none-brought rules s identifiers line not-due = rw (ne-eqb (s .due) 3 not-due)
 
 -- a file has no more lines than bytes
-no-more-lines : (ls : List (List ℕ)) (rules : Rules) (s : State) (names : List ℕ) (t t′ : Tally) → t .lines ≤ t .end → run rules s names t ls ≡ front.File t′ → t′ .lines ≤ t′ .end
+no-more-lines : (ls : List (List ℕ)) (rules : Rules) (s : State) (identifiers : List ℕ) (t t′ : Tally) → t .lines ≤ t .end → run rules s identifiers t ls ≡ front.File t′ → t′ .lines ≤ t′ .end
 unfolding run counted
-no-more-lines [] rules s names t t′ h e = let z : _≡_ {A = ℕ} 0 1 = cc in absurd (omega arith)
-no-more-lines (l ∷ ls) rules s names t t′ h e = go (stepOf rules s names l) refl (λ (s′ : State) (names′ : List ℕ). no-more-lines ls rules s′ names′ (counted rules t l) t′ (omega arith))
+no-more-lines [] rules s identifiers t t′ h e = let z : _≡_ {A = ℕ} 0 1 = cc in absurd (omega arith)
+no-more-lines (l ∷ ls) rules s identifiers t t′ h e = go (stepOf rules s identifiers l) refl (λ (s′ : State) (identifiers′ : List ℕ). no-more-lines ls rules s′ identifiers′ (counted rules t l) t′ (omega arith))
   where
-    go : (v : Verdict) → stepOf rules s names l ≡ v → ((s′ : State) (names′ : List ℕ) → run rules s′ names′ (counted rules t l) ls ≡ front.File t′ → t′ .lines ≤ t′ .end) → t′ .lines ≤ t′ .end
+    go : (v : Verdict) → stepOf rules s identifiers l ≡ v → ((s′ : State) (identifiers′ : List ℕ) → run rules s′ identifiers′ (counted rules t l) ls ≡ front.File t′ → t′ .lines ≤ t′ .end) → t′ .lines ≤ t′ .end
     go (verdict.Fault number column) w more = let f : front.Refused number (t .lines + 1) column ≡ front.File t′ = rw w at e in let z : _≡_ {A = ℕ} 0 1 = cc in absurd (omega arith)
-    go (verdict.Next s′) w more = more s′ (namesBrought rules s names l) (rw w at e)
+    go (verdict.Next s′) w more = more s′ (identifiersBrought rules s identifiers l) (rw w at e)
     go verdict.Finished w more =
         let f : front.File (counted rules t l) ≡ front.File t′ = rw w at e in
         let same : counted rules t l ≡ t′ = cc in
         omega (arith, ap (λ (x : Tally). x .lines) same, ap (λ (x : Tally). x .end) same)
 
 pub lines-within : (rules : Rules) (bytes : List ℕ) (t : Tally) → scanOf rules bytes ≡ front.File t → t .lines ≤ t .end
-lines-within rules bytes t e = no-more-lines (linesOf bytes) rules startState noNames nothingSeen t zero-le e
+lines-within rules bytes t e = no-more-lines (linesOf bytes) rules startState noIdentifiers nothingSeen t zero-le e

@@ -10,8 +10,8 @@ use lib.ListN.{length}
 use Rattle.lines.specs.Lines.{linesOf}
 use Rattle.file.specs.Kinds.{isKind, isRow}
 use Rattle.header.specs.declared.types.Rules.{Rules}
-use Rattle.machine.specs.State.{startState, noNames}
-use Rattle.machine.specs.Step.{stepOf, namesBrought}
+use Rattle.machine.specs.State.{startState, noIdentifiers}
+use Rattle.machine.specs.Step.{stepOf, identifiersBrought}
 use Rattle.machine.specs.declared.types.State.{State}
 use Rattle.machine.specs.declared.types.Verdict.{Verdict}
 use Rattle.machine.specs.declared.types.Verdict.the-variants as verdict
@@ -44,13 +44,13 @@ onVerdict verdict.Finished t more = front.File t
 
 -- from a state, the identifiers known and what has been read before, over the lines that follow
 unfoldable pub run : Rules → State → List ℕ → Tally → List (List ℕ) → Front
-run rules s names t [] = front.Refused 1 (t .lines + 1) 0
-run rules s names t (l ∷ ls) =
-    onVerdict (stepOf rules s names l) (counted rules t l) (λ s′. run rules s′ (namesBrought rules s names l) (counted rules t l) ls)
+run rules s identifiers t [] = front.Refused 1 (t .lines + 1) 0
+run rules s identifiers t (l ∷ ls) =
+    onVerdict (stepOf rules s identifiers l) (counted rules t l) (λ s′. run rules s′ (identifiersBrought rules s identifiers l) (counted rules t l) ls)
 
 -- the file at the front of some bytes
 abbrev pub scanOf : Rules → List ℕ → Front
-scanOf rules bytes = run rules startState noNames nothingSeen (linesOf bytes)
+scanOf rules bytes = run rules startState noIdentifiers nothingSeen (linesOf bytes)
 
 -- the whole of so many bytes is one file: nothing stands after its last line
 unfoldable pub wholeFront : ℕ → Front → Front
@@ -66,15 +66,15 @@ IsFile rules bytes = (t : Tally) × (wholeFront (length bytes) (scanOf rules byt
 pub record Going : Type 0 where
   pub at : ℕ
   pub state : State
-  pub names : List ℕ
+  pub identifiers : List ℕ
 
 abbrev pub goneOn : Verdict → Rules → Going → List ℕ → Going
 goneOn (verdict.Fault number column) rules g l = g
-goneOn (verdict.Next s) rules g l = record { at = g .at + length l + 1; state = s; names = namesBrought rules (g .state) (g .names) l }
+goneOn (verdict.Next s) rules g l = record { at = g .at + length l + 1; state = s; identifiers = identifiersBrought rules (g .state) (g .identifiers) l }
 goneOn verdict.Finished rules g l = g
 
 unfoldable pub stepped : Rules → Going → List ℕ → Going
-stepped rules g l = goneOn (stepOf rules (g .state) (g .names) l) rules g l
+stepped rules g l = goneOn (stepOf rules (g .state) (g .identifiers) l) rules g l
 
 -- after some lines, one after another
 unfoldable pub steppedOver : Rules → Going → List (List ℕ) → Going
@@ -83,4 +83,4 @@ steppedOver rules g (l ∷ ls) = steppedOver rules (stepped rules g l) ls
 
 -- before the first line of a file
 abbrev pub atFirst : Going
-atFirst = record { at = 0; state = startState; names = noNames }
+atFirst = record { at = 0; state = startState; identifiers = noIdentifiers }

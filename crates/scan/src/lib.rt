@@ -79,7 +79,7 @@ fn refused(number: usize, line: u64, column: usize) -> Front
 pub fn scan_front(rules: Rules, bytes: &[u8]) -> Front
     ensures result { λ r. ⌜ toldFront r ≡ toldFront (scanOf rules (now (bytes .entry))) ⌝ }
 {
-    let mut names = [0u64; 255];
+    let mut identifiers = [0u64; 255];
     let mut state = machine::start();
     let mut tally = Tally {
         lines: 0,
@@ -90,7 +90,7 @@ pub fn scan_front(rules: Rules, bytes: &[u8]) -> Front
     loop {
         let at = tally.end;
         let line = tally.lines + 1;
-        match machine::line_known(rules, bytes, at, state, &names) {
+        match machine::line_known(rules, bytes, at, state, &identifiers) {
             LineRead::NoLine => {
                 return refused(1, line, 0);
             }
@@ -106,7 +106,7 @@ pub fn scan_front(rules: Rules, bytes: &[u8]) -> Front
             } => {
                 let text = &bytes[at..end - 1];
                 if state.due == 3 {
-                    machine::keep_names(rules, state, &mut names, text);
+                    machine::keep_identifiers(rules, state, &mut identifiers, text);
                 }
                 tally = count_line(rules, tally, text);
                 state = next;

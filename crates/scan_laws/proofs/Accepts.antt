@@ -13,7 +13,7 @@ use Rattle.record.specs.SlotLines.{satellitesOf}
 use Rattle.header.specs.Rules.{maxSatellites, slotLines}
 use Rattle.header.specs.declared.types.Rules.{Rules}
 use Rattle.machine.specs.Checks.{instantIn, repeats}
-use Rattle.machine.specs.State.{startState, noNames}
+use Rattle.machine.specs.State.{startState, noIdentifiers}
 use Rattle.machine.specs.Next.{afterFirst, afterSecond, afterCount}
 use Rattle.file.specs.Plain.{slotIdentifiers, areSlots, isFirstLine, isSecondLine, isCountLine, Plain, Sound}
 use Rattle.scan.specs.Run.{run, counted}
@@ -22,7 +22,7 @@ use Rattle.scan.specs.declared.Front.the-variants as front
 use Rattle.scan_laws.proofs.Reaching.{countedOver, Ends, reach-end, Ending, ending-on}
 use Rattle.scan_laws.proofs.Count.{plus-reach, Plus, plus-read}
 use Rattle.scan_laws.proofs.Tail.{Tail, tail-ends, tail-read}
-use Rattle.scan_laws.proofs.Head.{opened, dated, counts, first-reach, first-read, second-reach, second-read, names-due, names-alone, none-yet, begins, names-all, some-name}
+use Rattle.scan_laws.proofs.Head.{opened, dated, counts, first-reach, first-read, second-reach, second-read, identifiers-due, identifiers-alone, none-yet, begins, identifiers-all, some-identifier}
 
 -- the lines that a run to a file has read: those of a plain file, and the rest; and what it has tallied
 pub record PlainFront (rules : Rules) (t : Tally) (ls : List (List ℕ)) (t′ : Tally) : Type 0 where
@@ -32,11 +32,11 @@ pub record PlainFront (rules : Rules) (t : Tally) (ls : List (List ℕ)) (t′ :
   pub plain : Plain rules used
   pub tally : t′ ≡ countedOver rules t used
 
-module _ (rules : Rules) (sound : Sound rules) (names : List ℕ) (wide : length names ≡ maxSatellites) where
-  pub room : rules .«most_satellites» ≤ length names
-  room = omega (arith, sound .names-fit, wide)
+module _ (rules : Rules) (sound : Sound rules) (identifiers : List ℕ) (wide : length identifiers ≡ maxSatellites) where
+  pub room : rules .«most_satellites» ≤ length identifiers
+  room = omega (arith, sound .identifiers-fit, wide)
 
-  pub seventeen-fit : 17 ≤ length names
+  pub seventeen-fit : 17 ≤ length identifiers
   seventeen-fit = omega (arith, wide)
 
   -- the part of a plain file from the `++` lines on
@@ -47,8 +47,8 @@ module _ (rules : Rules) (sound : Sound rules) (names : List ℕ) (wide : length
 
   plain-tail : (used : List (List ℕ)) (p : Plain rules used) (rest : List ℕ)
       → Tail rules (counts rules (p .first) (p .second) (p .count)) (slotIdentifiers (satellitesOf rules (padded (p .count)) .count) (p .count ∷ p .slots)) rest
-      (names-all rules (p .first) (p .second) (p .count) (p .slots) (p .slots-many))
-      (some-name rules (p .first) (p .second) (p .count) (p .slots) (p .is-count) (p .slots-many))
+      (identifiers-all rules (p .first) (p .second) (p .count) (p .slots) (p .slots-many))
+      (some-identifier rules (p .first) (p .second) (p .count) (p .slots) (p .is-count) (p .slots-many))
       (begins rules (p .first) (p .second) (p .count) (p .is-first)) (tailOf used p)
   unfolding afterFirst afterSecond afterCount
   plain-tail used p rest = record {
@@ -78,24 +78,24 @@ module _ (rules : Rules) (sound : Sound rules) (names : List ℕ) (wide : length
   }
 
   -- the lines of a plain file end a run
-  plain-ends : (used : List (List ℕ)) → Plain rules used → Ends rules startState names used
+  plain-ends : (used : List (List ℕ)) → Plain rules used → Ends rules startState identifiers used
   unfolding afterCount
   plain-ends used p =
       let s₁ = opened rules (p .first) in
       let s₂ = dated rules (p .first) (p .second) in
       let plus =
-      plus-reach rules s₂ names (names-due rules (p .first) (p .second)) (none-yet rules (p .first) (p .second)) room seventeen-fit
+      plus-reach rules s₂ identifiers (identifiers-due rules (p .first) (p .second)) (none-yet rules (p .first) (p .second)) room seventeen-fit
       (p .count) (p .slots) (p .is-count) (p .are-slots) (p .slots-many) (p .all-different) in
       let known = slotIdentifiers (satellitesOf rules (padded (p .count)) .count) (p .count ∷ p .slots) in
       let ends =
       tail-ends rules (counts rules (p .first) (p .second) (p .count)) known (plus .0)
-      (names-all rules (p .first) (p .second) (p .count) (p .slots) (p .slots-many))
-      (some-name rules (p .first) (p .second) (p .count) (p .slots) (p .is-count) (p .slots-many))
+      (identifiers-all rules (p .first) (p .second) (p .count) (p .slots) (p .slots-many))
+      (some-identifier rules (p .first) (p .second) (p .count) (p .slots) (p .is-count) (p .slots-many))
       (begins rules (p .first) (p .second) (p .count) (p .is-first)) (tailOf used p) (plain-tail used p (plus .0)) in
-      let from-plus = reach-end rules s₂ _ names (known ++ plus .0) (p .count ∷ p .slots) (tailOf used p) (plus .1) ends in
-      let from-second = reach-end rules s₁ s₂ names names (p .second ∷ []) ((p .count ∷ p .slots) ++ tailOf used p) (second-reach rules names (p .first) (p .second) (p .is-second)) from-plus in
-      subst (λ (x : List (List ℕ)). Ends rules startState names x) (sym (p .lines-are))
-      (reach-end rules startState s₁ names names (p .first ∷ []) (p .second ∷ ((p .count ∷ p .slots) ++ tailOf used p)) (first-reach rules names (p .first) (p .is-first)) from-second)
+      let from-plus = reach-end rules s₂ _ identifiers (known ++ plus .0) (p .count ∷ p .slots) (tailOf used p) (plus .1) ends in
+      let from-second = reach-end rules s₁ s₂ identifiers identifiers (p .second ∷ []) ((p .count ∷ p .slots) ++ tailOf used p) (second-reach rules identifiers (p .first) (p .second) (p .is-second)) from-plus in
+      subst (λ (x : List (List ℕ)). Ends rules startState identifiers x) (sym (p .lines-are))
+      (reach-end rules startState s₁ identifiers identifiers (p .first ∷ []) (p .second ∷ ((p .count ∷ p .slots) ++ tailOf used p)) (first-reach rules identifiers (p .first) (p .is-first)) from-second)
 
   -- the plain file of a front, its `+ ` lines and the lines after them
   module _ (first second count : List ℕ) (slots : List (List ℕ)) (is-first : isFirstLine rules first ≡ true)
@@ -108,8 +108,8 @@ module _ (rules : Rules) (sound : Sound rules) (names : List ℕ) (wide : length
 
     abbrev FromPlus : List ℕ → List (List ℕ) → Type 0
     FromPlus rest lines =
-        Tail rules (counts rules first second count) known rest (names-all rules first second count slots slots-many)
-        (some-name rules first second count slots is-count slots-many) (begins rules first second count is-first) lines
+        Tail rules (counts rules first second count) known rest (identifiers-all rules first second count slots slots-many)
+        (some-identifier rules first second count slots is-count slots-many) (begins rules first second count is-first) lines
 
     plain-of : (rest : List ℕ) (lines : List (List ℕ)) → FromPlus rest lines → Plain rules (first ∷ second ∷ count ∷ (slots ++ lines))
     unfolding afterFirst afterSecond afterCount
@@ -152,7 +152,7 @@ module _ (rules : Rules) (sound : Sound rules) (names : List ℕ) (wide : length
   -- from its first two lines and its `+ ` lines on
   from-plus : (first second : List ℕ) (t t′ : Tally) (ls others₁ others₂ : List (List ℕ)) → isFirstLine rules first ≡ true
       → isSecondLine rules (instantIn (firstOf rules (padded first) .start)) second ≡ true → ls ≡ first ∷ others₁ → others₁ ≡ second ∷ others₂
-      → Plus rules (dated rules first second) names (names-due rules first second) (none-yet rules first second) room seventeen-fit
+      → Plus rules (dated rules first second) identifiers (identifiers-due rules first second) (none-yet rules first second) room seventeen-fit
       (counted rules (counted rules t first) second) t′ others₂ → PlainFront rules t ls t′
   unfolding afterCount countedOver
   from-plus first second t t′ ls others₁ others₂ is-first is-second split₁ split₂ x =
@@ -160,7 +160,7 @@ module _ (rules : Rules) (sound : Sound rules) (names : List ℕ) (wide : length
       let front-lines = first ∷ second ∷ x .count ∷ x .slots in
       let y =
       tail-read rules (counts rules first second (x .count)) (slotIdentifiers n (x .count ∷ x .slots)) (x .rest)
-      (names-all rules first second (x .count) (x .slots) (x .slots-many)) (some-name rules first second (x .count) (x .slots) (x .is-count) (x .slots-many))
+      (identifiers-all rules first second (x .count) (x .slots) (x .slots-many)) (some-identifier rules first second (x .count) (x .slots) (x .is-count) (x .slots-many))
       (begins rules first second (x .count) is-first) (countedOver rules t front-lines) t′ (x .more) (sound .comments-fit) (x .goes) in
       let split : ls ≡ front-lines ++ x .more = split₁ ∙ ap (λ (r : List (List ℕ)). first ∷ r) (split₂ ∙ ap (λ (r : List (List ℕ)). second ∷ r) (x .split)) in
       let ending : Ending rules t t′ ls (front-lines ++ y .used) (y .more) = ending-on rules t t′ ls front-lines (x .more) (y .used) (y .more) split (y .ending) in
@@ -174,26 +174,26 @@ module _ (rules : Rules) (sound : Sound rules) (names : List ℕ) (wide : length
         tally = ending .tally;
       }
 
-  front-of : (t t′ : Tally) (ls : List (List ℕ)) → run rules startState names t ls ≡ front.File t′ → PlainFront rules t ls t′
+  front-of : (t t′ : Tally) (ls : List (List ℕ)) → run rules startState identifiers t ls ≡ front.File t′ → PlainFront rules t ls t′
   front-of t t′ ls e =
-      let x = first-read rules names t t′ ls e in
+      let x = first-read rules identifiers t t′ ls e in
       let t₁ = counted rules t (x .line) in
-      let y = second-read rules names (x .line) t₁ t′ (x .others) (x .goes) in
+      let y = second-read rules identifiers (x .line) t₁ t′ (x .others) (x .goes) in
       let s₂ = dated rules (x .line) (y .line) in
       from-plus (x .line) (y .line) t t′ ls (x .others) (y .others) (x .is) (y .is) (x .split) (y .split)
-      (plus-read rules s₂ names (names-due rules (x .line) (y .line)) (none-yet rules (x .line) (y .line)) room seventeen-fit (counted rules t₁ (y .line)) t′ (y .others)
-      (names-alone rules (x .line) (y .line)) (y .goes))
+      (plus-read rules s₂ identifiers (identifiers-due rules (x .line) (y .line)) (none-yet rules (x .line) (y .line)) room seventeen-fit (counted rules t₁ (y .line)) t′ (y .others)
+      (identifiers-alone rules (x .line) (y .line)) (y .goes))
 
 -- no identifier is known before the first line, and there is room for as many as a version has
-pub names-wide : length noNames ≡ maxSatellites
-names-wide = length-replicate {A = ℕ} maxSatellites 0
+pub identifiers-wide : length noIdentifiers ≡ maxSatellites
+identifiers-wide = length-replicate {A = ℕ} maxSatellites 0
 
 -- A run that ends in a file has read the lines of a plain file, and tallied them.
-pub run-plain : (rules : Rules) → Sound rules → (ls : List (List ℕ)) (t t′ : Tally) → run rules startState noNames t ls ≡ front.File t′
+pub run-plain : (rules : Rules) → Sound rules → (ls : List (List ℕ)) (t t′ : Tally) → run rules startState noIdentifiers t ls ≡ front.File t′
     → PlainFront rules t ls t′
-run-plain rules sound ls t t′ e = front-of rules sound noNames names-wide t t′ ls e
+run-plain rules sound ls t t′ e = front-of rules sound noIdentifiers identifiers-wide t t′ ls e
 
 -- The lines of a plain file end in a file, whatever follows them.
 pub plain-run : (rules : Rules) → Sound rules → (used more : List (List ℕ)) (t : Tally) → Plain rules used
-    → run rules startState noNames t (used ++ more) ≡ front.File (countedOver rules t used)
-plain-run rules sound used more t p = plain-ends rules sound noNames names-wide used p .runs t more
+    → run rules startState noIdentifiers t (used ++ more) ≡ front.File (countedOver rules t used)
+plain-run rules sound used more t p = plain-ends rules sound noIdentifiers identifiers-wide used p .runs t more

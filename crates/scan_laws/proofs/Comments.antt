@@ -25,9 +25,9 @@ use Rattle.scan.specs.declared.Tally.{Tally}
 use Rattle.scan.specs.declared.Front.the-variants as front
 use Rattle.scan_laws.proofs.Passing.{kindHere, taken, is-due, some-line}
 use Rattle.scan_laws.proofs.Forgetting.{forget}
-use Rattle.scan_laws.proofs.Reaching.{countedOver, Reach, reach-none, reach-append, reach-one, reach-also, names-kept}
+use Rattle.scan_laws.proofs.Reaching.{countedOver, Reach, reach-none, reach-append, reach-one, reach-also, identifiers-kept}
 
-module _ (rules : Rules) (s : State) (names : List ℕ) where
+module _ (rules : Rules) (s : State) (identifiers : List ℕ) where
   other-due : (needed allowed : ℕ) → eqb (commentsDue needed allowed s .due) 3 ≡ false
   unfolding commentsDue
   other-due needed allowed = go (eqb needed 0)
@@ -54,7 +54,7 @@ module _ (rules : Rules) (s : State) (names : List ℕ) where
 
   -- one comment
   comment-reach : (needed allowed : ℕ) (l : List ℕ) → 1 ≤ allowed → isCommentLine rules l ≡ true
-      → Reach rules (commentsDue needed allowed s) names (l ∷ []) (commentsDue (needed - 1) (allowed - 1) s) names
+      → Reach rules (commentsDue needed allowed s) identifiers (l ∷ []) (commentsDue (needed - 1) (allowed - 1) s) identifiers
   unfolding commentsDue
   comment-reach needed allowed l some is = go (eqb needed 0) refl
     where
@@ -64,27 +64,27 @@ module _ (rules : Rules) (s : State) (names : List ℕ) where
       clean : faultOf commentItems (padded l) ≡ 0
       clean = eqb-true (faultOf commentItems (padded l)) 0 (and-right (isLine rules kind.Comment l) _ is)
 
-      go : (b : Bool) → eqb needed 0 ≡ b → Reach rules (commentsDue needed allowed s) names (l ∷ []) (commentsDue (needed - 1) (allowed - 1) s) names
+      go : (b : Bool) → eqb needed 0 ≡ b → Reach rules (commentsDue needed allowed s) identifiers (l ∷ []) (commentsDue (needed - 1) (allowed - 1) s) identifiers
       go true e =
-          reach-also rules kind.Comment (commentsDue needed allowed s) (commentsDue (needed - 1) (allowed - 1) s) names names l
+          reach-also rules kind.Comment (commentsDue needed allowed s) (commentsDue (needed - 1) (allowed - 1) s) identifiers identifiers l
           (also-comment needed allowed e (ne-eqb allowed 0 (λ z. omega arith))) is-kind clean refl
-          (names-kept rules (commentsDue needed allowed s) names l (other-due needed allowed))
+          (identifiers-kept rules (commentsDue needed allowed s) identifiers l (other-due needed allowed))
       go false e =
-          reach-one rules kind.Comment (commentsDue needed allowed s) (commentsDue (needed - 1) (allowed - 1) s) names names l
+          reach-one rules kind.Comment (commentsDue needed allowed s) (commentsDue (needed - 1) (allowed - 1) s) identifiers identifiers l
           (due-comment needed allowed e) is-kind clean refl
-          (names-kept rules (commentsDue needed allowed s) names l (other-due needed allowed))
+          (identifiers-kept rules (commentsDue needed allowed s) identifiers l (other-due needed allowed))
 
   -- all of them
   pub comments-reach : (ls : List (List ℕ)) (needed allowed : ℕ) → needed ≤ length ls → length ls ≤ allowed → everyLine (isCommentLine rules) ls ≡ true
-      → (c : ℕ) × Reach rules (commentsDue needed allowed s) names ls (commentsDue 0 c s) names
+      → (c : ℕ) × Reach rules (commentsDue needed allowed s) identifiers ls (commentsDue 0 c s) identifiers
   unfolding everyLine
   comments-reach [] needed allowed low high are =
       let none : needed ≡ 0 = omega arith in
-      (allowed, subst (λ (k : ℕ). Reach rules (commentsDue k allowed s) names [] (commentsDue 0 allowed s) names) (sym none) (reach-none rules (commentsDue 0 allowed s) names))
+      (allowed, subst (λ (k : ℕ). Reach rules (commentsDue k allowed s) identifiers [] (commentsDue 0 allowed s) identifiers) (sym none) (reach-none rules (commentsDue 0 allowed s) identifiers))
   comments-reach (l ∷ ls) needed allowed low high are =
       let others = comments-reach ls (needed - 1) (allowed - 1) (omega arith) (omega arith) (and-right (isCommentLine rules l) _ are) in
       let first = comment-reach needed allowed l (omega arith) (and-left (isCommentLine rules l) _ are) in
-      (others .0, reach-append rules (commentsDue needed allowed s) (commentsDue (needed - 1) (allowed - 1) s) (commentsDue 0 (others .0) s) names names names (l ∷ []) ls first (others .1))
+      (others .0, reach-append rules (commentsDue needed allowed s) (commentsDue (needed - 1) (allowed - 1) s) (commentsDue 0 (others .0) s) identifiers identifiers identifiers (l ∷ []) ls first (others .1))
 
   -- the comments that a run to a file has read
   pub record Commented (needed allowed : ℕ) (t t′ : Tally) (ls : List (List ℕ)) : Type 0 where
@@ -95,7 +95,7 @@ module _ (rules : Rules) (s : State) (names : List ℕ) where
     pub enough : needed ≤ length comments
     pub few : length comments ≤ allowed
     pub spare : ℕ
-    pub goes : run rules (allow 0 (commentsDue 0 spare s)) names (countedOver rules t comments) more ≡ front.File t′
+    pub goes : run rules (allow 0 (commentsDue 0 spare s)) identifiers (countedOver rules t comments) more ≡ front.File t′
 
   one-more : (needed allowed : ℕ) (t t′ : Tally) (l : List ℕ) (ls : List (List ℕ)) → 1 ≤ allowed → isCommentLine rules l ≡ true
       → Commented (needed - 1) (allowed - 1) (counted rules t l) t′ ls → Commented needed allowed t t′ (l ∷ ls)
@@ -112,15 +112,15 @@ module _ (rules : Rules) (s : State) (names : List ℕ) where
   }
 
   comment-read : (needed allowed : ℕ) (t t′ : Tally) (l : List ℕ) (ls : List (List ℕ)) → kindHere rules l ≡ kind.Comment
-      → run rules (commentsDue needed allowed s) names t (l ∷ ls) ≡ front.File t′
-      → (isCommentLine rules l ≡ true) × (run rules (commentsDue (needed - 1) (allowed - 1) s) names (counted rules t l) ls ≡ front.File t′)
+      → run rules (commentsDue needed allowed s) identifiers t (l ∷ ls) ≡ front.File t′
+      → (isCommentLine rules l ≡ true) × (run rules (commentsDue (needed - 1) (allowed - 1) s) identifiers (counted rules t l) ls ≡ front.File t′)
   unfolding commentsDue
   comment-read needed allowed t t′ l ls is e =
-      let x = taken rules kind.Comment (commentsDue needed allowed s) names t t′ l ls is e in
-      let kept = names-kept rules (commentsDue needed allowed s) names l (other-due needed allowed) in
+      let x = taken rules kind.Comment (commentsDue needed allowed s) identifiers t t′ l ls is e in
+      let kept = identifiers-kept rules (commentsDue needed allowed s) identifiers l (other-due needed allowed) in
       (rw (x .is-kind, x .clean), rw kept at (x .goes))
 
-  no-comment : (needed allowed : ℕ) (t t′ : Tally) (ls : List (List ℕ)) → eqb needed 0 ≡ true → run rules (allow 0 (commentsDue needed allowed s)) names t ls ≡ front.File t′
+  no-comment : (needed allowed : ℕ) (t t′ : Tally) (ls : List (List ℕ)) → eqb needed 0 ≡ true → run rules (allow 0 (commentsDue needed allowed s)) identifiers t ls ≡ front.File t′
       → Commented needed allowed t t′ ls
   unfolding countedOver everyLine
   no-comment needed allowed t t′ ls none e =
@@ -138,12 +138,12 @@ module _ (rules : Rules) (s : State) (names : List ℕ) where
 
   abbrev More : (needed allowed : ℕ) (t t′ : Tally) (l : List ℕ) (ls : List (List ℕ)) → Type 0
   More needed allowed t t′ l ls =
-      run rules (commentsDue (needed - 1) (allowed - 1) s) names (counted rules t l) ls ≡ front.File t′
+      run rules (commentsDue (needed - 1) (allowed - 1) s) identifiers (counted rules t l) ls ≡ front.File t′
       → Commented (needed - 1) (allowed - 1) (counted rules t l) t′ ls
 
-  pub comments-read : (ls : List (List ℕ)) (needed allowed : ℕ) (t t′ : Tally) → needed ≤ allowed → run rules (commentsDue needed allowed s) names t ls ≡ front.File t′
+  pub comments-read : (ls : List (List ℕ)) (needed allowed : ℕ) (t t′ : Tally) → needed ≤ allowed → run rules (commentsDue needed allowed s) identifiers t ls ≡ front.File t′
       → Commented needed allowed t t′ ls
-  comments-read [] needed allowed t t′ h e = absurd (some-line rules (commentsDue needed allowed s) names t t′ e)
+  comments-read [] needed allowed t t′ h e = absurd (some-line rules (commentsDue needed allowed s) identifiers t t′ e)
   comments-read (l ∷ ls) needed allowed t t′ h e = go (eqb needed 0) refl (isKind rules 8 l) refl (eqb allowed 0) refl (comments-read ls (needed - 1) (allowed - 1) (counted rules t l) t′ (omega arith))
     where
       first : 1 ≤ allowed → kindHere rules l ≡ kind.Comment → More needed allowed t t′ l ls → Commented needed allowed t t′ (l ∷ ls)
@@ -154,10 +154,10 @@ module _ (rules : Rules) (s : State) (names : List ℕ) where
       go : (b : Bool) → eqb needed 0 ≡ b → (c : Bool) → isKind rules 8 l ≡ c → (d : Bool) → eqb allowed 0 ≡ d → More needed allowed t t′ l ls → Commented needed allowed t t′ (l ∷ ls)
       go false some c is d many more =
           first (omega (arith, eqb-false needed 0 some))
-          (is-due rules kind.Comment (commentsDue needed allowed s) names t t′ l ls (due-comment needed allowed some) (none-else needed allowed some) e) more
-      go true none c is true many more = no-comment needed allowed t t′ (l ∷ ls) none (subst (λ (x : State). run rules x names t (l ∷ ls) ≡ front.File t′) (nothing-else needed allowed none many) e)
+          (is-due rules kind.Comment (commentsDue needed allowed s) identifiers t t′ l ls (due-comment needed allowed some) (none-else needed allowed some) e) more
+      go true none c is true many more = no-comment needed allowed t t′ (l ∷ ls) none (subst (λ (x : State). run rules x identifiers t (l ∷ ls) ≡ front.File t′) (nothing-else needed allowed none many) e)
       go true none true is false many more =
           first (omega (arith, eqb-false allowed 0 many)) (toldKind-one (kindHere rules l) kind.Comment (eqb-true (toldKind (kindHere rules l)) 8 is)) more
       go true none false is false many more =
           no-comment needed allowed t t′ (l ∷ ls) none
-          (sym (forget rules (commentsDue needed allowed s) names t l ls (ap (λ (k : ℕ). isKind rules k l) (also-comment needed allowed none many) ∙ is)) ∙ e)
+          (sym (forget rules (commentsDue needed allowed s) identifiers t l ls (ap (λ (k : ℕ). isKind rules k l) (also-comment needed allowed none many) ∙ is)) ∙ e)

@@ -16,10 +16,10 @@ use Rattle.header.specs.Rules.{slotLines}
 use Rattle.header.specs.declared.types.Rules.{Rules}
 use Rattle.record.specs.declared.types.LineKind.the-variants as kind
 use Rattle.machine.specs.Checks.{repeats}
-use Rattle.machine.specs.State.{namesIn, fitBehind, laidBehind, identifiersJoined}
+use Rattle.machine.specs.State.{identifiersIn, fitBehind, laidBehind, identifiersJoined}
 use Rattle.machine.specs.Faults.{satellitesFault}
 use Rattle.machine.specs.Next.{expect, leave, afterCount, afterSatellites}
-use Rattle.machine.specs.Step.{namesBrought}
+use Rattle.machine.specs.Step.{identifiersBrought}
 use Rattle.machine.specs.declared.types.State.{State}
 use Rattle.machine.specs.declared.types.Verdict.the-variants as verdict
 use Rattle.file.specs.Plain.{isLine, isCountLine, areSlots, slotIdentifiers}
@@ -27,8 +27,8 @@ use Rattle.scan.specs.Run.{run, counted}
 use Rattle.scan.specs.declared.Tally.{Tally}
 use Rattle.scan.specs.declared.Front.the-variants as front
 use Rattle.scan_laws.proofs.Reaching.{countedOver, Reach, reach-append, reach-one, due-line}
-use Rattle.scan_laws.proofs.Slots.{freshIn, first-fresh, fresh-length, all-names, first-new, all-new}
-use Rattle.scan_laws.proofs.Names.{namesFault, names-clean, clean-names, namesDue, names-reach, names-read}
+use Rattle.scan_laws.proofs.Slots.{freshIn, first-fresh, fresh-length, all-identifiers, first-new, all-new}
+use Rattle.scan_laws.proofs.Identifiers.{identifiersFault, identifiers-clean, clean-identifiers, identifiersDue, identifiers-reach, identifiers-read}
 use Rattle.scan_laws.proofs.Bounds.{some-satellites}
 
 -- there are further `+ ` lines
@@ -51,27 +51,27 @@ module _ (rules : Rules) where
     none-seen : s .satellites - s .left ≡ 0
     none-seen = omega (arith, none)
 
-    pub count-faults : (names l : List ℕ) → satellitesFault rules s names (padded l) ≡ namesFault (satellitesOf rules (padded l) .fault) (repeats [] (freshIn (said l) l))
-    unfolding satellitesFault namesIn
-    count-faults names l = rw (is-first, none-seen, first-fresh rules l)
+    pub count-faults : (identifiers l : List ℕ) → satellitesFault rules s identifiers (padded l) ≡ identifiersFault (satellitesOf rules (padded l) .fault) (repeats [] (freshIn (said l) l))
+    unfolding satellitesFault identifiersIn
+    count-faults identifiers l = rw (is-first, none-seen, first-fresh rules l)
 
-  module _ (s : State) (names : List ℕ) (due : s .due ≡ 3) (none : s .satellites ≡ 0) (room : rules .«most_satellites» ≤ length names) (wide : 17 ≤ length names) where
+  module _ (s : State) (identifiers : List ℕ) (due : s .due ≡ 3) (none : s .satellites ≡ 0) (room : rules .«most_satellites» ≤ length identifiers) (wide : 17 ≤ length identifiers) where
     -- the identifiers after the first line
     abbrev pub others : List ℕ → List ℕ
-    others l = drop (length (freshIn (said l) l)) names
+    others l = drop (length (freshIn (said l) l)) identifiers
 
-    pub count-brought : (l : List ℕ) → namesBrought rules s names l ≡ freshIn (said l) l ++ others l
-    unfolding namesBrought identifiersJoined laidBehind namesIn
+    pub count-brought : (l : List ℕ) → identifiersBrought rules s identifiers l ≡ freshIn (said l) l ++ others l
+    unfolding identifiersBrought identifiersJoined laidBehind identifiersIn
     count-brought l =
-        let fits : fitBehind 0 (freshIn (said l) l) names ≡ true =
-        le-leb (0 + length (freshIn (said l) l)) (length names) (omega (arith, fresh-length (said l) l, wide)) in
+        let fits : fitBehind 0 (freshIn (said l) l) identifiers ≡ true =
+        le-leb (0 + length (freshIn (said l) l)) (length identifiers) (omega (arith, fresh-length (said l) l, wide)) in
         rw (due, is-first s none, none-seen s none, first-fresh rules l, fits)
 
     pub count-next : (l : List ℕ) → afterSatellites rules s (padded l) ≡ afterCount (said l) s
     unfolding afterSatellites
     count-next l = rw (is-first s none)
 
-    pub count-due : (n : ℕ) (some : eqb (afterCount n s .satellites) 0 ≡ false) → afterCount n s ≡ namesDue rules (afterCount n s) some (suc (slotLines n - 2)) (n - 17)
+    pub count-due : (n : ℕ) (some : eqb (afterCount n s .satellites) 0 ≡ false) → afterCount n s ≡ identifiersDue rules (afterCount n s) some (suc (slotLines n - 2)) (n - 17)
     unfolding afterCount
     count-due n some = rw (further n)
 
@@ -84,23 +84,23 @@ module _ (rules : Rules) where
     first-many l = omega (arith, fresh-length (said l) l)
 
     pub first-room : (l : List ℕ) → isCountLine rules l ≡ true → said l - 17 ≤ length (others l)
-    first-room l is = omega (arith, length-drop (length (freshIn (said l) l)) names, fresh-length (said l) l, count-fit l is .1, room)
+    first-room l is = omega (arith, length-drop (length (freshIn (said l) l)) identifiers, fresh-length (said l) l, count-fit l is .1, room)
 
     -- all identifiers are known, and the `++` lines are due
     abbrev pub allKnown : ℕ → State
     allKnown n = leave n (expect 4 (slotLines n) (afterCount n s))
 
     count-reach : (l : List ℕ) → isCountLine rules l ≡ true → repeats [] (freshIn (said l) l) ≡ false
-        → Reach rules s names (l ∷ []) (afterCount (said l) s) (freshIn (said l) l ++ others l)
+        → Reach rules s identifiers (l ∷ []) (afterCount (said l) s) (freshIn (said l) l ++ others l)
     count-reach l is new =
         let fault = satellitesOf rules (padded l) .fault in
-        reach-one rules kind.Satellites s (afterCount (said l) s) names (freshIn (said l) l ++ others l) l due (and-left (isLine rules kind.Satellites l) _ is)
-        (count-faults s none names l ∙ names-clean fault (repeats [] (freshIn (said l) l)) (eqb-true fault 0 (and-right (isLine rules kind.Satellites l) _ is)) new)
+        reach-one rules kind.Satellites s (afterCount (said l) s) identifiers (freshIn (said l) l ++ others l) l due (and-left (isLine rules kind.Satellites l) _ is)
+        (count-faults s none identifiers l ∙ identifiers-clean fault (repeats [] (freshIn (said l) l)) (eqb-true fault 0 (and-right (isLine rules kind.Satellites l) _ is)) new)
         (ap verdict.Next (count-next l)) (count-brought l)
 
     -- all `+ ` lines
     pub plus-reach : (l : List ℕ) (slots : List (List ℕ)) → isCountLine rules l ≡ true → areSlots rules false (said l - 17) slots ≡ true → suc (length slots) ≡ slotLines (said l)
-        → repeats [] (slotIdentifiers (said l) (l ∷ slots)) ≡ false → (rest : List ℕ) × Reach rules s names (l ∷ slots) (allKnown (said l)) (slotIdentifiers (said l) (l ∷ slots) ++ rest)
+        → repeats [] (slotIdentifiers (said l) (l ∷ slots)) ≡ false → (rest : List ℕ) × Reach rules s identifiers (l ∷ slots) (allKnown (said l)) (slotIdentifiers (said l) (l ∷ slots) ++ rest)
     unfolding afterCount
     plus-reach l slots is are many new =
         let n = said l in
@@ -108,12 +108,12 @@ module _ (rules : Rules) where
         let known = freshIn n l in
         let parts = first-new n [] l slots new in
         let lines : length slots ≡ suc (slotLines n - 2) = omega (arith, many, further n) in
-        let first : Reach rules s names (l ∷ []) (namesDue rules s₁ (some-said l is) (suc (slotLines n - 2)) (n - 17)) (known ++ others l) =
-        subst (λ (x : State). Reach rules s names (l ∷ []) x (known ++ others l)) (count-due n (some-said l is)) (count-reach l is (parts .0)) in
-        let more = names-reach rules s₁ (some-said l is) (slotLines n - 2) (n - 17) known (others l) slots lines (first-many l) (first-room l is) are (parts .1) in (
+        let first : Reach rules s identifiers (l ∷ []) (identifiersDue rules s₁ (some-said l is) (suc (slotLines n - 2)) (n - 17)) (known ++ others l) =
+        subst (λ (x : State). Reach rules s identifiers (l ∷ []) x (known ++ others l)) (count-due n (some-said l is)) (count-reach l is (parts .0)) in
+        let more = identifiers-reach rules s₁ (some-said l is) (slotLines n - 2) (n - 17) known (others l) slots lines (first-many l) (first-room l is) are (parts .1) in (
           more .0,
-          subst (λ (x : List ℕ). Reach rules s names (l ∷ slots) (allKnown n) (x ++ more .0)) (all-names n [] l slots)
-              (reach-append rules s (namesDue rules s₁ (some-said l is) (suc (slotLines n - 2)) (n - 17)) (allKnown n) names (known ++ others l)
+          subst (λ (x : List ℕ). Reach rules s identifiers (l ∷ slots) (allKnown n) (x ++ more .0)) (all-identifiers n [] l slots)
+              (reach-append rules s (identifiersDue rules s₁ (some-said l is) (suc (slotLines n - 2)) (n - 17)) (allKnown n) identifiers (known ++ others l)
               ((known ++ slotIdentifiers (n - 17) slots) ++ more .0) (l ∷ []) slots first (more .1)),
         )
 
@@ -138,11 +138,11 @@ module _ (rules : Rules) where
       new : repeats [] (freshIn (said line) line) ≡ false
       goes : run rules (afterCount (said line) s) (freshIn (said line) line ++ others line) (counted rules t line) more ≡ front.File t′
 
-    count-read : (t t′ : Tally) (ls : List (List ℕ)) → s .also ≡ 0 → run rules s names t ls ≡ front.File t′ → Counted t t′ ls
+    count-read : (t t′ : Tally) (ls : List (List ℕ)) → s .also ≡ 0 → run rules s identifiers t ls ≡ front.File t′ → Counted t t′ ls
     count-read t t′ ls also e =
-        let x = due-line rules kind.Satellites s names t t′ ls due also e in
+        let x = due-line rules kind.Satellites s identifiers t t′ ls due also e in
         let l = x .line in
-        let parts = clean-names (satellitesOf rules (padded l) .fault) (repeats [] (freshIn (said l) l)) (sym (count-faults s none names l) ∙ x .clean) in
+        let parts = clean-identifiers (satellitesOf rules (padded l) .fault) (repeats [] (freshIn (said l) l)) (sym (count-faults s none identifiers l) ∙ x .clean) in
         record {
           line = l;
           more = x .others;
@@ -159,9 +159,9 @@ module _ (rules : Rules) where
         let n = said l in
         let s₁ = afterCount n s in
         let some = some-said l (x .is) in
-        let goes : run rules (namesDue rules s₁ some (suc (slotLines n - 2)) (n - 17)) (freshIn n l ++ others l) (counted rules t l) (x .more) ≡ front.File t′ =
+        let goes : run rules (identifiersDue rules s₁ some (suc (slotLines n - 2)) (n - 17)) (freshIn n l ++ others l) (counted rules t l) (x .more) ≡ front.File t′ =
         subst (λ (y : State). run rules y (freshIn n l ++ others l) (counted rules t l) (x .more) ≡ front.File t′) (count-due n some) (x .goes) in
-        let y = names-read rules s₁ some (slotLines n - 2) (n - 17) (freshIn n l) (others l) (counted rules t l) t′ (x .more) (first-many l) (first-room l (x .is)) goes in
+        let y = identifiers-read rules s₁ some (slotLines n - 2) (n - 17) (freshIn n l) (others l) (counted rules t l) t′ (x .more) (first-many l) (first-room l (x .is)) goes in
         record {
           count = l;
           slots = y .used;
@@ -174,8 +174,8 @@ module _ (rules : Rules) where
           rest = y .rest;
           goes =
               subst (λ (r : List ℕ). run rules (allKnown n) (r ++ y .rest) (countedOver rules (counted rules t l) (y .used)) (y .more) ≡ front.File t′)
-              (all-names n [] l (y .used)) (y .goes);
+              (all-identifiers n [] l (y .used)) (y .goes);
         }
 
-    pub plus-read : (t t′ : Tally) (ls : List (List ℕ)) → s .also ≡ 0 → run rules s names t ls ≡ front.File t′ → Plus t t′ ls
+    pub plus-read : (t t′ : Tally) (ls : List (List ℕ)) → s .also ≡ 0 → run rules s identifiers t ls ≡ front.File t′ → Plus t t′ ls
     plus-read t t′ ls also e = plus-more t t′ ls (count-read t t′ ls also e)

@@ -28,7 +28,7 @@ use Rattle.scan.specs.Run.{run, counted}
 use Rattle.scan.specs.declared.Tally.{Tally}
 use Rattle.scan.specs.declared.Front.the-variants as front
 use Rattle.scan_laws.proofs.Passing.{pass}
-use Rattle.scan_laws.proofs.Reaching.{countedOver, counted-append, Reach, reach-none, reach-append, reach-one, names-kept, due-line, split-on}
+use Rattle.scan_laws.proofs.Reaching.{countedOver, counted-append, Reach, reach-none, reach-append, reach-one, identifiers-kept, due-line, split-on}
 use Rattle.scan_laws.proofs.Rows.{rowsLeft, rows-reach, rows-read}
 
 -- what is due where so many epochs are still to come: an epoch, or EOF
@@ -55,9 +55,9 @@ module _ (s : State) (at : ℕ) where
   unfolding afterEpoch
   after-many b n e = e
 
-module _ (rules : Rules) (names known rest : List ℕ) (are : names ≡ known ++ rest) (some : 1 ≤ length known) where
+module _ (rules : Rules) (identifiers known rest : List ℕ) (are : identifiers ≡ known ++ rest) (some : 1 ≤ length known) where
   -- the line of an epoch
-  epoch-reach : (s : State) (at : ℕ) (l : List ℕ) → s .due ≡ 9 → s .at8 + s .gap8 ≡ at → isEpochLine rules at l ≡ true → Reach rules s names (l ∷ []) (afterEpoch at s) names
+  epoch-reach : (s : State) (at : ℕ) (l : List ℕ) → s .due ≡ 9 → s .at8 + s .gap8 ≡ at → isEpochLine rules at l ≡ true → Reach rules s identifiers (l ∷ []) (afterEpoch at s) identifiers
   unfolding epochFault
   epoch-reach s at l due here is =
       let e = epochOf (padded l) in
@@ -65,35 +65,35 @@ module _ (rules : Rules) (names known rest : List ℕ) (are : names ≡ known ++
       let now : eqb (instantIn (e .moment)) at ≡ true = and-right (isRecord rules kind.Epoch (e .fault) l) _ is in
       let fault : e .fault ≡ 0 = eqb-true (e .fault) 0 (and-right (isLine rules kind.Epoch l) _ whole) in
       let clean : epochFault s (padded l) ≡ 0 = rw (here, now, fault) in
-      reach-one rules kind.Epoch s (afterEpoch at s) names names l due (and-left (isLine rules kind.Epoch l) _ whole) clean
+      reach-one rules kind.Epoch s (afterEpoch at s) identifiers identifiers l due (and-left (isLine rules kind.Epoch l) _ whole) clean
       (ap (λ (x : ℕ). verdict.Next (afterEpoch x s)) (eqb-true (instantIn (e .moment)) at now))
-      (names-kept rules s names l (ap (λ (d : ℕ). eqb d 3) due))
+      (identifiers-kept rules s identifiers l (ap (λ (d : ℕ). eqb d 3) due))
 
   -- all epochs, up to where EOF is due
   pub epochs-reach : (n : ℕ) (s : State) (at : ℕ) (ls : List (List ℕ)) → s .due ≡ epochDue n → s .epochs ≡ n → s .satellites ≡ length known → s .at8 + s .gap8 ≡ at
-      → Epochs rules (s .velocity) known (s .interval8) n at ls → (s′ : State) × (s′ .due ≡ 14) × Reach rules s names ls s′ names
+      → Epochs rules (s .velocity) known (s .interval8) n at ls → (s′ : State) × (s′ .due ≡ 14) × Reach rules s identifiers ls s′ identifiers
   unfolding afterEpoch
   epochs-reach zero s at ls due epochs many here none =
-      (s, due, subst (λ (x : List (List ℕ)). Reach rules s names x s names) (sym none) (reach-none rules s names))
+      (s, due, subst (λ (x : List (List ℕ)). Reach rules s identifiers x s identifiers) (sym none) (reach-none rules s identifiers))
   epochs-reach (suc n) s at ls due epochs many here (epoch, rows, more, lines-are, is-epoch, are-rows, are-more) =
       let s₁ = afterEpoch at s in
       let first = epoch-reach s at epoch (due ∙ epoch-due n) here is-epoch in
       let all-many : s .satellites ≡ 0 + length known = omega (arith, many) in
-      let next = rows-reach rules names s₁ known [] rest 0 rows are all-many are-rows in
+      let next = rows-reach rules identifiers s₁ known [] rest 0 rows are all-many are-rows in
       let s₂ = rowsLeft (next .0) 0 s₁ in
       let others = epochs-reach n s₂ (at + s .interval8) more (after-due s at (next .0) n epochs) (after-epochs s at (next .0) n epochs) many refl are-more in
-      let inner : Reach rules s₁ names rows s₂ names = subst (λ (x : State). Reach rules x names rows s₂ names) (sym (rows-due s at (length known) many some)) (next .1) in
-      let rest-of = reach-append rules s₁ s₂ (others .0) names names names rows more inner (others .2) in (
+      let inner : Reach rules s₁ identifiers rows s₂ identifiers = subst (λ (x : State). Reach rules x identifiers rows s₂ identifiers) (sym (rows-due s at (length known) many some)) (next .1) in
+      let rest-of = reach-append rules s₁ s₂ (others .0) identifiers identifiers identifiers rows more inner (others .2) in (
         others .0,
         others .1,
-        subst (λ (x : List (List ℕ)). Reach rules s names x (others .0) names) (sym lines-are)
-            (reach-append rules s s₁ (others .0) names names names (epoch ∷ []) (rows ++ more) first rest-of),
+        subst (λ (x : List (List ℕ)). Reach rules s identifiers x (others .0) identifiers) (sym lines-are)
+            (reach-append rules s s₁ (others .0) identifiers identifiers identifiers (epoch ∷ []) (rows ++ more) first rest-of),
       )
 
   -- the last line
-  pub last-run : (s : State) (t : Tally) (l : List ℕ) (more : List (List ℕ)) → s .due ≡ 14 → isLastLine rules l ≡ true → run rules s names t (l ∷ more) ≡ front.File (counted rules t l)
+  pub last-run : (s : State) (t : Tally) (l : List ℕ) (more : List (List ℕ)) → s .due ≡ 14 → isLastLine rules l ≡ true → run rules s identifiers t (l ∷ more) ≡ front.File (counted rules t l)
   last-run s t l more due is =
-      pass rules kind.EndOfFile s names t l more due (and-left (isLine rules kind.EndOfFile l) _ is)
+      pass rules kind.EndOfFile s identifiers t l more due (and-left (isLine rules kind.EndOfFile l) _ is)
       (eqb-true (faultOf endItems (padded l)) 0 (and-right (isLine rules kind.EndOfFile l) _ is))
 
   -- the lines of a run to a file from its epochs on
@@ -106,11 +106,11 @@ module _ (rules : Rules) (names known rest : List ℕ) (are : names ≡ known ++
     pub is-last : isLastLine rules last ≡ true
     pub tally : t′ ≡ countedOver rules t (epochs ++ (last ∷ []))
 
-  last-read : (s : State) (at : ℕ) (t t′ : Tally) (ls : List (List ℕ)) → s .due ≡ 14 → s .also ≡ 0 → run rules s names t ls ≡ front.File t′
+  last-read : (s : State) (at : ℕ) (t t′ : Tally) (ls : List (List ℕ)) → s .due ≡ 14 → s .also ≡ 0 → run rules s identifiers t ls ≡ front.File t′
       → Ended (s .velocity) (s .interval8) 0 at t t′ ls
   unfolding countedOver
   last-read s at t t′ ls due also e =
-      let x = due-line rules kind.EndOfFile s names t t′ ls due also e in
+      let x = due-line rules kind.EndOfFile s identifiers t t′ ls due also e in
       let is-file : front.File (counted rules t (x .line)) ≡ front.File t′ = x .goes in
       let is : counted rules t (x .line) ≡ t′ = cc in
       record {
@@ -129,26 +129,26 @@ module _ (rules : Rules) (names known rest : List ℕ) (are : names ≡ known ++
     others : List (List ℕ)
     split : ls ≡ line ∷ others
     is-epoch : isEpochLine rules at line ≡ true
-    goes : run rules (rowsLeft 0 (length known) (afterEpoch at s)) names (counted rules t line) others ≡ front.File t′
+    goes : run rules (rowsLeft 0 (length known) (afterEpoch at s)) identifiers (counted rules t line) others ≡ front.File t′
 
   epoch-read : (s : State) (at : ℕ) (t t′ : Tally) (ls : List (List ℕ)) → s .due ≡ 9 → s .also ≡ 0 → s .satellites ≡ length known → s .at8 + s .gap8 ≡ at
-      → run rules s names t ls ≡ front.File t′ → Begun s at t t′ ls
+      → run rules s identifiers t ls ≡ front.File t′ → Begun s at t t′ ls
   unfolding epochFault
   epoch-read s at t t′ ls due also many here e =
-      let x = due-line rules kind.Epoch s names t t′ ls due also e in
+      let x = due-line rules kind.Epoch s identifiers t t′ ls due also e in
       let m = epochOf (padded (x .line)) in
       let same = eqb (instantIn (m .moment)) (s .at8 + s .gap8) in
       let parts = lower-clean (m .fault) (unless same 9 0) (x .clean) in
       let now : eqb (instantIn (m .moment)) at ≡ true = sym (ap (eqb (instantIn (m .moment))) here) ∙ passed same 9 0 (omega arith) (parts .1) in
-      let kept = names-kept rules s names (x .line) (ap (λ (d : ℕ). eqb d 3) due) in
+      let kept = identifiers-kept rules s identifiers (x .line) (ap (λ (d : ℕ). eqb d 3) due) in
       let instant = eqb-true (instantIn (m .moment)) at now in
-      let went : run rules (afterEpoch at s) names (counted rules t (x .line)) (x .others) ≡ front.File t′ = rw (instant, kept) at (x .goes) in
+      let went : run rules (afterEpoch at s) identifiers (counted rules t (x .line)) (x .others) ≡ front.File t′ = rw (instant, kept) at (x .goes) in
       record {
         line = x .line;
         others = x .others;
         split = x .split;
         is-epoch = rw (x .is-kind, parts .0, now);
-        goes = subst (λ (y : State). run rules y names (counted rules t (x .line)) (x .others) ≡ front.File t′) (rows-due s at (length known) many some) went;
+        goes = subst (λ (y : State). run rules y identifiers (counted rules t (x .line)) (x .others) ≡ front.File t′) (rows-due s at (length known) many some) went;
       }
 
   -- an epoch more in front
@@ -172,13 +172,13 @@ module _ (rules : Rules) (names known rest : List ℕ) (are : names ≡ known ++
       }
 
   pub epochs-read : (n : ℕ) (s : State) (at : ℕ) (t t′ : Tally) (ls : List (List ℕ)) → s .due ≡ epochDue n → s .also ≡ 0 → s .epochs ≡ n
-      → s .satellites ≡ length known → s .at8 + s .gap8 ≡ at → run rules s names t ls ≡ front.File t′ → Ended (s .velocity) (s .interval8) n at t t′ ls
+      → s .satellites ≡ length known → s .at8 + s .gap8 ≡ at → run rules s identifiers t ls ≡ front.File t′ → Ended (s .velocity) (s .interval8) n at t t′ ls
   unfolding afterEpoch
   epochs-read zero s at t t′ ls due also epochs many here e = last-read s at t t′ ls due also e
   epochs-read (suc n) s at t t′ ls due also epochs many here e =
       let x = epoch-read s at t t′ ls (due ∙ epoch-due n) also many here e in
       let all-many : s .satellites ≡ 0 + length known = omega (arith, many) in
-      let y = rows-read rules names (afterEpoch at s) known [] rest (counted rules t (x .line)) t′ (x .others) are all-many (x .goes) in
+      let y = rows-read rules identifiers (afterEpoch at s) known [] rest (counted rules t (x .line)) t′ (x .others) are all-many (x .goes) in
       ended-more (s .velocity) (s .interval8) n at t t′ (x .line) ls (x .others) (y .used) (y .more) (x .split) (y .split) (x .is-epoch) (y .holds)
       (epochs-read n (rowsLeft 0 0 (afterEpoch at s)) (at + s .interval8) (countedOver rules (counted rules t (x .line)) (y .used)) t′ (y .more)
       (after-due s at 0 n epochs) refl (after-epochs s at 0 n epochs) many refl (y .goes))

@@ -18,7 +18,7 @@ use Rattle.lines.proofs.Each.{Each, each-weaken}
 use Rattle.lines.proofs.Split.{OneLine, one-cons, one-nil, join-lines, parted}
 use Rattle.header.specs.Rules.{d}
 use Rattle.header.specs.declared.types.Rules.{Rules}
-use Rattle.machine.specs.State.{startState, noNames}
+use Rattle.machine.specs.State.{startState, noIdentifiers}
 use Rattle.machine.specs.Step.{stepOf}
 use Rattle.machine.specs.declared.types.State.{State}
 use Rattle.machine.specs.declared.types.Verdict.{Verdict}
@@ -59,13 +59,13 @@ module _ (rules : Rules) where
   no-line [] e = tt
   no-line (l ∷ ls) e = absurd (omega arith)
 
-  all-printed : (ls : List (List ℕ)) (s : State) (names : List ℕ) (t : Tally) → run rules s names t ls ≡ front.File (countedOver rules t ls) → Each Printed ls
+  all-printed : (ls : List (List ℕ)) (s : State) (identifiers : List ℕ) (t : Tally) → run rules s identifiers t ls ≡ front.File (countedOver rules t ls) → Each Printed ls
   unfolding run countedOver counted
-  all-printed [] s names t e = tt
-  all-printed (l ∷ ls) s names t e = (good rules s names l (counted rules t l) _ _ e .printed, go (stepOf rules s names l) refl (all-printed ls))
+  all-printed [] s identifiers t e = tt
+  all-printed (l ∷ ls) s identifiers t e = (good rules s identifiers l (counted rules t l) _ _ e .printed, go (stepOf rules s identifiers l) refl (all-printed ls))
     where
-      go : (v : Verdict) → stepOf rules s names l ≡ v
-          → ((s₁ : State) (names₁ : List ℕ) (t₁ : Tally) → run rules s₁ names₁ t₁ ls ≡ front.File (countedOver rules t₁ ls) → Each Printed ls) → Each Printed ls
+      go : (v : Verdict) → stepOf rules s identifiers l ≡ v
+          → ((s₁ : State) (identifiers₁ : List ℕ) (t₁ : Tally) → run rules s₁ identifiers₁ t₁ ls ≡ front.File (countedOver rules t₁ ls) → Each Printed ls) → Each Printed ls
       go (verdict.Fault n c) v more = absurd (not-refused n (t .lines + 1) c (countedOver rules (counted rules t l) ls) (rw v at e))
       go (verdict.Next s₁) v more = more s₁ _ (counted rules t l) (rw v at e)
       go verdict.Finished v more =
@@ -76,9 +76,9 @@ module _ (rules : Rules) where
   -- the lines of its bytes are its lines
   pub plain-lines : Sound rules → (ls : List (List ℕ)) → Plain rules ls → linesOf (joinLines ls) ≡ ls
   plain-lines sound ls p =
-      let whole : run rules startState noNames nothingSeen ls ≡ front.File (countedOver rules nothingSeen ls) =
-      ap (run rules startState noNames nothingSeen) (sym (append-nil ls)) ∙ plain-run rules sound ls [] nothingSeen p in
-      join-lines ls (each-weaken Printed OneLine printed-one ls (all-printed ls startState noNames nothingSeen whole))
+      let whole : run rules startState noIdentifiers nothingSeen ls ≡ front.File (countedOver rules nothingSeen ls) =
+      ap (run rules startState noIdentifiers nothingSeen) (sym (append-nil ls)) ∙ plain-run rules sound ls [] nothingSeen p in
+      join-lines ls (each-weaken Printed OneLine printed-one ls (all-printed ls startState noIdentifiers nothingSeen whole))
 
 -- the whole of the bytes is the file at their front
 whole-ends : (size : ℕ) (f : Front) (t : Tally) → wholeFront size f ≡ front.File t → (f ≡ front.File t) × (size ≤ t .end)
@@ -108,7 +108,7 @@ unfolding wholeFront
 plain-accepts rules sound bytes (lines, bytes-are, p) =
     let t = countedOver rules nothingSeen lines in
     let lines-are : linesOf bytes ≡ lines ++ [] = ap linesOf bytes-are ∙ plain-lines rules sound lines p ∙ sym (append-nil lines) in
-    let accepted : scanOf rules bytes ≡ front.File t = ap (run rules startState noNames nothingSeen) lines-are ∙ plain-run rules sound lines [] nothingSeen p in
+    let accepted : scanOf rules bytes ≡ front.File t = ap (run rules startState noIdentifiers nothingSeen) lines-are ∙ plain-run rules sound lines [] nothingSeen p in
     let all : ltb (t .end) (length bytes) ≡ false = le-ltb (t .end) (length bytes) (omega (arith, bytes-counted rules nothingSeen lines, ap length bytes-are)) in
     (t, rw (accepted, all))
 
@@ -118,7 +118,7 @@ accepts-exactly rules sound bytes = (accepts-plain rules sound bytes, plain-acce
 
 -- The rules of SP3-d are such rules.
 pub d-sound : Sound d
-d-sound = record { names-fit = omega arith; comments-fit = omega arith }
+d-sound = record { identifiers-fit = omega arith; comments-fit = omega arith }
 
 pub d-exactly : (bytes : List ℕ) → IsFile d bytes ↔ Accepted d bytes
 d-exactly bytes = accepts-exactly d d-sound bytes

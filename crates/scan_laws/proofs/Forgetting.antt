@@ -11,10 +11,10 @@ use Rattle.record.specs.LineKinds.{toldKind, kindOf}
 use Rattle.header.specs.declared.types.Rules.{Rules}
 use Rattle.record.specs.declared.types.LineKind.{LineKind}
 use Rattle.record.specs.declared.types.LineKind.the-variants as kind
-use Rattle.machine.specs.State.{stands, namesIn, identifiersJoined}
+use Rattle.machine.specs.State.{stands, identifiersIn, identifiersJoined}
 use Rattle.machine.specs.Faults.{secondFault, satellitesFault, charactersFault, floatsFault, epochFault, namedFault, standingFault}
-use Rattle.machine.specs.Next.{allow, afterFirst, afterSecond, afterCount, afterNames, afterSatellites, afterAccuracies, commentsDue, afterIntegers, afterEpoch, satelliteDone, afterPosition}
-use Rattle.machine.specs.Step.{onKey, judgedLine, printedLine, stepOf, namesBrought}
+use Rattle.machine.specs.Next.{allow, afterFirst, afterSecond, afterCount, afterIdentifiers, afterSatellites, afterAccuracies, commentsDue, afterIntegers, afterEpoch, satelliteDone, afterPosition}
+use Rattle.machine.specs.Step.{onKey, judgedLine, printedLine, stepOf, identifiersBrought}
 use Rattle.machine.specs.declared.types.State.{State}
 use Rattle.file.specs.Kinds.{isKind}
 use Rattle.scan.specs.Run.{run}
@@ -24,9 +24,9 @@ cond-same : {A : Type 0} (b : Bool) (x : A) → cond b x x ≡ x
 cond-same true x = refl
 cond-same false x = refl
 
-module _ (rules : Rules) (s : State) (names p : List ℕ) where
-  judged : (k : LineKind) → eqb (toldKind k) (s .also) ≡ false → judgedLine k rules s names p ≡ judgedLine k rules (allow 0 s) names p
-  unfolding judgedLine onKey standingFault secondFault satellitesFault charactersFault floatsFault epochFault namedFault namesIn afterFirst afterSecond afterCount afterNames afterSatellites afterAccuracies commentsDue afterIntegers afterEpoch satelliteDone afterPosition
+module _ (rules : Rules) (s : State) (identifiers p : List ℕ) where
+  judged : (k : LineKind) → eqb (toldKind k) (s .also) ≡ false → judgedLine k rules s identifiers p ≡ judgedLine k rules (allow 0 s) identifiers p
+  unfolding judgedLine onKey standingFault secondFault satellitesFault charactersFault floatsFault epochFault namedFault identifiersIn afterFirst afterSecond afterCount afterIdentifiers afterSatellites afterAccuracies commentsDue afterIntegers afterEpoch satelliteDone afterPosition
   judged kind.Other e = rw (cond-same (stands s kind.Other) (keyed 4 0), cond-same (stands (allow 0 s) kind.Other) (keyed 4 0))
   judged kind.First e = rw e
   judged kind.Second e = rw e
@@ -44,7 +44,7 @@ module _ (rules : Rules) (s : State) (names p : List ℕ) where
   judged kind.EndOfFile e = rw e
 
 -- the run over lines of which the first is of another kind than the one that may stand here too
-pub forget : (rules : Rules) (s : State) (names : List ℕ) (t : Tally) (l : List ℕ) (ls : List (List ℕ)) → isKind rules (s .also) l ≡ false
-    → run rules s names t (l ∷ ls) ≡ run rules (allow 0 s) names t (l ∷ ls)
-unfolding run stepOf printedLine namesBrought identifiersJoined namesIn
-forget rules s names t l ls e = rw (judged rules s names (padded l) (kindOf rules (padded l)) e)
+pub forget : (rules : Rules) (s : State) (identifiers : List ℕ) (t : Tally) (l : List ℕ) (ls : List (List ℕ)) → isKind rules (s .also) l ≡ false
+    → run rules s identifiers t (l ∷ ls) ≡ run rules (allow 0 s) identifiers t (l ∷ ls)
+unfolding run stepOf printedLine identifiersBrought identifiersJoined identifiersIn
+forget rules s identifiers t l ls e = rw (judged rules s identifiers (padded l) (kindOf rules (padded l)) e)

@@ -29,7 +29,7 @@ use Rattle.scan.specs.declared.Tally.{Tally}
 use Rattle.scan.specs.declared.Front.the-variants as front
 use Rattle.scan_laws.proofs.Reaching.{Reach}
 use Rattle.scan_laws.proofs.Singles.{agreeing, single-reach, Single, single-read}
-use Rattle.scan_laws.proofs.Slots.{names-length}
+use Rattle.scan_laws.proofs.Slots.{identifiers-length}
 use Rattle.scan_laws.proofs.Bounds.{some-epoch, some-satellites}
 
 module _ (rules : Rules) where
@@ -45,13 +45,13 @@ module _ (rules : Rules) where
   abbrev pub counts : List ℕ → List ℕ → List ℕ → State
   counts first second count = afterCount (satellitesOf rules (padded count) .count) (dated first second)
 
-  module _ (names : List ℕ) where
-    pub first-reach : (l : List ℕ) → isFirstLine rules l ≡ true → Reach rules startState names (l ∷ []) (opened l) names
-    first-reach l is = single-reach rules kind.First startState names (λ p. firstOf rules (padded p) .fault) opened refl refl (λ p. refl) (λ p. refl) l is
+  module _ (identifiers : List ℕ) where
+    pub first-reach : (l : List ℕ) → isFirstLine rules l ≡ true → Reach rules startState identifiers (l ∷ []) (opened l) identifiers
+    first-reach l is = single-reach rules kind.First startState identifiers (λ p. firstOf rules (padded p) .fault) opened refl refl (λ p. refl) (λ p. refl) l is
 
-    pub first-read : (t t′ : Tally) (ls : List (List ℕ)) → run rules startState names t ls ≡ front.File t′
-        → Single rules kind.First startState names (λ p. firstOf rules (padded p) .fault) opened refl refl (λ p. refl) (λ p. refl) t t′ ls
-    first-read t t′ ls e = single-read rules kind.First startState names (λ p. firstOf rules (padded p) .fault) opened refl refl (λ p. refl) (λ p. refl) t t′ ls refl e
+    pub first-read : (t t′ : Tally) (ls : List (List ℕ)) → run rules startState identifiers t ls ≡ front.File t′
+        → Single rules kind.First startState identifiers (λ p. firstOf rules (padded p) .fault) opened refl refl (λ p. refl) (λ p. refl) t t′ ls
+    first-read t t′ ls e = single-read rules kind.First startState identifiers (λ p. firstOf rules (padded p) .fault) opened refl refl (λ p. refl) (λ p. refl) t t′ ls refl e
 
     module _ (first : List ℕ) where
       abbrev pub start8 : ℕ
@@ -68,13 +68,13 @@ module _ (rules : Rules) where
       unfolding afterFirst
       second-alone = refl
 
-      pub second-faults : (l : List ℕ) → recordFault kind.Second rules (opened first) names (padded l) ≡ faultAtStart l
+      pub second-faults : (l : List ℕ) → recordFault kind.Second rules (opened first) identifiers (padded l) ≡ faultAtStart l
       unfolding afterFirst secondFault
       second-faults l = refl
 
-      pub second-reach : (l : List ℕ) → isSecondLine rules start8 l ≡ true → Reach rules (opened first) names (l ∷ []) (dated first l) names
+      pub second-reach : (l : List ℕ) → isSecondLine rules start8 l ≡ true → Reach rules (opened first) identifiers (l ∷ []) (dated first l) identifiers
       second-reach l is =
-          single-reach rules kind.Second (opened first) names faultAtStart (dated first) second-due refl second-faults (λ p. refl) l
+          single-reach rules kind.Second (opened first) identifiers faultAtStart (dated first) second-due refl second-faults (λ p. refl) l
           (agreeing rules kind.Second (secondOf (padded l) .fault) (secondAgrees start8 (secondOf (padded l))) l ∙ is)
 
       pub record SecondRead (t t′ : Tally) (ls : List (List ℕ)) : Type 0 where
@@ -82,11 +82,11 @@ module _ (rules : Rules) where
         pub others : List (List ℕ)
         pub split : ls ≡ line ∷ others
         pub is : isSecondLine rules start8 line ≡ true
-        pub goes : run rules (dated first line) names (counted rules t line) others ≡ front.File t′
+        pub goes : run rules (dated first line) identifiers (counted rules t line) others ≡ front.File t′
 
-      pub second-read : (t t′ : Tally) (ls : List (List ℕ)) → run rules (opened first) names t ls ≡ front.File t′ → SecondRead t t′ ls
+      pub second-read : (t t′ : Tally) (ls : List (List ℕ)) → run rules (opened first) identifiers t ls ≡ front.File t′ → SecondRead t t′ ls
       second-read t t′ ls e =
-          let x = single-read rules kind.Second (opened first) names faultAtStart (dated first) second-due refl second-faults (λ p. refl) t t′ ls second-alone e in
+          let x = single-read rules kind.Second (opened first) identifiers faultAtStart (dated first) second-due refl second-faults (λ p. refl) t t′ ls second-alone e in
           record {
             line = x .line;
             others = x .others;
@@ -97,13 +97,13 @@ module _ (rules : Rules) where
 
   -- the `+ ` lines are due
   module _ (first second : List ℕ) where
-    pub names-due : dated first second .due ≡ 3
+    pub identifiers-due : dated first second .due ≡ 3
     unfolding afterFirst afterSecond
-    names-due = refl
+    identifiers-due = refl
 
-    pub names-alone : dated first second .also ≡ 0
+    pub identifiers-alone : dated first second .also ≡ 0
     unfolding afterFirst afterSecond
-    names-alone = refl
+    identifiers-alone = refl
 
     pub none-yet : dated first second .satellites ≡ 0
     unfolding afterFirst afterSecond
@@ -115,16 +115,16 @@ module _ (rules : Rules) where
     unfolding afterFirst afterSecond afterCount
     begins is = some-epoch rules (padded first) (eqb-true (firstOf rules (padded first) .fault) 0 (and-right (isLine rules kind.First first) _ is))
 
-    pub names-all : (slots : List (List ℕ)) → suc (length slots) ≡ slotLines (satellitesOf rules (padded count) .count)
+    pub identifiers-all : (slots : List (List ℕ)) → suc (length slots) ≡ slotLines (satellitesOf rules (padded count) .count)
         → length (slotIdentifiers (satellitesOf rules (padded count) .count) (count ∷ slots)) ≡ counts first second count .satellites
     unfolding afterCount
-    names-all slots many =
+    identifiers-all slots many =
         let n = satellitesOf rules (padded count) .count in
-        names-length n (count ∷ slots) (omega (arith, many, slots-enough n))
+        identifiers-length n (count ∷ slots) (omega (arith, many, slots-enough n))
 
-    pub some-name : (slots : List (List ℕ)) → isCountLine rules count ≡ true → suc (length slots) ≡ slotLines (satellitesOf rules (padded count) .count)
+    pub some-identifier : (slots : List (List ℕ)) → isCountLine rules count ≡ true → suc (length slots) ≡ slotLines (satellitesOf rules (padded count) .count)
         → 1 ≤ length (slotIdentifiers (satellitesOf rules (padded count) .count) (count ∷ slots))
     unfolding afterCount
-    some-name slots is many =
+    some-identifier slots is many =
         let n = satellitesOf rules (padded count) .count in
-        omega (arith, names-all slots many, some-satellites rules (padded count) (eqb-true (satellitesOf rules (padded count) .fault) 0 (and-right (isLine rules kind.Satellites count) _ is)) .0)
+        omega (arith, identifiers-all slots many, some-satellites rules (padded count) (eqb-true (satellitesOf rules (padded count) .fault) 0 (and-right (isLine rules kind.Satellites count) _ is)) .0)

@@ -25,15 +25,15 @@ use Rattle.machine.specs.declared.types.Verdict.the-variants as verdict
 use Rattle.file.specs.Kinds.{isKind}
 use Rattle.scan.specs.Run.{Going, goneOn, stepped}
 use Rattle.scan_laws.proofs.Passing.{placed}
-use Rattle.scan_laws.proofs.Reaching.{names-kept}
+use Rattle.scan_laws.proofs.Reaching.{identifiers-kept}
 
 -- each of the lines does the same with these identifiers as in the run, and where a P line (10) stands the number of satellites is known
 unfoldable pub Alike : Rules → ℕ → List ℕ → Going → List (List ℕ) → Type 0
-Alike rules n names g [] = Unit
-Alike rules n names g (l ∷ ls) =
-    (stepOf rules (g .state) names l ≡ stepOf rules (g .state) (g .names) l)
+Alike rules n identifiers g [] = Unit
+Alike rules n identifiers g (l ∷ ls) =
+    (stepOf rules (g .state) identifiers l ≡ stepOf rules (g .state) (g .identifiers) l)
     × (isKind rules 10 l ≡ true → g .state .satellites ≡ n)
-    × Alike rules n names (stepped rules g l) ls
+    × Alike rules n identifiers (stepped rules g l) ls
 
 -- what may stand besides the kind due after the `+ ` lines: nothing, a comment, a correlation record
 abbrev aside : ℕ → Bool
@@ -141,7 +141,7 @@ both-stand : (b : Bool) (x y none : ℕ) → (b ≡ true → x ≡ y) → cond b
 both-stand true x y none h = h refl
 both-stand false x y none h = refl
 
-module _ (rules : Rules) (n : ℕ) (some : 1 ≤ n) (names : List ℕ) where
+module _ (rules : Rules) (n : ℕ) (some : 1 ≤ n) (identifiers : List ℕ) where
   -- what a line of any kind does leads past them
   step-past : (s : State) (now l : List ℕ) → Past n s → Goes n (stepOf rules s now l)
   unfolding stepOf printedLine judgedLine onKey standingFault
@@ -152,15 +152,15 @@ module _ (rules : Rules) (n : ℕ) (some : 1 ≤ n) (names : List ℕ) where
       (λ short. tested n (eqb (standingFault k rules s now (padded l)) 0) _ _ _
       (λ free. next-past n s p some rules (padded l) k (placed (stands s k) _ (eqb-true (standingFault k rules s now (padded l)) 0 free) .0))))
 
-  module _ (s : State) (now : List ℕ) (p : Past n s) (same : take n names ≡ take n now) where
+  module _ (s : State) (now : List ℕ) (p : Past n s) (same : take n identifiers ≡ take n now) where
     -- the satellite whose row is due is the same in both lists
-    due-alike : 1 ≤ s .left → getD names (seen s) 0 ≡ getD now (seen s) 0
+    due-alike : 1 ≤ s .left → getD identifiers (seen s) 0 ≡ getD now (seen s) 0
     due-alike left =
         let below : seen s < n = omega (arith, p .many) in
-        sym (getD-take n names (seen s) 0 below) ∙ ap (λ (x : List ℕ). getD x (seen s) 0) same ∙ getD-take n now (seen s) 0 below
+        sym (getD-take n identifiers (seen s) 0 below) ∙ ap (λ (x : List ℕ). getD x (seen s) 0) same ∙ getD-take n now (seen s) 0 below
 
     -- the fault at a place is the same with both lists
-    place-alike : (l : List ℕ) (k : LineKind) → standingFault k rules s names l ≡ standingFault k rules s now l
+    place-alike : (l : List ℕ) (k : LineKind) → standingFault k rules s identifiers l ≡ standingFault k rules s now l
     unfolding standingFault charactersFault namedFault
     place-alike l kind.Satellites =
         both-stand (stands s kind.Satellites) _ _ _ (λ here. absurd (omega (arith, is-due n s p kind.Satellites refl here, p .later)))
@@ -181,22 +181,22 @@ module _ (rules : Rules) (n : ℕ) (some : 1 ≤ n) (names : List ℕ) where
     place-alike l kind.VelocityCorrelation = refl
     place-alike l kind.EndOfFile = refl
 
-    step-alike : (l : List ℕ) → stepOf rules s names l ≡ stepOf rules s now l
+    step-alike : (l : List ℕ) → stepOf rules s identifiers l ≡ stepOf rules s now l
     unfolding stepOf printedLine judgedLine
     step-alike l = rw (place-alike (padded l) (kindOf rules (padded l)))
 
   -- where one is after a line
   gone-past : (g : Going) (l : List ℕ) → Past n (g .state) → (v : Verdict) → Goes n v
-      → Past n (goneOn v rules g l .state) × (goneOn v rules g l .names ≡ g .names)
+      → Past n (goneOn v rules g l .state) × (goneOn v rules g l .identifiers ≡ g .identifiers)
   gone-past g l p (verdict.Fault number column) goes = (p, refl)
   gone-past g l p (verdict.Next s) goes =
-      (goes, names-kept rules (g .state) (g .names) l (ne-eqb (g .state .due) 3 (λ e. omega (arith, p .later))))
+      (goes, identifiers-kept rules (g .state) (g .identifiers) l (ne-eqb (g .state .due) 3 (λ e. omega (arith, p .later))))
   gone-past g l p verdict.Finished goes = (p, refl)
 
   -- From behind the `+ ` lines on, every line does the same with any list that begins with the same n identifiers.
-  pub past-alike : (ls : List (List ℕ)) (g : Going) → Past n (g .state) → take n names ≡ take n (g .names) → Alike rules n names g ls
+  pub past-alike : (ls : List (List ℕ)) (g : Going) → Past n (g .state) → take n identifiers ≡ take n (g .identifiers) → Alike rules n identifiers g ls
   unfolding Alike stepped
   past-alike [] g p same = tt
   past-alike (l ∷ ls) g p same =
-      let on = gone-past g l p (stepOf rules (g .state) (g .names) l) (step-past (g .state) (g .names) l p) in
-      (step-alike (g .state) (g .names) p same l, λ row. p .many, past-alike ls (stepped rules g l) (on .0) (same ∙ ap (take n) (sym (on .1))))
+      let on = gone-past g l p (stepOf rules (g .state) (g .identifiers) l) (step-past (g .state) (g .identifiers) l p) in
+      (step-alike (g .state) (g .identifiers) p same l, λ row. p .many, past-alike ls (stepped rules g l) (on .0) (same ∙ ap (take n) (sym (on .1))))

@@ -14,7 +14,7 @@ pub mod Rows
 pub mod Epochs
 pub mod Comments
 pub mod Accuracies
-pub mod Names
+pub mod Identifiers
 pub mod Count
 pub mod Descriptors
 pub mod Singles
@@ -25,5 +25,5 @@ pub mod Bounds
 pub mod Accepts
 pub mod Files
 pub mod Known
-pub mod KnownNames
+pub mod KnownIdentifiers
 pub mod KnownSteps

@@ -12,7 +12,7 @@ use lib.Seq.{length-take-le}
 use borrow.Author.Tests.{ltb-false, le-ltb}
 use Rattle.lines.specs.Lines.{isLf, linesOf, onFirst}
 use Rattle.header.specs.declared.types.Rules.{Rules}
-use Rattle.machine.specs.State.{startState, noNames}
+use Rattle.machine.specs.State.{startState, noIdentifiers}
 use Rattle.scan.specs.declared.Tally.{Tally}
 use Rattle.scan.specs.declared.Front.{Front}
 use Rattle.scan.specs.declared.Front.the-variants as front
@@ -50,7 +50,7 @@ module _ (rules : Rules) where
       let l = lines-longer a b in
       let lines : linesOf (a ++ b) ≡ frontLines a t ++ (u .rest ++ l .0) =
       l .1 ∙ ap (λ (ls : List (List ℕ)). ls ++ l .0) (u .split) ∙ append-assoc (frontLines a t) (u .rest) (l .0) in
-      ap (run rules startState noNames nothingSeen) lines ∙ u .alone (u .rest ++ l .0)
+      ap (run rules startState noIdentifiers nothingSeen) lines ∙ u .alone (u .rest ++ l .0)
 
   -- A whole file is a file at the front that ends where the bytes end; and the other way round.
   pub whole-ends : (bytes : List ℕ) (t : Tally) → wholeFront (length bytes) (scanOf rules bytes) ≡ front.File t
@@ -103,7 +103,7 @@ module _ (rules : Rules) where
   pub scan-again : (bytes : List ℕ) (t : Tally) → scanOf rules bytes ≡ front.File t → scanOf rules (take (t .end) bytes) ≡ front.File t
   scan-again bytes t e =
       let a = accepted-front rules bytes t e in
-      ap (run rules startState noNames nothingSeen) (sym (append-nil (frontLines bytes t))) ∙ a .alone []
+      ap (run rules startState noIdentifiers nothingSeen) (sym (append-nil (frontLines bytes t))) ∙ a .alone []
 
   -- The bytes of a file at the front are a whole file.
   pub front-whole : (bytes : List ℕ) (t : Tally) → scanOf rules bytes ≡ front.File t → IsFile rules (take (t .end) bytes)

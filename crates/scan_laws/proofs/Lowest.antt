@@ -11,7 +11,7 @@ use lib.Dec.{eqb, leb}
 use lib.ListN.{length, take}
 use Rattle.laws.specs.Texts.{every, isPrintable}
 use Rattle.layout.specs.Fault.{clean, keyed, keyNumber, columnOf, lowerOf}
-use Rattle.layout.specs.Kind.{unless, nameCode}
+use Rattle.layout.specs.Kind.{unless, identifierCode}
 use Rattle.layout.specs.Layout.{Item, faultAt, faultOf}
 use Rattle.layout.specs.Line.{padded}
 use Rattle.record.specs.LineKinds.{kindOf}
@@ -25,7 +25,7 @@ use Rattle.header.specs.declared.types.Rules.{Rules}
 use Rattle.record.specs.declared.types.LineKind.{LineKind}
 use Rattle.record.specs.declared.types.LineKind.the-variants as kind
 use Rattle.machine.specs.Checks.{firstUnprintable, instantIn, secondAgrees, repeats, typeAgrees}
-use Rattle.machine.specs.State.{stands, knownNames, nameDue, isFirst, namesIn}
+use Rattle.machine.specs.State.{stands, knownIdentifiers, identifierDue, isFirst, identifiersIn}
 use Rattle.machine.specs.Faults.{longest, secondFault, satellitesFault, charactersFault, floatsFault, epochFault, namedFault, recordFault, standingFault}
 use Rattle.machine.specs.Next.{nextOf}
 use Rattle.machine.specs.Step.{onKey, judgedLine, printedLine, stepOf}
@@ -54,27 +54,27 @@ itemsAt kind.EndOfFile rules s line = endItems
 
 -- what it must agree with besides, and the number that it earns where it does not
 abbrev pub checksAt : LineKind → Rules → State → List ℕ → List ℕ → List ℕ
-checksAt kind.Other rules s names line = keyed 4 0 ∷ []
-checksAt kind.First rules s names line = dateFault (firstOf rules line .start) ∷ []
-checksAt kind.Second rules s names line = unless (secondAgrees (s .at8) (secondOf line)) 8 0 ∷ []
-checksAt kind.Satellites rules s names line = unless (not (repeats (knownNames s names) (namesIn rules s line))) 8 0 ∷ []
-checksAt kind.Accuracies rules s names line = []
-checksAt kind.Characters rules s names line =
-    cond (eqb (s .lines) 2) (unless (typeAgrees (descriptorOf line .«file_type») (take (s .satellites) names)) 8 0 ∷ []) []
-checksAt kind.Floats rules s names line = []
-checksAt kind.Integers rules s names line = []
-checksAt kind.Comment rules s names line = []
-checksAt kind.Epoch rules s names line =
+checksAt kind.Other rules s identifiers line = keyed 4 0 ∷ []
+checksAt kind.First rules s identifiers line = dateFault (firstOf rules line .start) ∷ []
+checksAt kind.Second rules s identifiers line = unless (secondAgrees (s .at8) (secondOf line)) 8 0 ∷ []
+checksAt kind.Satellites rules s identifiers line = unless (not (repeats (knownIdentifiers s identifiers) (identifiersIn rules s line))) 8 0 ∷ []
+checksAt kind.Accuracies rules s identifiers line = []
+checksAt kind.Characters rules s identifiers line =
+    cond (eqb (s .lines) 2) (unless (typeAgrees (descriptorOf line .«file_type») (take (s .satellites) identifiers)) 8 0 ∷ []) []
+checksAt kind.Floats rules s identifiers line = []
+checksAt kind.Integers rules s identifiers line = []
+checksAt kind.Comment rules s identifiers line = []
+checksAt kind.Epoch rules s identifiers line =
     dateFault (epochOf line .moment) ∷ unless (eqb (instantIn (epochOf line .moment)) (s .at8 + s .gap8)) 9 0 ∷ []
-checksAt kind.Position rules s names line = unless (eqb (nameCode (cut 2 4 line)) (nameDue s names)) 10 0 ∷ []
-checksAt kind.Velocity rules s names line = unless (eqb (nameCode (cut 2 4 line)) (nameDue s names)) 10 0 ∷ []
-checksAt kind.PositionCorrelation rules s names line = []
-checksAt kind.VelocityCorrelation rules s names line = []
-checksAt kind.EndOfFile rules s names line = []
+checksAt kind.Position rules s identifiers line = unless (eqb (identifierCode (cut 2 4 line)) (identifierDue s identifiers)) 10 0 ∷ []
+checksAt kind.Velocity rules s identifiers line = unless (eqb (identifierCode (cut 2 4 line)) (identifierDue s identifiers)) 10 0 ∷ []
+checksAt kind.PositionCorrelation rules s identifiers line = []
+checksAt kind.VelocityCorrelation rules s identifiers line = []
+checksAt kind.EndOfFile rules s identifiers line = []
 
 -- the faults of the parts of a line of 80 columns, each by itself; 0 is none
 abbrev pub partsAt : LineKind → Rules → State → List ℕ → List ℕ → List ℕ
-partsAt kind rules s names line = map (λ (item : Item). faultAt item line) (itemsAt kind rules s line) ++ checksAt kind rules s names line
+partsAt kind rules s identifiers line = map (λ (item : Item). faultAt item line) (itemsAt kind rules s line) ++ checksAt kind rules s identifiers line
 
 abbrev pub kindAt : Rules → List ℕ → LineKind
 kindAt rules line = kindOf rules (padded line)
@@ -87,45 +87,45 @@ pub record LookedAt (rules : Rules) (s : State) (line : List ℕ) : Type 0 where
 
 -- The numbers that a line earns: 2 by a byte outside 32 to 126, 3 by its length, 4 by its place, and where its record is looked at the number
 -- of any of its parts.
-pub data Earns (rules : Rules) (s : State) (names line : List ℕ) (m : ℕ) : Type 0 where
-  by-byte : every isPrintable line ≡ false → m ≡ 2 → Earns rules s names line m
-  by-length : leb (length line) (longest rules (kindAt rules line)) ≡ false → m ≡ 3 → Earns rules s names line m
-  by-place : stands s (kindAt rules line) ≡ false → m ≡ 4 → Earns rules s names line m
-  by-part : LookedAt rules s line → (key : ℕ) → Among key (partsAt (kindAt rules line) rules s names (padded line)) → 0 < key → keyNumber key ≡ m → Earns rules s names line m
+pub data Earns (rules : Rules) (s : State) (identifiers line : List ℕ) (m : ℕ) : Type 0 where
+  by-byte : every isPrintable line ≡ false → m ≡ 2 → Earns rules s identifiers line m
+  by-length : leb (length line) (longest rules (kindAt rules line)) ≡ false → m ≡ 3 → Earns rules s identifiers line m
+  by-place : stands s (kindAt rules line) ≡ false → m ≡ 4 → Earns rules s identifiers line m
+  by-part : LookedAt rules s line → (key : ℕ) → Among key (partsAt (kindAt rules line) rules s identifiers (padded line)) → 0 < key → keyNumber key ≡ m → Earns rules s identifiers line m
 
 -- the fault of a record is the lowest of its parts'
-record-lowest : (k : LineKind) (rules : Rules) (s : State) (names line : List ℕ)
-    → recordFault k rules s names line ≡ lowestOf (faultOf (itemsAt k rules s line) line) (checksAt k rules s names line)
+record-lowest : (k : LineKind) (rules : Rules) (s : State) (identifiers line : List ℕ)
+    → recordFault k rules s identifiers line ≡ lowestOf (faultOf (itemsAt k rules s line) line) (checksAt k rules s identifiers line)
 unfolding secondFault satellitesFault charactersFault floatsFault epochFault namedFault lowerOf
-record-lowest kind.Other rules s names line = refl
-record-lowest kind.First rules s names line = refl
-record-lowest kind.Second rules s names line = refl
-record-lowest kind.Satellites rules s names line = go (isFirst s) refl
+record-lowest kind.Other rules s identifiers line = refl
+record-lowest kind.First rules s identifiers line = refl
+record-lowest kind.Second rules s identifiers line = refl
+record-lowest kind.Satellites rules s identifiers line = go (isFirst s) refl
   where
     go : (t : Bool) → isFirst s ≡ t
-        → satellitesFault rules s names line ≡ lowestOf (faultOf (itemsAt kind.Satellites rules s line) line) (checksAt kind.Satellites rules s names line)
+        → satellitesFault rules s identifiers line ≡ lowestOf (faultOf (itemsAt kind.Satellites rules s line) line) (checksAt kind.Satellites rules s identifiers line)
     go true e = rw e refl
     go false e = rw e refl
-record-lowest kind.Accuracies rules s names line = refl
-record-lowest kind.Characters rules s names line = go (eqb (s .lines) 2) refl
+record-lowest kind.Accuracies rules s identifiers line = refl
+record-lowest kind.Characters rules s identifiers line = go (eqb (s .lines) 2) refl
   where
     go : (t : Bool) → eqb (s .lines) 2 ≡ t
-        → charactersFault s names line ≡ lowestOf (faultOf (itemsAt kind.Characters rules s line) line) (checksAt kind.Characters rules s names line)
+        → charactersFault s identifiers line ≡ lowestOf (faultOf (itemsAt kind.Characters rules s line) line) (checksAt kind.Characters rules s identifiers line)
     go true e = rw e refl
     go false e = rw e refl
-record-lowest kind.Floats rules s names line = go (eqb (s .lines) 2) refl
+record-lowest kind.Floats rules s identifiers line = go (eqb (s .lines) 2) refl
   where
     go : (t : Bool) → eqb (s .lines) 2 ≡ t → floatsFault s line ≡ faultOf (itemsAt kind.Floats rules s line) line
     go true e = rw e refl
     go false e = rw e refl
-record-lowest kind.Integers rules s names line = refl
-record-lowest kind.Comment rules s names line = refl
-record-lowest kind.Epoch rules s names line = refl
-record-lowest kind.Position rules s names line = refl
-record-lowest kind.Velocity rules s names line = refl
-record-lowest kind.PositionCorrelation rules s names line = refl
-record-lowest kind.VelocityCorrelation rules s names line = refl
-record-lowest kind.EndOfFile rules s names line = refl
+record-lowest kind.Integers rules s identifiers line = refl
+record-lowest kind.Comment rules s identifiers line = refl
+record-lowest kind.Epoch rules s identifiers line = refl
+record-lowest kind.Position rules s identifiers line = refl
+record-lowest kind.Velocity rules s identifiers line = refl
+record-lowest kind.PositionCorrelation rules s identifiers line = refl
+record-lowest kind.VelocityCorrelation rules s identifiers line = refl
+record-lowest kind.EndOfFile rules s identifiers line = refl
 
 -- a line that is not refused has no fault
 isFault : Verdict → Bool
@@ -159,51 +159,51 @@ unfolding isFault
 not-refused v e m c f = false≢true (sym e ∙ ap isFault f)
 
 -- what a verdict on a line says of the numbers that it earns
-data Decides (rules : Rules) (s : State) (names line : List ℕ) (v : Verdict) : Type 0 where
-  refused : (m c : ℕ) → v ≡ verdict.Fault m c → Earns rules s names line m → ((m′ : ℕ) → Earns rules s names line m′ → m ≤ m′) → Decides rules s names line v
-  passed : NotRefused v → ((m : ℕ) → Earns rules s names line m → ⊥) → Decides rules s names line v
+data Decides (rules : Rules) (s : State) (identifiers line : List ℕ) (v : Verdict) : Type 0 where
+  refused : (m c : ℕ) → v ≡ verdict.Fault m c → Earns rules s identifiers line m → ((m′ : ℕ) → Earns rules s identifiers line m′ → m ≤ m′) → Decides rules s identifiers line v
+  passed : NotRefused v → ((m : ℕ) → Earns rules s identifiers line m → ⊥) → Decides rules s identifiers line v
 
 both : {b : Bool} → b ≡ true → b ≡ false → ⊥
 both p q = false≢true (sym q ∙ p)
 
-module _ (rules : Rules) (s : State) (names line : List ℕ) where
+module _ (rules : Rules) (s : State) (identifiers line : List ℕ) where
   abbrev Short : Bool
   Short = leb (length line) (longest rules (kindAt rules line))
 
   abbrev parts : List ℕ
-  parts = partsAt (kindAt rules line) rules s names (padded line)
+  parts = partsAt (kindAt rules line) rules s identifiers (padded line)
 
   abbrev key : ℕ
   key = lowestOf clean parts
 
   -- a byte outside 32 to 126
-  decides-two : every isPrintable line ≡ false → Decides rules s names line (stepOf rules s names line)
+  decides-two : every isPrintable line ≡ false → Decides rules s identifiers line (stepOf rules s identifiers line)
   unfolding stepOf
   decides-two b = refused 2 (firstUnprintable line) (rw b refl) (by-byte b refl) least
     where
-      least : (m : ℕ) → Earns rules s names line m → 2 ≤ m
+      least : (m : ℕ) → Earns rules s identifiers line m → 2 ≤ m
       least m (by-byte p e) = omega arith
       least m (by-length p e) = omega arith
       least m (by-place p e) = omega arith
       least m (by-part l k a h e) = absurd (both (l .plain) b)
 
   -- a line that is too long
-  decides-three : every isPrintable line ≡ true → Short ≡ false → Decides rules s names line (stepOf rules s names line)
+  decides-three : every isPrintable line ≡ true → Short ≡ false → Decides rules s identifiers line (stepOf rules s identifiers line)
   unfolding stepOf printedLine
   decides-three b n = refused 3 (longest rules (kindAt rules line) + 1) (rw (b, n) refl) (by-length n refl) least
     where
-      least : (m : ℕ) → Earns rules s names line m → 3 ≤ m
+      least : (m : ℕ) → Earns rules s identifiers line m → 3 ≤ m
       least m (by-byte p e) = absurd (both b p)
       least m (by-length p e) = omega arith
       least m (by-place p e) = omega arith
       least m (by-part l k a h e) = absurd (both (l .short) n)
 
   -- a line that may not stand here
-  decides-four : every isPrintable line ≡ true → Short ≡ true → stands s (kindAt rules line) ≡ false → Decides rules s names line (stepOf rules s names line)
+  decides-four : every isPrintable line ≡ true → Short ≡ true → stands s (kindAt rules line) ≡ false → Decides rules s identifiers line (stepOf rules s identifiers line)
   unfolding stepOf printedLine judgedLine onKey standingFault
   decides-four b n p = refused 4 0 (rw (b, n, p) refl) (by-place p refl) least
     where
-      least : (m : ℕ) → Earns rules s names line m → 4 ≤ m
+      least : (m : ℕ) → Earns rules s identifiers line m → 4 ≤ m
       least m (by-byte q e) = absurd (both b q)
       least m (by-length q e) = absurd (both n q)
       least m (by-place q e) = omega arith
@@ -211,13 +211,13 @@ module _ (rules : Rules) (s : State) (names line : List ℕ) where
 
   -- a line whose record is looked at
   module _ (l : LookedAt rules s line) where
-    step-key : stepOf rules s names line ≡ onKey key (nextOf (kindAt rules line) rules s (padded line))
+    step-key : stepOf rules s identifiers line ≡ onKey key (nextOf (kindAt rules line) rules s (padded line))
     unfolding stepOf printedLine judgedLine standingFault
     step-key =
         let k = kindAt rules line in
-        let record-key : recordFault k rules s names (padded line) ≡ key =
-        record-lowest k rules s names (padded line)
-        ∙ sym (items-lowest (itemsAt k rules s (padded line)) (padded line) clean (checksAt k rules s names (padded line))) in
+        let record-key : recordFault k rules s identifiers (padded line) ≡ key =
+        record-lowest k rules s identifiers (padded line)
+        ∙ sym (items-lowest (itemsAt k rules s (padded line)) (padded line) clean (checksAt k rules s identifiers (padded line))) in
         rw (l .plain, l .short, l .placed, record-key) refl
 
     earned : (r : ℕ) → Lowest clean parts r → 0 < r → Among r parts
@@ -227,7 +227,7 @@ module _ (rules : Rules) (s : State) (names line : List ℕ) where
         go (inl e) = absurd (omega arith)
         go (inr a) = a
 
-    least : (r : ℕ) → Lowest clean parts r → (m : ℕ) → Earns rules s names line m → (0 < r) × (keyNumber r ≤ m)
+    least : (r : ℕ) → Lowest clean parts r → (m : ℕ) → Earns rules s identifiers line m → (0 < r) × (keyNumber r ≤ m)
     least r low m (by-byte p e) = absurd (both (l .plain) p)
     least r low m (by-length p e) = absurd (both (l .short) p)
     least r low m (by-place p e) = absurd (both (l .placed) p)
@@ -235,45 +235,45 @@ module _ (rules : Rules) (s : State) (names line : List ℕ) where
         let below = low .each k a h in
         (below .0, omega (arith, number-monotone r k (below .1), e))
 
-    decides-part : Decides rules s names line (stepOf rules s names line)
+    decides-part : Decides rules s identifiers line (stepOf rules s identifiers line)
     unfolding onKey
     decides-part = go (eqb key 0) refl (lowest-is parts clean)
       where
-        go : (t : Bool) → eqb key 0 ≡ t → Lowest clean parts key → Decides rules s names line (stepOf rules s names line)
+        go : (t : Bool) → eqb key 0 ≡ t → Lowest clean parts key → Decides rules s identifiers line (stepOf rules s identifiers line)
         go true e low =
             let none : key ≡ 0 = eqb-true key 0 e in
-            let next : stepOf rules s names line ≡ nextOf (kindAt rules line) rules s (padded line) = step-key ∙ rw e refl in
-            passed (not-refused (stepOf rules s names line) (ap isFault next ∙ next-passes (kindAt rules line) rules s (padded line)))
+            let next : stepOf rules s identifiers line ≡ nextOf (kindAt rules line) rules s (padded line) = step-key ∙ rw e refl in
+            passed (not-refused (stepOf rules s identifiers line) (ap isFault next ∙ next-passes (kindAt rules line) rules s (padded line)))
             (λ m e. omega (arith, none, least key low m e .0))
         go false e low =
             let some : 0 < key = omega (arith, eqb-false key 0 e) in
             refused (keyNumber key) (columnOf key) (step-key ∙ rw e refl) (by-part l key (earned key low some) some refl) (λ m e. least key low m e .1)
 
-  decides : Decides rules s names line (stepOf rules s names line)
+  decides : Decides rules s identifiers line (stepOf rules s identifiers line)
   decides = go (every isPrintable line) Short (stands s (kindAt rules line)) refl refl refl
     where
-      go : (b n p : Bool) → every isPrintable line ≡ b → Short ≡ n → stands s (kindAt rules line) ≡ p → Decides rules s names line (stepOf rules s names line)
+      go : (b n p : Bool) → every isPrintable line ≡ b → Short ≡ n → stands s (kindAt rules line) ≡ p → Decides rules s identifiers line (stepOf rules s identifiers line)
       go false n p eb en ep = decides-two eb
       go true false p eb en ep = decides-three eb en
       go true true false eb en ep = decides-four eb en ep
       go true true true eb en ep = decides-part (record { plain = eb; short = en; placed = ep })
 
   -- A line is refused with a number that it earns, and it earns none below that.
-  pub lowest : (m c : ℕ) → stepOf rules s names line ≡ verdict.Fault m c
-      → Earns rules s names line m × ((m′ : ℕ) → Earns rules s names line m′ → m ≤ m′)
+  pub lowest : (m c : ℕ) → stepOf rules s identifiers line ≡ verdict.Fault m c
+      → Earns rules s identifiers line m × ((m′ : ℕ) → Earns rules s identifiers line m′ → m ≤ m′)
   lowest m c e = go decides
     where
-      go : Decides rules s names line (stepOf rules s names line) → Earns rules s names line m × ((m′ : ℕ) → Earns rules s names line m′ → m ≤ m′)
+      go : Decides rules s identifiers line (stepOf rules s identifiers line) → Earns rules s identifiers line m × ((m′ : ℕ) → Earns rules s identifiers line m′ → m ≤ m′)
       go (passed none nothing) = absurd (none m c e)
       go (refused n d f earns least) =
           let faults : verdict.Fault n d ≡ verdict.Fault m c = sym f ∙ e in
           let same : n ≡ m = cc in
-          (subst (Earns rules s names line) same earns, λ m′ a. subst (λ (k : ℕ). k ≤ m′) same (least m′ a))
+          (subst (Earns rules s identifiers line) same earns, λ m′ a. subst (λ (k : ℕ). k ≤ m′) same (least m′ a))
 
   -- A line is not refused exactly when it earns no number.
-  pub none : ((m : ℕ) → Earns rules s names line m → ⊥) ↔ ((m c : ℕ) → stepOf rules s names line ≡ verdict.Fault m c → ⊥)
+  pub none : ((m : ℕ) → Earns rules s identifiers line m → ⊥) ↔ ((m c : ℕ) → stepOf rules s identifiers line ≡ verdict.Fault m c → ⊥)
   none = (λ nothing m c e. nothing m (lowest m c e .0), go decides)
     where
-      go : Decides rules s names line (stepOf rules s names line) → NotRefused (stepOf rules s names line) → (m : ℕ) → Earns rules s names line m → ⊥
+      go : Decides rules s identifiers line (stepOf rules s identifiers line) → NotRefused (stepOf rules s identifiers line) → (m : ℕ) → Earns rules s identifiers line m → ⊥
       go (passed n nothing) h = nothing
       go (refused m c f earns least) h = absurd (h m c f)

@@ -26,7 +26,7 @@ use Rattle.scan.specs.declared.Tally.{Tally}
 use Rattle.scan.specs.declared.Front.the-variants as front
 use Rattle.scan_laws.proofs.Passing.{kindHere, line-kind, taken, some-line}
 use Rattle.scan_laws.proofs.Forgetting.{forget}
-use Rattle.scan_laws.proofs.Reaching.{countedOver, Reach, reach-none, reach-also, names-kept, Read}
+use Rattle.scan_laws.proofs.Reaching.{countedOver, Reach, reach-none, reach-also, identifiers-kept, Read}
 
 -- EP or EV
 abbrev pub noteKind : Bool → LineKind
@@ -113,44 +113,44 @@ note-clean rules velocity l is =
     some true = omega arith
     some false = omega arith
 
-module _ (rules : Rules) (s : State) (names : List ℕ) where
+module _ (rules : Rules) (s : State) (identifiers : List ℕ) where
   -- one correlation line at most, where it may stand
   one-note : (velocity : Bool) (l : List ℕ) → s .also ≡ toldKind (noteKind velocity) → eqb (s .due) 3 ≡ false → isLine rules (noteKind velocity) l ≡ true
-      → Reach rules s names (l ∷ []) (allow 0 s) names
+      → Reach rules s identifiers (l ∷ []) (allow 0 s) identifiers
   one-note true l also due is =
-      reach-also rules kind.VelocityCorrelation s (allow 0 s) names names l also is (note-clean rules true l is) refl (names-kept rules s names l due)
+      reach-also rules kind.VelocityCorrelation s (allow 0 s) identifiers identifiers l also is (note-clean rules true l is) refl (identifiers-kept rules s identifiers l due)
   one-note false l also due is =
-      reach-also rules kind.PositionCorrelation s (allow 0 s) names names l also is (note-clean rules false l is) refl (names-kept rules s names l due)
+      reach-also rules kind.PositionCorrelation s (allow 0 s) identifiers identifiers l also is (note-clean rules false l is) refl (identifiers-kept rules s identifiers l due)
 
   pub notes-reach : (velocity : Bool) (notes : List (List ℕ)) → s .also ≡ toldKind (noteKind velocity) → eqb (s .due) 3 ≡ false
-      → areNotes rules (noteKind velocity) notes ≡ true → (a : ℕ) × Reach rules s names notes (allow a s) names
+      → areNotes rules (noteKind velocity) notes ≡ true → (a : ℕ) × Reach rules s identifiers notes (allow a s) identifiers
   unfolding everyLine
-  notes-reach velocity [] also due are = (s .also, reach-none rules s names)
+  notes-reach velocity [] also due are = (s .also, reach-none rules s identifiers)
   notes-reach velocity (l ∷ []) also due are = (0, one-note velocity l also due (and-left (isLine rules (noteKind velocity) l) true are))
   notes-reach velocity (l ∷ m ∷ ls) also due are =
       absurd (omega (arith, leb-true (length (l ∷ m ∷ ls)) 1 (and-left (leb (length (l ∷ m ∷ ls)) 1) _ are)))
 
   -- and what a run to a file has read of them
   read-one : (velocity : Bool) (t t′ : Tally) (l : List ℕ) (ls : List (List ℕ)) → eqb (s .due) 3 ≡ false → kindHere rules l ≡ noteKind velocity
-      → run rules s names t (l ∷ ls) ≡ front.File t′ → Read rules (λ notes. areNotes rules (noteKind velocity) notes ≡ true) (allow 0 s) names t t′ (l ∷ ls)
+      → run rules s identifiers t (l ∷ ls) ≡ front.File t′ → Read rules (λ notes. areNotes rules (noteKind velocity) notes ≡ true) (allow 0 s) identifiers t t′ (l ∷ ls)
   unfolding countedOver everyLine
   read-one true t t′ l ls due is e =
-      let x = taken rules kind.VelocityCorrelation s names t t′ l ls is e in
-      let kept = names-kept rules s names l due in
+      let x = taken rules kind.VelocityCorrelation s identifiers t t′ l ls is e in
+      let kept = identifiers-kept rules s identifiers l due in
       record { used = l ∷ []; more = ls; split = refl; holds = rw (x .is-kind); goes = rw kept at (x .goes) }
   read-one false t t′ l ls due is e =
-      let x = taken rules kind.PositionCorrelation s names t t′ l ls is e in
-      let kept = names-kept rules s names l due in
+      let x = taken rules kind.PositionCorrelation s identifiers t t′ l ls is e in
+      let kept = identifiers-kept rules s identifiers l due in
       record { used = l ∷ []; more = ls; split = refl; holds = rw (x .is-kind); goes = rw kept at (x .goes) }
 
   pub notes-read : (velocity : Bool) (t t′ : Tally) (ls : List (List ℕ)) → s .also ≡ toldKind (noteKind velocity) → eqb (s .due) 3 ≡ false
-      → run rules s names t ls ≡ front.File t′ → Read rules (λ notes. areNotes rules (noteKind velocity) notes ≡ true) (allow 0 s) names t t′ ls
+      → run rules s identifiers t ls ≡ front.File t′ → Read rules (λ notes. areNotes rules (noteKind velocity) notes ≡ true) (allow 0 s) identifiers t t′ ls
   unfolding countedOver everyLine
-  notes-read velocity t t′ [] also due e = absurd (some-line rules s names t t′ e)
+  notes-read velocity t t′ [] also due e = absurd (some-line rules s identifiers t t′ e)
   notes-read velocity t t′ (l ∷ ls) also due e = go (isKind rules (s .also) l) refl
     where
-      go : (b : Bool) → isKind rules (s .also) l ≡ b → Read rules (λ notes. areNotes rules (noteKind velocity) notes ≡ true) (allow 0 s) names t t′ (l ∷ ls)
+      go : (b : Bool) → isKind rules (s .also) l ≡ b → Read rules (λ notes. areNotes rules (noteKind velocity) notes ≡ true) (allow 0 s) identifiers t t′ (l ∷ ls)
       go true is =
           read-one velocity t t′ l ls due
           (toldKind-one (kindHere rules l) (noteKind velocity) (eqb-true (toldKind (kindHere rules l)) (s .also) is ∙ also)) e
-      go false other = record { used = []; more = l ∷ ls; split = refl; holds = refl; goes = sym (forget rules s names t l ls other) ∙ e }
+      go false other = record { used = []; more = l ∷ ls; split = refl; holds = refl; goes = sym (forget rules s identifiers t l ls other) ∙ e }

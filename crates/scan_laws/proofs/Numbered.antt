@@ -12,7 +12,7 @@ use lib.ListN.{length, take, drop, length-take}
 use Rattle.laws.proofs.Bools.{and-left, and-right, and-both}
 use Rattle.lines.proofs.Each.{Each, each-append}
 use Rattle.layout.specs.Fault.{keyNumber}
-use Rattle.layout.specs.Kind.{Kind, unless, nameCode}
+use Rattle.layout.specs.Kind.{Kind, unless, identifierCode}
 use Rattle.layout.specs.Kind.Kind.{unused}
 use Rattle.layout.specs.Layout.{Item, columns, widthOf, partOf, faultAt, slotFor, slotsFrom}
 use Rattle.layout.specs.Line.{padded}
@@ -28,7 +28,7 @@ use Rattle.header.specs.declared.types.Moment.{Moment}
 use Rattle.record.specs.declared.types.LineKind.{LineKind}
 use Rattle.record.specs.declared.types.LineKind.the-variants as kind
 use Rattle.machine.specs.Checks.{instantIn, secondAgrees, repeats, typeAgrees}
-use Rattle.machine.specs.State.{isFirst, knownNames, nameDue, namesIn}
+use Rattle.machine.specs.State.{isFirst, knownIdentifiers, identifierDue, identifiersIn}
 use Rattle.machine.specs.Step.{stepOf}
 use Rattle.machine.specs.declared.types.State.{State}
 use Rattle.machine.specs.declared.types.Verdict.the-variants as verdict
@@ -107,36 +107,36 @@ layouts-numbered kind.EndOfFile rules s line = refl
 date-numbered : (m : Moment) → Numbered (dateFault m)
 date-numbered m = numbered-unless (isDate (m .year) (m .month) (m .day)) 7 4 (omega arith) (omega arith) (omega arith)
 
-row-numbered : (s : State) (names line : List ℕ) → Numbered (unless (eqb (nameCode (cut 2 4 line)) (nameDue s names)) 10 0)
-row-numbered s names line = numbered-unless (eqb (nameCode (cut 2 4 line)) (nameDue s names)) 10 0 (omega arith) (omega arith) (omega arith)
+row-numbered : (s : State) (identifiers line : List ℕ) → Numbered (unless (eqb (identifierCode (cut 2 4 line)) (identifierDue s identifiers)) 10 0)
+row-numbered s identifiers line = numbered-unless (eqb (identifierCode (cut 2 4 line)) (identifierDue s identifiers)) 10 0 (omega arith) (omega arith) (omega arith)
 
-checks-numbered : (k : LineKind) (rules : Rules) (s : State) (names line : List ℕ) → Each Numbered (checksAt k rules s names line)
-checks-numbered kind.Other rules s names line = (λ h. (omega arith, omega arith), tt)
-checks-numbered kind.First rules s names line = (date-numbered (firstOf rules line .start), tt)
-checks-numbered kind.Second rules s names line = (numbered-unless (secondAgrees (s .at8) (secondOf line)) 8 0 (omega arith) (omega arith) (omega arith), tt)
-checks-numbered kind.Satellites rules s names line =
-    (numbered-unless (not (repeats (knownNames s names) (namesIn rules s line))) 8 0 (omega arith) (omega arith) (omega arith), tt)
-checks-numbered kind.Accuracies rules s names line = tt
-checks-numbered kind.Characters rules s names line = go (eqb (s .lines) 2)
+checks-numbered : (k : LineKind) (rules : Rules) (s : State) (identifiers line : List ℕ) → Each Numbered (checksAt k rules s identifiers line)
+checks-numbered kind.Other rules s identifiers line = (λ h. (omega arith, omega arith), tt)
+checks-numbered kind.First rules s identifiers line = (date-numbered (firstOf rules line .start), tt)
+checks-numbered kind.Second rules s identifiers line = (numbered-unless (secondAgrees (s .at8) (secondOf line)) 8 0 (omega arith) (omega arith) (omega arith), tt)
+checks-numbered kind.Satellites rules s identifiers line =
+    (numbered-unless (not (repeats (knownIdentifiers s identifiers) (identifiersIn rules s line))) 8 0 (omega arith) (omega arith) (omega arith), tt)
+checks-numbered kind.Accuracies rules s identifiers line = tt
+checks-numbered kind.Characters rules s identifiers line = go (eqb (s .lines) 2)
   where
     agree : Bool
-    agree = typeAgrees (descriptorOf line .«file_type») (take (s .satellites) names)
+    agree = typeAgrees (descriptorOf line .«file_type») (take (s .satellites) identifiers)
 
     go : (t : Bool) → Each Numbered (cond t (unless agree 8 0 ∷ []) [])
     go true = (numbered-unless agree 8 0 (omega arith) (omega arith) (omega arith), tt)
     go false = tt
-checks-numbered kind.Floats rules s names line = tt
-checks-numbered kind.Integers rules s names line = tt
-checks-numbered kind.Comment rules s names line = tt
-checks-numbered kind.Epoch rules s names line = (
+checks-numbered kind.Floats rules s identifiers line = tt
+checks-numbered kind.Integers rules s identifiers line = tt
+checks-numbered kind.Comment rules s identifiers line = tt
+checks-numbered kind.Epoch rules s identifiers line = (
   date-numbered (epochOf line .moment),
   (numbered-unless (eqb (instantIn (epochOf line .moment)) (s .at8 + s .gap8)) 9 0 (omega arith) (omega arith) (omega arith), tt),
 )
-checks-numbered kind.Position rules s names line = (row-numbered s names line, tt)
-checks-numbered kind.Velocity rules s names line = (row-numbered s names line, tt)
-checks-numbered kind.PositionCorrelation rules s names line = tt
-checks-numbered kind.VelocityCorrelation rules s names line = tt
-checks-numbered kind.EndOfFile rules s names line = tt
+checks-numbered kind.Position rules s identifiers line = (row-numbered s identifiers line, tt)
+checks-numbered kind.Velocity rules s identifiers line = (row-numbered s identifiers line, tt)
+checks-numbered kind.PositionCorrelation rules s identifiers line = tt
+checks-numbered kind.VelocityCorrelation rules s identifiers line = tt
+checks-numbered kind.EndOfFile rules s identifiers line = tt
 
 among-each : (keys : List ℕ) (key : ℕ) → Each Numbered keys → Among key keys → Numbered key
 among-each [] key p a = absurd a
@@ -154,40 +154,40 @@ items-numbered [] line e = tt
 items-numbered (item ∷ items) line e =
     (item-numbered item line (and-left (itemNumbered item) _ e), items-numbered items line (and-right (itemNumbered item) _ e))
 
-module _ (rules : Rules) (s : State) (names line : List ℕ) where
-  parts-numbered : (k : LineKind) → Each Numbered (partsAt k rules s names line)
+module _ (rules : Rules) (s : State) (identifiers line : List ℕ) where
+  parts-numbered : (k : LineKind) → Each Numbered (partsAt k rules s identifiers line)
   parts-numbered k =
-      each-append Numbered (map (λ (item : Item). faultAt item line) (itemsAt k rules s line)) (checksAt k rules s names line)
+      each-append Numbered (map (λ (item : Item). faultAt item line) (itemsAt k rules s line)) (checksAt k rules s identifiers line)
       (items-numbered (itemsAt k rules s line) line (layouts-numbered k rules s line))
-      (checks-numbered k rules s names line)
+      (checks-numbered k rules s identifiers line)
 
-module _ (rules : Rules) (s : State) (names line : List ℕ) where
+module _ (rules : Rules) (s : State) (identifiers line : List ℕ) where
   -- A line earns numbers from 2 to 10 alone.
-  pub earned-numbered : (m : ℕ) → Earns rules s names line m → (2 ≤ m) × (m ≤ 10)
+  pub earned-numbered : (m : ℕ) → Earns rules s identifiers line m → (2 ≤ m) × (m ≤ 10)
   earned-numbered m (by-byte p e) = (omega arith, omega arith)
   earned-numbered m (by-length p e) = (omega arith, omega arith)
   earned-numbered m (by-place p e) = (omega arith, omega arith)
   earned-numbered m (by-part l key a h e) =
       let k = kindAt rules line in
-      let numbers = among-each (partsAt k rules s names (padded line)) key (parts-numbered rules s names (padded line) k) a h in
+      let numbers = among-each (partsAt k rules s identifiers (padded line)) key (parts-numbered rules s identifiers (padded line) k) a h in
       (omega (arith, numbers .0), omega (arith, numbers .1))
 
   -- A line is refused with one of them.
-  pub step-numbered : (m c : ℕ) → stepOf rules s names line ≡ verdict.Fault m c → (2 ≤ m) × (m ≤ 10)
-  step-numbered m c e = earned-numbered m (lowest rules s names line m c e .0)
+  pub step-numbered : (m c : ℕ) → stepOf rules s identifiers line ≡ verdict.Fault m c → (2 ≤ m) × (m ≤ 10)
+  step-numbered m c e = earned-numbered m (lowest rules s identifiers line m c e .0)
 
   -- Nor is the number of any part below it, whether or not the record is looked at: the tests are independent.
-  pub lowest-of-all : (m c : ℕ) → stepOf rules s names line ≡ verdict.Fault m c
-      → (key : ℕ) → Among key (partsAt (kindAt rules line) rules s names (padded line)) → 0 < key → m ≤ keyNumber key
-  lowest-of-all m c e key a h = go (lowest rules s names line m c e .0)
+  pub lowest-of-all : (m c : ℕ) → stepOf rules s identifiers line ≡ verdict.Fault m c
+      → (key : ℕ) → Among key (partsAt (kindAt rules line) rules s identifiers (padded line)) → 0 < key → m ≤ keyNumber key
+  lowest-of-all m c e key a h = go (lowest rules s identifiers line m c e .0)
     where
       some : 4 ≤ keyNumber key
       some =
           let k = kindAt rules line in
-          among-each (partsAt k rules s names (padded line)) key (parts-numbered rules s names (padded line) k) a h .0
+          among-each (partsAt k rules s identifiers (padded line)) key (parts-numbered rules s identifiers (padded line) k) a h .0
 
-      go : Earns rules s names line m → m ≤ keyNumber key
+      go : Earns rules s identifiers line m → m ≤ keyNumber key
       go (by-byte p e′) = omega (arith, some)
       go (by-length p e′) = omega (arith, some)
       go (by-place p e′) = omega (arith, some)
-      go (by-part l k b g e′) = lowest rules s names line m c e .1 (keyNumber key) (by-part l key a h refl)
+      go (by-part l k b g e′) = lowest rules s identifiers line m c e .1 (keyNumber key) (by-part l key a h refl)

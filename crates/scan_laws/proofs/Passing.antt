@@ -20,7 +20,7 @@ use Rattle.record.specs.declared.types.LineKind.the-variants as kind
 use Rattle.machine.specs.State.{stands}
 use Rattle.machine.specs.Faults.{longest, recordFault, standingFault}
 use Rattle.machine.specs.Next.{nextOf}
-use Rattle.machine.specs.Step.{onKey, judgedLine, printedLine, stepOf, namesBrought}
+use Rattle.machine.specs.Step.{onKey, judgedLine, printedLine, stepOf, identifiersBrought}
 use Rattle.machine.specs.declared.types.State.{State}
 use Rattle.machine.specs.declared.types.Verdict.{Verdict}
 use Rattle.machine.specs.declared.types.Verdict.the-variants as verdict
@@ -55,21 +55,21 @@ module _ (rules : Rules) where
   kindHere l = kindOf rules (padded l)
 
   -- what a line holds where a file comes of it: its characters, its length, its place, no fault, and what follows from it
-  pub record Good (s : State) (names l : List ℕ) (t t′ : Tally) (more : State → Front) : Type 0 where
+  pub record Good (s : State) (identifiers l : List ℕ) (t t′ : Tally) (more : State → Front) : Type 0 where
     pub printed : every isPrintable l ≡ true
     pub short : leb (length l) (longest rules (kindHere l)) ≡ true
     pub here : stands s (kindHere l) ≡ true
-    pub clean : recordFault (kindHere l) rules s names (padded l) ≡ 0
+    pub clean : recordFault (kindHere l) rules s identifiers (padded l) ≡ 0
     pub goes : onVerdict (nextOf (kindHere l) rules s (padded l)) t more ≡ front.File t′
 
-  pub good : (s : State) (names l : List ℕ) (t t′ : Tally) (more : State → Front) → onVerdict (stepOf rules s names l) t more ≡ front.File t′
-      → Good s names l t t′ more
+  pub good : (s : State) (identifiers l : List ℕ) (t t′ : Tally) (more : State → Front) → onVerdict (stepOf rules s identifiers l) t more ≡ front.File t′
+      → Good s identifiers l t t′ more
   unfolding stepOf printedLine judgedLine onKey standingFault
-  good s names l t t′ more e =
+  good s identifiers l t t′ more e =
       let printed = passed-on (every isPrintable l) _ _ _ t t′ more e in
       let short = passed-on (leb (length l) (longest rules (kindHere l))) _ _ _ t t′ more (printed .1) in
-      let free = passed-on (eqb (standingFault (kindHere l) rules s names (padded l)) 0) _ _ _ t t′ more (short .1) in
-      let place = placed (stands s (kindHere l)) _ (eqb-true (standingFault (kindHere l) rules s names (padded l)) 0 (free .0)) in
+      let free = passed-on (eqb (standingFault (kindHere l) rules s identifiers (padded l)) 0) _ _ _ t t′ more (short .1) in
+      let place = placed (stands s (kindHere l)) _ (eqb-true (standingFault (kindHere l) rules s identifiers (padded l)) 0 (free .0)) in
       record { printed = printed .0; short = short .0; here = place .0; clean = place .1; goes = free .1 }
 
   -- a line of a kind, by its characters, its length and its symbol
@@ -89,44 +89,44 @@ module _ (rules : Rules) where
       (and-right (leb (length l) (longest rules k)) _ (and-right (every isPrintable l) _ is)))
 
   -- the machine goes on from a line of a kind that may stand here and has no fault
-  pub step-of : (k : LineKind) (s : State) (names l : List ℕ) → isLine rules k l ≡ true → stands s k ≡ true → recordFault k rules s names (padded l) ≡ 0
-      → stepOf rules s names l ≡ nextOf k rules s (padded l)
+  pub step-of : (k : LineKind) (s : State) (identifiers l : List ℕ) → isLine rules k l ≡ true → stands s k ≡ true → recordFault k rules s identifiers (padded l) ≡ 0
+      → stepOf rules s identifiers l ≡ nextOf k rules s (padded l)
   unfolding stepOf printedLine judgedLine onKey standingFault
-  step-of k s names l is here clean = rw (line-printed k l is, line-kind k l is, line-short k l is, here, clean)
+  step-of k s identifiers l is here clean = rw (line-printed k l is, line-kind k l is, line-short k l is, here, clean)
 
   -- what a run does after a line of a kind
   abbrev pub after : LineKind → State → List ℕ → Tally → List ℕ → List (List ℕ) → Front
-  after k s names t l ls =
-      onVerdict (nextOf k rules s (padded l)) (counted rules t l) (λ s′. run rules s′ (namesBrought rules s names l) (counted rules t l) ls)
+  after k s identifiers t l ls =
+      onVerdict (nextOf k rules s (padded l)) (counted rules t l) (λ s′. run rules s′ (identifiersBrought rules s identifiers l) (counted rules t l) ls)
 
   -- the run goes on from a line of the kind due that has no fault
-  pub pass : (k : LineKind) (s : State) (names : List ℕ) (t : Tally) (l : List ℕ) (ls : List (List ℕ)) → s .due ≡ toldKind k → isLine rules k l ≡ true
-      → recordFault k rules s names (padded l) ≡ 0 → run rules s names t (l ∷ ls) ≡ after k s names t l ls
+  pub pass : (k : LineKind) (s : State) (identifiers : List ℕ) (t : Tally) (l : List ℕ) (ls : List (List ℕ)) → s .due ≡ toldKind k → isLine rules k l ≡ true
+      → recordFault k rules s identifiers (padded l) ≡ 0 → run rules s identifiers t (l ∷ ls) ≡ after k s identifiers t l ls
   unfolding run
-  pass k s names t l ls due is clean =
+  pass k s identifiers t l ls due is clean =
       let here : stands s k ≡ true = rw (eq-eqb (toldKind k) (s .due) (sym due)) in
-      rw (step-of k s names l is here clean)
+      rw (step-of k s identifiers l is here clean)
 
   -- and from one of the kind that may stand here too
-  pub pass-also : (k : LineKind) (s : State) (names : List ℕ) (t : Tally) (l : List ℕ) (ls : List (List ℕ)) → s .also ≡ toldKind k → isLine rules k l ≡ true
-      → recordFault k rules s names (padded l) ≡ 0 → run rules s names t (l ∷ ls) ≡ after k s names t l ls
+  pub pass-also : (k : LineKind) (s : State) (identifiers : List ℕ) (t : Tally) (l : List ℕ) (ls : List (List ℕ)) → s .also ≡ toldKind k → isLine rules k l ≡ true
+      → recordFault k rules s identifiers (padded l) ≡ 0 → run rules s identifiers t (l ∷ ls) ≡ after k s identifiers t l ls
   unfolding run
-  pass-also k s names t l ls also is clean =
+  pass-also k s identifiers t l ls also is clean =
       let here : stands s k ≡ true = rw (eq-eqb (toldKind k) (s .also) (sym also)) (or-true (eqb (toldKind k) (s .due))) in
-      rw (step-of k s names l is here clean)
+      rw (step-of k s identifiers l is here clean)
 
   -- the first line of a run to a file
-  pub record Taken (k : LineKind) (s : State) (names : List ℕ) (t t′ : Tally) (l : List ℕ) (ls : List (List ℕ)) : Type 0 where
+  pub record Taken (k : LineKind) (s : State) (identifiers : List ℕ) (t t′ : Tally) (l : List ℕ) (ls : List (List ℕ)) : Type 0 where
     pub is-kind : isLine rules k l ≡ true
-    pub clean : recordFault k rules s names (padded l) ≡ 0
-    pub goes : after k s names t l ls ≡ front.File t′
+    pub clean : recordFault k rules s identifiers (padded l) ≡ 0
+    pub goes : after k s identifiers t l ls ≡ front.File t′
 
   -- the line is of the kind that may stand here
-  pub taken : (k : LineKind) (s : State) (names : List ℕ) (t t′ : Tally) (l : List ℕ) (ls : List (List ℕ)) → kindHere l ≡ k
-      → run rules s names t (l ∷ ls) ≡ front.File t′ → Taken k s names t t′ l ls
+  pub taken : (k : LineKind) (s : State) (identifiers : List ℕ) (t t′ : Tally) (l : List ℕ) (ls : List (List ℕ)) → kindHere l ≡ k
+      → run rules s identifiers t (l ∷ ls) ≡ front.File t′ → Taken k s identifiers t t′ l ls
   unfolding run
-  taken k s names t t′ l ls is e =
-      let g = good s names l (counted rules t l) t′ _ e in
+  taken k s identifiers t t′ l ls is e =
+      let g = good s identifiers l (counted rules t l) t′ _ e in
       record {
         is-kind = is-line k l (g .printed) (rw is at (g .short)) is;
         clean = rw is at (g .clean);
@@ -134,25 +134,25 @@ module _ (rules : Rules) where
       }
 
   -- where nothing else may stand it is of the kind due
-  pub is-due : (k : LineKind) (s : State) (names : List ℕ) (t t′ : Tally) (l : List ℕ) (ls : List (List ℕ)) → s .due ≡ toldKind k → s .also ≡ 0
-      → run rules s names t (l ∷ ls) ≡ front.File t′ → kindHere l ≡ k
+  pub is-due : (k : LineKind) (s : State) (identifiers : List ℕ) (t t′ : Tally) (l : List ℕ) (ls : List (List ℕ)) → s .due ≡ toldKind k → s .also ≡ 0
+      → run rules s identifiers t (l ∷ ls) ≡ front.File t′ → kindHere l ≡ k
   unfolding run
-  is-due k s names t t′ l ls due also e =
-      let g = good s names l (counted rules t l) t′ _ e in
+  is-due k s identifiers t t′ l ls due also e =
+      let g = good s identifiers l (counted rules t l) t′ _ e in
       go (eqb (toldKind (kindHere l)) (s .due)) refl (g .here) (g .clean)
     where
-      other : (a : LineKind) → toldKind a ≡ 0 → recordFault a rules s names (padded l) ≡ 0 → ⊥
+      other : (a : LineKind) → toldKind a ≡ 0 → recordFault a rules s identifiers (padded l) ≡ 0 → ⊥
       other a none clean =
           let is : a ≡ kind.Other = toldKind-one a kind.Other none in
           let z : _≡_ {A = ℕ} 512 0 = rw is at clean in
           omega arith
 
       go : (b : Bool) → eqb (toldKind (kindHere l)) (s .due) ≡ b → (b || eqb (toldKind (kindHere l)) (s .also)) ≡ true
-          → recordFault (kindHere l) rules s names (padded l) ≡ 0 → kindHere l ≡ k
+          → recordFault (kindHere l) rules s identifiers (padded l) ≡ 0 → kindHere l ≡ k
       go true at here clean = toldKind-one (kindHere l) k (eqb-true (toldKind (kindHere l)) (s .due) at ∙ due)
       go false at here clean = absurd (other (kindHere l) (eqb-true (toldKind (kindHere l)) (s .also) here ∙ also) clean)
 
   -- a run over no line is no file
-  pub some-line : (s : State) (names : List ℕ) (t t′ : Tally) → run rules s names t [] ≡ front.File t′ → ⊥
+  pub some-line : (s : State) (identifiers : List ℕ) (t t′ : Tally) → run rules s identifiers t [] ≡ front.File t′ → ⊥
   unfolding run
-  some-line s names t t′ e = not-refused 1 (t .lines + 1) 0 t′ e
+  some-line s identifiers t t′ e = not-refused 1 (t .lines + 1) 0 t′ e

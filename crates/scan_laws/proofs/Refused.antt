@@ -10,7 +10,7 @@ use lib.ListN.{length, take, drop, drop-of-length-le}
 use lib.Seq.{length-take-le}
 use Rattle.lines.specs.Lines.{linesOf, bytesIn, nth}
 use Rattle.header.specs.declared.types.Rules.{Rules}
-use Rattle.machine.specs.Step.{namesBrought, lineRead}
+use Rattle.machine.specs.Step.{identifiersBrought, lineRead}
 use Rattle.machine.specs.declared.types.State.{State}
 use Rattle.machine.specs.declared.types.Verdict.{Verdict}
 use Rattle.machine.specs.declared.types.Verdict.the-variants as verdict
@@ -81,14 +81,14 @@ module _ (rules : Rules) where
           }
 
   run-step : (l : List ℕ) (ls : List (List ℕ)) (g : Going) (t : Tally) → GoesOn rules g l
-      → run rules (g .state) (g .names) t (l ∷ ls) ≡ run rules (stepped rules g l .state) (stepped rules g l .names) (counted rules t l) ls
+      → run rules (g .state) (g .identifiers) t (l ∷ ls) ≡ run rules (stepped rules g l .state) (stepped rules g l .identifiers) (counted rules t l) ls
   unfolding run
   run-step l ls g t (s, e) = rw (stepped-on rules g l s e, e) refl
 
   -- the run goes by lines that go on
   run-behind : (k : ℕ) (ls : List (List ℕ)) (g : Going) (t : Tally) → GoOn rules g ls k → k ≤ length ls
-      → run rules (g .state) (g .names) t ls
-      ≡ run rules (behind rules g ls k .state) (behind rules g ls k .names) (talliedOver rules t (take k ls)) (drop k ls)
+      → run rules (g .state) (g .identifiers) t ls
+      ≡ run rules (behind rules g ls k .state) (behind rules g ls k .identifiers) (talliedOver rules t (take k ls)) (drop k ls)
   unfolding steppedOver
   run-behind zero ls g t goes h = refl
   run-behind (suc k) [] g t goes h = absurd (not-suc-le-zero h)
@@ -101,7 +101,7 @@ module _ (rules : Rules) where
     lines-then h = tallied-lines rules (take k ls) t ∙ ap (λ (n : ℕ). t .lines + n) (length-take-le k ls h)
 
     -- no line is left: the refusal 1 of the line after the last
-    pub run-out : k ≡ length ls → run rules (g .state) (g .names) t ls ≡ front.Refused 1 (t .lines + k + 1) 0
+    pub run-out : k ≡ length ls → run rules (g .state) (g .identifiers) t ls ≡ front.Refused 1 (t .lines + k + 1) 0
     unfolding run
     run-out e =
         let past : length ls ≤ k = omega arith in
@@ -111,22 +111,22 @@ module _ (rules : Rules) where
       -- the run from behind the line
       abbrev after-it : State → Front
       after-it s =
-          run rules s (namesBrought rules (behind rules g ls k .state) (behind rules g ls k .names) (nth k ls)) (tallied rules t ls k) (drop (suc k) ls)
+          run rules s (identifiersBrought rules (behind rules g ls k .state) (behind rules g ls k .identifiers) (nth k ls)) (tallied rules t ls k) (drop (suc k) ls)
 
       at-line : (v : Verdict) → judged rules (behind rules g ls k) (nth k ls) ≡ v
-          → run rules (g .state) (g .names) t ls ≡ onVerdict v (tallied rules t ls k) after-it
+          → run rules (g .state) (g .identifiers) t ls ≡ onVerdict v (tallied rules t ls k) after-it
       unfolding run
       at-line v e = run-behind k ls g t goes (omega arith) ∙ rw (next-line k ls h, e) refl
 
       -- the line is refused: the refusal of that line
       pub run-fault : (m c : ℕ) → judged rules (behind rules g ls k) (nth k ls) ≡ verdict.Fault m c
-          → run rules (g .state) (g .names) t ls ≡ front.Refused m (t .lines + k + 1) c
+          → run rules (g .state) (g .identifiers) t ls ≡ front.Refused m (t .lines + k + 1) c
       unfolding counted
       run-fault m c e = at-line (verdict.Fault m c) e ∙ ap (λ (n : ℕ). front.Refused m (n + 1) c) (lines-then (omega arith))
 
       -- the line ends the file
       pub run-end : judged rules (behind rules g ls k) (nth k ls) ≡ verdict.Finished
-          → run rules (g .state) (g .names) t ls ≡ front.File (tallied rules t ls k)
+          → run rules (g .state) (g .identifiers) t ls ≡ front.File (tallied rules t ls k)
       run-end e = at-line verdict.Finished e
 
 -- each of the first k lines goes on, and the next is refused, or there is none
@@ -192,7 +192,7 @@ pub record EndsAfter (rules : Rules) (bytes : List ℕ) (t : Tally) (k : ℕ) : 
 module _ (rules : Rules) (bytes : List ℕ) (t : Tally) where
   -- there the line reader ends the file at its last byte
   pub reads-end : Sound rules → (k : ℕ) → EndsAfter rules bytes t k
-      → let g = behind rules atFirst (linesOf bytes) k in lineRead rules bytes (g .at) (g .state) (g .names) ≡ found.Finished (t .end)
+      → let g = behind rules atFirst (linesOf bytes) k in lineRead rules bytes (g .at) (g .state) (g .identifiers) ≡ found.Finished (t .end)
   reads-end sound k e = stands-behind rules sound bytes k (e .goes) (omega (arith, e .within)) .reads (e .within) ∙ rw (e .last, e .end) refl
 
   ends-after : (k : ℕ) (h : k < length (linesOf bytes)) (goes : GoOn rules atFirst (linesOf bytes) k)
@@ -251,5 +251,5 @@ module _ (rules : Rules) (bytes : List ℕ) (number line column : ℕ) where
           by (inl (n, m, c)) = (omega arith, omega arith)
           by (inr (h, v)) =
               let g = behind rules atFirst (linesOf bytes) (r .k) in
-              let numbers = step-numbered rules (g .state) (g .names) (nth (r .k) (linesOf bytes)) number column v in
+              let numbers = step-numbered rules (g .state) (g .identifiers) (nth (r .k) (linesOf bytes)) number column v in
               (omega (arith, numbers .0), omega (arith, numbers .1))

@@ -18,10 +18,10 @@ use Rattle.header.specs.declared.types.Rules.{Rules}
 use Rattle.record.specs.declared.types.LineKind.{LineKind}
 use Rattle.record.specs.declared.types.LineKind.the-variants as kind
 use Rattle.machine.specs.Checks.{repeats}
-use Rattle.machine.specs.State.{seen, knownNames, isFirst, namesIn, hasRoom}
+use Rattle.machine.specs.State.{seen, knownIdentifiers, isFirst, identifiersIn, hasRoom}
 use Rattle.machine.specs.Faults.{recordFault, satellitesFault}
-use Rattle.machine.specs.Next.{lineLess, afterFirst, afterSecond, afterCount, afterNames, afterSatellites, afterAccuracies, commentsDue, afterIntegers, afterEpoch, satelliteDone, afterPosition, nextOf}
-use Rattle.machine.specs.Step.{stepOf, namesBrought, ifRoom, findsRoom, stepWithin}
+use Rattle.machine.specs.Next.{lineLess, afterFirst, afterSecond, afterCount, afterIdentifiers, afterSatellites, afterAccuracies, commentsDue, afterIntegers, afterEpoch, satelliteDone, afterPosition, nextOf}
+use Rattle.machine.specs.Step.{stepOf, identifiersBrought, ifRoom, findsRoom, stepWithin}
 use Rattle.machine.proofs.Stepping.{brought-length}
 use Rattle.machine.specs.declared.types.State.{State}
 use Rattle.machine.specs.declared.types.Verdict.{Verdict}
@@ -59,24 +59,24 @@ module _ (rules : Rules) where
     less-lines : (next many : ℕ) → Bounded (lineLess next many s)
     less-lines next many = either (eqb (s .lines - 1) 0) _ _ (same _ refl refl) (same _ refl refl)
 
-    after-names : Bounded (afterNames s)
-    unfolding afterNames
-    after-names = either (eqb (s .lines - 1) 0) _ _ (fewer s _ b refl (inr (omega arith))) (fewer s _ b refl (inl (omega arith)))
+    after-identifiers : Bounded (afterIdentifiers s)
+    unfolding afterIdentifiers
+    after-identifiers = either (eqb (s .lines - 1) 0) _ _ (fewer s _ b refl (inr (omega arith))) (fewer s _ b refl (inl (omega arith)))
 
     after-count : (n : ℕ) → n ≤ rules .«most_satellites» → Bounded (afterCount n s)
     unfolding afterCount
     after-count n h = record { most = h; left = inr (omega arith) }
 
-    after-satellites : (names p : List ℕ) → satellitesFault rules s names p ≡ 0 → Bounded (afterSatellites rules s p)
+    after-satellites : (identifiers p : List ℕ) → satellitesFault rules s identifiers p ≡ 0 → Bounded (afterSatellites rules s p)
     unfolding afterSatellites satellitesFault
-    after-satellites names p clean = go (isFirst s) refl
+    after-satellites identifiers p clean = go (isFirst s) refl
       where
-        go : (first : Bool) → isFirst s ≡ first → Bounded (cond first (afterCount (satellitesOf rules p .count) s) (afterNames s))
+        go : (first : Bool) → isFirst s ≡ first → Bounded (cond first (afterCount (satellitesOf rules p .count) s) (afterIdentifiers s))
         go true e =
             let first : cond true (satellitesOf rules p .fault) (moreOf false (s .left) p .fault) ≡ 0 = rw e at (lower-clean (cond (isFirst s) (satellitesOf rules p .fault) (moreOf false (s .left) p .fault))
-            (unless (not (repeats (knownNames s names) (namesIn rules s p))) 8 0) clean .0) in
+            (unless (not (repeats (knownIdentifiers s identifiers) (identifiersIn rules s p))) 8 0) clean .0) in
             after-count (satellitesOf rules p .count) (some-satellites rules p first .1)
-        go false e = after-names
+        go false e = after-identifiers
 
     after-accuracies : Bounded (afterAccuracies s)
     unfolding afterAccuracies
@@ -102,67 +102,67 @@ module _ (rules : Rules) where
     on t s′ bounded e = let same-state : t ≡ s′ = cc in subst (λ (x : State). Bounded x) same-state bounded
 
     -- a line without fault keeps the bounds
-    bounded-next : (k : LineKind) (names p : List ℕ) (s′ : State) → recordFault k rules s names p ≡ 0 → nextOf k rules s p ≡ verdict.Next s′ → Bounded s′
+    bounded-next : (k : LineKind) (identifiers p : List ℕ) (s′ : State) → recordFault k rules s identifiers p ≡ 0 → nextOf k rules s p ≡ verdict.Next s′ → Bounded s′
     unfolding afterFirst afterSecond commentsDue afterEpoch
-    bounded-next kind.Other names p s′ clean e = on s s′ b e
-    bounded-next kind.First names p s′ clean e = on _ s′ (record { most = zero-le; left = inl refl }) e
-    bounded-next kind.Second names p s′ clean e = on _ s′ (same _ refl refl) e
-    bounded-next kind.Satellites names p s′ clean e = on _ s′ (after-satellites names p clean) e
-    bounded-next kind.Accuracies names p s′ clean e = on _ s′ after-accuracies e
-    bounded-next kind.Characters names p s′ clean e = on _ s′ (less-lines 6 2) e
-    bounded-next kind.Floats names p s′ clean e = on _ s′ (less-lines 7 2) e
-    bounded-next kind.Integers names p s′ clean e = on _ s′ after-integers e
-    bounded-next kind.Comment names p s′ clean e = on _ s′ (same _ refl refl) e
-    bounded-next kind.Epoch names p s′ clean e = on _ s′ (fewer s _ b refl (inr (omega arith))) e
-    bounded-next kind.Position names p s′ clean e = on _ s′ after-position e
-    bounded-next kind.Velocity names p s′ clean e = on _ s′ (satellite-done 13) e
-    bounded-next kind.PositionCorrelation names p s′ clean e = on _ s′ (same _ refl refl) e
-    bounded-next kind.VelocityCorrelation names p s′ clean e = on _ s′ (same _ refl refl) e
-    bounded-next kind.EndOfFile names p s′ clean e = let z : _≡_ {A = ℕ} 0 1 = cc in absurd (omega arith)
+    bounded-next kind.Other identifiers p s′ clean e = on s s′ b e
+    bounded-next kind.First identifiers p s′ clean e = on _ s′ (record { most = zero-le; left = inl refl }) e
+    bounded-next kind.Second identifiers p s′ clean e = on _ s′ (same _ refl refl) e
+    bounded-next kind.Satellites identifiers p s′ clean e = on _ s′ (after-satellites identifiers p clean) e
+    bounded-next kind.Accuracies identifiers p s′ clean e = on _ s′ after-accuracies e
+    bounded-next kind.Characters identifiers p s′ clean e = on _ s′ (less-lines 6 2) e
+    bounded-next kind.Floats identifiers p s′ clean e = on _ s′ (less-lines 7 2) e
+    bounded-next kind.Integers identifiers p s′ clean e = on _ s′ after-integers e
+    bounded-next kind.Comment identifiers p s′ clean e = on _ s′ (same _ refl refl) e
+    bounded-next kind.Epoch identifiers p s′ clean e = on _ s′ (fewer s _ b refl (inr (omega arith))) e
+    bounded-next kind.Position identifiers p s′ clean e = on _ s′ after-position e
+    bounded-next kind.Velocity identifiers p s′ clean e = on _ s′ (satellite-done 13) e
+    bounded-next kind.PositionCorrelation identifiers p s′ clean e = on _ s′ (same _ refl refl) e
+    bounded-next kind.VelocityCorrelation identifiers p s′ clean e = on _ s′ (same _ refl refl) e
+    bounded-next kind.EndOfFile identifiers p s′ clean e = let z : _≡_ {A = ℕ} 0 1 = cc in absurd (omega arith)
 
   -- so does a line that goes on
-  next-clean : (s s′ : State) (names l : List ℕ) → stepOf rules s names l ≡ verdict.Next s′
-      → (recordFault (kindHere rules l) rules s names (padded l) ≡ 0) × (nextOf (kindHere rules l) rules s (padded l) ≡ verdict.Next s′)
-  next-clean s s′ names l e =
-      let g = good rules s names l nothingSeen nothingSeen (λ _. front.File nothingSeen) (ap (λ (v : Verdict). onVerdict v nothingSeen (λ _. front.File nothingSeen)) e) in
+  next-clean : (s s′ : State) (identifiers l : List ℕ) → stepOf rules s identifiers l ≡ verdict.Next s′
+      → (recordFault (kindHere rules l) rules s identifiers (padded l) ≡ 0) × (nextOf (kindHere rules l) rules s (padded l) ≡ verdict.Next s′)
+  next-clean s s′ identifiers l e =
+      let g = good rules s identifiers l nothingSeen nothingSeen (λ _. front.File nothingSeen) (ap (λ (v : Verdict). onVerdict v nothingSeen (λ _. front.File nothingSeen)) e) in
       let is = is-line rules (kindHere rules l) l (g .printed) (g .short) refl in
-      (g .clean, sym (step-of rules (kindHere rules l) s names l is (g .here) (g .clean)) ∙ e)
+      (g .clean, sym (step-of rules (kindHere rules l) s identifiers l is (g .here) (g .clean)) ∙ e)
 
   -- what the judge has between two lines: a state within bounds, and places for as many identifiers as there can be
   pub record Ready (g : Going) : Type 0 where
     bounded : Bounded (g .state)
-    places : length (g .names) ≡ maxSatellites
+    places : length (g .identifiers) ≡ maxSatellites
 
   pub ready-first : Ready atFirst
   ready-first = record { bounded = record { most = zero-le; left = inl refl }; places = refl }
 
-  pub ready-next : (g : Going) (l : List ℕ) (s : State) → Ready g → stepOf rules (g .state) (g .names) l ≡ verdict.Next s → Ready (stepped rules g l)
+  pub ready-next : (g : Going) (l : List ℕ) (s : State) → Ready g → stepOf rules (g .state) (g .identifiers) l ≡ verdict.Next s → Ready (stepped rules g l)
   unfolding stepped
   ready-next g l s ready e =
-      let clean = next-clean (g .state) s (g .names) l e in
+      let clean = next-clean (g .state) s (g .identifiers) l e in
       rw e (record {
-        bounded = bounded-next (g .state) (ready .bounded) (kindHere rules l) (g .names) (padded l) s (clean .0) (clean .1);
-        places = brought-length rules (g .state) (g .names) l ∙ ready .places;
+        bounded = bounded-next (g .state) (ready .bounded) (kindHere rules l) (g .identifiers) (padded l) s (clean .0) (clean .1);
+        places = brought-length rules (g .state) (g .identifiers) l ∙ ready .places;
       })
 
   -- there is room for what any line brings
   module _ (sound : Sound rules) (g : Going) (ready : Ready g) (l : List ℕ) where
-    has-room : hasRoom rules (g .state) (g .names) (padded l) ≡ true
-    unfolding hasRoom namesIn
+    has-room : hasRoom rules (g .state) (g .identifiers) (padded l) ≡ true
+    unfolding hasRoom identifiersIn
     has-room = go (isFirst (g .state)) refl (ready .bounded .left)
       where
-        go : (first : Bool) → isFirst (g .state) ≡ first → (g .state .satellites ≡ 0) ⊎ (g .state .left ≤ g .state .satellites) → hasRoom rules (g .state) (g .names) (padded l) ≡ true
+        go : (first : Bool) → isFirst (g .state) ≡ first → (g .state .satellites ≡ 0) ⊎ (g .state .left ≤ g .state .satellites) → hasRoom rules (g .state) (g .identifiers) (padded l) ≡ true
         go true e left =
             let n = satellitesOf rules (padded l) .count in
             rw (e, first-fresh rules l)
-            (le-leb (seen (g .state) + length (freshIn n l)) (length (g .names)) (omega (arith, eqb-true (g .state .satellites) 0 e, fresh-length n l, ready .places)))
+            (le-leb (seen (g .state) + length (freshIn n l)) (length (g .identifiers)) (omega (arith, eqb-true (g .state .satellites) 0 e, fresh-length n l, ready .places)))
         go false e (inl none) = absurd (false≢true (sym e ∙ eq-eqb (g .state .satellites) 0 none))
         go false e (inr h) =
             rw (e, more-fresh (g .state .left) l)
-            (le-leb (seen (g .state) + length (freshIn (g .state .left) l)) (length (g .names))
-            (omega (arith, h, fresh-length (g .state .left) l, ready .places, ready .bounded .most, sound .names-fit)))
+            (le-leb (seen (g .state) + length (freshIn (g .state .left) l)) (length (g .identifiers))
+            (omega (arith, h, fresh-length (g .state .left) l, ready .places, ready .bounded .most, sound .identifiers-fit)))
 
-    finds-room : findsRoom rules (g .state) (g .names) l ≡ true
+    finds-room : findsRoom rules (g .state) (g .identifiers) l ≡ true
     finds-room = rw has-room (either-true (eqb (g .state .due) 3))
       where
         either-true : (b : Bool) → cond b true true ≡ true
@@ -170,9 +170,9 @@ module _ (rules : Rules) where
         either-true false = refl
 
     -- so the line reader does what the machine says
-    pub never-short : stepWithin rules (g .state) (g .names) l ≡ stepOf rules (g .state) (g .names) l
+    pub never-short : stepWithin rules (g .state) (g .identifiers) l ≡ stepOf rules (g .state) (g .identifiers) l
     unfolding stepWithin
-    never-short = rw finds-room (same-verdict (stepOf rules (g .state) (g .names) l))
+    never-short = rw finds-room (same-verdict (stepOf rules (g .state) (g .identifiers) l))
       where
         same-verdict : (v : Verdict) → ifRoom true v ≡ v
         same-verdict (verdict.Fault number column) = refl

@@ -22,7 +22,7 @@ use Rattle.file.specs.Plain.{isLine, isRecord}
 use Rattle.scan.specs.Run.{run, counted}
 use Rattle.scan.specs.declared.Tally.{Tally}
 use Rattle.scan.specs.declared.Front.the-variants as front
-use Rattle.scan_laws.proofs.Reaching.{Reach, reach-append, reach-one, names-kept, due-line}
+use Rattle.scan_laws.proofs.Reaching.{Reach, reach-append, reach-one, identifiers-kept, due-line}
 
 -- no fault and a test passed, as one: the fault of both is none
 both-judged : (fault : ℕ) (ok : Bool) → eqb (lower fault (unless ok 8 0)) 0 ≡ (eqb fault 0 && ok)
@@ -43,30 +43,30 @@ module _ (rules : Rules) where
   pub agreeing : (k : LineKind) (fault : ℕ) (ok : Bool) (l : List ℕ) → isRecord rules k (lower fault (unless ok 8 0)) l ≡ (isRecord rules k fault l && ok)
   agreeing k fault ok l = ap (λ (b : Bool). isLine rules k l && b) (both-judged fault ok) ∙ and-assoc (isLine rules k l) (eqb fault 0) ok
 
-  pub reach-cons : (s s′ s″ : State) (names names′ names″ : List ℕ) (l : List ℕ) (ls : List (List ℕ)) → Reach rules s names (l ∷ []) s′ names′
-      → Reach rules s′ names′ ls s″ names″ → Reach rules s names (l ∷ ls) s″ names″
-  reach-cons s s′ s″ names names′ names″ l ls p q = reach-append rules s s′ s″ names names′ names″ (l ∷ []) ls p q
+  pub reach-cons : (s s′ s″ : State) (identifiers identifiers′ identifiers″ : List ℕ) (l : List ℕ) (ls : List (List ℕ)) → Reach rules s identifiers (l ∷ []) s′ identifiers′
+      → Reach rules s′ identifiers′ ls s″ identifiers″ → Reach rules s identifiers (l ∷ ls) s″ identifiers″
+  reach-cons s s′ s″ identifiers identifiers′ identifiers″ l ls p q = reach-append rules s s′ s″ identifiers identifiers′ identifiers″ (l ∷ []) ls p q
 
-  module _ (k : LineKind) (s : State) (names : List ℕ) (fault : List ℕ → ℕ) (next : List ℕ → State) (due : s .due ≡ toldKind k)
-      (other : eqb (toldKind k) 3 ≡ false) (faults : (l : List ℕ) → recordFault k rules s names (padded l) ≡ fault l)
+  module _ (k : LineKind) (s : State) (identifiers : List ℕ) (fault : List ℕ → ℕ) (next : List ℕ → State) (due : s .due ≡ toldKind k)
+      (other : eqb (toldKind k) 3 ≡ false) (faults : (l : List ℕ) → recordFault k rules s identifiers (padded l) ≡ fault l)
       (nexts : (l : List ℕ) → nextOf k rules s (padded l) ≡ verdict.Next (next l)) where
-    pub single-reach : (l : List ℕ) → isRecord rules k (fault l) l ≡ true → Reach rules s names (l ∷ []) (next l) names
+    pub single-reach : (l : List ℕ) → isRecord rules k (fault l) l ≡ true → Reach rules s identifiers (l ∷ []) (next l) identifiers
     single-reach l is =
-        reach-one rules k s (next l) names names l due (and-left (isLine rules k l) _ is)
+        reach-one rules k s (next l) identifiers identifiers l due (and-left (isLine rules k l) _ is)
         (faults l ∙ eqb-true (fault l) 0 (and-right (isLine rules k l) _ is)) (nexts l)
-        (names-kept rules s names l (ap (λ (d : ℕ). eqb d 3) due ∙ other))
+        (identifiers-kept rules s identifiers l (ap (λ (d : ℕ). eqb d 3) due ∙ other))
 
     pub record Single (t t′ : Tally) (ls : List (List ℕ)) : Type 0 where
       pub line : List ℕ
       pub others : List (List ℕ)
       pub split : ls ≡ line ∷ others
       pub is : isRecord rules k (fault line) line ≡ true
-      pub goes : run rules (next line) names (counted rules t line) others ≡ front.File t′
+      pub goes : run rules (next line) identifiers (counted rules t line) others ≡ front.File t′
 
-    pub single-read : (t t′ : Tally) (ls : List (List ℕ)) → s .also ≡ 0 → run rules s names t ls ≡ front.File t′ → Single t t′ ls
+    pub single-read : (t t′ : Tally) (ls : List (List ℕ)) → s .also ≡ 0 → run rules s identifiers t ls ≡ front.File t′ → Single t t′ ls
     single-read t t′ ls also e =
-        let x = due-line rules k s names t t′ ls due also e in
-        let kept = names-kept rules s names (x .line) (ap (λ (d : ℕ). eqb d 3) due ∙ other) in
+        let x = due-line rules k s identifiers t t′ ls due also e in
+        let kept = identifiers-kept rules s identifiers (x .line) (ap (λ (d : ℕ). eqb d 3) due ∙ other) in
         let clean : fault (x .line) ≡ 0 = sym (faults (x .line)) ∙ x .clean in
         record {
           line = x .line;

@@ -65,7 +65,7 @@ freshIn left l = take left (slotNumbers false l)
 pub more-fresh : (left : ℕ) (l : List ℕ) → take left (moreOf false left (padded l) .values) ≡ freshIn left l
 more-fresh left l = more-alike false left l
 
-pub first-fresh : (rules : Rules) (l : List ℕ) → take (satellitesOf rules (padded l) .count) (satellitesOf rules (padded l) .names) ≡ freshIn (satellitesOf rules (padded l) .count) l
+pub first-fresh : (rules : Rules) (l : List ℕ) → take (satellitesOf rules (padded l) .count) (satellitesOf rules (padded l) .identifiers) ≡ freshIn (satellitesOf rules (padded l) .count) l
 first-fresh rules l = alike false 17 (satellitesOf rules (padded l) .count) 10 (padded l)
 
 pub fresh-length : (left : ℕ) (l : List ℕ) → length (freshIn left l) ≡ min left 17
@@ -91,12 +91,12 @@ slots-cons accuracies left l ls =
     take-both left (slotNumbers accuracies l) (flat (map (slotNumbers accuracies) ls))
     ∙ ap (λ (k : ℕ). take left (slotNumbers accuracies l) ++ take (left - k) (flat (map (slotNumbers accuracies) ls))) (seventeen accuracies l)
 
-pub names-cons : (left : ℕ) (l : List ℕ) (ls : List (List ℕ)) → slotIdentifiers left (l ∷ ls) ≡ freshIn left l ++ slotIdentifiers (left - 17) ls
-names-cons left l ls = slots-cons false left l ls
+pub identifiers-cons : (left : ℕ) (l : List ℕ) (ls : List (List ℕ)) → slotIdentifiers left (l ∷ ls) ≡ freshIn left l ++ slotIdentifiers (left - 17) ls
+identifiers-cons left l ls = slots-cons false left l ls
 
-pub names-none : (left : ℕ) → slotIdentifiers left [] ≡ []
+pub identifiers-none : (left : ℕ) → slotIdentifiers left [] ≡ []
 unfolding flat
-names-none left = take-nil {A = ℕ} left
+identifiers-none left = take-nil {A = ℕ} left
 
 -- enough lines have all identifiers
 flat-length : (ls : List (List ℕ)) → length (flat (map (slotNumbers false) ls)) ≡ 17 * length ls
@@ -104,8 +104,8 @@ unfolding flat
 flat-length [] = refl
 flat-length (l ∷ ls) = omega (arith, length-append (slotNumbers false l) (flat (map (slotNumbers false) ls)), seventeen false l, flat-length ls)
 
-pub names-length : (n : ℕ) (ls : List (List ℕ)) → n ≤ 17 * length ls → length (slotIdentifiers n ls) ≡ n
-names-length n ls h = length-take-le n (flat (map (slotNumbers false) ls)) (omega (arith, flat-length ls))
+pub identifiers-length : (n : ℕ) (ls : List (List ℕ)) → n ≤ 17 * length ls → length (slotIdentifiers n ls) ≡ n
+identifiers-length n ls h = length-take-le n (flat (map (slotNumbers false) ls)) (omega (arith, flat-length ls))
 
 -- no identifier of two lists repeats where none of the first does and none of the second, the first being known
 pub repeats-append : (known a b : List ℕ) → repeats known (a ++ b) ≡ repeats known a || repeats (known ++ a) b
@@ -121,27 +121,27 @@ repeats-append known (x ∷ a) b =
     or-assoc false u v w e = e
 
 -- the identifiers of all lines, by those of the first
-pub all-names : (left : ℕ) (known l : List ℕ) (ls : List (List ℕ)) → (known ++ freshIn left l) ++ slotIdentifiers (left - 17) ls ≡ known ++ slotIdentifiers left (l ∷ ls)
-all-names left known l ls =
-    append-assoc known (freshIn left l) (slotIdentifiers (left - 17) ls) ∙ ap (λ (r : List ℕ). known ++ r) (sym (names-cons left l ls))
+pub all-identifiers : (left : ℕ) (known l : List ℕ) (ls : List (List ℕ)) → (known ++ freshIn left l) ++ slotIdentifiers (left - 17) ls ≡ known ++ slotIdentifiers left (l ∷ ls)
+all-identifiers left known l ls =
+    append-assoc known (freshIn left l) (slotIdentifiers (left - 17) ls) ∙ ap (λ (r : List ℕ). known ++ r) (sym (identifiers-cons left l ls))
 
 pub one-line : (left : ℕ) (known l : List ℕ) → known ++ freshIn left l ≡ known ++ slotIdentifiers left (l ∷ [])
 one-line left known l =
     ap (λ (r : List ℕ). known ++ r)
-    (sym (append-nil (freshIn left l)) ∙ sym (ap (λ (r : List ℕ). freshIn left l ++ r) (names-none (left - 17))) ∙ sym (names-cons left l []))
+    (sym (append-nil (freshIn left l)) ∙ sym (ap (λ (r : List ℕ). freshIn left l ++ r) (identifiers-none (left - 17))) ∙ sym (identifiers-cons left l []))
 
 -- no identifier of the lines repeats, by the first and the others
 pub first-new : (left : ℕ) (known l : List ℕ) (ls : List (List ℕ)) → repeats known (slotIdentifiers left (l ∷ ls)) ≡ false
     → (repeats known (freshIn left l) ≡ false) × (repeats (known ++ freshIn left l) (slotIdentifiers (left - 17) ls) ≡ false)
 first-new left known l ls e =
     neither (repeats known (freshIn left l)) (repeats (known ++ freshIn left l) (slotIdentifiers (left - 17) ls))
-    (sym (repeats-append known (freshIn left l) (slotIdentifiers (left - 17) ls)) ∙ sym (ap (repeats known) (names-cons left l ls)) ∙ e)
+    (sym (repeats-append known (freshIn left l) (slotIdentifiers (left - 17) ls)) ∙ sym (ap (repeats known) (identifiers-cons left l ls)) ∙ e)
 
 pub all-new : (left : ℕ) (known l : List ℕ) (ls : List (List ℕ)) → repeats known (freshIn left l) ≡ false
     → repeats (known ++ freshIn left l) (slotIdentifiers (left - 17) ls) ≡ false → repeats known (slotIdentifiers left (l ∷ ls)) ≡ false
 all-new left known l ls e f =
-    ap (repeats known) (names-cons left l ls) ∙ repeats-append known (freshIn left l) (slotIdentifiers (left - 17) ls) ∙ rw (e, f)
+    ap (repeats known) (identifiers-cons left l ls) ∙ repeats-append known (freshIn left l) (slotIdentifiers (left - 17) ls) ∙ rw (e, f)
 
 pub none-new : (left : ℕ) (known : List ℕ) → repeats known (slotIdentifiers left []) ≡ false
 unfolding repeats
-none-new left known = ap (repeats known) (names-none left)
+none-new left known = ap (repeats known) (identifiers-none left)

@@ -9,7 +9,7 @@ use lib.ListN.{length, take, drop, take-append-drop, drop-of-length-le}
 use Rattle.lines.specs.Lines.{linesOf, joinLines, bytesIn, nth}
 use Rattle.lines.proofs.Split.{parted, bytes-in}
 use Rattle.header.specs.declared.types.Rules.{Rules}
-use Rattle.machine.specs.Step.{stepOf, namesBrought, namesKept, stepWithin, readAs, readFirst, namesFirst, lineRead, lineNames}
+use Rattle.machine.specs.Step.{stepOf, identifiersBrought, identifiersKept, stepWithin, readAs, readFirst, identifiersFirst, lineRead, lineIdentifiers}
 use Rattle.machine.specs.declared.types.State.{State}
 use Rattle.machine.specs.declared.types.Verdict.{Verdict}
 use Rattle.machine.specs.declared.types.Verdict.the-variants as verdict
@@ -20,7 +20,7 @@ use Rattle.scan_laws.proofs.Room.{Ready, ready-first, ready-next, never
 
 -- what the machine says of a line
 abbrev pub judged : Rules → Going → List ℕ → Verdict
-judged rules g l = stepOf rules (g .state) (g .names) l
+judged rules g l = stepOf rules (g .state) (g .identifiers) l
 
 -- the line is read without fault, and the file goes on after it
 abbrev pub GoesOn : Rules → Going → List ℕ → Type 0
@@ -71,7 +71,7 @@ module _ (rules : Rules) where
 
   -- a line that goes on moves the place behind its LF, and gives the state and the identifiers
   pub stepped-on : (g : Going) (l : List ℕ) (s : State) → judged rules g l ≡ verdict.Next s
-      → stepped rules g l ≡ record { at = g .at + length l + 1; state = s; names = namesBrought rules (g .state) (g .names) l }
+      → stepped rules g l ≡ record { at = g .at + length l + 1; state = s; identifiers = identifiersBrought rules (g .state) (g .identifiers) l }
   unfolding stepped
   stepped-on g l s e = rw e
 
@@ -100,11 +100,11 @@ pub record Stands (rules : Rules) (bytes : List ℕ) (k : ℕ) (g : Going) : Typ
   pub joined : g .at ≡ length (joinLines (take k (linesOf bytes)))
   pub reads :
       k < length (linesOf bytes)
-      → lineRead rules bytes (g .at) (g .state) (g .names)
-      ≡ readAs (stepOf rules (g .state) (g .names) (nth k (linesOf bytes))) (g .at + length (nth k (linesOf bytes)) + 1)
+      → lineRead rules bytes (g .at) (g .state) (g .identifiers)
+      ≡ readAs (stepOf rules (g .state) (g .identifiers) (nth k (linesOf bytes))) (g .at + length (nth k (linesOf bytes)) + 1)
   pub keeps :
-      k < length (linesOf bytes) → lineNames rules bytes (g .at) (g .state) (g .names) ≡ namesKept rules (g .state) (g .names) (nth k (linesOf bytes))
-  pub ends : length (linesOf bytes) ≤ k → lineRead rules bytes (g .at) (g .state) (g .names) ≡ found.NoLine
+      k < length (linesOf bytes) → lineIdentifiers rules bytes (g .at) (g .state) (g .identifiers) ≡ identifiersKept rules (g .state) (g .identifiers) (nth k (linesOf bytes))
+  pub ends : length (linesOf bytes) ≤ k → lineRead rules bytes (g .at) (g .state) (g .identifiers) ≡ found.NoLine
 
 module _ (rules : Rules) (sound : Sound rules) (bytes : List ℕ) where
   abbrev lines : List (List ℕ)
@@ -123,12 +123,12 @@ module _ (rules : Rules) (sound : Sound rules) (bytes : List ℕ) where
         ∙ parted (take k lines) bytes (drop k lines) (sym (take-append-drop k lines)) .rest-lines
 
     -- with the judge's list the line reader does what the machine says
-    does : (l : List ℕ) → stepWithin rules (g k .state) (g k .names) l ≡ stepOf rules (g k .state) (g k .names) l
+    does : (l : List ℕ) → stepWithin rules (g k .state) (g k .identifiers) l ≡ stepOf rules (g k .state) (g k .identifiers) l
     does l = never-short rules sound (g k) (ready-behind rules k lines atFirst (ready-first rules) goes h) l
 
     -- Where each of the first k lines goes on, the line reader stands behind them and reads the next, for every k.
     pub stands-behind : Stands rules bytes k (g k)
-    unfolding readFirst namesFirst
+    unfolding readFirst identifiersFirst
     stands-behind = record {
       place = place;
       joined = place ∙ bytes-in (take k lines);
@@ -142,13 +142,13 @@ module _ (rules : Rules) (sound : Sound rules) (bytes : List ℕ) where
       after : g (suc k) ≡ record {
         at = g k .at + length (nth k lines) + 1;
         state = on .0;
-        names = namesBrought rules (g k .state) (g k .names) (nth k lines);
+        identifiers = identifiersBrought rules (g k .state) (g k .identifiers) (nth k lines);
       }
       after = behind-next rules k lines atFirst more ∙ stepped-on rules (g k) (nth k lines) (on .0) (on .1)
 
-      pub reads-next : lineRead rules bytes (g k .at) (g k .state) (g k .names) ≡ found.Next (g (suc k) .at) (g (suc k) .state)
+      pub reads-next : lineRead rules bytes (g k .at) (g k .state) (g k .identifiers) ≡ found.Next (g (suc k) .at) (g (suc k) .state)
       reads-next = stands-behind .reads more ∙ rw (on .1, after) refl
 
-      pub names-next : lineNames rules bytes (g k .at) (g k .state) (g k .names) ≡ g (suc k) .names
-      unfolding namesKept
-      names-next = stands-behind .keeps more ∙ rw (on .1, after) refl
+      pub identifiers-next : lineIdentifiers rules bytes (g k .at) (g k .state) (g k .identifiers) ≡ g (suc k) .identifiers
+      unfolding identifiersKept
+      identifiers-next = stands-behind .keeps more ∙ rw (on .1, after) refl

@@ -28,8 +28,8 @@ unfolding slotLines
 some-lines n = omega arith
 
 module _ (rules : Rules) (s : State) (known rest : List ℕ) (many : length known ≡ s .satellites) (some : 1 ≤ length known) (begins : 1 ≤ s .epochs) where
-  abbrev names : List ℕ
-  names = known ++ rest
+  abbrev identifiers : List ℕ
+  identifiers = known ++ rest
 
   -- the records 4 to 10, for the header that the lines before have said
   pub record Tail (lines : List (List ℕ)) : Type 0 where
@@ -68,34 +68,34 @@ module _ (rules : Rules) (s : State) (known rest : List ℕ) (many : length know
 
   -- the epochs and the last line
   end-ends : (c over : ℕ) (epochs : List (List ℕ)) (last : List ℕ) → Epochs rules (s .velocity) known (s .interval8) (s .epochs) (s .at8 + s .gap8) epochs
-      → isLastLine rules last ≡ true → Ends rules (commentsDue 0 c (inComments over)) names (epochs ++ (last ∷ []))
+      → isLastLine rules last ≡ true → Ends rules (commentsDue 0 c (inComments over)) identifiers (epochs ++ (last ∷ []))
   unfolding commentsDue countedOver
   end-ends c over epochs last are is =
       let before = commentsDue 0 c (inComments over) in
-      let r = epochs-reach rules names known rest refl some (s .epochs) before (s .at8 + s .gap8) epochs (epochs-due c over) refl (sym many) refl are in
-      reach-end rules before (r .0) names names epochs (last ∷ []) (r .2)
-      (record { runs = λ t more. last-run rules names known rest refl some (r .0) t last more (r .1) is })
+      let r = epochs-reach rules identifiers known rest refl some (s .epochs) before (s .at8 + s .gap8) epochs (epochs-due c over) refl (sym many) refl are in
+      reach-end rules before (r .0) identifiers identifiers epochs (last ∷ []) (r .2)
+      (record { runs = λ t more. last-run rules identifiers known rest refl some (r .0) t last more (r .1) is })
 
-  pub tail-ends : (lines : List (List ℕ)) → Tail lines → Ends rules (leave (s .satellites) (expect 4 (slotLines (s .satellites)) s)) names lines
+  pub tail-ends : (lines : List (List ℕ)) → Tail lines → Ends rules (leave (s .satellites) (expect 4 (slotLines (s .satellites)) s)) identifiers lines
   tail-ends lines p =
       let n = s .satellites in
-      let rated = accuracies-reach rules s names (slotLines n - 1) n (p .accuracies) (p .accuracies-many ∙ some-lines n) (p .are-accuracies) in
+      let rated = accuracies-reach rules s identifiers (slotLines n - 1) n (p .accuracies) (p .accuracies-many ∙ some-lines n) (p .are-accuracies) in
       let over = rated .0 in
-      let first : Reach rules (leave n (expect 4 (slotLines n) s)) names (p .accuracies) (leave over (expect 5 2 s)) names =
-      subst (λ (k : ℕ). Reach rules (leave n (expect 4 k s)) names (p .accuracies) (leave over (expect 5 2 s)) names) (sym (some-lines n)) (rated .1) in
+      let first : Reach rules (leave n (expect 4 (slotLines n) s)) identifiers (p .accuracies) (leave over (expect 5 2 s)) identifiers =
+      subst (λ (k : ℕ). Reach rules (leave n (expect 4 k s)) identifiers (p .accuracies) (leave over (expect 5 2 s)) identifiers) (sym (some-lines n)) (rated .1) in
       let six =
       six-reach rules (leave over s) known rest many (p .descriptor) (p .characters) (p .bases) (p .floats) (p .integers) (p .integers′)
       (p .is-descriptor) (p .is-characters) (p .is-bases) (p .is-floats) (p .is-integers) (p .is-integers′) in
       let fits = within-true (rules .«fewest_comments») (rules .«most_comments») (length (p .comments)) (p .comments-many) in
-      let noted = comments-reach rules (inComments over) names (p .comments) (rules .«fewest_comments») (rules .«most_comments») (fits .0) (fits .1) (p .are-comments) in
+      let noted = comments-reach rules (inComments over) identifiers (p .comments) (rules .«fewest_comments») (rules .«most_comments») (fits .0) (fits .1) (p .are-comments) in
       let due = commentsDue (rules .«fewest_comments») (rules .«most_comments») (inComments over) in
       let done = commentsDue 0 (noted .0) (inComments over) in
       let end = p .epochs ++ (p .last ∷ []) in
-      let from-comments = reach-end rules due done names names (p .comments) end (noted .1) (end-ends (noted .0) over (p .epochs) (p .last) (p .are-epochs) (p .is-last)) in
+      let from-comments = reach-end rules due done identifiers identifiers (p .comments) end (noted .1) (end-ends (noted .0) over (p .epochs) (p .last) (p .are-epochs) (p .is-last)) in
       let six-lines = p .descriptor ∷ p .characters ∷ p .bases ∷ p .floats ∷ p .integers ∷ p .integers′ ∷ [] in
-      let from-six = reach-end rules (expect 5 2 (leave over s)) due names names six-lines (p .comments ++ end) six from-comments in
-      subst (λ (x : List (List ℕ)). Ends rules (leave n (expect 4 (slotLines n) s)) names x) (sym (p .lines-are))
-      (reach-end rules (leave n (expect 4 (slotLines n) s)) (leave over (expect 5 2 s)) names names (p .accuracies) (six-lines ++ (p .comments ++ end)) first from-six)
+      let from-six = reach-end rules (expect 5 2 (leave over s)) due identifiers identifiers six-lines (p .comments ++ end) six from-comments in
+      subst (λ (x : List (List ℕ)). Ends rules (leave n (expect 4 (slotLines n) s)) identifiers x) (sym (p .lines-are))
+      (reach-end rules (leave n (expect 4 (slotLines n) s)) (leave over (expect 5 2 s)) identifiers identifiers (p .accuracies) (six-lines ++ (p .comments ++ end)) first from-six)
 
   -- such lines at the front of those that a run to a file has read
   pub record TailRead (t t′ : Tally) (ls : List (List ℕ)) : Type 0 where
@@ -104,19 +104,19 @@ module _ (rules : Rules) (s : State) (known rest : List ℕ) (many : length know
     pub tail : Tail used
     pub ending : Ending rules t t′ ls used more
 
-  end-read : (c over : ℕ) (t t′ : Tally) (ls : List (List ℕ)) → run rules (allow 0 (commentsDue 0 c (inComments over))) names t ls ≡ front.File t′
-      → Ended rules names known rest refl some (s .velocity) (s .interval8) (s .epochs) (s .at8 + s .gap8) t t′ ls
+  end-read : (c over : ℕ) (t t′ : Tally) (ls : List (List ℕ)) → run rules (allow 0 (commentsDue 0 c (inComments over))) identifiers t ls ≡ front.File t′
+      → Ended rules identifiers known rest refl some (s .velocity) (s .interval8) (s .epochs) (s .at8 + s .gap8) t t′ ls
   unfolding commentsDue
   end-read c over t t′ ls e =
-      epochs-read rules names known rest refl some (s .epochs) (allow 0 (commentsDue 0 c (inComments over))) (s .at8 + s .gap8) t t′ ls
+      epochs-read rules identifiers known rest refl some (s .epochs) (allow 0 (commentsDue 0 c (inComments over))) (s .at8 + s .gap8) t t′ ls
       (epochs-due c over) refl refl (sym many) refl e
 
   -- the parts that were read, put together
-  joined : (t t′ : Tally) (ls : List (List ℕ)) (x : Rated rules s names (slotLines (s .satellites)) (s .satellites) t t′ ls)
+  joined : (t t′ : Tally) (ls : List (List ℕ)) (x : Rated rules s identifiers (slotLines (s .satellites)) (s .satellites) t t′ ls)
       (y : Six rules (leave (x .over) s) known rest many (countedOver rules t (x .used)) t′ (x .more))
-      (z : Commented rules (inComments (x .over)) names (rules .«fewest_comments») (rules .«most_comments»)
+      (z : Commented rules (inComments (x .over)) identifiers (rules .«fewest_comments») (rules .«most_comments»)
       (countedOver rules (countedOver rules t (x .used)) (y .descriptor ∷ y .characters ∷ y .bases ∷ y .floats ∷ y .integers ∷ y .integers′ ∷ [])) t′ (y .more))
-      → Ended rules names known rest refl some (s .velocity) (s .interval8) (s .epochs) (s .at8 + s .gap8)
+      → Ended rules identifiers known rest refl some (s .velocity) (s .interval8) (s .epochs) (s .at8 + s .gap8)
       (countedOver rules
       (countedOver rules (countedOver rules t (x .used)) (y .descriptor ∷ y .characters ∷ y .bases ∷ y .floats ∷ y .integers ∷ y .integers′ ∷ []))
       (z .comments)) t′ (z .more)
@@ -161,23 +161,23 @@ module _ (rules : Rules) (s : State) (known rest : List ℕ) (many : length know
         ending = ending-on rules t t′ ls (x .used) (x .more) (six-lines ++ (z .comments ++ end)) (w .more) (x .split) from-six;
       }
 
-  rated : (t t′ : Tally) (ls : List (List ℕ)) → run rules (leave (s .satellites) (expect 4 (slotLines (s .satellites)) s)) names t ls ≡ front.File t′
-      → Rated rules s names (slotLines (s .satellites)) (s .satellites) t t′ ls
+  rated : (t t′ : Tally) (ls : List (List ℕ)) → run rules (leave (s .satellites) (expect 4 (slotLines (s .satellites)) s)) identifiers t ls ≡ front.File t′
+      → Rated rules s identifiers (slotLines (s .satellites)) (s .satellites) t t′ ls
   rated t t′ ls e =
       let n = s .satellites in
-      subst (λ (k : ℕ). Rated rules s names k n t t′ ls) (sym (some-lines n))
-      (accuracies-read rules s names (slotLines n - 1) n t t′ ls (subst (λ (k : ℕ). run rules (leave n (expect 4 k s)) names t ls ≡ front.File t′) (some-lines n) e))
+      subst (λ (k : ℕ). Rated rules s identifiers k n t t′ ls) (sym (some-lines n))
+      (accuracies-read rules s identifiers (slotLines n - 1) n t t′ ls (subst (λ (k : ℕ). run rules (leave n (expect 4 k s)) identifiers t ls ≡ front.File t′) (some-lines n) e))
 
   pub tail-read : (t t′ : Tally) (ls : List (List ℕ)) → rules .«fewest_comments» ≤ rules .«most_comments»
-      → run rules (leave (s .satellites) (expect 4 (slotLines (s .satellites)) s)) names t ls ≡ front.File t′ → TailRead t t′ ls
+      → run rules (leave (s .satellites) (expect 4 (slotLines (s .satellites)) s)) identifiers t ls ≡ front.File t′ → TailRead t t′ ls
   tail-read t t′ ls fit e = from-rated (rated t t′ ls e)
     where
-      from-six : (x : Rated rules s names (slotLines (s .satellites)) (s .satellites) t t′ ls)
+      from-six : (x : Rated rules s identifiers (slotLines (s .satellites)) (s .satellites) t t′ ls)
           → Six rules (leave (x .over) s) known rest many (countedOver rules t (x .used)) t′ (x .more) → TailRead t t′ ls
       from-six x y =
-          let z = comments-read rules (inComments (x .over)) names (y .more) (rules .«fewest_comments») (rules .«most_comments»)
+          let z = comments-read rules (inComments (x .over)) identifiers (y .more) (rules .«fewest_comments») (rules .«most_comments»)
           (countedOver rules (countedOver rules t (x .used)) (y .descriptor ∷ y .characters ∷ y .bases ∷ y .floats ∷ y .integers ∷ y .integers′ ∷ [])) t′ fit (y .goes) in
           joined t t′ ls x y z (end-read (z .spare) (x .over) _ t′ (z .more) (z .goes))
 
-      from-rated : Rated rules s names (slotLines (s .satellites)) (s .satellites) t t′ ls → TailRead t t′ ls
+      from-rated : Rated rules s identifiers (slotLines (s .satellites)) (s .satellites) t t′ ls → TailRead t t′ ls
       from-rated x = from-six x (six-read rules (leave (x .over) s) known rest many (countedOver rules t (x .used)) t′ (x .more) (x .goes))

@@ -12,8 +12,8 @@ use Rattle.lines.proofs.Picking.{select-fewer}
 use Rattle.file.specs.Kinds.{isKind, isRow, ofKind}
 use Rattle.file.specs.Table.{rowLines}
 use Rattle.header.specs.declared.types.Rules.{Rules}
-use Rattle.machine.specs.State.{startState, noNames}
-use Rattle.machine.specs.Step.{stepOf, namesBrought}
+use Rattle.machine.specs.State.{startState, noIdentifiers}
+use Rattle.machine.specs.Step.{stepOf, identifiersBrought}
 use Rattle.machine.specs.declared.types.State.{State}
 use Rattle.machine.specs.declared.types.Verdict.{Verdict}
 use Rattle.machine.specs.declared.types.Verdict.the-variants as verdict
@@ -22,11 +22,11 @@ use Rattle.scan.specs.declared.Front.the-variants as front
 use Rattle.scan.specs.Run.{nothingSeen, oneMore, counted, run, scanOf}
 
 -- a file took up the lines `used` of those that the run was given
-pub record Taken (rules : Rules) (s : State) (names : List ℕ) (t : Tally) (ls : List (List ℕ)) (t′ : Tally) : Type 0 where
+pub record Taken (rules : Rules) (s : State) (identifiers : List ℕ) (t : Tally) (ls : List (List ℕ)) (t′ : Tally) : Type 0 where
   pub used : List (List ℕ)
   pub rest : List (List ℕ)
   pub split : ls ≡ used ++ rest
-  pub alone : (more : List (List ℕ)) → run rules s names t (used ++ more) ≡ front.File t′
+  pub alone : (more : List (List ℕ)) → run rules s identifiers t (used ++ more) ≡ front.File t′
   pub lines : t′ .lines ≡ t .lines + length used
   pub end : t′ .end ≡ t .end + bytesIn used
   pub comments : t′ .comments ≡ t .comments + length (ofKind rules 8 used)
@@ -44,10 +44,10 @@ more-passing test l ls n = go (test l)
 
 module _ (rules : Rules) where
   -- the last line of a file
-  taken-last : (s : State) (names : List ℕ) (t t′ : Tally) (l : List ℕ) (ls : List (List ℕ))
-      → stepOf rules s names l ≡ verdict.Finished → front.File (counted rules t l) ≡ front.File t′ → Taken rules s names t (l ∷ ls) t′
+  taken-last : (s : State) (identifiers : List ℕ) (t t′ : Tally) (l : List ℕ) (ls : List (List ℕ))
+      → stepOf rules s identifiers l ≡ verdict.Finished → front.File (counted rules t l) ≡ front.File t′ → Taken rules s identifiers t (l ∷ ls) t′
   unfolding run counted select bytesIn
-  taken-last s names t t′ l ls v e =
+  taken-last s identifiers t t′ l ls v e =
       let is : counted rules t l ≡ t′ = cc in
       record {
         used = l ∷ [];
@@ -61,11 +61,11 @@ module _ (rules : Rules) where
       }
 
   -- a line that the machine goes on from
-  taken-more : (s s′ : State) (names : List ℕ) (t t′ : Tally) (l : List ℕ) (ls : List (List ℕ))
-      → stepOf rules s names l ≡ verdict.Next s′ → Taken rules s′ (namesBrought rules s names l) (counted rules t l) ls t′
-      → Taken rules s names t (l ∷ ls) t′
+  taken-more : (s s′ : State) (identifiers : List ℕ) (t t′ : Tally) (l : List ℕ) (ls : List (List ℕ))
+      → stepOf rules s identifiers l ≡ verdict.Next s′ → Taken rules s′ (identifiersBrought rules s identifiers l) (counted rules t l) ls t′
+      → Taken rules s identifiers t (l ∷ ls) t′
   unfolding run counted bytesIn
-  taken-more s s′ names t t′ l ls v u =
+  taken-more s s′ identifiers t t′ l ls v u =
       record {
         used = l ∷ u .used;
         rest = u .rest;
@@ -78,21 +78,21 @@ module _ (rules : Rules) where
       }
 
   -- What an accepted front is: the lines used, and the tally that they give.
-  pub taken : (ls : List (List ℕ)) (s : State) (names : List ℕ) (t t′ : Tally) → run rules s names t ls ≡ front.File t′ → Taken rules s names t ls t′
+  pub taken : (ls : List (List ℕ)) (s : State) (identifiers : List ℕ) (t t′ : Tally) → run rules s identifiers t ls ≡ front.File t′ → Taken rules s identifiers t ls t′
   unfolding run
-  taken [] s names t t′ e = let z : _≡_ {A = ℕ} 0 1 = cc in absurd (omega arith)
-  taken (l ∷ ls) s names t t′ e = go (stepOf rules s names l) refl (taken ls)
+  taken [] s identifiers t t′ e = let z : _≡_ {A = ℕ} 0 1 = cc in absurd (omega arith)
+  taken (l ∷ ls) s identifiers t t′ e = go (stepOf rules s identifiers l) refl (taken ls)
     where
-      go : (v : Verdict) → stepOf rules s names l ≡ v
+      go : (v : Verdict) → stepOf rules s identifiers l ≡ v
           → ((s₁ : State) (n₁ : List ℕ) (t₁ t₂ : Tally) → run rules s₁ n₁ t₁ ls ≡ front.File t₂ → Taken rules s₁ n₁ t₁ ls t₂)
-          → Taken rules s names t (l ∷ ls) t′
+          → Taken rules s identifiers t (l ∷ ls) t′
       go (verdict.Fault n c) v more =
           let refused : front.Refused n (counted rules t l .lines) c ≡ front.File t′ = rw v at e in
           let z : _≡_ {A = ℕ} 0 1 = cc in
           absurd (omega arith)
       go (verdict.Next s′) v more =
-          taken-more s s′ names t t′ l ls v (more s′ (namesBrought rules s names l) (counted rules t l) t′ (rw v at e))
-      go verdict.Finished v more = taken-last s names t t′ l ls v (rw v at e)
+          taken-more s s′ identifiers t t′ l ls v (more s′ (identifiersBrought rules s identifiers l) (counted rules t l) t′ (rw v at e))
+      go verdict.Finished v more = taken-last s identifiers t t′ l ls v (rw v at e)
 
 lines-le-bytes : (ls : List (List ℕ)) → length ls ≤ bytesIn ls
 unfolding bytesIn
@@ -108,7 +108,7 @@ pub record AcceptedFront (rules : Rules) (bytes : List ℕ) (t : Tally) : Type 0
   pub within : t .end ≤ length bytes
   pub rest : List (List ℕ)
   pub split : linesOf bytes ≡ frontLines bytes t ++ rest
-  pub alone : (more : List (List ℕ)) → run rules startState noNames nothingSeen (frontLines bytes t ++ more) ≡ front.File t
+  pub alone : (more : List (List ℕ)) → run rules startState noIdentifiers nothingSeen (frontLines bytes t ++ more) ≡ front.File t
   pub joined : take (t .end) bytes ≡ joinLines (frontLines bytes t)
   pub end : t .end ≡ bytesIn (frontLines bytes t)
   pub lines : t .lines ≡ length (frontLines bytes t)
@@ -121,7 +121,7 @@ pub record AcceptedFront (rules : Rules) (bytes : List ℕ) (t : Tally) : Type 0
 -- What an accepted file at the front of some bytes is.
 pub accepted-front : (rules : Rules) (bytes : List ℕ) (t : Tally) → scanOf rules bytes ≡ front.File t → AcceptedFront rules bytes t
 accepted-front rules bytes t e =
-    let u = taken rules (linesOf bytes) startState noNames nothingSeen t e in
+    let u = taken rules (linesOf bytes) startState noIdentifiers nothingSeen t e in
     let p = parted (u .used) bytes (u .rest) (u .split) in
     let n : t .end ≡ length (joinLines (u .used)) = omega (arith, u .end, bytes-in (u .used)) in
     let joined : take (t .end) bytes ≡ joinLines (u .used) = ap (λ (k : ℕ). take k bytes) n ∙ p .front in

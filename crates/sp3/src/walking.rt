@@ -2,10 +2,10 @@
 ghost use mathlib.Core.Path.{_≡_};
 ghost use lib.ListN.{length};
 ghost use Rattle.header.specs.Rules.{d};
-ghost use Rattle.machine.specs.Step.{lineKnown, lineRead, lineNames};
+ghost use Rattle.machine.specs.Step.{lineKnown, lineRead, lineIdentifiers};
 ghost use Rattle.reader.specs.Reading.{fileOf, judged};
 ghost use Rattle.line_walk.specs.Spots.{firstSpot, spotsAfter, identifiersPast};
-ghost use Rattle.row_walk.specs.Begin.{begunAs, namesBegun};
+ghost use Rattle.row_walk.specs.Begin.{begunAs, identifiersBegun};
 ghost use Rattle.row_walk.specs.Rows.{firstWalk, rowStep};
 ghost use Rattle.sp3.specs.Doors.{lineParts, lineDoor, noRow, rowFound, rowDoor};
 use crate::types::LineAnswer;
@@ -51,46 +51,50 @@ fn line_answer(found: LineRead, spot: Spot) -> LineAnswer
     }
 }
 
-// The plain line reader: what the line at a spot does. A `+ ` line leaves its identifiers in `names`; 12 where they are more than fit.
+// The plain line reader: what the line at a spot does. A `+ ` line leaves its identifiers in `identifiers`; 12 where they are more than fit.
 #[no_mangle]
-pub extern "C" fn sp3_read_line(bytes: &[u8], spot: Spot, names: &mut [u64]) -> LineAnswer
-    ensures result { λ r. ⌜ r ≡ lineDoor spot (lineRead d (now (bytes .entry)) (spot .at) (spot .state) (now (names .entry))) ⌝ }
-    ensures lent { λ _. ⌜ now (names .exit) ≡ lineNames d (now (bytes .entry)) (spot .at) (spot .state) (now (names .entry)) ⌝ }
+pub extern "C" fn sp3_read_line(bytes: &[u8], spot: Spot, identifiers: &mut [u64]) -> LineAnswer
+    ensures result { λ r. ⌜ r ≡ lineDoor spot (lineRead d (now (bytes .entry)) (spot .at) (spot .state) (now (identifiers .entry))) ⌝ }
+    ensures lent { λ _. ⌜ now (identifiers .exit) ≡ lineIdentifiers d (now (bytes .entry)) (spot .at) (spot .state) (now (identifiers .entry)) ⌝ }
 {
     let at = spot.at;
     let state = spot.state;
-    let found = machine::read_line(Rules::d(), bytes, at, state, names);
+    let found = machine::read_line(Rules::d(), bytes, at, state, identifiers);
     line_answer(found, spot)
 }
 
 // The same where the identifiers of the header are known.
 #[no_mangle]
-pub extern "C" fn sp3_next_line<'a>(file: &'a [u8], names: &'a [u64], spot: Spot) -> LineAnswer
-    ensures result { λ r. ⌜ r ≡ lineDoor spot (lineKnown d (now (file .entry)) (spot .at) (spot .state) (now (names .entry))) ⌝ }
+pub extern "C" fn sp3_next_line<'a>(
+    file: &'a [u8],
+    identifiers: &'a [u64],
+    spot: Spot,
+) -> LineAnswer
+    ensures result { λ r. ⌜ r ≡ lineDoor spot (lineKnown d (now (file .entry)) (spot .at) (spot .state) (now (identifiers .entry))) ⌝ }
 {
-    let found = row_walk::read_known(file, names, spot);
+    let found = row_walk::read_known(file, identifiers, spot);
     line_answer(found, spot)
 }
 
-// A walk: the spot so many lines further. A `+ ` line leaves its identifiers in `names`.
+// A walk: the spot so many lines further. A `+ ` line leaves its identifiers in `identifiers`.
 #[no_mangle]
 pub extern "C" fn sp3_after_lines(
     file: &[u8],
-    names: &mut [u64],
+    identifiers: &mut [u64],
     spot: Spot,
     lines: usize,
 ) -> Spot
-    ensures result { λ r. ⌜ r ≡ spotsAfter d (now (file .entry)) (now (names .entry)) spot lines ⌝ }
-    ensures lent { λ _. ⌜ now (names .exit) ≡ identifiersPast d (now (file .entry)) (now (names .entry)) spot lines ⌝ }
+    ensures result { λ r. ⌜ r ≡ spotsAfter d (now (file .entry)) (now (identifiers .entry)) spot lines ⌝ }
+    ensures lent { λ _. ⌜ now (identifiers .exit) ≡ identifiersPast d (now (file .entry)) (now (identifiers .entry)) spot lines ⌝ }
 {
-    line_walk::after_lines(file, spot, lines, names)
+    line_walk::after_lines(file, spot, lines, identifiers)
 }
 
 // Before a walk over rows: the file judged, the identifiers of its header left in `identifiers`.
 #[no_mangle]
 pub extern "C" fn sp3_begin(file: &[u8], identifiers: &mut [u64]) -> Reading
     ensures result { λ r. ⌜ r ≡ begunAs (judged d (now (file .entry)) (fileOf d (now (file .entry)))) (length (now (identifiers .entry))) ⌝ }
-    ensures lent { λ _. ⌜ now (identifiers .exit) ≡ namesBegun (judged d (now (file .entry)) (fileOf d (now (file .entry)))) (now (file .entry)) (now (identifiers .entry)) ⌝ }
+    ensures lent { λ _. ⌜ now (identifiers .exit) ≡ identifiersBegun (judged d (now (file .entry)) (fileOf d (now (file .entry)))) (now (file .entry)) (now (identifiers .entry)) ⌝ }
 {
     row_walk::begin(file, identifiers)
 }
@@ -165,8 +169,12 @@ fn row_answer(found: RowStep, from: RowWalk) -> RowStepAnswer
 
 // The next row of a file in order.
 #[no_mangle]
-pub extern "C" fn sp3_next_row<'a>(file: &'a [u8], names: &'a [u64], from: RowWalk) -> RowStepAnswer
-    ensures result { λ r. ⌜ r ≡ rowDoor from (rowStep d (now (file .entry)) (now (names .entry)) from) ⌝ }
+pub extern "C" fn sp3_next_row<'a>(
+    file: &'a [u8],
+    identifiers: &'a [u64],
+    from: RowWalk,
+) -> RowStepAnswer
+    ensures result { λ r. ⌜ r ≡ rowDoor from (rowStep d (now (file .entry)) (now (identifiers .entry)) from) ⌝ }
 {
-    row_answer(row_walk::next_row(file, names, from), from)
+    row_answer(row_walk::next_row(file, identifiers, from), from)
 }

@@ -14,7 +14,7 @@ use Rattle.lines.specs.Lines.{linesOf}
 use Rattle.lines.specs.Lent.{over}
 use Rattle.file.specs.Table.{headerIn}
 use Rattle.reader.specs.Reading.{refusedWith, linesTo, acceptedAs, fileOf, judged, identifiersOf}
-use Rattle.row_walk.specs.Begin.{begunAs, namesBegun}
+use Rattle.row_walk.specs.Begin.{begunAs, identifiersBegun}
 use Rattle.scan_laws.proofs.Files.{whole-taken}
 use Rattle.questions.proofs.Asking.{identifiers-counted}
 use Rattle.theorems.proofs.Reading.{header}
@@ -29,16 +29,16 @@ abbrev pub begun : List ℕ → ℕ → Reading
 begun bytes room = begunAs (judged d bytes (fileOf d bytes)) room
 
 abbrev pub begunList : List ℕ → List ℕ → List ℕ
-begunList bytes old = namesBegun (judged d bytes (fileOf d bytes)) bytes old
+begunList bytes old = identifiersBegun (judged d bytes (fileOf d bytes)) bytes old
 
 module _ (bytes : List ℕ) (t : Tally) (accepted : fileOf d bytes ≡ front.File t) where
   lines-are : linesTo (t .end) bytes ≡ linesOf bytes
   lines-are = ap linesOf (whole-taken bytes t accepted)
 
   -- the identifiers of the header, as many as it has satellites
-  names-many : length (identifiersOf d (linesOf bytes)) ≡ header bytes .satellites
+  identifiers-many : length (identifiersOf d (linesOf bytes)) ≡ header bytes .satellites
   unfolding headerIn
-  names-many = rw lines-are at (identifiers-counted bytes t accepted)
+  identifiers-many = rw lines-are at (identifiers-counted bytes t accepted)
 
   module _ (old : List ℕ) where
     -- With room for the identifiers an accepted file is accepted, with its length and its header,
@@ -46,32 +46,32 @@ module _ (bytes : List ℕ) (t : Tally) (accepted : fileOf d bytes ≡ front.Fil
     unfolding begunAs judged
     begin-accepts room = rw (accepted, lines-are, le-leb (header bytes .satellites) (length old) room)
 
-    names-laid : header bytes .satellites ≤ length old → begunList bytes old ≡ over (identifiersOf d (linesOf bytes)) old
-    unfolding namesBegun judged headerIn
-    names-laid room = rw (accepted, lines-are, le-leb (header bytes .satellites) (length old) room)
+    identifiers-laid : header bytes .satellites ≤ length old → begunList bytes old ≡ over (identifiersOf d (linesOf bytes)) old
+    unfolding identifiersBegun judged headerIn
+    identifiers-laid room = rw (accepted, lines-are, le-leb (header bytes .satellites) (length old) room)
 
     -- the list begins with its identifiers,
     pub begin-identifies : header bytes .satellites ≤ length old → Identified bytes (begunList bytes old)
     begin-identifies room =
-        ap (take (header bytes .satellites)) (names-laid room)
-        ∙ take-at (identifiersOf d (linesOf bytes)) (drop (length (identifiersOf d (linesOf bytes))) old) (header bytes .satellites) names-many
+        ap (take (header bytes .satellites)) (identifiers-laid room)
+        ∙ take-at (identifiersOf d (linesOf bytes)) (drop (length (identifiersOf d (linesOf bytes))) old) (header bytes .satellites) identifiers-many
 
     -- and the places past them are as they were.
     pub begin-keeps-rest : header bytes .satellites ≤ length old → drop (header bytes .satellites) (begunList bytes old) ≡ drop (header bytes .satellites) old
     begin-keeps-rest room =
-        ap (drop (header bytes .satellites)) (names-laid room)
-        ∙ drop-at (identifiersOf d (linesOf bytes)) (drop (length (identifiersOf d (linesOf bytes))) old) (header bytes .satellites) names-many
-        ∙ ap (λ (n : ℕ). drop n old) names-many
+        ap (drop (header bytes .satellites)) (identifiers-laid room)
+        ∙ drop-at (identifiersOf d (linesOf bytes)) (drop (length (identifiersOf d (linesOf bytes))) old) (header bytes .satellites) identifiers-many
+        ∙ ap (λ (n : ℕ). drop n old) identifiers-many
 
     -- With less room it is 12, line 0, and the list is as it was.
     pub begin-short : length old < header bytes .satellites → (begun bytes (length old) ≡ refusedWith 12 0) × (begunList bytes old ≡ old)
-    unfolding begunAs namesBegun judged
+    unfolding begunAs identifiersBegun judged
     begin-short short = let no-room = lt-leb (header bytes .satellites) (length old) short in (rw (accepted, lines-are, no-room), rw (accepted, lines-are, no-room))
 
 -- A file that is refused: its own number and line, and the list is as it was.
 pub begin-refused : (bytes : List ℕ) (number line column : ℕ) → fileOf d bytes ≡ front.Refused number line column → (old : List ℕ)
     → (begun bytes (length old) ≡ refusedWith number line) × (begunList bytes old ≡ old)
-unfolding begunAs namesBegun judged
+unfolding begunAs identifiersBegun judged
 begin-refused bytes number line column e old =
     let some = found-numbered true bytes number line column e in
     let apart : eqb number 0 ≡ false = ne-eqb number 0 (λ zero. omega arith) in

@@ -13,7 +13,7 @@ use Rattle.file.specs.Table.{rowsIn}
 use Rattle.scan.specs.Run.{IsFile}
 use Rattle.machine.specs.Checks.{repeats, typeAgrees}
 use Rattle.canon.specs.Table.{Table, tableOf, rowsOf}
-use Rattle.canon.specs.Valid.{isInstant, textsFit, timesValid, countsValid, wordsValid, headerValid, listsLong, namesValid, exponentsValid, commentValid, commentsValid, rowValid, cellValid, rowsValid, countsHold, valid}
+use Rattle.canon.specs.Valid.{isInstant, textsFit, timesValid, countsValid, wordsValid, headerValid, listsLong, identifiersValid, exponentsValid, commentValid, commentsValid, rowValid, cellValid, rowsValid, countsHold, valid}
 use Rattle.canon_laws.specs.Held.{Holds}
 use Rattle.theorems.proofs.Rewritten.{valid-exactly}
 use Rattle.header.specs.declared.types.Header.{Header}
@@ -45,11 +45,11 @@ oneRow x =
     (x ∷ pos 0 ∷ pos 0 ∷ pos 999_999_999_999 ∷ pos 1000 ∷ pos 1000 ∷ pos 1000 ∷ pos 1000 ∷ pos 0 ∷ pos 0 ∷ pos 0 ∷ pos 0 ∷ [])
 
 valid-one : valid d (oneRow (pos 1)) ≡ true
-unfolding isInstant textsFit timesValid countsValid wordsValid headerValid listsLong namesValid exponentsValid commentValid commentsValid rowValid cellValid rowsValid countsHold valid oneRow header repeats typeAgrees
+unfolding isInstant textsFit timesValid countsValid wordsValid headerValid listsLong identifiersValid exponentsValid commentValid commentsValid rowValid cellValid rowsValid countsHold valid oneRow header repeats typeAgrees
 valid-one = refl
 
 valid-two : valid d (oneRow (pos 2)) ≡ true
-unfolding isInstant textsFit timesValid countsValid wordsValid headerValid listsLong namesValid exponentsValid commentValid commentsValid rowValid cellValid rowsValid countsHold valid oneRow header repeats typeAgrees
+unfolding isInstant textsFit timesValid countsValid wordsValid headerValid listsLong identifiersValid exponentsValid commentValid commentsValid rowValid cellValid rowsValid countsHold valid oneRow header repeats typeAgrees
 valid-two = refl
 
 -- A FILE IS ACCEPTED that has this table,

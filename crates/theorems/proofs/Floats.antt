@@ -69,12 +69,12 @@ nines-are true (suc m) = (λ e. absurd (false≢true (sym (e .0))), λ e. let z 
 nines-are false m = (λ e. ap pos (e .1), λ e. (refl, cc))
 
 -- x, y, z and the clock of a P line
-module _ (name : ℕ) (line : List ℕ) (is : isRowLine d false name line ≡ true) where
+module _ (code : ℕ) (line : List ℕ) (is : isRowLine d false code line ≡ true) where
   abbrev row : Row
   row = rowOf false line
 
   bounded : Bounded row
-  bounded = row-bounded d false name line is
+  bounded = row-bounded d false code line is
 
   -- Where the place is there, x, y and z are exactly the whole millimetres of the line.
   pub place-exact : floatRow row .«place_absent» ≡ false
@@ -176,7 +176,7 @@ module _ (bytes : List ℕ) (accepted : IsFile d bytes) (k j : ℕ) (there : The
   held = rowOf false (nth (rowAt bytes k j) (rowsOf false bytes))
 
   named : isRowLine d false (identifier bytes j) (nth (rowAt bytes k j) (rowsOf false bytes)) ≡ true
-  named = the-row bytes accepted k j there .names-it
+  named = the-row bytes accepted k j there .identifiers-it
 
   -- Where its place is not marked absent, its three coordinates are exactly those of its P line.
   pub asked-place : asked bytes k j .row .«place_absent» ≡ false

@@ -27,8 +27,8 @@ use Rattle.lines.specs.Lent.{over}
 use Rattle.lines.specs.Lines.{linesOf, select}
 use Rattle.file.specs.Plain.{Accepted}
 use Rattle.file.specs.Table.{rowLines, rowsIn}
-use Rattle.machine.specs.State.{noNames}
-use Rattle.machine.specs.Step.{lineKnown, lineRead, lineNames, Overfull}
+use Rattle.machine.specs.State.{noIdentifiers}
+use Rattle.machine.specs.Step.{lineKnown, lineRead, lineIdentifiers, Overfull}
 use Rattle.machine.specs.declared.types.State.{State}
 use Rattle.machine.specs.declared.types.LineRead.the-variants as found
 use Rattle.scan.specs.Run.{IsFile, Going, atFirst}
@@ -230,17 +230,17 @@ stepping bytes t accepted k h = judging.stepping-file bytes t accepted k h
 
 -- THE LINE READER'S ROOM: lent a list for the identifiers, it answers 12 exactly at a `+ ` line without fault that brings more of them than fit behind those
 -- known; the list is then as it was, and at any other line its room makes no difference. The judge's own list is never short.
-pub line-twelve : (bytes : List ℕ) (at : ℕ) (s : State) (names : List ℕ) → (lineRead d bytes at s names ≡ found.Fault 12 0) ↔ Overfull d bytes at s names
-line-twelve bytes at s names = lent-list.twelve-exactly d bytes at s names
+pub line-twelve : (bytes : List ℕ) (at : ℕ) (s : State) (identifiers : List ℕ) → (lineRead d bytes at s identifiers ≡ found.Fault 12 0) ↔ Overfull d bytes at s identifiers
+line-twelve bytes at s identifiers = lent-list.twelve-exactly d bytes at s identifiers
 
-pub line-twelve-keeps : (bytes : List ℕ) (at : ℕ) (s : State) (names : List ℕ) → Overfull d bytes at s names → lineNames d bytes at s names ≡ names
-line-twelve-keeps bytes at s names o = lent-list.twelve-keeps d bytes at s names o
+pub line-twelve-keeps : (bytes : List ℕ) (at : ℕ) (s : State) (identifiers : List ℕ) → Overfull d bytes at s identifiers → lineIdentifiers d bytes at s identifiers ≡ identifiers
+line-twelve-keeps bytes at s identifiers o = lent-list.twelve-keeps d bytes at s identifiers o
 
-pub line-room : (bytes : List ℕ) (at : ℕ) (s : State) (names : List ℕ) → (Overfull d bytes at s names → ⊥) → lineRead d bytes at s names ≡ lineKnown d bytes at s names
-line-room bytes at s names none = lent-list.room-enough d bytes at s names none
+pub line-room : (bytes : List ℕ) (at : ℕ) (s : State) (identifiers : List ℕ) → (Overfull d bytes at s identifiers → ⊥) → lineRead d bytes at s identifiers ≡ lineKnown d bytes at s identifiers
+line-room bytes at s identifiers none = lent-list.room-enough d bytes at s identifiers none
 
 pub judge-room : (bytes : List ℕ) (k : ℕ) → AllGoOn bytes k → k ≤ length (linesOf bytes)
-    → let g = after bytes k in Overfull d bytes (g .at) (g .state) (g .names) → ⊥
+    → let g = after bytes k in Overfull d bytes (g .at) (g .state) (g .identifiers) → ⊥
 judge-room bytes k goes h o = lent-list.judge-room bytes k goes h o
 
 -- THE WALKER: after k steps from any place, with any list lent, the place, the state and the identifiers are those of the first k lines from there, for
@@ -257,13 +257,13 @@ pub walker-file : (bytes : List ℕ) (t : Tally) → frontOf d bytes ≡ front.F
 walker-file bytes t accepted k h = walks.file-steps bytes t accepted k h
 
 -- With a list that is too short it stays at the `+ ` line that brings more identifiers than fit.
-pub walker-short : (bytes : List ℕ) (g : Going) → Overfull d bytes (g .at) (g .state) (g .names) → (k : ℕ) → walkedFrom d bytes g k ≡ g
+pub walker-short : (bytes : List ℕ) (g : Going) → Overfull d bytes (g .at) (g .state) (g .identifiers) → (k : ℕ) → walkedFrom d bytes g k ≡ g
 walker-short bytes g o k = walks.short-stays d bytes g o k
 
 -- By the promises of `new` and `moved`: k moves after a new walker at the first line it is where the judge's run is,
-pub walker-walks : (file : RefT (List ℕ)) (from : Walker) → Begins file firstSpot from → (k : ℕ) (w : Walker) (names : List ℕ) → After from noNames k w names
-    → AllGoOn (now file) k → k ≤ length (linesOf (now file)) → goingAt (w .place) names ≡ after (now file) k
-walker-walks file from begins k w names steps goes h = walks.walker-walks file from begins k w names steps goes h
+pub walker-walks : (file : RefT (List ℕ)) (from : Walker) → Begins file firstSpot from → (k : ℕ) (w : Walker) (identifiers : List ℕ) → After from noIdentifiers k w identifiers
+    → AllGoOn (now file) k → k ≤ length (linesOf (now file)) → goingAt (w .place) identifiers ≡ after (now file) k
+walker-walks file from begins k w identifiers steps goes h = walks.walker-walks file from begins k w identifiers steps goes h
 
 -- and the clauses of their contracts say just that of every outcome: that a walker begins so, and that it moves so.
 module _ {M : Type 1} (𝓤 : URA M) (H : Heap 𝓤) (A : Atoms 𝓤) (mem : Memory → SProp 𝓤) (run : Routine → Fun 𝓤) where
@@ -277,18 +277,18 @@ module _ {M : Type 1} (𝓤 : URA M) (H : Heap 𝓤) (A : Atoms 𝓤) (mem : Mem
 
 -- THE ADJUSTMENT'S LOOP: step k * n + j of a walk over the rows gives epoch k, satellite j and the row that the row question gives, as absent exactly
 -- when it is marked so,
-module _ (bytes : List ℕ) (t : Tally) (accepted : fileOf d bytes ≡ front.File t) (names : List ℕ) (identified : Identified bytes names) where
+module _ (bytes : List ℕ) (t : Tally) (accepted : fileOf d bytes ≡ front.File t) (identifiers : List ℕ) (identified : Identified bytes identifiers) where
   pub walk-absent : (k j : ℕ) → There bytes k j → asked bytes k j .row .«place_absent» ≡ true
-      → (next : RowWalk) × (walkStep bytes t accepted names identified (rowAt bytes k j) ≡ step.Absent k j (asked bytes k j .row) next)
-  walk-absent k j there absent = walked.walk-absent bytes t accepted names identified k j there absent
+      → (next : RowWalk) × (walkStep bytes t accepted identifiers identified (rowAt bytes k j) ≡ step.Absent k j (asked bytes k j .row) next)
+  walk-absent k j there absent = walked.walk-absent bytes t accepted identifiers identified k j there absent
 
   pub walk-at : (k j : ℕ) → There bytes k j → asked bytes k j .row .«place_absent» ≡ false
-      → (next : RowWalk) × (walkStep bytes t accepted names identified (rowAt bytes k j) ≡ step.At k j (asked bytes k j .row) next)
-  walk-at k j there present = walked.walk-at bytes t accepted names identified k j there present
+      → (next : RowWalk) × (walkStep bytes t accepted identifiers identified (rowAt bytes k j) ≡ step.At k j (asked bytes k j .row) next)
+  walk-at k j there present = walked.walk-at bytes t accepted identifiers identified k j there present
 
   -- and after all of them the end.
-  pub walk-ends : walkStep bytes t accepted names identified (header bytes .satellites * header bytes .epochs) ≡ step.End
-  walk-ends = walked.walk-ends bytes t accepted names identified
+  pub walk-ends : walkStep bytes t accepted identifiers identified (header bytes .satellites * header bytes .epochs) ≡ step.End
+  walk-ends = walked.walk-ends bytes t accepted identifiers identified
 
 -- DEMAND 2, WRITING. Each valid table has one canonical form; writing makes it, reading it returns the table, writing what was read from canonical
 -- bytes returns those bytes.

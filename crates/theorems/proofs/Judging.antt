@@ -48,18 +48,18 @@ AllGoOn bytes k = GoOn d atFirst (linesOf bytes) k
 
 -- a number of the table "Numbers of the answers" that line k, counted from 0, earns where it stands
 abbrev pub Earned : List ℕ → ℕ → ℕ → Type 0
-Earned bytes k m = Earns d (after bytes k .state) (after bytes k .names) (nth k (linesOf bytes)) m
+Earned bytes k m = Earns d (after bytes k .state) (after bytes k .identifiers) (nth k (linesOf bytes)) m
 
 -- what the machine says of that line
 abbrev said : List ℕ → ℕ → Verdict
-said bytes k = stepOf d (after bytes k .state) (after bytes k .names) (nth k (linesOf bytes))
+said bytes k = stepOf d (after bytes k .state) (after bytes k .identifiers) (nth k (linesOf bytes))
 
 -- it is refused with a number that it earns, the lowest; or it earns none
 said-lowest : (bytes : List ℕ) (k m c : ℕ) → said bytes k ≡ verdict.Fault m c → Earned bytes k m × ((m′ : ℕ) → Earned bytes k m′ → m ≤ m′)
-said-lowest bytes k m c e = lowest d (after bytes k .state) (after bytes k .names) (nth k (linesOf bytes)) m c e
+said-lowest bytes k m c e = lowest d (after bytes k .state) (after bytes k .identifiers) (nth k (linesOf bytes)) m c e
 
 said-none : (bytes : List ℕ) (k : ℕ) → ((m c : ℕ) → said bytes k ≡ verdict.Fault m c → ⊥) → (m : ℕ) → Earned bytes k m → ⊥
-said-none bytes k f = none d (after bytes k .state) (after bytes k .names) (nth k (linesOf bytes)) .1 f
+said-none bytes k f = none d (after bytes k .state) (after bytes k .identifiers) (nth k (linesOf bytes)) .1 f
 
 -- the line is the first faulty one, and the number the lowest that it earns; or the lines run out, which is 1
 pub record FirstFault (bytes : List ℕ) (number line : ℕ) : Type 0 where
@@ -217,5 +217,5 @@ stepping-ends bytes t e = accepted-steps d bytes t e
 
 -- There the line reader finds the end of the file.
 pub stepping-reads-end : (bytes : List ℕ) (t : Tally) → frontOf d bytes ≡ front.File t
-    → let g = after bytes (t .lines - 1) in lineRead d bytes (g .at) (g .state) (g .names) ≡ found.Finished (t .end)
+    → let g = after bytes (t .lines - 1) in lineRead d bytes (g .at) (g .state) (g .identifiers) ≡ found.Finished (t .end)
 stepping-reads-end bytes t e = reads-end d bytes t d-sound (t .lines - 1) (accepted-steps d bytes t e)

@@ -22,16 +22,16 @@ use Rattle.scan_laws.proofs.KnownSteps.{known-plain}
 
 -- the first entries are the identifiers of the file at the front of some bytes
 abbrev pub Knows : Rules → List ℕ → Tally → List ℕ → Type 0
-Knows rules bytes t names =
-    take (countOf rules (frontLines bytes t)) names ≡ slotsIn rules false (countOf rules (frontLines bytes t)) (frontLines bytes t)
+Knows rules bytes t identifiers =
+    take (countOf rules (frontLines bytes t)) identifiers ≡ slotsIn rules false (countOf rules (frontLines bytes t)) (frontLines bytes t)
 
 -- With them, each of its lines does the same; and where a P line stands, the number of satellites is that of the header.
-pub known-steps : (rules : Rules) → Sound rules → (bytes : List ℕ) (t : Tally) → scanOf rules bytes ≡ front.File t → (names : List ℕ) → Knows rules bytes t names
+pub known-steps : (rules : Rules) → Sound rules → (bytes : List ℕ) (t : Tally) → scanOf rules bytes ≡ front.File t → (identifiers : List ℕ) → Knows rules bytes t identifiers
     → (k : ℕ) → k < t .lines
-    → (stepOf rules (behind rules atFirst (linesOf bytes) k .state) names (nth k (linesOf bytes))
-    ≡ stepOf rules (behind rules atFirst (linesOf bytes) k .state) (behind rules atFirst (linesOf bytes) k .names) (nth k (linesOf bytes)))
+    → (stepOf rules (behind rules atFirst (linesOf bytes) k .state) identifiers (nth k (linesOf bytes))
+    ≡ stepOf rules (behind rules atFirst (linesOf bytes) k .state) (behind rules atFirst (linesOf bytes) k .identifiers) (nth k (linesOf bytes)))
     × (isKind rules 10 (nth k (linesOf bytes)) ≡ true → behind rules atFirst (linesOf bytes) k .state .satellites ≡ countOf rules (frontLines bytes t))
-known-steps rules sound bytes t e names knows k h =
+known-steps rules sound bytes t e identifiers knows k h =
     let p = plain-front rules sound bytes t e in
-    let both = known-plain rules sound bytes t e p names (ap (λ (n : ℕ). take n names) (sym (count-is p)) ∙ knows ∙ identifiers-are p) k h in
+    let both = known-plain rules sound bytes t e p identifiers (ap (λ (n : ℕ). take n identifiers) (sym (count-is p)) ∙ knows ∙ identifiers-are p) k h in
     (both .0, λ row. both .1 row ∙ sym (count-is p))

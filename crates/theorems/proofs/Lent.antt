@@ -93,8 +93,8 @@ module _ (bytes : List ℕ) (accepted : IsFile d bytes) (identifiers exponents c
       where
         go : (t : Bool) → (t ≡ true → header bytes .velocity ≡ true)
             → isRowLine d t (identifier bytes j) (nth (rowAt bytes k j) (rowsOf t bytes)) ≡ true
-        go true m = the-motion bytes accepted k j there (m refl) .names-it
-        go false m = the-row bytes accepted k j there .names-it
+        go true m = the-motion bytes accepted k j there (m refl) .identifiers-it
+        go false m = the-row bytes accepted k j there .identifiers-it
 
     in-table : take 12 (drop (12 * tableRow v bytes k j) (rowsIn d (linesOf bytes))) ≡ exactNumbers (held v bytes k j)
     in-table = go v mode

@@ -61,7 +61,7 @@ pub record RowOf (velocity : Bool) (bytes : List ℕ) (k j : ℕ) : Type 0 where
   pub no-other-epoch : ofKind d 9 rows ≡ []
   pub at-instant : isEpochLine d (header bytes .start8 + k * header bytes .interval8) epoch ≡ true
   pub its-row : nth (rowAt bytes k j) (rowsOf velocity bytes) ≡ nth j (ofKind d (rowNumber velocity) (epoch ∷ rows))
-  pub names-it : isRowLine d velocity (identifier bytes j) (nth (rowAt bytes k j) (rowsOf velocity bytes)) ≡ true
+  pub identifiers-it : isRowLine d velocity (identifier bytes j) (nth (rowAt bytes k j) (rowsOf velocity bytes)) ≡ true
   pub no-other :
       (i : ℕ)
       → i < header bytes .satellites
@@ -118,7 +118,7 @@ module _ (bytes : List ℕ) (accepted : IsFile d bytes) where
       no-other-epoch = e .no-other-epoch;
       at-instant = rw (says-start p, says-interval p) (e .is-epoch);
       its-row = rw (says-satellites p) (order .numbered j hj);
-      names-it = rw (says-satellites p, identifiers-are p, order .numbered j hj) (order .each j hj);
+      identifiers-it = rw (says-satellites p, identifiers-are p, order .numbered j hj) (order .each j hj);
       no-other = λ i hi. rw (identifiers-are p) (one-of-each p v k (e .epoch ∷ e .rows) order i j (omega (arith, hi, says-satellites p)) hj);
     }
 

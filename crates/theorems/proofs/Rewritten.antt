@@ -131,7 +131,7 @@ module _ (bytes : List ℕ) (accepted : IsFile d bytes) (identifiers exponents c
       record {
         header-is = sym told;
         identifiers-are =
-            front-of (h .satellites) _ identifiers _ (identifiers-filled bytes accepted identifiers exponents comments rows read) (own .identifiers-are) (long .names-many)
+            front-of (h .satellites) _ identifiers _ (identifiers-filled bytes accepted identifiers exponents comments rows read) (own .identifiers-are) (long .identifiers-many)
             ∙ ap (λ (x : Header). take (x .satellites) (lentTable .identifiers)) (sym told);
         exponents-are =
             front-of (h .satellites) _ exponents _ (exponents-filled bytes accepted identifiers exponents comments rows read) (own .exponents-are) (long .exponents-many)

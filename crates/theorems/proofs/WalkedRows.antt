@@ -70,12 +70,12 @@ last-kind k s line e = go (ends-or-on d k s line)
         let z : _≡_ {A = ℕ} 0 1 = cc in
         absurd (omega arith)
 
-pub last-no-row : (s : State) (names l : List ℕ) → stepOf d s names l ≡ verdict.Finished → isKind d 10 l ≡ false
+pub last-no-row : (s : State) (identifiers l : List ℕ) → stepOf d s identifiers l ≡ verdict.Finished → isKind d 10 l ≡ false
 unfolding stepOf printedLine judgedLine onKey
-last-no-row s names l e =
+last-no-row s identifiers l e =
     let k = kindOf d (padded l) in
     last-kind k s (padded l)
-    (past-test (eqb (standingFault k d s names (padded l)) 0) _ _ _
+    (past-test (eqb (standingFault k d s identifiers (padded l)) 0) _ _ _
     (past-test (leb (length l) (longest d k)) _ _ _ (past-test (every isPrintable l) _ _ _ e)))
 
 -- the rows that follow, one after another: a step at a row leads to the next
@@ -93,11 +93,11 @@ row-leads epoch satellite row next more = go (row .«place_absent»)
     go true = refl
     go false = refl
 
-module _ (bytes names : List ℕ) where
+module _ (bytes identifiers : List ℕ) where
   -- the answer of step i of a walk, counted from 0
   unfoldable pub stepsFrom : RowWalk → ℕ → RowStep
-  stepsFrom w zero = rowStep d bytes names w
-  stepsFrom w (suc i) = onRow (rowStep d bytes names w) (λ next. stepsFrom next i)
+  stepsFrom w zero = rowStep d bytes identifiers w
+  stepsFrom w (suc i) = onRow (rowStep d bytes identifiers w) (λ next. stepsFrom next i)
 
   module _ (n : ℕ) where
     abbrev behind : Spot → List ℕ → State → Spot
@@ -107,13 +107,13 @@ module _ (bytes names : List ℕ) where
     unfoldable pub Ahead : Spot → List (List ℕ) → Type 0
     Ahead p [] = ⊥
     Ahead p (l ∷ ls) =
-        ((stepOf d (p .state) names l ≡ verdict.Finished) × (ls ≡ []))
-        ⊎ ((s : State) × (stepOf d (p .state) names l ≡ verdict.Next s) × (isKind d 10 l ≡ true → p .state .satellites ≡ n) × Ahead (behind p l s) ls)
+        ((stepOf d (p .state) identifiers l ≡ verdict.Finished) × (ls ≡ []))
+        ⊎ ((s : State) × (stepOf d (p .state) identifiers l ≡ verdict.Next s) × (isKind d 10 l ≡ true → p .state .satellites ≡ n) × Ahead (behind p l s) ls)
 
     -- what a walk to the next row finds
     record Row (q : Spot) (l : List ℕ) (more rows : List (List ℕ)) : Type 0 where
       state : State
-      goes : stepOf d (q .state) names l ≡ verdict.Next state
+      goes : stepOf d (q .state) identifiers l ≡ verdict.Next state
       many : q .state .satellites ≡ n
       rows-are : rows ≡ l ∷ ofKind d 10 more
       ahead : Ahead (behind q l state) more
@@ -122,9 +122,9 @@ module _ (bytes names : List ℕ) where
       q : Spot
       l : List ℕ
       more : List (List ℕ)
-      is : toRow d names p ls ≡ q
+      is : toRow d identifiers p ls ≡ q
       here : linesOf (drop (q .at) bytes) ≡ l ∷ more
-      what : Row q l more (ofKind d 10 ls) ⊎ ((stepOf d (q .state) names l ≡ verdict.Finished) × (ofKind d 10 ls ≡ []))
+      what : Row q l more (ofKind d 10 ls) ⊎ ((stepOf d (q .state) identifiers l ≡ verdict.Finished) × (ofKind d 10 ls ≡ []))
 
     found : (ls : List (List ℕ)) (p : Spot) → Ahead p ls → linesOf (drop (p .at) bytes) ≡ ls → Found p ls
     unfolding Ahead toRow select
@@ -132,11 +132,11 @@ module _ (bytes names : List ℕ) where
     found (l ∷ ls) p ahead here = go (isKind d 10 l) refl ahead (found ls)
       where
         go : (b : Bool) → isKind d 10 l ≡ b
-            → ((stepOf d (p .state) names l ≡ verdict.Finished) × (ls ≡ []))
-            ⊎ ((s : State) × (stepOf d (p .state) names l ≡ verdict.Next s) × (isKind d 10 l ≡ true → p .state .satellites ≡ n) × Ahead (behind p l s) ls)
+            → ((stepOf d (p .state) identifiers l ≡ verdict.Finished) × (ls ≡ []))
+            ⊎ ((s : State) × (stepOf d (p .state) identifiers l ≡ verdict.Next s) × (isKind d 10 l ≡ true → p .state .satellites ≡ n) × Ahead (behind p l s) ls)
             → ((p′ : Spot) → Ahead p′ ls → linesOf (drop (p′ .at) bytes) ≡ ls → Found p′ ls)
             → Found p (l ∷ ls)
-        go true is (inl (last, none)) later = absurd (false≢true (sym (last-no-row (p .state) names l last) ∙ is))
+        go true is (inl (last, none)) later = absurd (false≢true (sym (last-no-row (p .state) identifiers l last) ∙ is))
         go true is (inr (s, goes, many, more)) later = record {
           q = p;
           l = l;
@@ -168,7 +168,7 @@ module _ (bytes names : List ℕ) where
       others : List (List ℕ)
       next : Spot
       rows-are : rows ≡ l ∷ ofKind d 10 others
-      gives : rowStep d bytes names w ≡ shown (epochOf passed-so n) (satelliteOf passed-so n) (floatRow (rowOf false l)) (record { spot = next; passed = passed-so + 1 })
+      gives : rowStep d bytes identifiers w ≡ shown (epochOf passed-so n) (satelliteOf passed-so n) (floatRow (rowOf false l)) (record { spot = next; passed = passed-so + 1 })
       ahead : Ahead next others
       here : linesOf (drop (next .at) bytes) ≡ others
 
@@ -176,32 +176,32 @@ module _ (bytes names : List ℕ) where
       abbrev at-row : RowWalk
       at-row = record { spot = p; passed = r }
 
-      to-there : (q : Spot) → toRow d names p ls ≡ q → rowStep d bytes names at-row ≡ stepFrom d bytes names r q
-      to-there q is = ap (stepFrom d bytes names r) (ap (toRow d names p) here ∙ is)
+      to-there : (q : Spot) → toRow d identifiers p ls ≡ q → rowStep d bytes identifiers at-row ≡ stepFrom d bytes identifiers r q
+      to-there q is = ap (stepFrom d bytes identifiers r) (ap (toRow d identifiers p) here ∙ is)
 
-      row-step : (q : Spot) (l : List ℕ) (more : List (List ℕ)) (s : State) → linesOf (drop (q .at) bytes) ≡ l ∷ more → stepOf d (q .state) names l ≡ verdict.Next s
+      row-step : (q : Spot) (l : List ℕ) (more : List (List ℕ)) (s : State) → linesOf (drop (q .at) bytes) ≡ l ∷ more → stepOf d (q .state) identifiers l ≡ verdict.Next s
           → q .state .satellites ≡ n → r + 1 < 2 ^ 64
-          → stepFrom d bytes names r q ≡ shown (epochOf r n) (satelliteOf r n) (floatRow (rowOf false l)) (record { spot = behind q l s; passed = r + 1 })
+          → stepFrom d bytes identifiers r q ≡ shown (epochOf r n) (satelliteOf r n) (floatRow (rowOf false l)) (record { spot = behind q l s; passed = r + 1 })
       unfolding stepFrom stepAt readFirst
       row-step q l more s e goes many small =
           let fits : (r + 1) % 2 ^ 64 ≡ r + 1 = mod-eq-of-lt small in
           let next : RowWalk = record { spot = behind q l s; passed = r + 1 } in
           rw (e, goes, many, fits) (ap (λ (x : List ℕ). shown (epochOf r n) (satelliteOf r n) (floatRow (rowOf false x)) next) (line-here q l more e))
 
-      end-step : (q : Spot) (l : List ℕ) (more : List (List ℕ)) → linesOf (drop (q .at) bytes) ≡ l ∷ more → stepOf d (q .state) names l ≡ verdict.Finished
-          → stepFrom d bytes names r q ≡ step.End
+      end-step : (q : Spot) (l : List ℕ) (more : List (List ℕ)) → linesOf (drop (q .at) bytes) ≡ l ∷ more → stepOf d (q .state) identifiers l ≡ verdict.Finished
+          → stepFrom d bytes identifiers r q ≡ step.End
       unfolding stepFrom stepAt readFirst
       end-step q l more e last = rw (e, last)
 
       -- where rows are left, the next of them; where none is, the end
-      next-row : r + 1 < 2 ^ 64 → Taken r (ofKind d 10 ls) at-row ⊎ ((ofKind d 10 ls ≡ []) × (rowStep d bytes names at-row ≡ step.End))
+      next-row : r + 1 < 2 ^ 64 → Taken r (ofKind d 10 ls) at-row ⊎ ((ofKind d 10 ls ≡ []) × (rowStep d bytes identifiers at-row ≡ step.End))
       next-row small = go (found ls p ahead here)
         where
-          go : Found p ls → Taken r (ofKind d 10 ls) at-row ⊎ ((ofKind d 10 ls ≡ []) × (rowStep d bytes names at-row ≡ step.End))
+          go : Found p ls → Taken r (ofKind d 10 ls) at-row ⊎ ((ofKind d 10 ls ≡ []) × (rowStep d bytes identifiers at-row ≡ step.End))
           go f = by (f .what)
             where
-              by : Row (f .q) (f .l) (f .more) (ofKind d 10 ls) ⊎ ((stepOf d (f .q .state) names (f .l) ≡ verdict.Finished) × (ofKind d 10 ls ≡ []))
-                  → Taken r (ofKind d 10 ls) at-row ⊎ ((ofKind d 10 ls ≡ []) × (rowStep d bytes names at-row ≡ step.End))
+              by : Row (f .q) (f .l) (f .more) (ofKind d 10 ls) ⊎ ((stepOf d (f .q .state) identifiers (f .l) ≡ verdict.Finished) × (ofKind d 10 ls ≡ []))
+                  → Taken r (ofKind d 10 ls) at-row ⊎ ((ofKind d 10 ls ≡ []) × (rowStep d bytes identifiers at-row ≡ step.End))
               by (inl row) = inl (record {
                 l = f .l;
                 others = f .more;
@@ -221,7 +221,7 @@ module _ (bytes names : List ℕ) where
 
     -- the first of them
     gives-first : (p : Spot) (r : ℕ) (rows : List (List ℕ))
-        → Taken r rows (record { spot = p; passed = r }) ⊎ ((rows ≡ []) × (rowStep d bytes names (record { spot = p; passed = r }) ≡ step.End))
+        → Taken r rows (record { spot = p; passed = r }) ⊎ ((rows ≡ []) × (rowStep d bytes identifiers (record { spot = p; passed = r }) ≡ step.End))
         → Gives (record { spot = p; passed = r }) r 0 rows
     unfolding stepsFrom nth
     gives-first p r rows (inl x) = record {
@@ -232,7 +232,7 @@ module _ (bytes names : List ℕ) where
 
     -- a later one
     gives-later : (i : ℕ) (p next : Spot) (r : ℕ) (l : List ℕ) (others : List (List ℕ))
-        → rowStep d bytes names (record { spot = p; passed = r })
+        → rowStep d bytes identifiers (record { spot = p; passed = r })
         ≡ shown (epochOf r n) (satelliteOf r n) (floatRow (rowOf false l)) (record { spot = next; passed = r + 1 })
         → Gives (record { spot = next; passed = r + 1 }) (r + 1) i others → Gives (record { spot = p; passed = r }) r (suc i) (l ∷ others)
     unfolding stepsFrom nth
@@ -251,7 +251,7 @@ module _ (bytes names : List ℕ) where
     gives zero p ls r ahead here small = gives-first p r (ofKind d 10 ls) (next-row p ls r ahead here (omega arith))
     gives (suc i) p ls r ahead here small = by (next-row p ls r ahead here (omega arith)) (gives i)
       where
-        by : Taken r (ofKind d 10 ls) (record { spot = p; passed = r }) ⊎ ((ofKind d 10 ls ≡ []) × (rowStep d bytes names (record { spot = p; passed = r }) ≡ step.End))
+        by : Taken r (ofKind d 10 ls) (record { spot = p; passed = r }) ⊎ ((ofKind d 10 ls ≡ []) × (rowStep d bytes identifiers (record { spot = p; passed = r }) ≡ step.End))
             → ((p′ : Spot) (ls′ : List (List ℕ)) (r′ : ℕ) → Ahead p′ ls′ → linesOf (drop (p′ .at) bytes) ≡ ls′ → r′ + length (ofKind d 10 ls′) + 1 < 2 ^ 64
             → Gives (record { spot = p′; passed = r′ }) r′ i (ofKind d 10 ls′))
             → Gives (record { spot = p; passed = r }) r (suc i) (ofKind d 10 ls)
@@ -264,10 +264,10 @@ module _ (bytes names : List ℕ) where
 
 -- a list begins with the identifiers of a file
 abbrev pub Identified : List ℕ → List ℕ → Type 0
-Identified bytes names = take (header bytes .satellites) names ≡ identifiersOf d (linesOf bytes)
+Identified bytes identifiers = take (header bytes .satellites) identifiers ≡ identifiersOf d (linesOf bytes)
 
 -- AN ACCEPTED FILE, and a list that begins with its identifiers.
-module _ (bytes : List ℕ) (t : Tally) (accepted : fileOf d bytes ≡ front.File t) (names : List ℕ) (identified : Identified bytes names) where
+module _ (bytes : List ℕ) (t : Tally) (accepted : fileOf d bytes ≡ front.File t) (identifiers : List ℕ) (identified : Identified bytes identifiers) where
   at-front : frontOf d bytes ≡ front.File t
   at-front = whole-ends d bytes t accepted .0
 
@@ -277,7 +277,7 @@ module _ (bytes : List ℕ) (t : Tally) (accepted : fileOf d bytes ≡ front.Fil
   lines-many : t .lines ≡ length (linesOf bytes)
   lines-many = accepted-front d bytes t at-front .lines ∙ ap length lines-all
 
-  knows : Knows d bytes t names
+  knows : Knows d bytes t identifiers
   unfolding headerIn
   knows = rw lines-all identified
 
@@ -291,15 +291,15 @@ module _ (bytes : List ℕ) (t : Tally) (accepted : fileOf d bytes ≡ front.Fil
   lines = linesOf bytes
 
   same : (k : ℕ) → k < t .lines
-      → (stepOf d (after bytes k .state) names (nth k lines) ≡ judged d (after bytes k) (nth k lines))
+      → (stepOf d (after bytes k .state) identifiers (nth k lines) ≡ judged d (after bytes k) (nth k lines))
       × (isKind d 10 (nth k lines) ≡ true → after bytes k .state .satellites ≡ n)
   unfolding headerIn
   same k h =
-      let both = known-steps d d-sound bytes t at-front names knows k h in
+      let both = known-steps d d-sound bytes t at-front identifiers knows k h in
       (both .0, λ row. both .1 row ∙ ap (countOf d) lines-all)
 
   -- from behind each line but the last
-  ahead : (m k : ℕ) → k + m ≡ t .lines - 1 → Ahead bytes names n (spotOf (after bytes k)) (drop k lines)
+  ahead : (m k : ℕ) → k + m ≡ t .lines - 1 → Ahead bytes identifiers n (spotOf (after bytes k)) (drop k lines)
   unfolding Ahead
   ahead zero k e =
       let some : k < t .lines = omega (arith, ends .lines) in
@@ -315,7 +315,7 @@ module _ (bytes : List ℕ) (t : Tally) (accepted : fileOf d bytes ≡ front.Fil
       let next : spotOf (after bytes (suc k)) ≡ record { at = after bytes k .at + length (nth k lines) + 1; state = on .0 } =
       ap spotOf (behind-next d k lines atFirst below ∙ stepped-on d (after bytes k) (nth k lines) (on .0) (on .1)) in
       rw (next-line k lines below)
-      (inr (on .0, same k some .0 ∙ on .1, same k some .1, subst (λ (p : Spot). Ahead bytes names n p (drop (suc k) lines)) next (ahead m (suc k) (omega arith))))
+      (inr (on .0, same k some .0 ∙ on .1, same k some .1, subst (λ (p : Spot). Ahead bytes identifiers n p (drop (suc k) lines)) next (ahead m (suc k) (omega arith))))
 
   rows-many : length (rowsOf false bytes) ≡ header bytes .satellites * header bytes .epochs
   rows-many = rows-number bytes (t, accepted)
@@ -329,15 +329,15 @@ module _ (bytes : List ℕ) (t : Tally) (accepted : fileOf d bytes ≡ front.Fil
       let product : header bytes .satellites * header bytes .epochs ≤ 255 * 100000 = mul-le-mul satellites-few epochs-few in
       omega (arith, rows-many)
 
-  given : (i : ℕ) → Gives bytes names n firstWalk 0 i (rowsOf false bytes)
+  given : (i : ℕ) → Gives bytes identifiers n firstWalk 0 i (rowsOf false bytes)
   unfolding steppedOver
   given i =
       let first : 0 + (t .lines - 1) ≡ t .lines - 1 = omega arith in
-      gives bytes names n i firstSpot lines 0 (ahead (t .lines - 1) 0 first) refl (omega (arith, few))
+      gives bytes identifiers n i firstSpot lines 0 (ahead (t .lines - 1) 0 first) refl (omega (arith, few))
 
   -- the answer of step i of a walk from the first line on
   abbrev pub walkStep : ℕ → RowStep
-  walkStep i = stepsFrom bytes names firstWalk i
+  walkStep i = stepsFrom bytes identifiers firstWalk i
 
   -- THE WALK: step k * n + j gives epoch k and satellite j, and the row that the row question gives for them.
   pub walk-gives : (k j : ℕ) → There bytes k j → (next : RowWalk) × (walkStep (rowAt bytes k j) ≡ shown k j (asked bytes k j .row) next)

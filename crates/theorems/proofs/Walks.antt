@@ -11,8 +11,8 @@ use denote.Ref.{RefT, now}
 use Rattle.header.specs.Rules.{d}
 use Rattle.lines.specs.Lines.{linesOf, nth}
 use Rattle.lines.proofs.Lined.{lined}
-use Rattle.machine.specs.State.{noNames}
-use Rattle.machine.specs.Step.{namesBrought, stepWithin, readFirst, namesFirst, lineNames, Overfull}
+use Rattle.machine.specs.State.{noIdentifiers}
+use Rattle.machine.specs.Step.{identifiersBrought, stepWithin, readFirst, identifiersFirst, lineIdentifiers, Overfull}
 use Rattle.machine.proofs.Stepping.{kept-within}
 use Rattle.file.specs.Plain.{Sound}
 use Rattle.scan.specs.Run.{Going, stepped, steppedOver, atFirst}
@@ -40,11 +40,11 @@ spotOf g = record { at = g .at; state = g .state }
 
 -- and with them
 abbrev pub goingAt : Spot → List ℕ → Going
-goingAt p names = record { at = p .at; state = p .state; names = names }
+goingAt p identifiers = record { at = p .at; state = p .state; identifiers = identifiers }
 
 -- what the line reader makes of a line
 abbrev pub read : Rules → Going → List ℕ → Verdict
-read rules g l = stepWithin rules (g .state) (g .names) l
+read rules g l = stepWithin rules (g .state) (g .identifiers) l
 
 -- a line that goes on leads to the lines after it; one that is refused or ends the file stays
 abbrev pub onFrom : Verdict → Going → (State → Going) → Going
@@ -54,7 +54,7 @@ onFrom verdict.Finished g more = g
 
 -- one is behind a line
 abbrev past : Rules → Going → List ℕ → State → Going
-past rules g l s = record { at = g .at + length l + 1; state = s; names = namesBrought rules (g .state) (g .names) l }
+past rules g l s = record { at = g .at + length l + 1; state = s; identifiers = identifiersBrought rules (g .state) (g .identifiers) l }
 
 -- after some lines, read one after another: one stays where a line is refused, 12 among the refusals, or ends the file
 unfoldable pub overLines : Rules → Going → List (List ℕ) → Going
@@ -63,7 +63,7 @@ overLines rules g (l ∷ ls) = onFrom (read rules g l) g (λ s. overLines rules 
 
 -- where the walker is after k steps
 abbrev pub walkedFrom : Rules → List ℕ → Going → ℕ → Going
-walkedFrom rules bytes g k = goingAt (spotsAfter rules bytes (g .names) (spotOf g) k) (identifiersPast rules bytes (g .names) (spotOf g) k)
+walkedFrom rules bytes g k = goingAt (spotsAfter rules bytes (g .identifiers) (spotOf g) k) (identifiersPast rules bytes (g .identifiers) (spotOf g) k)
 
 no-fault : (m c : ℕ) (s : State) → verdict.Fault m c ≡ verdict.Next s → ⊥
 no-fault m c s x = let z : _≡_ {A = ℕ} 0 1 = cc in absurd (omega arith)
@@ -89,31 +89,31 @@ module _ (rules : Rules) (bytes : List ℕ) where
 
   -- one step: where the line leads
   record Leads (g h : Going) : Type 0 where
-    spot : spotAfter rules bytes (g .names) (spotOf g) ≡ spotOf h
-    names : lineNames rules bytes (g .at) (g .state) (g .names) ≡ h .names
+    spot : spotAfter rules bytes (g .identifiers) (spotOf g) ≡ spotOf h
+    identifiers : lineIdentifiers rules bytes (g .at) (g .state) (g .identifiers) ≡ h .identifiers
 
   leads-on : (g h : Going) (k : ℕ) → Leads g h → walkedFrom rules bytes g (suc k) ≡ walkedFrom rules bytes h k
   unfolding spotsAfter identifiersPast
   leads-on g h k to =
-      ap₂ (λ (p : Spot) (ns : List ℕ). goingAt (spotsAfter rules bytes ns p k) (identifiersPast rules bytes ns p k)) (to .spot) (to .names)
+      ap₂ (λ (p : Spot) (ns : List ℕ). goingAt (spotsAfter rules bytes ns p k) (identifiersPast rules bytes ns p k)) (to .spot) (to .identifiers)
 
   module _ (g : Going) where
     none-leads : linesOf (drop (g .at) bytes) ≡ [] → Leads g g
-    unfolding spotAfter readFirst namesFirst
-    none-leads e = record { spot = rw e; names = rw e }
+    unfolding spotAfter readFirst identifiersFirst
+    none-leads e = record { spot = rw e; identifiers = rw e }
 
     module _ (l : List ℕ) (ls : List (List ℕ)) (e : linesOf (drop (g .at) bytes) ≡ l ∷ ls) where
       fault-leads : (m c : ℕ) → read rules g l ≡ verdict.Fault m c → Leads g g
-      unfolding spotAfter readFirst namesFirst
-      fault-leads m c v = record { spot = rw (e, v); names = rw e (kept-within rules (g .state) (g .names) l (verdict.Fault m c) v) }
+      unfolding spotAfter readFirst identifiersFirst
+      fault-leads m c v = record { spot = rw (e, v); identifiers = rw e (kept-within rules (g .state) (g .identifiers) l (verdict.Fault m c) v) }
 
       end-leads : read rules g l ≡ verdict.Finished → Leads g g
-      unfolding spotAfter readFirst namesFirst
-      end-leads v = record { spot = rw (e, v); names = rw e (kept-within rules (g .state) (g .names) l verdict.Finished v) }
+      unfolding spotAfter readFirst identifiersFirst
+      end-leads v = record { spot = rw (e, v); identifiers = rw e (kept-within rules (g .state) (g .identifiers) l verdict.Finished v) }
 
       next-leads : (s : State) → read rules g l ≡ verdict.Next s → Leads g (past rules g l s)
-      unfolding spotAfter readFirst namesFirst
-      next-leads s v = record { spot = rw (e, v); names = rw e (kept-within rules (g .state) (g .names) l (verdict.Next s) v) }
+      unfolding spotAfter readFirst identifiersFirst
+      next-leads s v = record { spot = rw (e, v); identifiers = rw e (kept-within rules (g .state) (g .identifiers) l (verdict.Next s) v) }
 
   walks-more : (k : ℕ) → Walks k → Walks (suc k)
   unfolding overLines
@@ -152,11 +152,11 @@ module _ (rules : Rules) (bytes : List ℕ) where
   walks (suc k) g = walks-more k (walks k) g
 
   -- A SHORT LIST: at a `+ ` line that brings more identifiers than fit the walker stays.
-  pub short-stays : (g : Going) → Overfull rules bytes (g .at) (g .state) (g .names) → (k : ℕ) → walkedFrom rules bytes g k ≡ g
+  pub short-stays : (g : Going) → Overfull rules bytes (g .at) (g .state) (g .identifiers) → (k : ℕ) → walkedFrom rules bytes g k ≡ g
   short-stays g o k =
       walks k g
       ∙ ap (λ (x : List (List ℕ)). overLines rules g (take k x)) (o .stands)
-      ∙ stays-at g (o .line) (o .after) (λ s on. no-fault 12 0 s (sym (overfull-twelve rules bytes (g .at) (g .state) (g .names) o) ∙ on)) k
+      ∙ stays-at g (o .line) (o .after) (λ s on. no-fault 12 0 s (sym (overfull-twelve rules bytes (g .at) (g .state) (g .identifiers) o) ∙ on)) k
 
 module _ (rules : Rules) (sound : Sound rules) where
   -- over lines that go on, with the judge's list, a walk is where the run is, and what follows them is walked from there
@@ -210,55 +210,55 @@ module _ (bytes : List ℕ) (t : Tally) (accepted : frontOf d bytes ≡ front.Fi
       ap (walkedTo bytes) sum ∙ walker-stays bytes last (λ i below. ends .goes i below) (ends .within) (λ s on. no-end s (sym (ends .last) ∙ on)) (k - last)
 
 -- one step more at the end
-last-step : (rules : Rules) (bytes : List ℕ) (k : ℕ) (names : List ℕ) (p : Spot)
-    → let q = spotsAfter rules bytes names p k in let kept = identifiersPast rules bytes names p k in
-    (spotAfter rules bytes kept q ≡ spotsAfter rules bytes names p (suc k))
-    × (lineNames rules bytes (q .at) (q .state) kept ≡ identifiersPast rules bytes names p (suc k))
+last-step : (rules : Rules) (bytes : List ℕ) (k : ℕ) (identifiers : List ℕ) (p : Spot)
+    → let q = spotsAfter rules bytes identifiers p k in let kept = identifiersPast rules bytes identifiers p k in
+    (spotAfter rules bytes kept q ≡ spotsAfter rules bytes identifiers p (suc k))
+    × (lineIdentifiers rules bytes (q .at) (q .state) kept ≡ identifiersPast rules bytes identifiers p (suc k))
 unfolding spotsAfter identifiersPast
-last-step rules bytes zero names p = (refl, refl)
-last-step rules bytes (suc k) names p = last-step rules bytes k (lineNames rules bytes (p .at) (p .state) names) (spotAfter rules bytes names p)
+last-step rules bytes zero identifiers p = (refl, refl)
+last-step rules bytes (suc k) identifiers p = last-step rules bytes k (lineIdentifiers rules bytes (p .at) (p .state) identifiers) (spotAfter rules bytes identifiers p)
 
 -- a walker and the names lent, so many moves after another
 pub data After (from : Walker) (first : List ℕ) : ℕ → Walker → List ℕ → Type 0 where
   none : After from first 0 from first
-  more : {k : ℕ} {w v : Walker} {names kept : List ℕ} → After from first k w names → Moves w names v kept → After from first (suc k) v kept
+  more : {k : ℕ} {w v : Walker} {identifiers kept : List ℕ} → After from first k w identifiers → Moves w identifiers v kept → After from first (suc k) v kept
 
 -- BY THE PROMISES OF `new` AND `moved`: k moves after a walker, the file is the same, the spot is k lines further and the names are theirs, for every k;
-pub record Further (from : Walker) (first : List ℕ) (k : ℕ) (w : Walker) (names : List ℕ) : Type 0 where
+pub record Further (from : Walker) (first : List ℕ) (k : ℕ) (w : Walker) (identifiers : List ℕ) : Type 0 where
   pub file : w .file ≡ from .file
   pub spot : w .spot ≡ spotsAfter d (now (from .file)) first (from .spot) k
-  pub names-are : names ≡ identifiersPast d (now (from .file)) first (from .spot) k
+  pub identifiers-are : identifiers ≡ identifiersPast d (now (from .file)) first (from .spot) k
 
-pub after-moves : (from : Walker) (first : List ℕ) {k : ℕ} {w : Walker} {names : List ℕ} → After from first k w names → Further from first k w names
+pub after-moves : (from : Walker) (first : List ℕ) {k : ℕ} {w : Walker} {identifiers : List ℕ} → After from first k w identifiers → Further from first k w identifiers
 unfolding spotsAfter identifiersPast
-after-moves from first none = record { file = refl; spot = refl; names-are = refl }
-after-moves from first (more {k} {w} {v} {names} {kept} steps move) =
+after-moves from first none = record { file = refl; spot = refl; identifiers-are = refl }
+after-moves from first (more {k} {w} {v} {identifiers} {kept} steps move) =
     let so-far = after-moves from first steps in
     let bytes = now (from .file) in
-    let here : spotAfter d bytes names (w .spot) ≡ spotAfter d bytes (identifiersPast d bytes first (from .spot) k) (spotsAfter d bytes first (from .spot) k) =
-    ap₂ (λ (ns : List ℕ) (p : Spot). spotAfter d bytes ns p) (so-far .names-are) (so-far .spot) in
-    let brought : lineNames d bytes (w .spot .at) (w .spot .state) names
-    ≡ lineNames d bytes (spotsAfter d bytes first (from .spot) k .at) (spotsAfter d bytes first (from .spot) k .state) (identifiersPast d bytes first (from .spot) k) =
-    ap₂ (λ (ns : List ℕ) (p : Spot). lineNames d bytes (p .at) (p .state) ns) (so-far .names-are) (so-far .spot) in
+    let here : spotAfter d bytes identifiers (w .spot) ≡ spotAfter d bytes (identifiersPast d bytes first (from .spot) k) (spotsAfter d bytes first (from .spot) k) =
+    ap₂ (λ (ns : List ℕ) (p : Spot). spotAfter d bytes ns p) (so-far .identifiers-are) (so-far .spot) in
+    let brought : lineIdentifiers d bytes (w .spot .at) (w .spot .state) identifiers
+    ≡ lineIdentifiers d bytes (spotsAfter d bytes first (from .spot) k .at) (spotsAfter d bytes first (from .spot) k .state) (identifiersPast d bytes first (from .spot) k) =
+    ap₂ (λ (ns : List ℕ) (p : Spot). lineIdentifiers d bytes (p .at) (p .state) ns) (so-far .identifiers-are) (so-far .spot) in
     record {
       file = move .file ∙ so-far .file;
       spot =
           move .spot
-          ∙ ap (λ (f : RefT (List ℕ)). spotAfter d (now f) names (w .spot)) (so-far .file)
+          ∙ ap (λ (f : RefT (List ℕ)). spotAfter d (now f) identifiers (w .spot)) (so-far .file)
           ∙ here
           ∙ last-step d bytes k first (from .spot) .0;
-      names-are =
-          move .names-are
-          ∙ ap (λ (f : RefT (List ℕ)). lineNames d (now f) (w .spot .at) (w .spot .state) names) (so-far .file)
+      identifiers-are =
+          move .identifiers-are
+          ∙ ap (λ (f : RefT (List ℕ)). lineIdentifiers d (now f) (w .spot .at) (w .spot .state) identifiers) (so-far .file)
           ∙ brought
           ∙ last-step d bytes k first (from .spot) .1;
     }
 
 -- so from `new` at the first line of any bytes, over lines that go on, they are those of its first k lines.
-pub walker-walks : (file : RefT (List ℕ)) (from : Walker) → Begins file firstSpot from → (k : ℕ) (w : Walker) (names : List ℕ) → After from noNames k w names
-    → GoOn d atFirst (linesOf (now file)) k → k ≤ length (linesOf (now file)) → goingAt (w .spot) names ≡ after (now file) k
-walker-walks file from begins k w names steps goes h =
-    let far = after-moves from noNames steps in
-    ap₂ goingAt (far .spot) (far .names-are)
-    ∙ ap₂ (λ (f : RefT (List ℕ)) (p : Spot). goingAt (spotsAfter d (now f) noNames p k) (identifiersPast d (now f) noNames p k)) (begins .file-is) (begins .spot-is)
+pub walker-walks : (file : RefT (List ℕ)) (from : Walker) → Begins file firstSpot from → (k : ℕ) (w : Walker) (identifiers : List ℕ) → After from noIdentifiers k w identifiers
+    → GoOn d atFirst (linesOf (now file)) k → k ≤ length (linesOf (now file)) → goingAt (w .spot) identifiers ≡ after (now file) k
+walker-walks file from begins k w identifiers steps goes h =
+    let far = after-moves from noIdentifiers steps in
+    ap₂ goingAt (far .spot) (far .identifiers-are)
+    ∙ ap₂ (λ (f : RefT (List ℕ)) (p : Spot). goingAt (spotsAfter d (now f) noIdentifiers p k) (identifiersPast d (now f) noIdentifiers p k)) (begins .file-is) (begins .spot-is)
     ∙ walker-steps (now file) k goes h

@@ -89,12 +89,12 @@ module _ (more : ℕ) (some : 0 < more) where
       (rest-is numbers from 17 ∙ sym (rest-past numbers (from + 17)))
 
 -- the lines of the next satellite
-pub cells-next : (velocity : Bool) (names : List ℕ) (rows : List ℤ) (j from width : ℕ) → j < length names → width ≡ cellWidth velocity
-    → cellsLines velocity (drop j names) (drop from rows)
-    ≡ cellLines velocity (getD names j 0) (take (from + width - from) (drop from rows)) ++ cellsLines velocity (drop (j + 1) names) (drop (from + width) rows)
+pub cells-next : (velocity : Bool) (identifiers : List ℕ) (rows : List ℤ) (j from width : ℕ) → j < length identifiers → width ≡ cellWidth velocity
+    → cellsLines velocity (drop j identifiers) (drop from rows)
+    ≡ cellLines velocity (getD identifiers j 0) (take (from + width - from) (drop from rows)) ++ cellsLines velocity (drop (j + 1) identifiers) (drop (from + width) rows)
 unfolding cellsLines
-cells-next velocity names rows j from width h e =
-    rw (rest-step names j h, block-is rows from width, ← rest-is rows from width, e)
+cells-next velocity identifiers rows j from width h e =
+    rw (rest-step identifiers j h, block-is rows from width, ← rest-is rows from width, e)
 
 -- the rows of one satellite: P alone, or P and V
 module _ (velocity : Bool) (cell : List ℤ) (size : length cell ≡ cellWidth velocity) where
@@ -108,16 +108,16 @@ module _ (velocity : Bool) (cell : List ℤ) (size : length cell ≡ cellWidth v
   pub cell-wide : velocity ≡ true → length cell ≡ 24
   cell-wide e = size ∙ ap cellWidth e
 
-  pub cell-placed : (name : ℕ) → velocity ≡ false → cellLines velocity name cell ≡ rowLine false (rowShown name (take 12 cell)) ∷ []
+  pub cell-placed : (identifier : ℕ) → velocity ≡ false → cellLines velocity identifier cell ≡ rowLine false (rowShown identifier (take 12 cell)) ∷ []
   unfolding cellLines
-  cell-placed name e =
+  cell-placed identifier e =
       let twelve : length cell ≡ 12 = size ∙ ap cellWidth e in
       rw (e, take-all 12 cell (omega arith))
 
-  pub cell-moved : (name : ℕ) → velocity ≡ true
-      → cellLines velocity name cell ≡ rowLine false (rowShown name (take 12 cell)) ∷ rowLine true (rowShown name (take 12 (drop 12 cell))) ∷ []
+  pub cell-moved : (identifier : ℕ) → velocity ≡ true
+      → cellLines velocity identifier cell ≡ rowLine false (rowShown identifier (take 12 cell)) ∷ rowLine true (rowShown identifier (take 12 (drop 12 cell))) ∷ []
   unfolding cellLines
-  cell-moved name e = rw (e, take-all 12 (drop 12 cell) (omega (arith, cell-wide e, length-drop 12 cell)))
+  cell-moved identifier e = rw (e, take-all 12 (drop 12 cell) (omega (arith, cell-wide e, length-drop 12 cell)))
 
 -- what a front has past its first elements
 front-rest : {A : Type 0} (w n : ℕ) (l : List A) → drop w (take n l) ≡ take (n - w) (drop w l)
@@ -133,26 +133,26 @@ front-rest (suc w) (suc n) (x ∷ l) =
     rw same (front-rest w n l)
 
 -- the satellites of one epoch have no rows past its own
-pub cells-front : (velocity : Bool) (names : List ℕ) (rows : List ℤ) (n : ℕ) → length names * cellWidth velocity ≤ n
-    → cellsLines velocity names rows ≡ cellsLines velocity names (take n rows)
+pub cells-front : (velocity : Bool) (identifiers : List ℕ) (rows : List ℤ) (n : ℕ) → length identifiers * cellWidth velocity ≤ n
+    → cellsLines velocity identifiers rows ≡ cellsLines velocity identifiers (take n rows)
 unfolding cellsLines
 cells-front velocity [] rows n h = refl
-cells-front velocity (name ∷ names) rows n h =
+cells-front velocity (identifier ∷ identifiers) rows n h =
     let w = cellWidth velocity in
-    let more = suc-mul (length names) w in
+    let more = suc-mul (length identifiers) w in
     ap₂ (λ (here there : List (List ℕ)). here ++ there)
-    (ap (cellLines velocity name) (sym (take-take w n rows (omega arith))))
-    (cells-front velocity names (drop w rows) (n - w) (omega arith) ∙ ap (cellsLines velocity names) (sym (front-rest w n rows)))
+    (ap (cellLines velocity identifier) (sym (take-take w n rows (omega arith))))
+    (cells-front velocity identifiers (drop w rows) (n - w) (omega arith) ∙ ap (cellsLines velocity identifiers) (sym (front-rest w n rows)))
 
 -- the next epoch
-pub epochs-next : (more : ℕ) → 0 < more → (velocity : Bool) (names : List ℕ) (interval8 at8 : ℕ) (rows : List ℤ) (from width : ℕ)
-    → width ≡ length names * cellWidth velocity
-    → epochsLines velocity names interval8 more at8 (drop from rows)
-    ≡ (epochLine (epochShown at8) ∷ cellsLines velocity names (take (from + width - from) (drop from rows)))
-    ++ epochsLines velocity names interval8 (more - 1) (at8 + interval8) (drop (from + width) rows)
+pub epochs-next : (more : ℕ) → 0 < more → (velocity : Bool) (identifiers : List ℕ) (interval8 at8 : ℕ) (rows : List ℤ) (from width : ℕ)
+    → width ≡ length identifiers * cellWidth velocity
+    → epochsLines velocity identifiers interval8 more at8 (drop from rows)
+    ≡ (epochLine (epochShown at8) ∷ cellsLines velocity identifiers (take (from + width - from) (drop from rows)))
+    ++ epochsLines velocity identifiers interval8 (more - 1) (at8 + interval8) (drop (from + width) rows)
 unfolding epochsLines
-epochs-next more some velocity names interval8 at8 rows from width e =
-    ap (λ (n : ℕ). epochsLines velocity names interval8 n at8 (drop from rows)) (one-more more some)
-    ∙ ap₂ (λ (cells : List (List ℕ)) (rest : List ℤ). (epochLine (epochShown at8) ∷ cells) ++ epochsLines velocity names interval8 (more - 1) (at8 + interval8) rest)
-    (cells-front velocity names (drop from rows) (from + width - from) (omega arith))
+epochs-next more some velocity identifiers interval8 at8 rows from width e =
+    ap (λ (n : ℕ). epochsLines velocity identifiers interval8 n at8 (drop from rows)) (one-more more some)
+    ∙ ap₂ (λ (cells : List (List ℕ)) (rest : List ℤ). (epochLine (epochShown at8) ∷ cells) ++ epochsLines velocity identifiers interval8 (more - 1) (at8 + interval8) rest)
+    (cells-front velocity identifiers (drop from rows) (from + width - from) (omega arith))
     (ap (λ (n : ℕ). drop n (drop from rows)) (sym e) ∙ rest-is rows from width)

@@ -100,13 +100,13 @@ not-flag false = refl
 pub flag-read : (v : ℤ) {n : ℕ} → Bounded v → n ≡ natAbs (toZ w64 (ofZ w64 v)) → not (eqb n 0) ≡ flagShown v
 flag-read v h e = ap (λ (k : ℕ). not (eqb k 0)) (magnitude-read v h e) ∙ not-flag (eqb (natAbs v) 0)
 
-pub row-read : (name : ℕ) (row : List ℤ) {x y z clock : Signed} {xe ye ze ce : ℕ} {event predicted maneuver orbit : Bool}
+pub row-read : (identifier : ℕ) (row : List ℤ) {x y z clock : Signed} {xe ye ze ce : ℕ} {event predicted maneuver orbit : Bool}
     → x ≡ signedShown (entry row 0) → y ≡ signedShown (entry row 1) → z ≡ signedShown (entry row 2) → clock ≡ signedShown (entry row 3)
     → xe ≡ natAbs (entry row 4) → ye ≡ natAbs (entry row 5) → ze ≡ natAbs (entry row 6) → ce ≡ natAbs (entry row 7)
     → event ≡ flagShown (entry row 8) → predicted ≡ flagShown (entry row 9) → maneuver ≡ flagShown (entry row 10) → orbit ≡ flagShown (entry row 11)
     → _≡_ {A = Row}
     (record {
-      satellite = name;
+      satellite = identifier;
       x = x;
       y = y;
       z = z;
@@ -120,11 +120,11 @@ pub row-read : (name : ℕ) (row : List ℤ) {x y z clock : Signed} {xe ye ze ce
       maneuver = maneuver;
       «orbit_predicted» = orbit;
     })
-    (rowShown name row)
+    (rowShown identifier row)
 unfolding rowShown
-row-read name row ex ey ez ec e4 e5 e6 e7 e8 e9 e10 e11 =
+row-read identifier row ex ey ez ec e4 e5 e6 e7 e8 e9 e10 e11 =
     λ i. record {
-      satellite = name;
+      satellite = identifier;
       x = ex i;
       y = ey i;
       z = ez i;

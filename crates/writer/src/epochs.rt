@@ -15,33 +15,33 @@ use header::Header;
 use record::Epoch;
 
 // The lines of one satellite in one epoch.
-fn put_cell(velocity: bool, name: u64, cell: &[i64], out: &mut [u8]) -> usize
+fn put_cell(velocity: bool, identifier: u64, cell: &[i64], out: &mut [u8]) -> usize
     requires { ⌜ length (now cell) ≡ cellWidth velocity ⌝ }
-    requires { ⌜ length (flat (cellLines velocity name (now cell))) ≤ length (now out) ⌝ }
-    ensures { λ r. ⌜ Lays (flat (cellLines velocity name (now (cell .entry)))) (now (out .entry)) r (now (out .exit)) ⌝ }
+    requires { ⌜ length (flat (cellLines velocity identifier (now cell))) ≤ length (now out) ⌝ }
+    ensures { λ r. ⌜ Lays (flat (cellLines velocity identifier (now (cell .entry)))) (now (out .entry)) r (now (out .exit)) ⌝ }
 {
-    let place = shown::row_shown(name, &cell[0..12]);
+    let place = shown::row_shown(identifier, &cell[0..12]);
     let at = draw::rows::write_row(place, false, out);
     if !velocity {
         return at;
     }
-    let motion = shown::row_shown(name, &cell[12..24]);
+    let motion = shown::row_shown(identifier, &cell[12..24]);
     at + draw::rows::write_row(motion, true, &mut out[at..])
 }
 
 // Those of each satellite, in header order.
-fn put_cells(velocity: bool, names: &[u64], rows: &[i64], out: &mut [u8]) -> usize
-    requires { ⌜ length (now rows) ≡ length (now names) * cellWidth velocity ⌝ }
-    requires { ⌜ length (flat (cellsLines velocity (now names) (now rows))) ≤ length (now out) ⌝ }
-    ensures { λ r. ⌜ Lays (flat (cellsLines velocity (now (names .entry)) (now (rows .entry)))) (now (out .entry)) r (now (out .exit)) ⌝ }
+fn put_cells(velocity: bool, identifiers: &[u64], rows: &[i64], out: &mut [u8]) -> usize
+    requires { ⌜ length (now rows) ≡ length (now identifiers) * cellWidth velocity ⌝ }
+    requires { ⌜ length (flat (cellsLines velocity (now identifiers) (now rows))) ≤ length (now out) ⌝ }
+    ensures { λ r. ⌜ Lays (flat (cellsLines velocity (now (identifiers .entry)) (now (rows .entry)))) (now (out .entry)) r (now (out .exit)) ⌝ }
 {
     let width = canon::cell_width(velocity);
     let mut at: usize = 0;
     let mut from: usize = 0;
     let mut j: usize = 0;
-    while j < names.len() {
+    while j < identifiers.len() {
         let next = from + width;
-        at += put_cell(velocity, names[j], &rows[from..next], &mut out[at..]);
+        at += put_cell(velocity, identifiers[j], &rows[from..next], &mut out[at..]);
         from = next;
         j += 1;
     }
@@ -49,35 +49,41 @@ fn put_cells(velocity: bool, names: &[u64], rows: &[i64], out: &mut [u8]) -> usi
 }
 
 // One epoch: its line and the rows of its satellites.
-fn put_epoch(velocity: bool, names: &[u64], at8: u64, rows: &[i64], out: &mut [u8]) -> usize
+fn put_epoch(velocity: bool, identifiers: &[u64], at8: u64, rows: &[i64], out: &mut [u8]) -> usize
     requires { ⌜ isInstant at8 ≡ true ⌝ }
-    requires { ⌜ length (now rows) ≡ length (now names) * cellWidth velocity ⌝ }
-    requires { ⌜ length (flat (epochLine (epochShown at8) ∷ cellsLines velocity (now names) (now rows))) ≤ length (now out) ⌝ }
-    ensures { λ r. ⌜ Lays (flat (epochLine (epochShown at8) ∷ cellsLines velocity (now (names .entry)) (now (rows .entry)))) (now (out .entry)) r (now (out .exit)) ⌝ }
+    requires { ⌜ length (now rows) ≡ length (now identifiers) * cellWidth velocity ⌝ }
+    requires { ⌜ length (flat (epochLine (epochShown at8) ∷ cellsLines velocity (now identifiers) (now rows))) ≤ length (now out) ⌝ }
+    ensures { λ r. ⌜ Lays (flat (epochLine (epochShown at8) ∷ cellsLines velocity (now (identifiers .entry)) (now (rows .entry)))) (now (out .entry)) r (now (out .exit)) ⌝ }
 {
     let epoch = Epoch {
         fault: 0,
         moment: shown::moment_of(at8),
     };
     let at = draw::opening::write_epoch(epoch, out);
-    at + put_cells(velocity, names, rows, &mut out[at..])
+    at + put_cells(velocity, identifiers, rows, &mut out[at..])
 }
 
 // Every epoch.
-pub(crate) fn put_epochs(h: Header, names: &[u64], rows: &[i64], out: &mut [u8]) -> usize
+pub(crate) fn put_epochs(h: Header, identifiers: &[u64], rows: &[i64], out: &mut [u8]) -> usize
     requires { ⌜ timesValid h ≡ true ⌝ }
-    requires { ⌜ length (now rows) ≡ h .epochs * (length (now names) * cellWidth (h .velocity)) ⌝ }
-    requires { ⌜ length (flat (epochsLines (h .velocity) (now names) (h .interval8) (h .epochs) (h .start8) (now rows))) ≤ length (now out) ⌝ }
-    ensures { λ r. ⌜ Lays (flat (epochsLines (h .velocity) (now (names .entry)) (h .interval8) (h .epochs) (h .start8) (now (rows .entry)))) (now (out .entry)) r (now (out .exit)) ⌝ }
+    requires { ⌜ length (now rows) ≡ h .epochs * (length (now identifiers) * cellWidth (h .velocity)) ⌝ }
+    requires { ⌜ length (flat (epochsLines (h .velocity) (now identifiers) (h .interval8) (h .epochs) (h .start8) (now rows))) ≤ length (now out) ⌝ }
+    ensures { λ r. ⌜ Lays (flat (epochsLines (h .velocity) (now (identifiers .entry)) (h .interval8) (h .epochs) (h .start8) (now (rows .entry)))) (now (out .entry)) r (now (out .exit)) ⌝ }
 {
-    let width = names.len() * canon::cell_width(h.velocity);
+    let width = identifiers.len() * canon::cell_width(h.velocity);
     let mut at: usize = 0;
     let mut from: usize = 0;
     let mut at8 = h.start8;
     let mut more = h.epochs;
     while 0 < more {
         let next = from + width;
-        at += put_epoch(h.velocity, names, at8, &rows[from..next], &mut out[at..]);
+        at += put_epoch(
+            h.velocity,
+            identifiers,
+            at8,
+            &rows[from..next],
+            &mut out[at..],
+        );
         from = next;
         at8 += h.interval8;
         more -= 1;

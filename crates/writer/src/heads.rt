@@ -20,17 +20,17 @@ use record::Satellites;
 use record::Slots;
 
 // Lines 1 and 2 and the first `+ ` line.
-pub(crate) fn put_first(rules: Rules, h: Header, names: &[u64], out: &mut [u8]) -> usize
+pub(crate) fn put_first(rules: Rules, h: Header, identifiers: &[u64], out: &mut [u8]) -> usize
     requires { ⌜ isInstant (h .start8) ≡ true ⌝ }
-    requires { ⌜ length (flat (firstLine rules (firstShown h) ∷ secondLine (secondShown h) ∷ satellitesLine rules (satellitesShown (h .satellites) (now names)) ∷ [])) ≤ length (now out) ⌝ }
-    ensures { λ r. ⌜ Lays (flat (firstLine rules (firstShown h) ∷ secondLine (secondShown h) ∷ satellitesLine rules (satellitesShown (h .satellites) (now (names .entry))) ∷ [])) (now (out .entry)) r (now (out .exit)) ⌝ }
+    requires { ⌜ length (flat (firstLine rules (firstShown h) ∷ secondLine (secondShown h) ∷ satellitesLine rules (satellitesShown (h .satellites) (now identifiers)) ∷ [])) ≤ length (now out) ⌝ }
+    ensures { λ r. ⌜ Lays (flat (firstLine rules (firstShown h) ∷ secondLine (secondShown h) ∷ satellitesLine rules (satellitesShown (h .satellites) (now (identifiers .entry))) ∷ [])) (now (out .entry)) r (now (out .exit)) ⌝ }
 {
     let mut at = draw::opening::write_first(rules, shown::first_shown(h), out);
     at += draw::opening::write_second(shown::second_shown(h), &mut out[at..]);
     let satellites = Satellites {
         fault: 0,
         count: h.satellites,
-        names: shown::seventeen(names),
+        identifiers: shown::seventeen(identifiers),
     };
     at + draw::slots::write_satellites(rules, satellites, &mut out[at..])
 }

@@ -119,12 +119,12 @@ fn signed_at(row: &[i64], i: usize) -> Signed
 }
 
 // The row of a satellite of twelve stored numbers.
-pub(crate) fn row_shown(name: u64, row: &[i64]) -> Row
+pub(crate) fn row_shown(identifier: u64, row: &[i64]) -> Row
     requires { ⌜ length (now row) ≡ 12 ⌝ }
-    ensures { λ r. ⌜ r ≡ rowShown name (now (row .entry)) ⌝ }
+    ensures { λ r. ⌜ r ≡ rowShown identifier (now (row .entry)) ⌝ }
 {
     Row {
-        satellite: name,
+        satellite: identifier,
         x: signed_at(row, 0),
         y: signed_at(row, 1),
         z: signed_at(row, 2),

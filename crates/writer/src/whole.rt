@@ -18,15 +18,21 @@ use header::Header;
 use header::Rules;
 
 // The lines before the comments.
-fn put_opening(rules: Rules, h: Header, names: &[u64], exponents: &[u64], out: &mut [u8]) -> usize
+fn put_opening(
+    rules: Rules,
+    h: Header,
+    identifiers: &[u64],
+    exponents: &[u64],
+    out: &mut [u8],
+) -> usize
     requires { ⌜ isInstant (h .start8) ≡ true ⌝ }
-    requires { ⌜ length (flat (linesBefore rules h (now names) (now exponents))) ≤ length (now out) ⌝ }
-    ensures { λ r. ⌜ Lays (flat (linesBefore rules h (now (names .entry)) (now (exponents .entry)))) (now (out .entry)) r (now (out .exit)) ⌝ }
+    requires { ⌜ length (flat (linesBefore rules h (now identifiers) (now exponents))) ≤ length (now out) ⌝ }
+    ensures { λ r. ⌜ Lays (flat (linesBefore rules h (now (identifiers .entry)) (now (exponents .entry)))) (now (out .entry)) r (now (out .exit)) ⌝ }
 {
     let lines = header::slot_lines(h.satellites);
-    let mut at = heads::put_first(rules, h, names, out);
-    let first = laws::fewer(17, names.len());
-    at += heads::put_slots(false, lines - 1, &names[first..], &mut out[at..]);
+    let mut at = heads::put_first(rules, h, identifiers, out);
+    let first = laws::fewer(17, identifiers.len());
+    at += heads::put_slots(false, lines - 1, &identifiers[first..], &mut out[at..]);
     at += heads::put_slots(true, lines, exponents, &mut out[at..]);
     at + heads::put_descriptors(h, &mut out[at..])
 }
@@ -46,12 +52,12 @@ fn put_table(
     ensures { λ _. ⌜ now (out .exit) ≡ over (canonical rules (tableOf h (now (identifiers .entry)) (now (exponents .entry)) (now (comments .entry)) (now (rows .entry)))) (now (out .entry)) ⌝ }
 {
     let n = h.satellites as usize;
-    let names = &identifiers[0..n];
+    let listed = &identifiers[0..n];
     let count = h.comments as usize;
     let numbers = n * (h.epochs as usize) * canon::cell_width(h.velocity);
-    let mut at = put_opening(rules, h, names, &exponents[0..n], out);
+    let mut at = put_opening(rules, h, identifiers, &exponents[0..n], out);
     at += heads::put_comments(h.comments, &comments[0..count * 77], &mut out[at..]);
-    at += epochs::put_epochs(h, names, &rows[0..numbers], &mut out[at..]);
+    at += epochs::put_epochs(h, identifiers, &rows[0..numbers], &mut out[at..]);
     draw::plain::write_end(&mut out[at..]);
 }
 

@@ -2,12 +2,12 @@
 -- The loop's invariant: the walker w holds the file that was passed, and so many lines from its spot, with the names as they are now, lead where all the lines from the first spot lead, in spot and names. The variant is the number of lines left.
 -- In each turn the names are lent again, for a lifetime of the call, and come back at the list that `moved` leaves.
 -- Assumes nothing.
-use Rattle.line_walk.proofs.Walking.{_≡_, refl, ap, ap₂, sym, subst, _∙_, ℕ, _-_, _<_, _^_, lt-of-le-of-lt, arith, WellFounded, InvImage·wf, List, [], _∷_, ltb, ltb→lt, nltb→le, length, Nat·lt-wfRel, fullShare, URA, Ty, Body, named, erased, imm, mut, w8, w64, tyInt, tyBool, tyRef, spot, field, deref, addrOf, aggregate, unsigned, copy, int, skipᴹ, seq, assign, block, loop, cond, exit, call, return, rvOpd, op2, subᴹ, lt, Val, vint, SProp, ent, sep, emp, via, fst∗, snd∗, exE, ex, id⊢, Lft, Share, GName, Fml, ftrue, fat, froom, fdies, flft, Memory, Routine, Heap, Out, Env, afterSeq, afterBlock, afterTurn, Calls, Loops, Wp, atReturn, WpFn, Tables, Atoms, sem, Lfts, Fun, fact, givenOf, tables, tablesOf, Given, Item, ‵, raw, _⊛_, ⋆, some, later, runs, lft-new, lft-end, anyQ, atRet, Sq, _$_, _∵_, !, qed, by, move, drop, use1, use2, use3, rewrite, split, join, pick, fsplit, fjoin, feqL, suffices, frame, await, done, look, look-in, whole, sub, agg, store, init, forget, stop, hop, fld, from, load, addr, lit, of-opd, bin, and-then, no-more, assigns, assigns-last, land, first, skips, jumps, blocks, branches, returns, enter, alloc1, alloc0, params1, pass1, pass0, free1, free0, exec, Below, again, loops, FmC, fmOf, WpFn-mono, RattleType, owns, Is, shows, uint-vals, uint-tells, u8, u64, usize, RefT, NamedLft, now, plain, namedLft, sliceTy, sliceVal, ShrSlice, MutSlice, Room, finally, mut-slice-tells, slice-vals, shr-slice-tells, shr-slice-lawful, shr-slice-copy, only, peeks, heard, nothing, Contract, Triple, calls-at, Vals, onEntry, Meets, tripleOf, entered, cited, Stays, stay-none, stay-none-slice, stay-slice, walkOf, goes-none, goes-none-slice, goes-slice, Walks, ends-at, walked, walk-meets, yes, ensured, lasts}
+use Rattle.line_walk.proofs.Walking.{_≡_, refl, ap, ap₂, sym, subst, _∙_, ℕ, _-_, _<_, _^_, lt-of-le-of-lt, arith, WellFounded, InvImage·wf, List, [], _∷_, ltb, ltb→lt, nltb→le, length, Nat·lt-wfRel, fullShare, URA, Ty, Body, named, erased, imm, mut, w8, w64, tyInt, tyBool, tyRef, spot, field, deref, addrOf, aggregate, unsigned, copy, int, skipᴹ, seq, assign, block, loop, cond, exit, call, return, rvOpd, op2, subᴹ, lt, Val, vint, SProp, ent, sep, emp, via, fst∗, snd∗, exE, ex, id⊢, Lft, Share, GIdentifier, Fml, ftrue, fat, froom, fdies, flft, Memory, Routine, Heap, Out, Env, afterSeq, afterBlock, afterTurn, Calls, Loops, Wp, atReturn, WpFn, Tables, Atoms, sem, Lfts, Fun, fact, givenOf, tables, tablesOf, Given, Item, ‵, raw, _⊛_, ⋆, some, later, runs, lft-new, lft-end, anyQ, atRet, Sq, _$_, _∵_, !, qed, by, move, drop, use1, use2, use3, rewrite, split, join, pick, fsplit, fjoin, feqL, suffices, frame, await, done, look, look-in, whole, sub, agg, store, init, forget, stop, hop, fld, from, load, addr, lit, of-opd, bin, and-then, no-more, assigns, assigns-last, land, first, skips, jumps, blocks, branches, returns, enter, alloc1, alloc0, params1, pass1, pass0, free1, free0, exec, Below, again, loops, FmC, fmOf, WpFn-mono, RattleType, owns, Is, shows, uint-vals, uint-tells, u8, u64, usize, RefT, NamedLft, now, plain, namedLft, sliceTy, sliceVal, ShrSlice, MutSlice, Room, finally, mut-slice-tells, slice-vals, shr-slice-tells, shr-slice-lawful, shr-slice-copy, only, peeks, heard, nothing, Contract, Triple, calls-at, Vals, onEntry, Meets, tripleOf, entered, cited, Stays, stay-none, stay-none-slice, stay-slice, walkOf, goes-none, goes-none-slice, goes-slice, Walks, ends-at, walked, walk-meets, yes, ensured, lasts}
 use Rattle.line_walk.proofs.Saying.{says-both}
 use Rattle.line_walk.proofs.Again.{LentAgain, lends-again, comes-back}
 use denote.Struct.Laws as LL
 use Rattle.header.specs.Rules.{d as rules-d}
-use Rattle.machine.specs.Step.{lineNames}
+use Rattle.machine.specs.Step.{lineIdentifiers}
 use Rattle.line_walk.specs.Spots.{spotAfter, spotsAfter, identifiersPast}
 use Rattle.line_walk.proofs.Spots.{first-line-more, no-line-more}
 use Rattle.line_walk.specs.declared.Walker.{Walker}
@@ -18,17 +18,17 @@ use Rattle.line_walk.proofs.Place as S
 use Rattle.line_walk.proofs.Place.Laws as S′
 use Rattle.line_walk.proofs.new as new
 use Rattle.line_walk.proofs.new.Symbol as new-def
-use Rattle.line_walk.proofs.new.Symbol.{name as #walker·new}
+use Rattle.line_walk.proofs.new.Symbol.{identifier as #walker·new}
 use Rattle.line_walk.proofs.new.Met as new-thm
 use Rattle.line_walk.proofs.moved as moved
 use Rattle.line_walk.proofs.moved.Symbol as moved-def
-use Rattle.line_walk.proofs.moved.Symbol.{name as #walker·moved}
+use Rattle.line_walk.proofs.moved.Symbol.{identifier as #walker·moved}
 use Rattle.line_walk.proofs.moved.Met as moved-thm
 use Rattle.line_walk.proofs.spot_of as spot-of
 use Rattle.line_walk.proofs.spot_of.Symbol as spot-of-def
-use Rattle.line_walk.proofs.spot_of.Symbol.{name as #walker·spot-of}
+use Rattle.line_walk.proofs.spot_of.Symbol.{identifier as #walker·spot-of}
 use Rattle.line_walk.proofs.spot_of.Met as spot-of-thm
-use Rattle.line_walk.proofs.after_lines.Key.{name as #walker·after-lines}
+use Rattle.line_walk.proofs.after_lines.Key.{identifier as #walker·after-lines}
 use Rattle.line_walk.proofs.after_lines as after
 use Rattle.line_walk.proofs.after_lines.Statement as stated
 use Rattle.line_walk.proofs.after_lines.Code as code
@@ -89,10 +89,10 @@ module _ {M : Type 1} (𝓤 : URA M) (H : Heap 𝓤) (A : Atoms 𝓤) (mem : Mem
   abbrev SpotOf : Contract 𝓤
   SpotOf = tripleOf 𝓤 H A spot-of.signature (spot-of.spec 𝓤 H A mem run)
 
-module _ {M : Type 1} (𝓤 : URA M) (H : Heap 𝓤) (A : Atoms 𝓤) (W : Given 𝓤 H A) (mem : Memory → SProp 𝓤) (run : Routine → Fun 𝓤) (κ κ′ : Lft) (q q′ : Share) (f : RefT (List ℕ)) (s : Spot) (n : ℕ) (b o : ℕ) (γ : GName) (ys : List ℕ) (gn : n < 2 ^ 64) (room : Room u64 (length ys)) where
+module _ {M : Type 1} (𝓤 : URA M) (H : Heap 𝓤) (A : Atoms 𝓤) (W : Given 𝓤 H A) (mem : Memory → SProp 𝓤) (run : Routine → Fun 𝓤) (κ κ′ : Lft) (q q′ : Share) (f : RefT (List ℕ)) (s : Spot) (n : ℕ) (b o : ℕ) (γ : GIdentifier) (ys : List ℕ) (gn : n < 2 ^ 64) (room : Room u64 (length ys)) where
   -- the names, under the name δ at the list l
-  abbrev x : GName → List ℕ → RefT (List ℕ)
-  x δ l = record { ptr = (b, o); name = δ; now = l }
+  abbrev x : GIdentifier → List ℕ → RefT (List ℕ)
+  x δ l = record { ptr = (b, o); identifier = δ; now = l }
 
   -- the machine values of the slices
   abbrev v : Val
@@ -123,22 +123,22 @@ module _ {M : Type 1} (𝓤 : URA M) (H : Heap 𝓤) (A : Atoms 𝓤) (W : Given
   abbrev OwnLines : Fml
   OwnLines = usize .own n (vint w64 n ∷ [])
 
-  abbrev OwnNames : List ℕ → Fml
-  OwnNames l = MutSlice (named 1) κ′ u64 .own (x γ l) (m ∷ [])
+  abbrev OwnIdentifiers : List ℕ → Fml
+  OwnIdentifiers l = MutSlice (named 1) κ′ u64 .own (x γ l) (m ∷ [])
 
   -- the names, at a list as long, lent again for the lifetime ν, and back at another as long
-  abbrev Lent : Lft → GName → List ℕ → Fml
+  abbrev Lent : Lft → GIdentifier → List ℕ → Fml
   Lent ν δ l = MutSlice (named 1) ν u64 .own (x δ l) (m ∷ [])
 
   lends : (ν : Lft) (l : List ℕ) → length l ≡ length ys
-      → ent 𝓤 (sep 𝓤 (sem 𝓤 H A (OwnNames l)) (A .lft κ′ q′)) (H .⇛ (ex 𝓤 (λ (δ : GName). sep 𝓤 (sem 𝓤 H A (Lent ν δ l)) (sem 𝓤 H A (LentAgain u64 κ′ ν q′ γ b o δ l)))))
+      → ent 𝓤 (sep 𝓤 (sem 𝓤 H A (OwnIdentifiers l)) (A .lft κ′ q′)) (H .⇛ (ex 𝓤 (λ (δ : GIdentifier). sep 𝓤 (sem 𝓤 H A (Lent ν δ l)) (sem 𝓤 H A (LentAgain u64 κ′ ν q′ γ b o δ l)))))
   lends ν l long =
       subst (λ (c : ℕ). ent 𝓤 (sep 𝓤 (sem 𝓤 H A (MutSlice (named 1) κ′ u64 .own (x γ l) (sliceVal (b, o) c ∷ []))) (A .lft κ′ q′))
-      (H .⇛ (ex 𝓤 (λ (δ : GName). sep 𝓤 (sem 𝓤 H A (MutSlice (named 1) ν u64 .own (x δ l) (sliceVal (b, o) c ∷ []))) (sem 𝓤 H A (LentAgain u64 κ′ ν q′ γ b o δ l))))))
+      (H .⇛ (ex 𝓤 (λ (δ : GIdentifier). sep 𝓤 (sem 𝓤 H A (MutSlice (named 1) ν u64 .own (x δ l) (sliceVal (b, o) c ∷ []))) (sem 𝓤 H A (LentAgain u64 κ′ ν q′ γ b o δ l))))))
       long (lends-again u64 κ′ ν q′ γ b o 𝓤 H A W (named 1) (named 1) l)
 
-  back : (ν : Lft) (δ : GName) (l zs : List ℕ) → length l ≡ length ys → length zs ≡ length l
-      → ent 𝓤 (sep 𝓤 (A .dead ν) (sep 𝓤 (sem 𝓤 H A (LentAgain u64 κ′ ν q′ γ b o δ l)) (sem 𝓤 H A (finally u64 δ zs)))) (H .⇛ (sep 𝓤 (sem 𝓤 H A (OwnNames zs)) (A .lft κ′ q′)))
+  back : (ν : Lft) (δ : GIdentifier) (l zs : List ℕ) → length l ≡ length ys → length zs ≡ length l
+      → ent 𝓤 (sep 𝓤 (A .dead ν) (sep 𝓤 (sem 𝓤 H A (LentAgain u64 κ′ ν q′ γ b o δ l)) (sem 𝓤 H A (finally u64 δ zs)))) (H .⇛ (sep 𝓤 (sem 𝓤 H A (OwnIdentifiers zs)) (A .lft κ′ q′)))
   back ν δ l zs long same =
       subst (λ (c : ℕ). ent 𝓤 (sep 𝓤 (A .dead ν) (sep 𝓤 (sem 𝓤 H A (LentAgain u64 κ′ ν q′ γ b o δ l)) (sem 𝓤 H A (finally u64 δ zs))))
       (H .⇛ (sep 𝓤 (sem 𝓤 H A (MutSlice (named 1) κ′ u64 .own (x γ zs) (sliceVal (b, o) c ∷ []))) (A .lft κ′ q′))))
@@ -153,10 +153,10 @@ module _ {M : Type 1} (𝓤 : URA M) (H : Heap 𝓤) (A : Atoms 𝓤) (W : Given
 
   -- what is kept beside the call of `new`
   abbrev Beside : Item 𝓤
-  Beside = ‵ (flft κ′ q′) ⊛ (‵ (OwnNames ys) ⊛ (‵ OwnFile ⊛ (‵ OwnSpot ⊛ ‵ OwnLines)))
+  Beside = ‵ (flft κ′ q′) ⊛ (‵ (OwnIdentifiers ys) ⊛ (‵ OwnFile ⊛ (‵ OwnSpot ⊛ ‵ OwnLines)))
 
   goes-new : ent 𝓤 (onEntry 𝓤 H A after.signature κs (q, (q′, tt)) (f, (s, (n, (x γ ys, tt)))) at)
-      (sep 𝓤 (New 𝓤 H A mem run .pre to-new) (sep 𝓤 (A .lft κ′ q′) (sep 𝓤 (sem 𝓤 H A (OwnNames ys)) (sep 𝓤 (sem 𝓤 H A OwnFile) (sep 𝓤 (sem 𝓤 H A OwnSpot) (sem 𝓤 H A OwnLines))))))
+      (sep 𝓤 (New 𝓤 H A mem run .pre to-new) (sep 𝓤 (A .lft κ′ q′) (sep 𝓤 (sem 𝓤 H A (OwnIdentifiers ys)) (sep 𝓤 (sem 𝓤 H A OwnFile) (sep 𝓤 (sem 𝓤 H A OwnSpot) (sem 𝓤 H A OwnLines))))))
   goes-new =
       qed W ((‵ (flft κ q) ⊛ ‵ (flft κ′ q′) ⊛ ‵ ftrue) ∷ ‵ (owns (ShrSlice (named 0) κ u8 ∷ S.the-row ∷ usize ∷ MutSlice (named 1) κ′ u64 ∷ []) (f, (s, (n, (x γ ys, tt)))) at) ∷ []) ∵
       split ! $ move ! (1 ∷ []) $ split ! $ move ! (2 ∷ 1 ∷ []) $ join ! $
@@ -178,13 +178,13 @@ module _ {M : Type 1} (𝓤 : URA M) (H : Heap 𝓤) (A : Atoms 𝓤) (W : Given
   abbrev at-moved : ℕ → Lfts 2
   at-moved ν = (κ, (ν ∷ [], tt))
 
-  abbrev to-moved : Walker → ℕ → GName → List ℕ → Moved 𝓤 H A mem run .Ghost
+  abbrev to-moved : Walker → ℕ → GIdentifier → List ℕ → Moved 𝓤 H A mem run .Ghost
   to-moved w ν δ l = ((at-moved ν, (q, (fullShare, tt)), tt, (w, (x δ l, tt)), (T′.lowered w ∷ [], (m ∷ [], tt))), tt)
 
-  abbrev passed : Walker → ℕ → GName → List ℕ → Fml
+  abbrev passed : Walker → ℕ → GIdentifier → List ℕ → Fml
   passed w ν δ l = owns (B (κ, tt) ∷ MutSlice (named 1) (ν ∷ []) u64 ∷ []) (w, (x δ l, tt)) (T′.lowered w ∷ [], (m ∷ [], tt))
 
-  goes-moved : (w : Walker) (ν : ℕ) (δ : GName) (l : List ℕ) → ent 𝓤 (sep 𝓤 (A .lft κ q) (sep 𝓤 (A .lft (ν ∷ []) fullShare) (sem 𝓤 H A (passed w ν δ l)))) (Moved 𝓤 H A mem run .pre (to-moved w ν δ l))
+  goes-moved : (w : Walker) (ν : ℕ) (δ : GIdentifier) (l : List ℕ) → ent 𝓤 (sep 𝓤 (A .lft κ q) (sep 𝓤 (A .lft (ν ∷ []) fullShare) (sem 𝓤 H A (passed w ν δ l)))) (Moved 𝓤 H A mem run .pre (to-moved w ν δ l))
   goes-moved w ν δ l =
       qed W (‵ (flft κ q) ∷ ‵ (flft (ν ∷ []) fullShare) ∷ ‵ (passed w ν δ l) ∷ []) ∵ nothing ! $ move ! (2 ∷ 0 ∷ []) $ join ! $ move ! (1 ∷ 0 ∷ []) $ join ! $ join ! $ frame ! $ done !
 
@@ -192,7 +192,7 @@ module _ {M : Type 1} (𝓤 : URA M) (H : Heap 𝓤) (A : Atoms 𝓤) (W : Given
   Next w l r = (r .file ≡ w .file) × (r .spot ≡ spotAfter rules-d (now (w .file)) l (w .spot))
 
   abbrev Kept : Walker → List ℕ → List ℕ → Type 0
-  Kept w l zs = zs ≡ lineNames rules-d (now (w .file)) (w .spot .at) (w .spot .state) l
+  Kept w l zs = zs ≡ lineIdentifiers rules-d (now (w .file)) (w .spot .at) (w .spot .state) l
 
   -- the call of `spot_of`
   abbrev to-spot-of : Walker → SpotOf 𝓤 H A mem run .Ghost
@@ -205,9 +205,9 @@ module _ {M : Type 1} (𝓤 : URA M) (H : Heap 𝓤) (A : Atoms 𝓤) (W : Given
   spot-said w r = exE 𝓤 _ (λ ws. snd∗ 𝓤 (sem 𝓤 H A (lasts spot-of.ended (κ, tt) (w, tt) ws)) (fact 𝓤 (r ≡ w .spot)))
 
   exits : (r : Spot) (u : Val) (zs : List ℕ) → r ≡ spotsAfter rules-d (now f) ys s n → zs ≡ identifiersPast rules-d (now f) ys s n → length zs ≡ length ys
-      → ent 𝓤 (⋆ 𝓤 H A (‵ (S.the-row .own r (u ∷ [])) ∷ (‵ (flft κ q) ⊛ ‵ ftrue) ∷ ‵ (flft κ′ q′) ∷ ‵ (OwnNames zs) ∷ ‵ OwnFile ∷ ‵ OwnSpot ∷ ‵ OwnLines ∷ [])) (Post u)
+      → ent 𝓤 (⋆ 𝓤 H A (‵ (S.the-row .own r (u ∷ [])) ∷ (‵ (flft κ q) ⊛ ‵ ftrue) ∷ ‵ (flft κ′ q′) ∷ ‵ (OwnIdentifiers zs) ∷ ‵ OwnFile ∷ ‵ OwnSpot ∷ ‵ OwnLines ∷ [])) (Post u)
   exits r u zs e k l =
-      qed W (‵ (S.the-row .own r (u ∷ [])) ∷ (‵ (flft κ q) ⊛ ‵ ftrue) ∷ ‵ (flft κ′ q′) ∷ ‵ (OwnNames zs) ∷ ‵ OwnFile ∷ ‵ OwnSpot ∷ ‵ OwnLines ∷ []) ∵
+      qed W (‵ (S.the-row .own r (u ∷ [])) ∷ (‵ (flft κ q) ⊛ ‵ ftrue) ∷ ‵ (flft κ′ q′) ∷ ‵ (OwnIdentifiers zs) ∷ ‵ OwnFile ∷ ‵ OwnSpot ∷ ‵ OwnLines ∷ []) ∵
       suffices ! _ (ends-at 𝓤 H A after.ended stayed (after.clauses 𝓤 H A mem run) W ((κs, (q, (q′, tt)), tt, (f, (s, (n, (x γ ys, tt)))), at), tt) u r (tt, (tt, (tt, (zs, tt)))) (tt, (tt, (tt, (l, tt))))) $ says-both ! e k $
       move ! (1 ∷ []) $ split ! $ move ! (3 ∷ 1 ∷ []) $ join ! $ move ! (1 ∷ 0 ∷ []) $ join ! $ frame ! $
       -- [the result; what the names own; what the file owns; what s owns; what n owns]
@@ -216,13 +216,13 @@ module _ {M : Type 1} (𝓤 : URA M) (H : Heap 𝓤) (A : Atoms 𝓤) (W : Given
   -- where the loop stands: the walker, the names, the number of lines left, and what is known of them
   pub record Turn : Type 0 where
     pub w : Walker
-    pub names : List ℕ
+    pub identifiers : List ℕ
     pub left : ℕ
     pub same : w .file ≡ f
-    pub long : length names ≡ length ys
+    pub long : length identifiers ≡ length ys
     pub small : left < 2 ^ 64
-    pub holds : spotsAfter rules-d (now f) names (w .spot) left ≡ spotsAfter rules-d (now f) ys s n
-    pub keeps : identifiersPast rules-d (now f) names (w .spot) left ≡ identifiersPast rules-d (now f) ys s n
+    pub holds : spotsAfter rules-d (now f) identifiers (w .spot) left ≡ spotsAfter rules-d (now f) ys s n
+    pub keeps : identifiersPast rules-d (now f) identifiers (w .spot) left ≡ identifiersPast rules-d (now f) ys s n
 
   abbrev Nearer : Turn → Turn → Type 0
   Nearer j i = j .left < i .left
@@ -231,26 +231,26 @@ module _ {M : Type 1} (𝓤 : URA M) (H : Heap 𝓤) (A : Atoms 𝓤) (W : Given
   Nearer-wf = InvImage·wf (λ (i : Turn). i .left) (Nat·lt-wfRel .wf)
 
   -- a line passed: the spot and the names after it
-  here : (i : Turn) (r : Walker) → Next (i .w) (i .names) r → r .spot ≡ spotAfter rules-d (now f) (i .names) (i .w .spot)
-  here i r e = e .1 ∙ ap (λ (g : RefT (List ℕ)). spotAfter rules-d (now g) (i .names) (i .w .spot)) (i .same)
+  here : (i : Turn) (r : Walker) → Next (i .w) (i .identifiers) r → r .spot ≡ spotAfter rules-d (now f) (i .identifiers) (i .w .spot)
+  here i r e = e .1 ∙ ap (λ (g : RefT (List ℕ)). spotAfter rules-d (now g) (i .identifiers) (i .w .spot)) (i .same)
 
-  kept-here : (i : Turn) (zs : List ℕ) → Kept (i .w) (i .names) zs → zs ≡ lineNames rules-d (now f) (i .w .spot .at) (i .w .spot .state) (i .names)
-  kept-here i zs k = k ∙ ap (λ (g : RefT (List ℕ)). lineNames rules-d (now g) (i .w .spot .at) (i .w .spot .state) (i .names)) (i .same)
+  kept-here : (i : Turn) (zs : List ℕ) → Kept (i .w) (i .identifiers) zs → zs ≡ lineIdentifiers rules-d (now f) (i .w .spot .at) (i .w .spot .state) (i .identifiers)
+  kept-here i zs k = k ∙ ap (λ (g : RefT (List ℕ)). lineIdentifiers rules-d (now g) (i .w .spot .at) (i .w .spot .state) (i .identifiers)) (i .same)
 
-  next : (i : Turn) (r : Walker) (zs : List ℕ) → Next (i .w) (i .names) r → Kept (i .w) (i .names) zs → length zs ≡ length (i .names) → 0 < i .left → Turn
+  next : (i : Turn) (r : Walker) (zs : List ℕ) → Next (i .w) (i .identifiers) r → Kept (i .w) (i .identifiers) zs → length zs ≡ length (i .identifiers) → 0 < i .left → Turn
   next i r zs e k l h = record {
     w = r;
-    names = zs;
+    identifiers = zs;
     left = i .left - 1;
     same = e .0 ∙ i .same;
     long = l ∙ i .long;
     small = lt-of-le-of-lt (omega arith) (i .small);
     holds =
         ap₂ (λ (p : Spot) (ns : List ℕ). spotsAfter rules-d (now f) ns p (i .left - 1)) (here i r e) (kept-here i zs k)
-        ∙ first-line-more rules-d (now f) (i .names) (i .w .spot) (i .left) h .0 ∙ i .holds;
+        ∙ first-line-more rules-d (now f) (i .identifiers) (i .w .spot) (i .left) h .0 ∙ i .holds;
     keeps =
         ap₂ (λ (p : Spot) (ns : List ℕ). identifiersPast rules-d (now f) ns p (i .left - 1)) (here i r e) (kept-here i zs k)
-        ∙ first-line-more rules-d (now f) (i .names) (i .w .spot) (i .left) h .1 ∙ i .keeps;
+        ∙ first-line-more rules-d (now f) (i .identifiers) (i .w .spot) (i .left) h .1 ∙ i .keeps;
   }
 
   module _ (𝓣 : Tables 𝓤 H) (fm : FmC 𝓤 H (W .laws) (𝓣 .C)) (known-moved : Triple 𝓤 (𝓣 .C #walker·moved) (Moved 𝓤 H A mem run)) (known-spot : Triple 𝓤 (𝓣 .C #walker·spot-of) (SpotOf 𝓤 H A mem run)) (l₀ l₁ l₂ l₃ l₄ l₅ l₆ l₇ l₈ l₉ l₁₀ l₁₁ : ℕ) where
@@ -265,7 +265,7 @@ module _ {M : Type 1} (𝓤 : URA M) (H : Heap 𝓤) (A : Atoms 𝓤) (W : Given
 
     -- [what the walker w owns; the tokens of κ and κ′; what the names, at the list l, own; what the file, s and n own; room for _11, _10, _9, _8, _7; …]
     abbrev Front : Walker → List ℕ → List (Item 𝓤) → List (Item 𝓤)
-    Front w l locals = ‵ (OwnAt w) ∷ ‵ (flft κ q) ∷ ‵ (flft κ′ q′) ∷ ‵ (OwnNames l) ∷ ‵ OwnFile ∷ ‵ OwnSpot ∷ ‵ OwnLines ∷
+    Front w l locals = ‵ (OwnAt w) ∷ ‵ (flft κ q) ∷ ‵ (flft κ′ q′) ∷ ‵ (OwnIdentifiers l) ∷ ‵ OwnFile ∷ ‵ OwnSpot ∷ ‵ OwnLines ∷
         ‵ (froom walker l₁₁ 0) ∷ ‵ (fdies walker l₁₁) ∷ ‵ (froom again-words l₁₀ 0) ∷ ‵ (fdies again-words l₁₀) ∷ ‵ (froom again-ptr l₉ 0) ∷ ‵ (fdies again-ptr l₉) ∷
         ‵ (froom walker l₈ 0) ∷ ‵ (fdies walker l₈) ∷ ‵ (froom tyBool l₇ 0) ∷ ‵ (fdies tyBool l₇) ∷ locals
 
@@ -276,7 +276,7 @@ module _ {M : Type 1} (𝓤 : URA M) (H : Heap 𝓤) (A : Atoms 𝓤) (W : Given
         ‵ (fat fullShare bytes l₁ 0 v) ∷ ‵ (fdies bytes l₁) ∷ ‵ (froom S′.mir l₀ 0) ∷ ‵ (fdies S′.mir l₀) ∷ []
 
     abbrev At : Turn → List (Item 𝓤)
-    At i = Front (i .w) (i .names) (‵ (fat fullShare word l₆ 0 (vint w64 (i .left))) ∷ Back (i .w))
+    At i = Front (i .w) (i .identifiers) (‵ (fat fullShare word l₆ 0 (vint w64 (i .left))) ∷ Back (i .w))
 
     -- a turn's postcondition: one line fewer is left, or the loop is left and the rest of the body runs
     abbrev Turned : Turn → Out → SProp 𝓤
@@ -294,15 +294,15 @@ module _ {M : Type 1} (𝓤 : URA M) (H : Heap 𝓤) (A : Atoms 𝓤) (W : Given
         assigns ! (addr ! (from ! (fld ! refl (hop ! (look-in ! 21 (sub ! 0 refl (whole !))) (stop !))))) (from ! (stop !)) (init ! 11 refl (tt, tt)) $
         assigns ! (agg ! (and-then ! (load ! (from ! (stop !)) (look ! 11 refl)) (and-then ! (load ! (from ! (fld ! refl (stop !))) (look-in ! 21 (sub ! 1 refl (whole !)))) (no-more !)))) (from ! (stop !)) (init ! 9 refl (tt, (tt, (record { fits = room .0 }, tt)))) $
         lft-new ! tt (λ ν. move ! (4 ∷ 3 ∷ []) $
-        use2 W (later (some (λ (δ : GName). ‵ (Lent (ν ∷ []) δ (i .names)) ⊛ ‵ (LentAgain u64 κ′ (ν ∷ []) q′ γ b o δ (i .names))))) (lends (ν ∷ []) (i .names) (i .long)) $ await ! tt $ pick ! (λ δ. split ! $
+        use2 W (later (some (λ (δ : GIdentifier). ‵ (Lent (ν ∷ []) δ (i .identifiers)) ⊛ ‵ (LentAgain u64 κ′ (ν ∷ []) q′ γ b o δ (i .identifiers))))) (lends (ν ∷ []) (i .identifiers) (i .long)) $ await ! tt $ pick ! (λ δ. split ! $
         -- [the names lent; the lender's part; the token of ν; what the walker owns; the token of κ; what the file, s and n own; …]
         nothing ! $ move ! (1 ∷ 0 ∷ []) $ fjoin ! $ move ! (3 ∷ 0 ∷ []) $ fjoin ! $ move ! (3 ∷ 2 ∷ 0 ∷ []) $
-        use3 W (raw (Moved 𝓤 H A mem run .pre (to-moved (i .w) ν δ (i .names)))) (goes-moved (i .w) ν δ (i .names)) $
-        calls-at ! fm (Moved 𝓤 H A mem run) known-moved (to-moved (i .w) ν δ (i .names)) (and-then ! (load ! (from ! (stop !)) (look ! 11 refl)) (and-then ! (load ! (from ! (stop !)) (look ! 7 refl)) (no-more !))) (λ u.
-        use1 W (later (some (λ (r : Walker). ((‵ (flft κ q) ⊛ ‵ (flft (ν ∷ []) fullShare) ⊛ ‵ ftrue) ⊛ ‵ (B (κ, tt) .own r (u ∷ []))) ⊛ raw (ensured 𝓤 H A moved.ended (moved.clauses 𝓤 H A mem run) (at-moved ν) (i .w, (x δ (i .names), tt)) tt r)))) (id⊢ 𝓤 _) $ await ! tt $ pick ! (λ r.
+        use3 W (raw (Moved 𝓤 H A mem run .pre (to-moved (i .w) ν δ (i .identifiers)))) (goes-moved (i .w) ν δ (i .identifiers)) $
+        calls-at ! fm (Moved 𝓤 H A mem run) known-moved (to-moved (i .w) ν δ (i .identifiers)) (and-then ! (load ! (from ! (stop !)) (look ! 11 refl)) (and-then ! (load ! (from ! (stop !)) (look ! 7 refl)) (no-more !))) (λ u.
+        use1 W (later (some (λ (r : Walker). ((‵ (flft κ q) ⊛ ‵ (flft (ν ∷ []) fullShare) ⊛ ‵ ftrue) ⊛ ‵ (B (κ, tt) .own r (u ∷ []))) ⊛ raw (ensured 𝓤 H A moved.ended (moved.clauses 𝓤 H A mem run) (at-moved ν) (i .w, (x δ (i .identifiers), tt)) tt r)))) (id⊢ 𝓤 _) $ await ! tt $ pick ! (λ r.
         -- what `moved` ensures, at some last list
-        split ! $ move ! (1 ∷ []) $ use1 W (some (λ (zs : Unit {0} × (List ℕ × Unit {0})). ‵ (lasts moved.ended (at-moved ν) (i .w, (x δ (i .names), tt)) zs) ⊛ (raw (fact 𝓤 (Next (i .w) (i .names) r)) ⊛ raw (fact 𝓤 (Kept (i .w) (i .names) (zs .1 .0)))))) (id⊢ 𝓤 _) $ pick ! (λ zs.
-        split ! $ move ! (1 ∷ []) $ split ! $ heard ! (Next (i .w) (i .names) r) (λ e. heard ! (Kept (i .w) (i .names) (zs .1 .0)) (λ k. fsplit ! $ drop ! $ fsplit ! $ fsplit ! $ move ! (1 ∷ []) $ feqL ! (λ l. move ! (1 ∷ []) $ drop ! $
+        split ! $ move ! (1 ∷ []) $ use1 W (some (λ (zs : Unit {0} × (List ℕ × Unit {0})). ‵ (lasts moved.ended (at-moved ν) (i .w, (x δ (i .identifiers), tt)) zs) ⊛ (raw (fact 𝓤 (Next (i .w) (i .identifiers) r)) ⊛ raw (fact 𝓤 (Kept (i .w) (i .identifiers) (zs .1 .0)))))) (id⊢ 𝓤 _) $ pick ! (λ zs.
+        split ! $ move ! (1 ∷ []) $ split ! $ heard ! (Next (i .w) (i .identifiers) r) (λ e. heard ! (Kept (i .w) (i .identifiers) (zs .1 .0)) (λ k. fsplit ! $ drop ! $ fsplit ! $ fsplit ! $ move ! (1 ∷ []) $ feqL ! (λ l. move ! (1 ∷ []) $ drop ! $
         -- [the last list; the tokens and what the new walker owns; the lender's part; what the file, s and n own; …]
         move ! (1 ∷ []) $ split ! $ move ! (1 ∷ []) $ peeks ! (B (κ, tt)) (Is (B (κ, tt))) (shows 𝓤 H A (B (κ, tt))) r (u ∷ []) (λ is′.
         land ! (from ! (stop !)) (store ! 19 refl (LL.lawful (T.the-type αᵉ) (T′.the-laws αᵉ) 𝓤 H A W .typed r _ is′ .0)) $
@@ -310,7 +310,7 @@ module _ {M : Type 1} (𝓤 : URA M) (H : Heap 𝓤) (A : Atoms 𝓤) (W : Given
         rewrite ! 0 (λ (us : List Val). ‵ (B (κ, tt) .own r us)) (LL.tells (T.the-type (namedLft 1 0 tt (κ, tt))) (T′.the-laws (namedLft 1 0 tt (κ, tt))) r _ is′) refl $
         -- the lifetime is ended, and the names come back at that list
         move ! (1 ∷ []) $ split ! $ move ! (1 ∷ []) $ split ! $ lft-end ! tt $ move ! (0 ∷ 5 ∷ 4 ∷ []) $
-        use3 W (later (‵ (OwnNames (zs .1 .0)) ⊛ ‵ (flft κ′ q′))) (back (ν ∷ []) δ (i .names) (zs .1 .0) (i .long) l) $ await ! tt $ split ! $
+        use3 W (later (‵ (OwnIdentifiers (zs .1 .0)) ⊛ ‵ (flft κ′ q′))) (back (ν ∷ []) δ (i .identifiers) (zs .1 .0) (i .long) l) $ await ! tt $ split ! $
         move ! (2 ∷ []) $ drop ! $ move ! (3 ∷ 2 ∷ 1 ∷ 0 ∷ []) $
         assigns-last ! (bin ! (load ! (from ! (stop !)) (look ! 17 refl)) (lit ! tt) (ltb→lt 0 (i .left) less)) (from ! (stop !)) (store ! 17 refl (tt, record { fits = next i r (zs .1 .0) e k l (ltb→lt 0 (i .left) less) .small })) $
         forget ! 15 refl $ forget ! 13 refl $ forget ! 11 refl $ forget ! 9 refl $ again ! Nearer At i (next i r (zs .1 .0) e k l (ltb→lt 0 (i .left) less)) (omega (arith, ltb→lt 0 (i .left) less))))))))))))
@@ -325,7 +325,7 @@ module _ {M : Type 1} (𝓤 : URA M) (H : Heap 𝓤) (A : Atoms 𝓤) (W : Given
         land ! (from ! (stop !)) (init ! 29 refl (LL.lawful S.the-type S′.the-laws 𝓤 H A W .typed r _ is′ .0)) $
         returns ! (look ! 29 refl) $ forget ! 7 refl $ forget ! 15 refl $ forget ! 17 refl $ forget ! 19 refl $ forget ! 21 refl $ forget ! 23 refl $ forget ! 25 refl $ forget ! 27 refl $ forget ! 29 refl $
         move ! (29 ∷ 30 ∷ []) $ free1 ! $ move ! (27 ∷ 28 ∷ []) $ free1 ! $ move ! (25 ∷ 26 ∷ []) $ free1 ! $ move ! (23 ∷ 24 ∷ []) $ free1 ! $ move ! (21 ∷ 22 ∷ []) $ free1 ! $ move ! (19 ∷ 20 ∷ []) $ free1 ! $ move ! (17 ∷ 18 ∷ []) $ free1 ! $ move ! (15 ∷ 16 ∷ []) $ free1 ! $ move ! (13 ∷ 14 ∷ []) $ free1 ! $ move ! (11 ∷ 12 ∷ []) $ free1 ! $ move ! (9 ∷ 10 ∷ []) $ free1 ! $ move ! (7 ∷ 8 ∷ []) $ free1 ! $ free0 ! $
-        by ! (let none = no-line-more rules-d (now f) (i .names) (i .w .spot) (i .left) (nltb→le 0 (i .left) over) in exits r u (i .names) (e ∙ none .0 ∙ i .holds) (none .1 ∙ i .keeps) (i .long))))))))
+        by ! (let none = no-line-more rules-d (now f) (i .identifiers) (i .w .spot) (i .left) (nltb→le 0 (i .left) over) in exits r u (i .identifiers) (e ∙ none .0 ∙ i .holds) (none .1 ∙ i .keeps) (i .long))))))))
 
     -- the loop and what follows it, from where the loop stands
     looped : (i : Turn) → Sq W (At i) (runs C Λ En (seq (block (loop turn)) rest) (atRet En Post))
@@ -337,7 +337,7 @@ module _ {M : Type 1} (𝓤 : URA M) (H : Heap 𝓤) (A : Atoms 𝓤) (W : Given
         assigns ! (of-opd ! (load ! (from ! (stop !)) (look ! 23 refl))) (from ! (stop !)) (init ! 17 refl (tt, record { fits = gn })) $
         looped (record {
           w = r;
-          names = ys;
+          identifiers = ys;
           left = n;
           same = e .0;
           long = refl;
@@ -372,7 +372,7 @@ module _ {M : Type 1} (𝓤 : URA M) (H : Heap 𝓤) (A : Atoms 𝓤) (W : Given
   after-walks : Walks 𝓤 H A after.ended stayed (WpFn 𝓤 H (𝓣 .C) (𝓣 .Λ) code.function) (after.clauses 𝓤 H A mem run)
   after-walks = walked 𝓤 H A after.ended stayed (after.clauses 𝓤 H A mem run) (WpFn 𝓤 H (𝓣 .C) (𝓣 .Λ) code.function)
       (λ κs. (slice-vals, (LL.vals S.the-type S′.the-laws, (uint-vals w64, (slice-vals, tt))))) (λ κs. (shr-slice-tells (named 0) (κs .0) u8, (LL.tells S.the-type S′.the-laws, (uint-tells w64, (mut-slice-tells (named 1) (κs .1 .0) u64, tt)))))
-      (λ κs qs bounds a g are. via 𝓤 _ (fst∗ 𝓤 _ (emp 𝓤)) (walk 𝓤 H A W mem run (κs .0) (κs .1 .0) (qs .0) (qs .1 .0) (a .0) (a .1 .0) (a .1 .1 .0) (a .1 .1 .1 .0 .ptr .0) (a .1 .1 .1 .0 .ptr .1) (a .1 .1 .1 .0 .name) (a .1 .1 .1 .0 .now) (are .1 .1 .0 .1) (are .1 .1 .1 .0 .0 .1)
+      (λ κs qs bounds a g are. via 𝓤 _ (fst∗ 𝓤 _ (emp 𝓤)) (walk 𝓤 H A W mem run (κs .0) (κs .1 .0) (qs .0) (qs .1 .0) (a .0) (a .1 .0) (a .1 .1 .0) (a .1 .1 .1 .0 .ptr .0) (a .1 .1 .1 .0 .ptr .1) (a .1 .1 .1 .0 .identifier) (a .1 .1 .1 .0 .now) (are .1 .1 .0 .1) (are .1 .1 .1 .0 .0 .1)
       𝓣 (fmOf 𝓤 H (W .laws) 𝓣) known-new known-moved known-spot (are .0) (are .1 .0)))
 
   after-meets : Meets 𝓤 H A after.signature (WpFn 𝓤 H (𝓣 .C) (𝓣 .Λ) code.function) (after.spec 𝓤 H A mem run)

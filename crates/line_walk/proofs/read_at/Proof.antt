@@ -3,7 +3,7 @@
 use mathlib.Core.Path.{_∙_, ap}
 use borrow.Author.Needs.{needs}
 use Rattle.header.specs.declared.types.Rules.{Rules}
-use Rattle.machine.specs.Step.{lineRead, lineNames}
+use Rattle.machine.specs.Step.{lineRead, lineIdentifiers}
 use Rattle.machine.specs.Told.{toldRead}
 use Rattle.line_walk.proofs.read_at.Statement.{statement}
 use Rattle.line_walk.proofs.read_at.Tie as tie
@@ -13,8 +13,8 @@ returns c =
     let done = c .before .before in
     let ruled = done .before .before in
     let a = ruled .before .before .before .before .args in (
-      done .read-line .ensures .0 ∙ ap (λ (k : Rules). toldRead (lineRead k (a .file .now) (a .spot .at) (a .spot .state) (a .names .now))) (ruled .d .ensures),
-      done .read-line .ensures .1 ∙ ap (λ (k : Rules). lineNames k (a .file .now) (a .spot .at) (a .spot .state) (a .names .now)) (ruled .d .ensures),
+      done .read-line .ensures .0 ∙ ap (λ (k : Rules). toldRead (lineRead k (a .file .now) (a .spot .at) (a .spot .state) (a .identifiers .now))) (ruled .d .ensures),
+      done .read-line .ensures .1 ∙ ap (λ (k : Rules). lineIdentifiers k (a .file .now) (a .spot .at) (a .spot .state) (a .identifiers .now)) (ruled .d .ensures),
     )
 
 pub read-at-spec : {M : Type 1} → statement M

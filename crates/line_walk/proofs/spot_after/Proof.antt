@@ -11,10 +11,10 @@ use Rattle.line_walk.proofs.spot_after.Tie as tie
 
 -- where the line has been read
 read : (c : tie.After-read-at) (w : LineRead) → c .read-at .result ≡ w
-    → let a = c .before .before .before .before .args in goneTo w (a .spot) ≡ spotAfter d (a .file .now) (a .names .now) (a .spot)
+    → let a = c .before .before .before .before .args in goneTo w (a .spot) ≡ spotAfter d (a .file .now) (a .identifiers .now) (a .spot)
 read c w is =
     let a = c .before .before .before .before .args in
-    spot-read d (a .file .now) (a .names .now) (a .spot) (c .read-at .result) w (c .read-at .ensures .0) is
+    spot-read d (a .file .now) (a .identifiers .now) (a .spot) (c .read-at .result) w (c .read-at .ensures .0) is
 
 returns : tie.Need-returns
 returns c = let done = c .before .before .before .before .before in (read done _ (c .before .at .given .1), done .read-at .ensures .1)

@@ -13,10 +13,10 @@ use Rattle.scan.proofs.scan_front.Statement.{statement}
 use Rattle.scan.proofs.scan_front.Tie as tie
 
 abbrev Inv-loop : tie.InvT-loop
-Inv-loop rules bytes names₀ state₀ tally₀ names state tally = Going rules bytes names state tally
+Inv-loop rules bytes identifiers₀ state₀ tally₀ identifiers state tally = Going rules bytes identifiers state tally
 
 abbrev μ-loop : tie.MeasureT-loop
-μ-loop rules bytes names₀ state₀ tally₀ names state tally = length bytes - tally .end
+μ-loop rules bytes identifiers₀ state₀ tally₀ identifiers state tally = length bytes - tally .end
 
 loop-holds : tie.Need-loop-holds Inv-loop μ-loop
 loop-holds c = going-first (c .before .before .args .rules) (c .before .before .args .bytes .now) (c .start .result) (c .start .ensures)
@@ -25,11 +25,11 @@ loop-holds c = going-first (c .before .before .args .rules) (c .before .before .
 after-read : (c : tie.After-line-at Inv-loop μ-loop) (w : LineRead) → c .line-at .result ≡ w
     → let here = c .before .before .before in
     let a = here .before .before .before .args in
-    Turned (a .rules) (a .bytes .now) (here .loop .names) (here .loop .state) (here .loop .tally) w
+    Turned (a .rules) (a .bytes .now) (here .loop .identifiers) (here .loop .state) (here .loop .tally) w
 after-read c w e =
     let here = c .before .before .before in
     let a = here .before .before .before .args in
-    turned (a .rules) (a .bytes .now) (here .loop .names) (here .loop .state) (here .loop .tally) (here .loop .inv)
+    turned (a .rules) (a .bytes .now) (here .loop .identifiers) (here .loop .state) (here .loop .tally) (here .loop .inv)
     (c .line-at .result) w (toldRead-one _ _ (c .line-at .ensures)) e
 
 returns : tie.Need-returns Inv-loop μ-loop
@@ -56,10 +56,10 @@ loop-again c =
     let here = known .before .before .before .before .before in
     let a = here .before .before .before .args in
     let text = take (known .end2 .given .0 .0 - 1 - here .loop .tally .end) (drop (here .loop .tally .end) (a .bytes .now)) in
-    after-read (known .before .before) _ (known .end2 .given .1) .goes-on (joined .if1 .names) (c .count-line2 .result)
+    after-read (known .before .before) _ (known .end2 .given .1) .goes-on (joined .if1 .identifiers) (c .count-line2 .result)
     (⊎-elim
-    (λ w. w .4 ∙ brought-so (a .rules) (here .loop .state) (here .loop .names) text _ (w .0 .taken) (w .2 .ensures .1))
-    (λ w. w .1 ∙ none-brought (a .rules) (here .loop .state) (here .loop .names) text (w .0 .left))
+    (λ w. w .4 ∙ brought-so (a .rules) (here .loop .state) (here .loop .identifiers) text _ (w .0 .taken) (w .2 .ensures .1))
+    (λ w. w .1 ∙ none-brought (a .rules) (here .loop .state) (here .loop .identifiers) text (w .0 .left))
     (joined .if1 .came))
     (c .count-line2 .ensures)
 

@@ -9,7 +9,7 @@ use borrow.Author.Tests.{not-true, not-false}
 use borrow.Author.Needs.{needs}
 use lib.ListN.{length, take}
 use Rattle.canon.specs.Table.{Table, tableOf, cellsIn, tableIdentifiers, exponentsOf, commentsOf, rowsOf}
-use Rattle.canon.specs.Valid.{countsHold, namesValid, exponentsValid, commentsValid, rowsValid}
+use Rattle.canon.specs.Valid.{countsHold, identifiersValid, exponentsValid, commentsValid, rowsValid}
 use Rattle.canon.specs.Measured.{formLength}
 use Rattle.canon.proofs.Tests.{both}
 use Rattle.canon.proofs.Counting.{Long, long}
@@ -53,14 +53,14 @@ known c = c .before .before .before .before .before
 -- what the tests of the lists say together
 judged : (c : tie.After-exponents-valid) → (
     let t = table (known c .before) in
-    (c .before .before .before .names-valid .result && (c .exponents-valid .result && c .before .before .table-spent .result .valid))
-    ≡ (namesValid (t .header .«file_type») (tableIdentifiers t)
+    (c .before .before .before .identifiers-valid .result && (c .exponents-valid .result && c .before .before .table-spent .result .valid))
+    ≡ (identifiersValid (t .header .«file_type») (tableIdentifiers t)
     && (exponentsValid (exponentsOf t)
     && (commentsValid (start (known c .before) .args .rules) (t .header .comments) (commentsOf t) && rowsValid (t .header .velocity) (cellsIn (t .header)) (rowsOf t)))))
 judged c =
     let t = table (known c .before) in
     let whole = sub-zero (t .header .satellites) in
-    both (c .before .before .before .names-valid .ensures ∙ ap (λ (n : ℕ). namesValid (t .header .«file_type») (take n (t .identifiers))) whole)
+    both (c .before .before .before .identifiers-valid .ensures ∙ ap (λ (n : ℕ). identifiersValid (t .header .«file_type») (take n (t .identifiers))) whole)
     (both (c .exponents-valid .ensures ∙ ap (λ (n : ℕ). exponentsValid (take n (t .exponents))) whole) (c .before .before .table-spent .ensures .0))
 
 -- what is left of the room

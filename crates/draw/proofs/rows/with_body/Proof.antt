@@ -10,7 +10,7 @@ use Rattle.draw.proofs.rows.with_body.Tie as tie
 returns : tie.Need-returns
 returns c =
     draws bodyItems (bodyValues (c .before .before .before .before .before .before .before .before .before .before .before .before .before .args .p)) (c .before .before .before .before .before .before .before .before .before .before .before .before .before .args .line)
-    (draw (c .before .before .before .before .before .before .before .before .with-name .ensures) refl
+    (draw (c .before .before .before .before .before .before .before .before .with-identifier .ensures) refl
     (draw (c .before .before .before .before .before .before .before .with-signed .ensures) refl
     (draw (c .before .before .before .before .before .before .with-signed2 .ensures) refl
     (draw (c .before .before .before .before .before .with-signed3 .ensures) refl

@@ -28,7 +28,7 @@ returns-2 c =
 returns-3 : tie.Need-returns-3
 returns-3 c =
     let a = c .before .before .before .before .before .before .before .args in
-    rw (not-false (a .used) (c .before .before .before .before .before .if1 .left), c .before .before .before .before .if2 .left) (c .before .before .put-name .ensures)
+    rw (not-false (a .used) (c .before .before .before .before .before .if1 .left), c .before .before .before .before .if2 .left) (c .before .before .put-identifier .ensures)
 
 pub put-slot-spec : {M : Type 1} → statement M
 put-slot-spec =

@@ -13,10 +13,10 @@ use Rattle.machine.proofs.checks.all_begin.Statement.{statement}
 use Rattle.machine.proofs.checks.all_begin.Tie as tie
 
 abbrev Inv-loop : tie.InvT-loop
-Inv-loop letter names i₀ i = every (λ name. eqb (letterOf name) letter) (drop i names) ≡ every (λ name. eqb (letterOf name) letter) names
+Inv-loop letter identifiers i₀ i = every (λ identifier. eqb (letterOf identifier) letter) (drop i identifiers) ≡ every (λ identifier. eqb (letterOf identifier) letter) identifiers
 
 abbrev μ-loop : tie.MeasureT-loop
-μ-loop letter names i₀ i = length names - i
+μ-loop letter identifiers i₀ i = length identifiers - i
 
 returns : tie.Need-returns Inv-loop μ-loop
 returns c =
@@ -24,7 +24,7 @@ returns c =
     let a = at-loop .before .args in
     sym
     (sym (at-loop .loop .inv)
-    ∙ every-step (λ name. eqb (letterOf name) (a .letter)) (a .names .now) (at-loop .loop .i) (c .before .before .loop-test .taken)
+    ∙ every-step (λ identifier. eqb (letterOf identifier) (a .letter)) (a .identifiers .now) (at-loop .loop .i) (c .before .before .loop-test .taken)
     ∙ rw (ne-eqb _ _ (c .if1 .taken)))
 
 loop-again : tie.Need-loop-again Inv-loop μ-loop
@@ -33,7 +33,7 @@ loop-again c =
     let a = at-loop .before .args in
     sym
     (sym (at-loop .loop .inv)
-    ∙ every-step (λ name. eqb (letterOf name) (a .letter)) (a .names .now) (at-loop .loop .i) (c .before .before .loop-test .taken)
+    ∙ every-step (λ identifier. eqb (letterOf identifier) (a .letter)) (a .identifiers .now) (at-loop .loop .i) (c .before .before .loop-test .taken)
     ∙ rw (eq-eqb _ _ (c .if1 .left)))
 
 returns-2 : tie.Need-returns-2 Inv-loop μ-loop
@@ -41,7 +41,7 @@ returns-2 c =
     let at-loop = c .before in
     let a = at-loop .before .args in
     sym
-    (sym (at-loop .loop .inv) ∙ every-end (λ name. eqb (letterOf name) (a .letter)) (a .names .now) (at-loop .loop .i) (c .loop-test .left))
+    (sym (at-loop .loop .inv) ∙ every-end (λ identifier. eqb (letterOf identifier) (a .letter)) (a .identifiers .now) (at-loop .loop .i) (c .loop-test .left))
 
 pub all-begin-spec : {M : Type 1} → statement M
 all-begin-spec =

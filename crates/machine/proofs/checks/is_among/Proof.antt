@@ -11,10 +11,10 @@ use Rattle.machine.proofs.checks.is_among.Statement.{statement}
 use Rattle.machine.proofs.checks.is_among.Tie as tie
 
 abbrev Inv-loop : tie.InvT-loop
-Inv-loop name names i₀ i = isOneOf name (drop i names) ≡ isOneOf name names
+Inv-loop identifier identifiers i₀ i = isOneOf identifier (drop i identifiers) ≡ isOneOf identifier identifiers
 
 abbrev μ-loop : tie.MeasureT-loop
-μ-loop name names i₀ i = length names - i
+μ-loop identifier identifiers i₀ i = length identifiers - i
 
 returns : tie.Need-returns Inv-loop μ-loop
 returns c =
@@ -22,7 +22,7 @@ returns c =
     let a = at-loop .before .args in
     sym
     (sym (at-loop .loop .inv)
-    ∙ among-step (a .name) (a .names .now) (at-loop .loop .i) (c .before .before .loop-test .taken)
+    ∙ among-step (a .identifier) (a .identifiers .now) (at-loop .loop .i) (c .before .before .loop-test .taken)
     ∙ rw (eq-eqb _ _ (c .if1 .taken)))
 
 loop-again : tie.Need-loop-again Inv-loop μ-loop
@@ -31,14 +31,14 @@ loop-again c =
     let a = at-loop .before .args in
     sym
     (sym (at-loop .loop .inv)
-    ∙ among-step (a .name) (a .names .now) (at-loop .loop .i) (c .before .before .loop-test .taken)
+    ∙ among-step (a .identifier) (a .identifiers .now) (at-loop .loop .i) (c .before .before .loop-test .taken)
     ∙ rw (ne-eqb _ _ (c .if1 .left)))
 
 returns-2 : tie.Need-returns-2 Inv-loop μ-loop
 returns-2 c =
     let at-loop = c .before in
     let a = at-loop .before .args in
-    sym (sym (at-loop .loop .inv) ∙ among-end (a .name) (a .names .now) (at-loop .loop .i) (c .loop-test .left))
+    sym (sym (at-loop .loop .inv) ∙ among-end (a .identifier) (a .identifiers .now) (at-loop .loop .i) (c .loop-test .left))
 
 pub is-among-spec : {M : Type 1} → statement M
 is-among-spec =

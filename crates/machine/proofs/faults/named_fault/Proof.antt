@@ -8,7 +8,7 @@ use Rattle.machine.proofs.faults.named_fault.Tie as tie
 returns : tie.Need-returns
 unfolding namedFault
 returns c =
-    simp (c .lower-unless .ensures, c .before .name-due .ensures, c .before .before .satellite-in .ensures, c .before .before .before .row-fault .ensures)
+    simp (c .lower-unless .ensures, c .before .identifier-due .ensures, c .before .before .satellite-in .ensures, c .before .before .before .row-fault .ensures)
 
 pub named-fault-spec : {M : Type 1} → statement M
 named-fault-spec =

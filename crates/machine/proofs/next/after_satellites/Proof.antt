@@ -15,7 +15,7 @@ returns c = rw (eq-eqb _ 0 (c .before .before .if1 .taken)) (c .after-count .ens
 
 returns-2 : tie.Need-returns-2
 unfolding afterSatellites
-returns-2 c = rw (ne-eqb _ 0 (c .before .if1 .left)) (c .after-names .ensures)
+returns-2 c = rw (ne-eqb _ 0 (c .before .if1 .left)) (c .after-identifiers .ensures)
 
 pub after-satellites-spec : {M : Type 1} → statement M
 after-satellites-spec = tie.close (tie.spec (λ c κs. search needs) (λ c κs. search needs) returns (λ c κs. search needs) returns-2)

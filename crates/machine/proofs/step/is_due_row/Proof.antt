@@ -23,7 +23,7 @@ returns-2 c =
       due,
       c .is-usual .ensures,
       c .before .before .satellite-in .ensures,
-      c .before .name-due .ensures,
+      c .before .identifier-due .ensures,
     )
 
 pub is-due-row-spec : {M : Type 1} → statement M

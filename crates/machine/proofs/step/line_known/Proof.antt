@@ -16,19 +16,19 @@ returns : tie.Need-returns
 returns c =
     let a = c .before .before .before .before .args in
     ap toldRead
-    (none-left (stepOf (a .rules) (a .state) (a .names .now)) (a .bytes .now) (a .at) (c .before .line-end .result) (c .before .line-end .ensures)
+    (none-left (stepOf (a .rules) (a .state) (a .identifiers .now)) (a .bytes .now) (a .at) (c .before .line-end .result) (c .before .line-end .ensures)
     (c .if1 .taken))
 
 -- where the line has been judged
 judged : (c : tie.After-step-line) (w : Verdict) → c .step-line .result ≡ w
     → let ended = c .before .before .before in
     let a = ended .before .before .before .args in
-    toldRead (readAs w (ended .line-end .result + 1)) ≡ toldRead (lineKnown (a .rules) (a .bytes .now) (a .at) (a .state) (a .names .now))
+    toldRead (readAs w (ended .line-end .result + 1)) ≡ toldRead (lineKnown (a .rules) (a .bytes .now) (a .at) (a .state) (a .identifiers .now))
 judged c w is =
     let ended = c .before .before .before in
     let a = ended .before .before .before .args in
     ap toldRead
-    (judged-read (stepOf (a .rules) (a .state) (a .names .now)) (a .bytes .now) (a .at) (ended .line-end .result) (ended .line-end .ensures)
+    (judged-read (stepOf (a .rules) (a .state) (a .identifiers .now)) (a .bytes .now) (a .at) (ended .line-end .result) (ended .line-end .ensures)
     (c .before .before .if1 .left) w (sym is ∙ toldVerdict-one (c .step-line .result) _ (c .step-line .ensures)))
 
 returns-2 : tie.Need-returns-2

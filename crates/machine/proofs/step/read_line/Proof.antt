@@ -8,7 +8,7 @@ use borrow.Author.Needs.{needs}
 use lib.ListN.{length}
 use Rattle.machine.specs.declared.types.State.{State}
 use Rattle.machine.specs.declared.types.LineRead.the-variants as found
-use Rattle.machine.proofs.Stepping.{goes-on, read-same, read-other, read-names}
+use Rattle.machine.proofs.Stepping.{goes-on, read-same, read-other, read-identifiers}
 use Rattle.machine.proofs.step.read_line.Statement.{statement}
 use Rattle.machine.proofs.step.read_line.Tie as tie
 
@@ -16,7 +16,7 @@ returns : tie.Need-returns
 returns c =
     let read = c .before in
     let a = read .before .before .before .before .args in
-    read-same (a .rules) (a .bytes .now) (a .at) (a .state) (a .names .now) (read .line-known .result) (read .line-known .ensures) (c .match .keys2)
+    read-same (a .rules) (a .bytes .now) (a .at) (a .state) (a .identifiers .now) (read .line-known .result) (read .line-known .ensures) (c .match .keys2)
 
 -- where the line goes on: its bounds
 bounds : (c : tie.After-line-known) (place : ℕ) (s′ : State) → c .line-known .result ≡ found.Next place s′
@@ -24,7 +24,7 @@ bounds : (c : tie.After-line-known) (place : ℕ) (s′ : State) → c .line-kno
     (a .at < place) × (place ≤ length (a .bytes .now))
 bounds c place s′ is =
     let a = c .before .before .before .before .args in
-    let g = goes-on (a .rules) (a .bytes .now) (a .at) (a .state) (a .names .now) (c .line-known .result) place s′ (c .line-known .ensures) is .lined-so in
+    let g = goes-on (a .rules) (a .bytes .now) (a .at) (a .state) (a .identifiers .now) (c .line-known .result) place s′ (c .line-known .ensures) is .lined-so in
     (g .starts, g .within)
 
 returns-2 : tie.Need-returns-2
@@ -32,7 +32,7 @@ returns-2 c =
     let told = c .before .before .before in
     let read = told .before .before in
     let a = read .before .before .before .before .args in
-    read-other (a .rules) (a .bytes .now) (a .at) (a .state) (a .names .now) (read .line-known .result) _ _ (read .line-known .ensures) (told .found .given .1) (c .if1 .taken)
+    read-other (a .rules) (a .bytes .now) (a .at) (a .state) (a .identifiers .now) (read .line-known .result) _ _ (read .line-known .ensures) (told .found .given .1) (c .if1 .taken)
 
 returns-3 : tie.Need-returns-3
 returns-3 c =
@@ -41,8 +41,8 @@ returns-3 c =
     let told = due .before .before .before in
     let read = told .before .before in
     let a = read .before .before .before .before .args in
-    read-names (a .rules) (a .bytes .now) (a .at) (a .state) (a .names .now) (read .line-known .result) _ _ (read .line-known .ensures) (told .found .given .1)
-    (due .if1 .left) true _ (sym (c .if2 .taken) ∙ keeping .keep-names .ensures .0) (keeping .keep-names .ensures .1)
+    read-identifiers (a .rules) (a .bytes .now) (a .at) (a .state) (a .identifiers .now) (read .line-known .result) _ _ (read .line-known .ensures) (told .found .given .1)
+    (due .if1 .left) true _ (sym (c .if2 .taken) ∙ keeping .keep-identifiers .ensures .0) (keeping .keep-identifiers .ensures .1)
 
 returns-4 : tie.Need-returns-4
 returns-4 c =
@@ -51,8 +51,8 @@ returns-4 c =
     let told = due .before .before .before in
     let read = told .before .before in
     let a = read .before .before .before .before .args in
-    read-names (a .rules) (a .bytes .now) (a .at) (a .state) (a .names .now) (read .line-known .result) _ _ (read .line-known .ensures) (told .found .given .1)
-    (due .if1 .left) false _ (sym (c .if2 .left) ∙ keeping .keep-names .ensures .0) (keeping .keep-names .ensures .1)
+    read-identifiers (a .rules) (a .bytes .now) (a .at) (a .state) (a .identifiers .now) (read .line-known .result) _ _ (read .line-known .ensures) (told .found .given .1)
+    (due .if1 .left) false _ (sym (c .if2 .left) ∙ keeping .keep-identifiers .ensures .0) (keeping .keep-identifiers .ensures .1)
 
 pub read-line-spec : {M : Type 1} → statement M
 read-line-spec =

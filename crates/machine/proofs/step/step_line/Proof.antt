@@ -17,14 +17,14 @@ returns c =
     let a = padding .before .before .before .args in
     ap toldVerdict
     (ap verdict.Next (c .after-position .ensures)
-    ∙ due-row-next (a .rules) (a .state) (a .names .now) (a .line .now) (padding .pad .result) (padding .pad .ensures) (sym (told .is-due-row .ensures) ∙ c .before .if1 .taken))
+    ∙ due-row-next (a .rules) (a .state) (a .identifiers .now) (a .line .now) (padding .pad .result) (padding .pad .ensures) (sym (told .is-due-row .ensures) ∙ c .before .if1 .taken))
 
 returns-2 : tie.Need-returns-2
 returns-2 c =
     let judged = c .before .before in
     let a = judged .before .before .before .before .before .before .before .before .args in
     ap toldVerdict
-    (unprintable (a .rules) (a .state) (a .names .now) (a .line .now) (c .first-unprintable .result) (sym (judged .is-plain .ensures) ∙ not-true _ (c .before .if2 .taken)) (c .first-unprintable .ensures))
+    (unprintable (a .rules) (a .state) (a .identifiers .now) (a .line .now) (c .first-unprintable .result) (sym (judged .is-plain .ensures) ∙ not-true _ (c .before .if2 .taken)) (c .first-unprintable .ensures))
 
 returns-3 : tie.Need-returns-3
 returns-3 c =
@@ -33,7 +33,7 @@ returns-3 c =
     let padding = judged .before .before .before .before .before in
     let a = padding .before .before .before .args in
     ap toldVerdict
-    (too-long (a .rules) (a .state) (a .names .now) (a .line .now) (sym (judged .is-plain .ensures) ∙ not-false _ (kinded .before .before .if2 .left)) (padding .pad .result) (padding .pad .ensures) (kinded .kind-of .result) (kinded .kind-of .ensures) (c .before .longest-line .result) (c .before .longest-line .ensures) (c .if3 .taken))
+    (too-long (a .rules) (a .state) (a .identifiers .now) (a .line .now) (sym (judged .is-plain .ensures) ∙ not-false _ (kinded .before .before .if2 .left)) (padding .pad .result) (padding .pad .ensures) (kinded .kind-of .result) (kinded .kind-of .ensures) (c .before .longest-line .result) (c .before .longest-line .ensures) (c .if3 .taken))
 
 returns-4 : tie.Need-returns-4
 returns-4 c =
@@ -43,7 +43,7 @@ returns-4 c =
     let padding = judged .before .before .before .before .before in
     let a = padding .before .before .before .args in
     ap toldVerdict
-    (short-enough (a .rules) (a .state) (a .names .now) (a .line .now) (sym (judged .is-plain .ensures) ∙ not-false _ (kinded .before .before .if2 .left)) (padding .pad .result) (padding .pad .ensures) (kinded .kind-of .result) (kinded .kind-of .ensures) (measured .longest-line .result) (measured .longest-line .ensures) (c .judge-line .result) (c .before .before .if3 .left) (c .judge-line .ensures))
+    (short-enough (a .rules) (a .state) (a .identifiers .now) (a .line .now) (sym (judged .is-plain .ensures) ∙ not-false _ (kinded .before .before .if2 .left)) (padding .pad .result) (padding .pad .ensures) (kinded .kind-of .result) (kinded .kind-of .ensures) (measured .longest-line .result) (measured .longest-line .ensures) (c .judge-line .result) (c .before .before .if3 .left) (c .judge-line .ensures))
 
 pub step-line-spec : {M : Type 1} → statement M
 step-line-spec =

@@ -8,20 +8,20 @@ use borrow.Author.Tests.{not-true, not-false, eq-eqb, ne-eqb}
 use borrow.Author.Needs.{needs}
 use lib.Dec.{eqb}
 use lib.ListN.{length, getD}
-use Rattle.layout.specs.Kind.{named, nameNumber, nameCode}
+use Rattle.layout.specs.Kind.{named, identifierNumber, identifierCode}
 use Rattle.questions.specs.Questions.{identifierNamed}
 use Rattle.questions.proofs.satellites.identifier_of.Statement.{statement}
 use Rattle.questions.proofs.satellites.identifier_of.Tie as tie
 
 -- three bytes: by their letter and digits, and the number of these
-three : (text : List ℕ) (n : ℕ) (b : Bool) → length text ≡ 3 → n ≡ nameNumber text → b ≡ named text → (named text && not (eqb (nameNumber text) 0)) ≡ (b && not (eqb n 0))
+three : (text : List ℕ) (n : ℕ) (b : Bool) → length text ≡ 3 → n ≡ identifierNumber text → b ≡ named text → (named text && not (eqb (identifierNumber text) 0)) ≡ (b && not (eqb n 0))
 three text n b e number is = rw (number, is)
 
-none : (text : List ℕ) → length text ≡ 3 → (named text && not (eqb (nameNumber text) 0)) ≡ false → 0 ≡ identifierNamed text
+none : (text : List ℕ) → length text ≡ 3 → (named text && not (eqb (identifierNumber text) 0)) ≡ false → 0 ≡ identifierNamed text
 unfolding identifierNamed
 none text e fails = rw (eq-eqb _ _ e, fails)
 
-some : (text : List ℕ) (r : ℕ) → length text ≡ 3 → (named text && not (eqb (nameNumber text) 0)) ≡ true → r ≡ nameCode text → r ≡ identifierNamed text
+some : (text : List ℕ) (r : ℕ) → length text ≡ 3 → (named text && not (eqb (identifierNumber text) 0)) ≡ true → r ≡ identifierCode text → r ≡ identifierNamed text
 unfolding identifierNamed
 some text r e holds is = rw (eq-eqb _ _ e, holds) is
 
@@ -44,9 +44,9 @@ returns-3 c =
     let counted = asked .before .before .before .before in
     let e = counted .before .before .before .if1 .left in
     let text = counted .before .before .before .before .before .args .text .now in
-    some text (c .name-code .result) e
+    some text (c .identifier-code .result) e
     (three text (counted .two-digits .result) (asked .is-named .result) e (counted .two-digits .ensures .0) (asked .is-named .ensures) ∙ not-false _ (left .if2 .left))
-    (c .name-code .ensures ∙ ap (λ (n : ℕ). getD text 0 0 * 100 + n) (counted .two-digits .ensures .0))
+    (c .identifier-code .ensures ∙ ap (λ (n : ℕ). getD text 0 0 * 100 + n) (counted .two-digits .ensures .0))
 
 pub identifier-of-spec : {M : Type 1} → statement M
 identifier-of-spec =

@@ -12,30 +12,30 @@ use Rattle.questions.proofs.satellites.index_of.Statement.{statement}
 use Rattle.questions.proofs.satellites.index_of.Tie as tie
 
 abbrev Inv-loop : tie.InvT-loop
-Inv-loop name names i₀ i = (i ≤ length names) × (i + indexOf name (drop i names) ≡ indexOf name names)
+Inv-loop identifier identifiers i₀ i = (i ≤ length identifiers) × (i + indexOf identifier (drop i identifiers) ≡ indexOf identifier identifiers)
 
 abbrev μ-loop : tie.MeasureT-loop
-μ-loop name names i₀ i = length names - i
+μ-loop identifier identifiers i₀ i = length identifiers - i
 
 loop-holds : tie.Need-loop-holds Inv-loop μ-loop
-loop-holds c = (search needs, zero-add (indexOf (c .args .name) (c .args .names .now)))
+loop-holds c = (search needs, zero-add (indexOf (c .args .identifier) (c .args .identifiers .now)))
 
 returns : tie.Need-returns Inv-loop μ-loop
 returns c =
     let at-loop = c .before .before .before in
     let a = at-loop .before .args in
-    sym (index-here (a .name) (a .names .now) (at-loop .loop .i) (omega arith) (c .if1 .taken)) ∙ at-loop .loop .inv .1
+    sym (index-here (a .identifier) (a .identifiers .now) (at-loop .loop .i) (omega arith) (c .if1 .taken)) ∙ at-loop .loop .inv .1
 
 loop-again : tie.Need-loop-again Inv-loop μ-loop
 loop-again c =
     let at-loop = c .before .before .before in
     let a = at-loop .before .args in
-    (search needs, index-later (a .name) (a .names .now) (at-loop .loop .i) (omega arith) (c .if1 .left) ∙ at-loop .loop .inv .1)
+    (search needs, index-later (a .identifier) (a .identifiers .now) (at-loop .loop .i) (omega arith) (c .if1 .left) ∙ at-loop .loop .inv .1)
 
 returns-2 : tie.Need-returns-2 Inv-loop μ-loop
 returns-2 c =
     let a = c .before .before .args in
-    sym (index-none (a .name) (a .names .now) (c .before .loop .i) (omega arith)) ∙ c .before .loop .inv .1
+    sym (index-none (a .identifier) (a .identifiers .now) (c .before .loop .i) (omega arith)) ∙ c .before .loop .inv .1
 
 pub index-of-spec : {M : Type 1} → statement M
 index-of-spec =

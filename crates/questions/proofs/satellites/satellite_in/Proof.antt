@@ -10,13 +10,13 @@ use Rattle.questions.proofs.satellites.satellite_in.Tie as tie
 returns : tie.Need-returns
 returns c =
     let known = c .before in
-    rw (← known .index-of .ensures, lt-ltb (known .index-of .result) (length (known .before .before .args .names .now)) (c .if1 .taken))
+    rw (← known .index-of .ensures, lt-ltb (known .index-of .result) (length (known .before .before .args .identifiers .now)) (c .if1 .taken))
 
 returns-2 : tie.Need-returns-2
 returns-2 c =
     let known = c .before .before in
     c .no-satellite .ensures
-    ∙ rw (← known .index-of .ensures, le-ltb (known .index-of .result) (length (known .before .before .args .names .now)) (c .before .if1 .left))
+    ∙ rw (← known .index-of .ensures, le-ltb (known .index-of .result) (length (known .before .before .args .identifiers .now)) (c .before .if1 .left))
 
 pub satellite-in-spec : {M : Type 1} → statement M
 satellite-in-spec = tie.close (tie.spec (λ c κs. search needs) returns (λ c κs. search needs) returns-2)

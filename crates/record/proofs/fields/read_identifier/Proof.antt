@@ -10,7 +10,7 @@ returns : tie.Need-returns
 returns c = rw (sym (c .before .before .is-named .ensures) ∙ not-true _ (c .before .if1 .taken), c .lower .ensures)
 
 returns-2 : tie.Need-returns-2
-returns-2 c = rw (sym (c .before .before .before .before .before .is-named .ensures) ∙ not-false _ (c .before .before .before .before .if1 .left), c .name-code .ensures, c .before .fault-unless .ensures, c .before .before .within .ensures, c .before .before .before .two-digits .ensures .0)
+returns-2 c = rw (sym (c .before .before .before .before .before .is-named .ensures) ∙ not-false _ (c .before .before .before .before .if1 .left), c .identifier-code .ensures, c .before .fault-unless .ensures, c .before .before .within .ensures, c .before .before .before .two-digits .ensures .0)
 
 pub read-identifier-spec : {M : Type 1} → statement M
 read-identifier-spec =

@@ -22,7 +22,7 @@ returns c =
     let count = c .before .before .before .before .whole-in in
     let items = slotItems false (count .result .value) in
     let slots = c .before .before .slots-in .ensures in
-    ap {B = Satellites} (λ (names : List ℕ). record { fault = c .unused-in3 .result; count = count .result .value; names = names })
+    ap {B = Satellites} (λ (identifiers : List ℕ). record { fault = c .unused-in3 .result; count = count .result .value; identifiers = identifiers })
     (ap (λ (s : Slots). s .values) slots ∙ ap numbersOf (sym (append-nil (valuesOf items line))))
     ∙ made satellitesFrom (satelliteItems (start .rules) (count .result .value)) line
     (skip (c .before .before .before .before .before .before .fixed-in .ensures) refl

@@ -17,11 +17,11 @@ use Rattle.row_walk.proofs.rows.next_row.Tie as tie
 read : (c : tie.After-read-known) (w : LineRead) (x : RowStep) → c .read-known .result ≡ w
     → let placed = c .before .before in
     let a = placed .before .before .before .before .args in
-    x ≡ stepAt (a .file .now) (placed .at-row .result) (a .from .passed) w → toldStep x ≡ toldStep (rowStep d (a .file .now) (a .names .now) (a .from))
+    x ≡ stepAt (a .file .now) (placed .at-row .result) (a .from .passed) w → toldStep x ≡ toldStep (rowStep d (a .file .now) (a .identifiers .now) (a .from))
 read c w x is so =
     let placed = c .before .before in
     let a = placed .before .before .before .before .args in
-    steps-so d (a .file .now) (a .names .now) (a .from) (placed .at-row .result) (placed .at-row .ensures) (c .read-known .result) w x (c .read-known .ensures) is so
+    steps-so d (a .file .now) (a .identifiers .now) (a .from) (placed .at-row .result) (placed .at-row .ensures) (c .read-known .result) w x (c .read-known .ensures) is so
 
 returns : tie.Need-returns
 unfolding stepAt

@@ -13,11 +13,11 @@ use Rattle.row_walk.proofs.rows.spot_past.Tie as tie
 
 -- where the line has been read
 read : (c : tie.After-read-known) (w : LineRead) → c .read-known .result ≡ w
-    → let a = c .before .before .before .args in goneTo w (a .spot) ≡ spotPast d (a .file .now) (a .names .now) (a .spot)
+    → let a = c .before .before .before .args in goneTo w (a .spot) ≡ spotPast d (a .file .now) (a .identifiers .now) (a .spot)
 unfolding spotPast
 read c w is =
     let a = c .before .before .before .args in
-    gone-so (a .spot) (c .read-known .result) w (lineKnown d (a .file .now) (a .spot .at) (a .spot .state) (a .names .now)) (c .read-known .ensures) is
+    gone-so (a .spot) (c .read-known .result) w (lineKnown d (a .file .now) (a .spot .at) (a .spot .state) (a .identifiers .now)) (c .read-known .ensures) is
 
 returns : tie.Need-returns
 returns c = read (c .before .before .before) _ (c .before .at .given .1)

@@ -3,7 +3,7 @@
 use mathlib.Core.Path.{ap, _∙_}
 use borrow.Author.Needs.{needs}
 use Rattle.header.specs.declared.types.Rules.{Rules}
-use Rattle.machine.specs.Step.{lineRead, lineNames}
+use Rattle.machine.specs.Step.{lineRead, lineIdentifiers}
 use Rattle.machine.specs.Told.{toldRead}
 use Rattle.machine.proofs.Told.{toldRead-one}
 use Rattle.sp3.specs.Doors.{lineDoor}
@@ -17,9 +17,9 @@ returns c =
     let a = ruled .before .before .before .before .args in (
       c .line-answer .ensures
           ∙ ap (lineDoor (a .spot)) (toldRead-one _ _ (done .read-line .ensures .0
-          ∙ ap (λ (k : Rules). toldRead (lineRead k (a .bytes .now) (a .spot .at) (a .spot .state) (a .names .now))) (ruled .d .ensures))),
+          ∙ ap (λ (k : Rules). toldRead (lineRead k (a .bytes .now) (a .spot .at) (a .spot .state) (a .identifiers .now))) (ruled .d .ensures))),
       done .read-line .ensures .1
-          ∙ ap (λ (k : Rules). lineNames k (a .bytes .now) (a .spot .at) (a .spot .state) (a .names .now)) (ruled .d .ensures),
+          ∙ ap (λ (k : Rules). lineIdentifiers k (a .bytes .now) (a .spot .at) (a .spot .state) (a .identifiers .now)) (ruled .d .ensures),
     )
 
 pub sp3-read-line-spec : {M : Type 1} → statement M

@@ -16,10 +16,10 @@ use Rattle.writer.proofs.epochs.put_cell.Statement.{statement}
 use Rattle.writer.proofs.epochs.put_cell.Tie as tie
 
 abbrev placed : tie.Start → List ℕ
-placed c = rowLine false (rowShown (c .args .name) (take 12 (c .args .cell .now)))
+placed c = rowLine false (rowShown (c .args .identifier) (take 12 (c .args .cell .now)))
 
 abbrev moved : tie.Start → List ℕ
-moved c = rowLine true (rowShown (c .args .name) (take 12 (drop 12 (c .args .cell .now))))
+moved c = rowLine true (rowShown (c .args .identifier) (take 12 (drop 12 (c .args .cell .now))))
 
 abbrev Laid : tie.Start → ℕ → List ℕ → List (List ℕ) → Type 0
 Laid c at now rest = Laying (placed c ∷ moved c ∷ []) (c .args .out .now) at now rest
@@ -27,7 +27,7 @@ Laid c at now rest = Laying (placed c ∷ moved c ∷ []) (c .args .out .now) at
 returns : tie.Need-returns
 returns c =
     let start = c .before .before .before .before .before .before .before .before in
-    rw (cell-placed (start .args .velocity) (start .args .cell .now) (start .pre .0) (start .args .name) (not-true _ (c .if1 .taken)))
+    rw (cell-placed (start .args .velocity) (start .args .cell .now) (start .pre .0) (start .args .identifier) (not-true _ (c .if1 .taken)))
     (one-line (placed start) (rw (c .before .before .before .before .before .row-shown .ensures) at (c .before .before .before .write-row .ensures)))
 
 moving : (c : tie.Else1) → c .before .before .before .before .before .before .before .before .args .velocity ≡ true
@@ -37,7 +37,7 @@ first-laid : (c : tie.Else1) → Laid (c .before .before .before .before .before
 first-laid c =
     let start = c .before .before .before .before .before .before .before .before in
     laying-first (placed start ∷ []) (moved start ∷ [])
-    (rw (cell-moved (start .args .velocity) (start .args .cell .now) (start .pre .0) (start .args .name) (moving c)) at (start .pre .1))
+    (rw (cell-moved (start .args .velocity) (start .args .cell .now) (start .pre .0) (start .args .identifier) (moving c)) at (start .pre .1))
     (one-line (placed start) (rw (c .before .before .before .before .before .row-shown .ensures) at (c .before .before .before .write-row .ensures)))
 
 both-laid : (c : tie.After-write-row2)
@@ -55,7 +55,7 @@ part-row-shown-end-2 c =
 returns-2 : tie.Need-returns-2
 returns-2 c =
     let start = c .before .before .before .before .before .before .before .before .before .before .before .before .before .before in
-    rw (cell-moved (start .args .velocity) (start .args .cell .now) (start .pre .0) (start .args .name) (moving (c .before .before .before .before .before .before)))
+    rw (cell-moved (start .args .velocity) (start .args .cell .now) (start .pre .0) (start .args .identifier) (moving (c .before .before .before .before .before .before)))
     (laying-end (both-laid (c .before .before)))
 
 pub put-cell-spec : {M : Type 1} → statement M

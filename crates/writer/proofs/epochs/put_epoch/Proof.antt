@@ -11,7 +11,7 @@ use Rattle.writer.proofs.epochs.put_epoch.Statement.{statement}
 use Rattle.writer.proofs.epochs.put_epoch.Tie as tie
 
 abbrev cells : tie.Start → List (List ℕ)
-cells c = cellsLines (c .args .velocity) (c .args .names .now) (c .args .rows .now)
+cells c = cellsLines (c .args .velocity) (c .args .identifiers .now) (c .args .rows .now)
 
 abbrev Laid : tie.Start → ℕ → List ℕ → List (List ℕ) → Type 0
 Laid c at now rest = Laying (epochLine (epochShown (c .args .at8)) ∷ cells c) (c .args .out .now) at now rest

@@ -17,19 +17,19 @@ use Rattle.writer.proofs.epochs.put_epochs.Statement.{statement}
 use Rattle.writer.proofs.epochs.put_epochs.Tie as tie
 
 abbrev Inv-loop : tie.InvT-loop
-Inv-loop h names rows out₀ width at₀ from₀ at8₀ more₀ out at from at8 more =
+Inv-loop h identifiers rows out₀ width at₀ from₀ at8₀ more₀ out at from at8 more =
     (Left (length rows) width from more × Clocked h at8 more)
-    × Laying (epochsLines (h .velocity) names (h .interval8) (h .epochs) (h .start8) rows) out₀ at out
-    (epochsLines (h .velocity) names (h .interval8) more at8 (drop from rows))
+    × Laying (epochsLines (h .velocity) identifiers (h .interval8) (h .epochs) (h .start8) rows) out₀ at out
+    (epochsLines (h .velocity) identifiers (h .interval8) more at8 (drop from rows))
 
 abbrev μ-loop : tie.MeasureT-loop
-μ-loop h names rows out₀ width at₀ from₀ at8₀ more₀ out at from at8 more = more
+μ-loop h identifiers rows out₀ width at₀ from₀ at8₀ more₀ out at from at8 more = more
 
 abbrev width : tie.After-cell-width Inv-loop μ-loop → ℕ
-width c = length (c .before .before .before .args .names .now) * c .cell-width .result
+width c = length (c .before .before .before .args .identifiers .now) * c .cell-width .result
 
-width-is : (c : tie.After-cell-width Inv-loop μ-loop) → width c ≡ length (c .before .before .before .args .names .now) * cellWidth (c .before .before .before .args .h .velocity)
-width-is c = ap (λ (w : ℕ). length (c .before .before .before .args .names .now) * w) (c .cell-width .ensures)
+width-is : (c : tie.After-cell-width Inv-loop μ-loop) → width c ≡ length (c .before .before .before .args .identifiers .now) * cellWidth (c .before .before .before .args .h .velocity)
+width-is c = ap (λ (w : ℕ). length (c .before .before .before .args .identifiers .now) * w) (c .cell-width .ensures)
 
 all-left : (c : tie.After-cell-width Inv-loop μ-loop) → Left (length (c .before .before .before .args .rows .now)) (width c) 0 (c .before .before .before .args .h .epochs)
 all-left c =
@@ -41,7 +41,7 @@ loop-holds c =
     let start = c .before .before .before in
     let h = start .args .h in (
       (all-left c, clocked-first h),
-      laying-none (epochsLines (h .velocity) (start .args .names .now) (h .interval8) (h .epochs) (h .start8) (start .args .rows .now)) (start .args .out .now) (start .pre .1 .1),
+      laying-none (epochsLines (h .velocity) (start .args .identifiers .now) (h .interval8) (h .epochs) (h .start8) (start .args .rows .now)) (start .args .out .now) (start .pre .1 .1),
     )
 
 here : (c : tie.In-loop Inv-loop μ-loop) → c .before .loop .from + width (c .before .before) ≤ length (c .before .before .before .before .before .args .rows .now)
@@ -53,20 +53,20 @@ epoch c =
     let start = c .before .before .before .before .args in
     let l = c .loop in
     epochLine (epochShown (l .at8))
-    ∷ cellsLines (start .h .velocity) (start .names .now) (take (l .from + width (c .before) - l .from) (drop (l .from) (start .rows .now)))
+    ∷ cellsLines (start .h .velocity) (start .identifiers .now) (take (l .from + width (c .before) - l .from) (drop (l .from) (start .rows .now)))
 
 abbrev rest : tie.At-loop Inv-loop μ-loop → List (List ℕ)
 rest c =
     let start = c .before .before .before .before .args in
     let l = c .loop in
-    epochsLines (start .h .velocity) (start .names .now) (start .h .interval8) (l .more - 1) (l .at8 + start .h .interval8)
+    epochsLines (start .h .velocity) (start .identifiers .now) (start .h .interval8) (l .more - 1) (l .at8 + start .h .interval8)
     (drop (l .from + width (c .before)) (start .rows .now))
 
 abbrev Laid : tie.At-loop Inv-loop μ-loop → ℕ → List ℕ → List (List ℕ) → Type 0
 Laid c at now left =
     let start = c .before .before .before .before .args in
     let h = start .h in
-    Laying (epochsLines (h .velocity) (start .names .now) (h .interval8) (h .epochs) (h .start8) (start .rows .now)) (start .out .now) at now left
+    Laying (epochsLines (h .velocity) (start .identifiers .now) (h .interval8) (h .epochs) (h .start8) (start .rows .now)) (start .out .now) at now left
 
 next : (c : tie.In-loop Inv-loop μ-loop) → Laid (c .before) (c .before .loop .at) (c .before .loop .out) (epoch (c .before) ++ rest (c .before))
 next c =
@@ -74,7 +74,7 @@ next c =
     let l = c .before .loop in
     let w = c .before .before in
     laying-as
-    (epochs-next (l .more) (c .loop-test .taken) (start .h .velocity) (start .names .now) (start .h .interval8) (l .at8) (start .rows .now) (l .from) (width w) (width-is w))
+    (epochs-next (l .more) (c .loop-test .taken) (start .h .velocity) (start .identifiers .now) (start .h .interval8) (l .at8) (start .rows .now) (l .from) (width w) (width-is w))
     (l .inv .1)
 
 put-epoch-requires : tie.Need-put-epoch-requires Inv-loop μ-loop
@@ -110,7 +110,7 @@ returns c =
     let l = c .before .loop in
     let none : l .more ≡ 0 = omega (arith, c .loop-test .left) in
     laying-end
-    (laying-as (ap (λ (n : ℕ). epochsLines (h .velocity) (c .before .before .before .before .before .args .names .now) (h .interval8) n (l .at8) (drop (l .from) (c .before .before .before .before .before .args .rows .now))) none) (l .inv .1))
+    (laying-as (ap (λ (n : ℕ). epochsLines (h .velocity) (c .before .before .before .before .before .args .identifiers .now) (h .interval8) n (l .at8) (drop (l .from) (c .before .before .before .before .before .args .rows .now))) none) (l .inv .1))
 
 pub put-epochs-spec : {M : Type 1} → statement M
 put-epochs-spec =

@@ -12,7 +12,7 @@ use Rattle.writer.proofs.heads.put_first.Statement.{statement}
 use Rattle.writer.proofs.heads.put_first.Tie as tie
 
 abbrev third : tie.Start → List (List ℕ)
-third c = satellitesLine (c .args .rules) (satellitesShown (c .args .h .satellites) (c .args .names .now)) ∷ []
+third c = satellitesLine (c .args .rules) (satellitesShown (c .args .h .satellites) (c .args .identifiers .now)) ∷ []
 
 abbrev second : tie.Start → List (List ℕ)
 second c = secondLine (secondShown (c .args .h)) ∷ third c
@@ -45,7 +45,7 @@ third-laid : (c : tie.After-write-satellites)
 unfolding satellitesShown
 third-laid c =
     let start = c .before .before .before .before .before .before .before .before .before .before .before .before .before .before .before in
-    let line = satellitesLine (start .args .rules) (satellitesShown (start .args .h .satellites) (start .args .names .now)) in
+    let line = satellitesLine (start .args .rules) (satellitesShown (start .args .h .satellites) (start .args .identifiers .now)) in
     laying-more (third start) [] (second-laid (c .before .before .before .before .before))
     (one-line line (rw (c .before .before .seventeen .ensures) at (c .write-satellites .ensures)))
 

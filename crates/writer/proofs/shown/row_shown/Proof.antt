@@ -17,7 +17,7 @@ returns c =
     let c1 = c2 .before .before in
     let signed = c1 .before .before in
     let row = signed .before .before .before .before .args .row .now in
-    row-read (signed .before .before .before .before .args .name) row (signed .before .before .before .signed-at .ensures) (signed .before .before .signed-at2 .ensures)
+    row-read (signed .before .before .before .before .args .identifier) row (signed .before .before .before .signed-at .ensures) (signed .before .before .signed-at2 .ensures)
     (signed .before .signed-at3 .ensures) (signed .signed-at4 .ensures)
     (magnitude-read (entry row 4) (c1 .before .magnitude-of-arg .given) (c1 .magnitude-of .ensures))
     (magnitude-read (entry row 5) (c2 .before .magnitude-of-arg2 .given) (c2 .magnitude-of2 .ensures))

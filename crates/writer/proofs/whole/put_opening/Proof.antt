@@ -21,11 +21,11 @@ abbrev opening : tie.Start → List (List ℕ)
 opening c =
     firstLine (c .args .rules) (firstShown (c .args .h))
     ∷ secondLine (secondShown (c .args .h))
-    ∷ satellitesLine (c .args .rules) (satellitesShown (c .args .h .satellites) (c .args .names .now))
+    ∷ satellitesLine (c .args .rules) (satellitesShown (c .args .h .satellites) (c .args .identifiers .now))
     ∷ []
 
-abbrev names : tie.Start → List (List ℕ)
-names c = slotLinesOf false (slotLines (c .args .h .satellites) - 1) (drop 17 (c .args .names .now))
+abbrev identifiers : tie.Start → List (List ℕ)
+identifiers c = slotLinesOf false (slotLines (c .args .h .satellites) - 1) (drop 17 (c .args .identifiers .now))
 
 abbrev exponents : tie.Start → List (List ℕ)
 exponents c = slotLinesOf true (slotLines (c .args .h .satellites)) (c .args .exponents .now)
@@ -34,39 +34,39 @@ abbrev descriptors : tie.Start → List (List ℕ)
 descriptors c = descriptorLines (c .args .h)
 
 abbrev Laid : tie.Start → ℕ → List ℕ → (tie.Start → List (List ℕ)) → Type 0
-Laid c at now rest = Laying (opening c ++ (names c ++ (exponents c ++ descriptors c))) (c .args .out .now) at now (rest c)
+Laid c at now rest = Laying (opening c ++ (identifiers c ++ (exponents c ++ descriptors c))) (c .args .out .now) at now (rest c)
 
 put-first-requires : tie.Need-put-first-requires
 unfolding linesBefore
 put-first-requires c κs =
     let start = c .before .before .before .before .before in
-    (start .pre .0, first-room (opening start) (names start ++ (exponents start ++ descriptors start)) (start .args .out .now) (start .pre .1))
+    (start .pre .0, first-room (opening start) (identifiers start ++ (exponents start ++ descriptors start)) (start .args .out .now) (start .pre .1))
 
 first-laid : (c : tie.After-put-first)
-    → Laid (c .before .before .before .before .before .before) (c .put-first .result) (c .put-first .last .1 .1 .1 .0) (λ start. names start ++ (exponents start ++ descriptors start))
+    → Laid (c .before .before .before .before .before .before) (c .put-first .result) (c .put-first .last .1 .1 .1 .0) (λ start. identifiers start ++ (exponents start ++ descriptors start))
 unfolding linesBefore
 first-laid c =
     let start = c .before .before .before .before .before .before in
-    laying-first (opening start) (names start ++ (exponents start ++ descriptors start)) (start .pre .1) (c .put-first .ensures)
+    laying-first (opening start) (identifiers start ++ (exponents start ++ descriptors start)) (start .pre .1) (c .put-first .ensures)
 
 sub-put-slots : tie.Need-sub-put-slots
 unfolding slotLines
 sub-put-slots c = omega (arith, c .before .before .before .before .before .slot-lines .ensures)
 
 -- the names past the first line
-rest-names : (c : tie.After-fewer)
+rest-identifiers : (c : tie.After-fewer)
     → slotLinesOf false (c .before .before .before .before .before .slot-lines .result - 1)
-    (take (length (c .before .before .before .before .before .before .before .before .before .args .names .now) - c .fewer .result) (drop (c .fewer .result) (c .before .before .before .before .before .before .before .before .before .args .names .now)))
-    ≡ names (c .before .before .before .before .before .before .before .before .before)
-rest-names c =
-    let all = c .before .before .before .before .before .before .before .before .before .args .names .now in
+    (take (length (c .before .before .before .before .before .before .before .before .before .args .identifiers .now) - c .fewer .result) (drop (c .fewer .result) (c .before .before .before .before .before .before .before .before .before .args .identifiers .now)))
+    ≡ identifiers (c .before .before .before .before .before .before .before .before .before)
+rest-identifiers c =
+    let all = c .before .before .before .before .before .before .before .before .before .args .identifiers .now in
     rw (rest-part all (c .fewer .result), c .fewer .ensures, rest-past all 17, c .before .before .before .before .before .slot-lines .ensures)
 
 put-slots-requires : tie.Need-put-slots-requires
 put-slots-requires c κs =
     let start = c .before .before .before .before .before .before .before .before .before .before .before in
-    rw (rest-names (c .before .before))
-    (laying-room (names start) (exponents start ++ descriptors start) (first-laid (c .before .before .before .before .before)))
+    rw (rest-identifiers (c .before .before))
+    (laying-room (identifiers start) (exponents start ++ descriptors start) (first-laid (c .before .before .before .before .before)))
 
 abbrev at-2 : tie.After-put-slots → ℕ
 at-2 c = c .before .before .before .before .before .before .put-first .result + c .put-slots .result
@@ -74,20 +74,20 @@ at-2 c = c .before .before .before .before .before .before .put-first .result + 
 abbrev out-2 : tie.After-put-slots → List ℕ
 out-2 c = then (c .before .before .before .before .before .before .put-first .result) (c .before .before .before .before .before .before .put-first .last .1 .1 .1 .0) (c .put-slots .last .1 .1 .1 .0)
 
-names-laid : (c : tie.After-put-slots) → Laid (c .before .before .before .before .before .before .before .before .before .before .before .before) (at-2 c) (out-2 c) (λ start. exponents start ++ descriptors start)
-names-laid c =
+identifiers-laid : (c : tie.After-put-slots) → Laid (c .before .before .before .before .before .before .before .before .before .before .before .before) (at-2 c) (out-2 c) (λ start. exponents start ++ descriptors start)
+identifiers-laid c =
     let start = c .before .before .before .before .before .before .before .before .before .before .before .before in
-    laying-more (names start) (exponents start ++ descriptors start) (first-laid (c .before .before .before .before .before .before))
-    (rw (rest-names (c .before .before .before)) at (c .put-slots .ensures))
+    laying-more (identifiers start) (exponents start ++ descriptors start) (first-laid (c .before .before .before .before .before .before))
+    (rw (rest-identifiers (c .before .before .before)) at (c .put-slots .ensures))
 
 add-at : tie.Need-add-at
-add-at c = omega (arith, c .before .before .before .before .before .before .before .before .before .before .before .before .before .before .good, laying-fits (names-laid (c .before .before)))
+add-at c = omega (arith, c .before .before .before .before .before .before .before .before .before .before .before .before .before .before .good, laying-fits (identifiers-laid (c .before .before)))
 
 put-slots-requires-2 : tie.Need-put-slots-requires-2
 put-slots-requires-2 c κs =
     let start = c .before .before .before .before .before .before .before .before .before .before .before .before .before .before .before in
     rw (c .before .before .before .before .before .before .before .before .before .before .before .slot-lines .ensures)
-    (laying-room (exponents start) (descriptors start) (names-laid (c .before .before .before)))
+    (laying-room (exponents start) (descriptors start) (identifiers-laid (c .before .before .before)))
 
 abbrev at-3 : tie.After-put-slots2 → ℕ
 at-3 c = at-2 (c .before .before .before .before) + c .put-slots2 .result
@@ -99,7 +99,7 @@ exponents-laid : (c : tie.After-put-slots2) → Laid (c .before .before .before 
 exponents-laid c =
     let start = c .before .before .before .before .before .before .before .before .before .before .before .before .before .before .before .before in
     laying-alone
-    (laying-more (exponents start) (descriptors start) (names-laid (c .before .before .before .before))
+    (laying-more (exponents start) (descriptors start) (identifiers-laid (c .before .before .before .before))
     (rw (c .before .before .before .before .before .before .before .before .before .before .before .before .slot-lines .ensures) at (c .put-slots2 .ensures)))
 
 add-at-2 : tie.Need-add-at-2
@@ -137,8 +137,8 @@ put-opening-spec =
     (λ c. search needs)
     put-slots-requires
     add-at
-    (λ c. laying-within (names-laid (c .before .before)))
-    (λ c. laying-within (names-laid (c .before .before)))
+    (λ c. laying-within (identifiers-laid (c .before .before)))
+    (λ c. laying-within (identifiers-laid (c .before .before)))
     (λ c. search needs)
     put-slots-requires-2
     add-at-2

@@ -1,14 +1,14 @@
 -- `draw::columns::with_name` meets its contract.
 -- Assumes nothing.
 use borrow.Author.Needs.{needs}
-use Rattle.draw.proofs.columns.with_name.Statement.{statement}
-use Rattle.draw.proofs.columns.with_name.Tie as tie
+use Rattle.draw.proofs.columns.with_identifier.Statement.{statement}
+use Rattle.draw.proofs.columns.with_identifier.Tie as tie
 
 returns : tie.Need-returns
-returns c = rw (c .before .put-name .ensures)
+returns c = rw (c .before .put-identifier .ensures)
 
-pub with-name-spec : {M : Type 1} → statement M
-with-name-spec =
+pub with-identifier-spec : {M : Type 1} → statement M
+with-identifier-spec =
     tie.close
     (tie.spec
     (λ c. search needs)

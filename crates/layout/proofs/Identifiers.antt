@@ -11,7 +11,7 @@ use lib.Dec.{leb, ltb, lit<}
 use lib.ListN.{getD}
 use Rattle.field.specs.Digits.{isDigit}
 use Rattle.laws.specs.Tests.{within}
-use Rattle.layout.specs.Kind.{named, nameNumber, nameCode, showName, isName, printable}
+use Rattle.layout.specs.Kind.{named, identifierNumber, identifierCode, showIdentifier, isIdentifier, printable}
 use Rattle.laws.proofs.Bools.{and-left, and-right}
 use Rattle.laws.proofs.Bounds.{true-within, within-true}
 use Rattle.layout.proofs.Shown.{printable-byte}
@@ -20,7 +20,7 @@ digit-is : (d : ℕ) → d < 10 → isDigit (48 + d) ≡ true
 digit-is d h = true-within 48 57 (48 + d) (omega arith) (omega arith)
 
 -- an identifier's number within its bounds
-module _ (code : ℕ) (h : isName code ≡ true) where
+module _ (code : ℕ) (h : isIdentifier code ≡ true) where
   capital : within 65 90 (code / 10 / 10) ≡ true
   capital = and-left (within 65 90 (code / 10 / 10)) (ltb 0 (code / 10 % 10 * 10 + code % 10)) h
 
@@ -42,20 +42,20 @@ module _ (code : ℕ) (h : isName code ≡ true) where
   ones : code % 10 < 10
   ones = mod-lt code (lit< tt)
 
-  pub name-named : named (showName code) ≡ true
-  name-named = rw (byte, capital, digit-is (code / 10 % 10) tens, digit-is (code % 10) ones)
+  pub identifier-named : named (showIdentifier code) ≡ true
+  identifier-named = rw (byte, capital, digit-is (code / 10 % 10) tens, digit-is (code % 10) ones)
 
-  pub name-number : nameNumber (showName code) ≡ code / 10 % 10 * 10 + code % 10
-  name-number = omega arith
+  pub identifier-number : identifierNumber (showIdentifier code) ≡ code / 10 % 10 * 10 + code % 10
+  identifier-number = omega arith
 
-  pub name-bounds : within 1 99 (nameNumber (showName code)) ≡ true
-  name-bounds = rw name-number (true-within 1 99 (code / 10 % 10 * 10 + code % 10) (omega (arith, some)) (omega (arith, tens, ones)))
+  pub identifier-bounds : within 1 99 (identifierNumber (showIdentifier code)) ≡ true
+  identifier-bounds = rw identifier-number (true-within 1 99 (code / 10 % 10 * 10 + code % 10) (omega (arith, some)) (omega (arith, tens, ones)))
 
-  pub name-code : nameCode (showName code) ≡ code
-  name-code = rw byte (omega (arith, name-number, div-add-mod' code 10, div-add-mod' (code / 10) 10))
+  pub identifier-code : identifierCode (showIdentifier code) ≡ code
+  identifier-code = rw byte (omega (arith, identifier-number, div-add-mod' code 10, div-add-mod' (code / 10) 10))
 
-  pub name-printable : printable (showName code) ≡ true
-  name-printable =
+  pub identifier-printable : printable (showIdentifier code) ≡ true
+  identifier-printable =
       rw (
         byte,
         printable-byte (code / 10 / 10) (omega (arith, low)) (omega (arith, high)),
@@ -78,14 +78,14 @@ named-digits bs h =
     )
 
 -- what was read as an identifier within its bounds is one
-module _ (bs : List ℕ) (h : named bs ≡ true) (bounds : within 1 99 (nameNumber bs) ≡ true) where
-  code-letter : nameCode bs / 10 / 10 ≡ getD bs 0 0
+module _ (bs : List ℕ) (h : named bs ≡ true) (bounds : within 1 99 (identifierNumber bs) ≡ true) where
+  code-letter : identifierCode bs / 10 / 10 ≡ getD bs 0 0
   code-letter = let d = named-digits bs h in omega arith
 
-  code-number : nameCode bs / 10 % 10 * 10 + nameCode bs % 10 ≡ nameNumber bs
+  code-number : identifierCode bs / 10 % 10 * 10 + identifierCode bs % 10 ≡ identifierNumber bs
   code-number = let d = named-digits bs h in omega arith
 
-  pub name-again : isName (nameCode bs) ≡ true
-  name-again =
-      let some = within-true 1 99 (nameNumber bs) bounds in
-      rw (code-letter, and-left (within 65 90 (getD bs 0 0)) (isDigit (getD bs 1 0) && isDigit (getD bs 2 0)) h, code-number, lt-ltb 0 (nameNumber bs) (omega arith))
+  pub identifier-again : isIdentifier (identifierCode bs) ≡ true
+  identifier-again =
+      let some = within-true 1 99 (identifierNumber bs) bounds in
+      rw (code-letter, and-left (within 65 90 (getD bs 0 0)) (isDigit (getD bs 1 0) && isDigit (getD bs 2 0)) h, code-number, lt-ltb 0 (identifierNumber bs) (omega arith))

@@ -21,10 +21,10 @@ use Rattle.header.specs.Rules.{slotLines}
 use Rattle.header.specs.declared.types.Rules.{Rules}
 use Rattle.record.specs.declared.types.LineKind.the-variants as kind
 use Rattle.machine.specs.Checks.{repeats}
-use Rattle.machine.specs.State.{namesIn, fitBehind, laidBehind, identifiersJoined}
+use Rattle.machine.specs.State.{identifiersIn, fitBehind, laidBehind, identifiersJoined}
 use Rattle.machine.specs.Faults.{satellitesFault}
-use Rattle.machine.specs.Next.{expect, leave, afterNames, afterSatellites}
-use Rattle.machine.specs.Step.{namesBrought}
+use Rattle.machine.specs.Next.{expect, leave, afterIdentifiers, afterSatellites}
+use Rattle.machine.specs.Step.{identifiersBrought}
 use Rattle.machine.specs.declared.types.State.{State}
 use Rattle.machine.specs.declared.types.Verdict.the-variants as verdict
 use Rattle.file.specs.Plain.{isLine, isRecord, areSlots, slotIdentifiers}
@@ -32,34 +32,34 @@ use Rattle.scan.specs.Run.{run, counted}
 use Rattle.scan.specs.declared.Tally.{Tally}
 use Rattle.scan.specs.declared.Front.the-variants as front
 use Rattle.scan_laws.proofs.Reaching.{countedOver, Reach, reach-append, reach-one, due-line}
-use Rattle.scan_laws.proofs.Slots.{freshIn, more-fresh, fresh-length, all-names, one-line, first-new, all-new, none-new}
+use Rattle.scan_laws.proofs.Slots.{freshIn, more-fresh, fresh-length, all-identifiers, one-line, first-new, all-new, none-new}
 
 -- the fault of a `+ ` line: that of its columns, and 8 where an identifier repeats
-abbrev pub namesFault : ℕ → Bool → ℕ
-namesFault fault again = lower fault (unless (not again) 8 0)
+abbrev pub identifiersFault : ℕ → Bool → ℕ
+identifiersFault fault again = lower fault (unless (not again) 8 0)
 
-pub names-clean : (fault : ℕ) (again : Bool) → fault ≡ 0 → again ≡ false → namesFault fault again ≡ 0
-names-clean fault again e f = rw (e, f)
+pub identifiers-clean : (fault : ℕ) (again : Bool) → fault ≡ 0 → again ≡ false → identifiersFault fault again ≡ 0
+identifiers-clean fault again e f = rw (e, f)
 
-pub clean-names : (fault : ℕ) (again : Bool) → namesFault fault again ≡ 0 → (fault ≡ 0) × (again ≡ false)
-clean-names fault again e =
+pub clean-identifiers : (fault : ℕ) (again : Bool) → identifiersFault fault again ≡ 0 → (fault ≡ 0) × (again ≡ false)
+clean-identifiers fault again e =
     let parts = lower-clean fault (unless (not again) 8 0) e in
     (parts .0, not-true again (passed (not again) 8 0 (omega arith) (parts .1)))
 
 module _ (rules : Rules) (s : State) (some : eqb (s .satellites) 0 ≡ false) where
   -- so many `+ ` lines are due, with the slots of so many satellites
-  abbrev pub namesDue : ℕ → ℕ → State
-  namesDue lines left = leave left (expect 3 lines s)
+  abbrev pub identifiersDue : ℕ → ℕ → State
+  identifiersDue lines left = leave left (expect 3 lines s)
 
   abbrev pub afterAll : State
   afterAll = leave (s .satellites) (expect 4 (slotLines (s .satellites)) s)
 
-  pub last-one : (left : ℕ) (p : List ℕ) → afterSatellites rules (namesDue 1 left) p ≡ afterAll
-  unfolding afterSatellites afterNames
+  pub last-one : (left : ℕ) (p : List ℕ) → afterSatellites rules (identifiersDue 1 left) p ≡ afterAll
+  unfolding afterSatellites afterIdentifiers
   last-one left p = rw some
 
-  pub one-of-more : (k left : ℕ) (p : List ℕ) → afterSatellites rules (namesDue (suc (suc k)) left) p ≡ namesDue (suc k) (left - 17)
-  unfolding afterSatellites afterNames
+  pub one-of-more : (k left : ℕ) (p : List ℕ) → afterSatellites rules (identifiersDue (suc (suc k)) left) p ≡ identifiersDue (suc k) (left - 17)
+  unfolding afterSatellites afterIdentifiers
   one-of-more k left p = rw (some, one-less (suc k), ne-eqb (suc k) 0 (λ e. omega arith))
 
   module _ (left : ℕ) (known rest : List ℕ) (many : length known + left ≡ s .satellites) where
@@ -69,17 +69,17 @@ module _ (rules : Rules) (s : State) (some : eqb (s .satellites) 0 ≡ false) wh
     rest-is : drop (s .satellites - left) (known ++ rest) ≡ rest
     rest-is = drop-at known rest (s .satellites - left) (omega (arith, many))
 
-    pub fault-is : (lines : ℕ) (l : List ℕ) → satellitesFault rules (namesDue lines left) (known ++ rest) (padded l)
-        ≡ namesFault (moreOf false left (padded l) .fault) (repeats known (freshIn left l))
-    unfolding satellitesFault namesIn
+    pub fault-is : (lines : ℕ) (l : List ℕ) → satellitesFault rules (identifiersDue lines left) (known ++ rest) (padded l)
+        ≡ identifiersFault (moreOf false left (padded l) .fault) (repeats known (freshIn left l))
+    unfolding satellitesFault identifiersIn
     fault-is lines l = rw (some, known-are, more-fresh left l)
 
     -- the identifiers after one line more
     abbrev pub brought : List ℕ → List ℕ
     brought l = (known ++ freshIn left l) ++ drop (length (freshIn left l)) rest
 
-    pub brought-is : left ≤ length rest → (lines : ℕ) (l : List ℕ) → namesBrought rules (namesDue lines left) (known ++ rest) l ≡ brought l
-    unfolding namesBrought identifiersJoined laidBehind namesIn
+    pub brought-is : left ≤ length rest → (lines : ℕ) (l : List ℕ) → identifiersBrought rules (identifiersDue lines left) (known ++ rest) l ≡ brought l
+    unfolding identifiersBrought identifiersJoined laidBehind identifiersIn
     brought-is room lines l =
         let fits : fitBehind (s .satellites - left) (freshIn left l) (known ++ rest) ≡ true =
         le-leb (s .satellites - left + length (freshIn left l)) (length (known ++ rest)) (omega (arith, length-append known rest, fresh-length left l, room, many)) in
@@ -92,13 +92,13 @@ module _ (rules : Rules) (s : State) (some : eqb (s .satellites) 0 ≡ false) wh
     room-on room l = omega (arith, length-drop (length (freshIn left l)) rest, fresh-length left l, room)
 
     -- one line
-    line-reach : left ≤ length rest → (lines : ℕ) (next : State) (l : List ℕ) → ((p : List ℕ) → afterSatellites rules (namesDue lines left) p ≡ next)
+    line-reach : left ≤ length rest → (lines : ℕ) (next : State) (l : List ℕ) → ((p : List ℕ) → afterSatellites rules (identifiersDue lines left) p ≡ next)
         → isRecord rules kind.Satellites (moreOf false left (padded l) .fault) l ≡ true → repeats known (freshIn left l) ≡ false
-        → Reach rules (namesDue lines left) (known ++ rest) (l ∷ []) next (brought l)
+        → Reach rules (identifiersDue lines left) (known ++ rest) (l ∷ []) next (brought l)
     line-reach room lines next l nexts is new =
         let fault = moreOf false left (padded l) .fault in
-        reach-one rules kind.Satellites (namesDue lines left) next (known ++ rest) (brought l) l refl (and-left (isLine rules kind.Satellites l) _ is)
-        (fault-is lines l ∙ names-clean fault (repeats known (freshIn left l)) (eqb-true fault 0 (and-right (isLine rules kind.Satellites l) _ is)) new)
+        reach-one rules kind.Satellites (identifiersDue lines left) next (known ++ rest) (brought l) l refl (and-left (isLine rules kind.Satellites l) _ is)
+        (fault-is lines l ∙ identifiers-clean fault (repeats known (freshIn left l)) (eqb-true fault 0 (and-right (isLine rules kind.Satellites l) _ is)) new)
         (ap verdict.Next (nexts (padded l))) (brought-is room lines l)
 
     record One (next : State) (t t′ : Tally) (ls : List (List ℕ)) : Type 0 where
@@ -109,12 +109,12 @@ module _ (rules : Rules) (s : State) (some : eqb (s .satellites) 0 ≡ false) wh
       new : repeats known (freshIn left line) ≡ false
       goes : run rules next (brought line) (counted rules t line) others ≡ front.File t′
 
-    line-read : left ≤ length rest → (lines : ℕ) (next : State) (t t′ : Tally) (ls : List (List ℕ)) → ((p : List ℕ) → afterSatellites rules (namesDue lines left) p ≡ next)
-        → run rules (namesDue lines left) (known ++ rest) t ls ≡ front.File t′ → One next t t′ ls
+    line-read : left ≤ length rest → (lines : ℕ) (next : State) (t t′ : Tally) (ls : List (List ℕ)) → ((p : List ℕ) → afterSatellites rules (identifiersDue lines left) p ≡ next)
+        → run rules (identifiersDue lines left) (known ++ rest) t ls ≡ front.File t′ → One next t t′ ls
     line-read room lines next t t′ ls nexts e =
-        let x = due-line rules kind.Satellites (namesDue lines left) (known ++ rest) t t′ ls refl refl e in
+        let x = due-line rules kind.Satellites (identifiersDue lines left) (known ++ rest) t t′ ls refl refl e in
         let l = x .line in
-        let parts = clean-names (moreOf false left (padded l) .fault) (repeats known (freshIn left l)) (sym (fault-is lines l) ∙ x .clean) in
+        let parts = clean-identifiers (moreOf false left (padded l) .fault) (repeats known (freshIn left l)) (sym (fault-is lines l) ∙ x .clean) in
         record {
           line = l;
           others = x .others;
@@ -125,31 +125,31 @@ module _ (rules : Rules) (s : State) (some : eqb (s .satellites) 0 ≡ false) wh
         }
 
   -- all further `+ ` lines
-  pub names-reach : (k left : ℕ) (known rest : List ℕ) (ls : List (List ℕ)) → length ls ≡ suc k → length known + left ≡ s .satellites → left ≤ length rest
+  pub identifiers-reach : (k left : ℕ) (known rest : List ℕ) (ls : List (List ℕ)) → length ls ≡ suc k → length known + left ≡ s .satellites → left ≤ length rest
       → areSlots rules false left ls ≡ true → repeats known (slotIdentifiers left ls) ≡ false
-      → (rest′ : List ℕ) × Reach rules (namesDue (suc k) left) (known ++ rest) ls afterAll ((known ++ slotIdentifiers left ls) ++ rest′)
+      → (rest′ : List ℕ) × Reach rules (identifiersDue (suc k) left) (known ++ rest) ls afterAll ((known ++ slotIdentifiers left ls) ++ rest′)
   unfolding areSlots
-  names-reach k left known rest [] lines many room are new = absurd (omega arith)
-  names-reach zero left known rest (l ∷ []) lines many room are new =
+  identifiers-reach k left known rest [] lines many room are new = absurd (omega arith)
+  identifiers-reach zero left known rest (l ∷ []) lines many room are new =
       let rest′ = drop (length (freshIn left l)) rest in
       let is = and-left (isRecord rules kind.Satellites (moreOf false left (padded l) .fault) l) _ are in (
         rest′,
-        subst (λ (r : List ℕ). Reach rules (namesDue 1 left) (known ++ rest) (l ∷ []) afterAll (r ++ rest′)) (one-line left known l)
+        subst (λ (r : List ℕ). Reach rules (identifiersDue 1 left) (known ++ rest) (l ∷ []) afterAll (r ++ rest′)) (one-line left known l)
             (line-reach left known rest many room 1 afterAll l (last-one left) is (first-new left known l [] new .0)),
       )
-  names-reach zero left known rest (l ∷ m ∷ ls) lines many room are new = absurd (omega arith)
-  names-reach (suc k) left known rest (l ∷ ls) lines many room are new =
+  identifiers-reach zero left known rest (l ∷ m ∷ ls) lines many room are new = absurd (omega arith)
+  identifiers-reach (suc k) left known rest (l ∷ ls) lines many room are new =
       let parts = isRecord rules kind.Satellites (moreOf false left (padded l) .fault) l in
       let known′ = known ++ freshIn left l in
       let rest′ = drop (length (freshIn left l)) rest in
       let both = first-new left known l ls new in
       let others =
-      names-reach k (left - 17) known′ rest′ ls (omega arith) (many-on left known rest many l) (room-on left known rest many room l)
+      identifiers-reach k (left - 17) known′ rest′ ls (omega arith) (many-on left known rest many l) (room-on left known rest many room l)
       (and-right parts _ are) (both .1) in
-      let first = line-reach left known rest many room (suc (suc k)) (namesDue (suc k) (left - 17)) l (one-of-more k left) (and-left parts _ are) (both .0) in (
+      let first = line-reach left known rest many room (suc (suc k)) (identifiersDue (suc k) (left - 17)) l (one-of-more k left) (and-left parts _ are) (both .0) in (
         others .0,
-        subst (λ (r : List ℕ). Reach rules (namesDue (suc (suc k)) left) (known ++ rest) (l ∷ ls) afterAll (r ++ others .0)) (all-names left known l ls)
-            (reach-append rules (namesDue (suc (suc k)) left) (namesDue (suc k) (left - 17)) afterAll (known ++ rest) (known′ ++ rest′)
+        subst (λ (r : List ℕ). Reach rules (identifiersDue (suc (suc k)) left) (known ++ rest) (l ∷ ls) afterAll (r ++ others .0)) (all-identifiers left known l ls)
+            (reach-append rules (identifiersDue (suc (suc k)) left) (identifiersDue (suc k) (left - 17)) afterAll (known ++ rest) (known′ ++ rest′)
             ((known′ ++ slotIdentifiers (left - 17) ls) ++ others .0) (l ∷ []) ls first (others .1)),
       )
 
@@ -179,13 +179,13 @@ module _ (rules : Rules) (s : State) (some : eqb (s .satellites) 0 ≡ false) wh
     rest = y .rest;
     goes =
         subst (λ (r : List ℕ). run rules afterAll (r ++ y .rest) (countedOver rules (counted rules t l) (y .used)) (y .more) ≡ front.File t′)
-        (all-names left known l (y .used)) (y .goes);
+        (all-identifiers left known l (y .used)) (y .goes);
   }
 
-  pub names-read : (k left : ℕ) (known rest : List ℕ) (t t′ : Tally) (ls : List (List ℕ)) → length known + left ≡ s .satellites → left ≤ length rest
-      → run rules (namesDue (suc k) left) (known ++ rest) t ls ≡ front.File t′ → Named (suc k) left known t t′ ls
+  pub identifiers-read : (k left : ℕ) (known rest : List ℕ) (t t′ : Tally) (ls : List (List ℕ)) → length known + left ≡ s .satellites → left ≤ length rest
+      → run rules (identifiersDue (suc k) left) (known ++ rest) t ls ≡ front.File t′ → Named (suc k) left known t t′ ls
   unfolding countedOver areSlots
-  names-read zero left known rest t t′ ls many room e =
+  identifiers-read zero left known rest t t′ ls many room e =
       let x = line-read left known rest many room 1 afterAll t t′ ls (last-one left) e in
       let rest′ = drop (length (freshIn left (x .line))) rest in
       record {
@@ -198,9 +198,9 @@ module _ (rules : Rules) (s : State) (some : eqb (s .satellites) 0 ≡ false) wh
         rest = rest′;
         goes = subst (λ (r : List ℕ). run rules afterAll (r ++ rest′) (counted rules t (x .line)) (x .others) ≡ front.File t′) (one-line left known (x .line)) (x .goes);
       }
-  names-read (suc k) left known rest t t′ ls many room e =
-      let x = line-read left known rest many room (suc (suc k)) (namesDue (suc k) (left - 17)) t t′ ls (one-of-more k left) e in
+  identifiers-read (suc k) left known rest t t′ ls many room e =
+      let x = line-read left known rest many room (suc (suc k)) (identifiersDue (suc k) (left - 17)) t t′ ls (one-of-more k left) e in
       let l = x .line in
       named-more (suc k) left known l t t′ ls (x .others) (x .split) (x .is) (x .new)
-      (names-read k (left - 17) (known ++ freshIn left l) (drop (length (freshIn left l)) rest) (counted rules t l) t′ (x .others)
+      (identifiers-read k (left - 17) (known ++ freshIn left l) (drop (length (freshIn left l)) rest) (counted rules t l) t′ (x .others)
       (many-on left known rest many l) (room-on left known rest many room l) (x .goes))

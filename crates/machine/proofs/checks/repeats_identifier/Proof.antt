@@ -9,8 +9,8 @@ use lib.ListN.{length, getD, take, drop}
 use Rattle.layout.specs.Kind.{isOneOf}
 use Rattle.machine.specs.Checks.{repeats}
 use Rattle.machine.proofs.Checking.{repeats-start, repeats-step, repeats-end}
-use Rattle.machine.proofs.checks.repeats_name.Statement.{statement}
-use Rattle.machine.proofs.checks.repeats_name.Tie as tie
+use Rattle.machine.proofs.checks.repeats_identifier.Statement.{statement}
+use Rattle.machine.proofs.checks.repeats_identifier.Tie as tie
 
 abbrev Inv-loop : tie.InvT-loop
 Inv-loop known new i₀ i = repeats (known ++ take i new) (drop i new) ≡ repeats known new
@@ -60,8 +60,8 @@ returns-3 c =
     let a = at-loop .before .before .before .args in
     sym (sym (at-loop .loop .inv) ∙ repeats-end (a .known .now) (a .new .now) (at-loop .loop .i) (c .loop-test .left))
 
-pub repeats-name-spec : {M : Type 1} → statement M
-repeats-name-spec =
+pub repeats-identifier-spec : {M : Type 1} → statement M
+repeats-identifier-spec =
     tie.close
     (tie.spec
     Inv-loop

@@ -1,13 +1,13 @@
--- `machine::step::keep_names` meets its contract.
+-- `machine::step::keep_identifiers` meets its contract.
 -- Assumes nothing.
 use mathlib.Core.Path.{_∙_, ap}
 use borrow.Author.Needs.{needs}
 use lib.ListN.{take}
 use Rattle.record.specs.declared.types.Satellites.{Satellites}
 use Rattle.record.specs.declared.types.Slots.{Slots}
-use Rattle.machine.proofs.Stepping.{first-names, further-names, kept-so}
-use Rattle.machine.proofs.step.keep_names.Statement.{statement}
-use Rattle.machine.proofs.step.keep_names.Tie as tie
+use Rattle.machine.proofs.Stepping.{first-identifiers, further-identifiers, kept-so}
+use Rattle.machine.proofs.step.keep_identifiers.Statement.{statement}
+use Rattle.machine.proofs.step.keep_identifiers.Tie as tie
 
 returns : tie.Need-returns
 returns c =
@@ -19,9 +19,9 @@ returns c =
     let pad = from .before in
     let a = pad .before .before .before .args in
     let new =
-    first-names (a .rules) (a .state) (pad .pad .result) _ (first .if1 .taken)
-    (front .front-of .ensures ∙ ap (λ (x : Satellites). take (x .count) (x .names)) (reading .read-satellites .ensures)) in
-    let so = kept-so (a .rules) (a .state) (a .names .now) (a .line .now) (pad .pad .result) _ (from .seen-so-far .result) (pad .pad .ensures) (from .seen-so-far .ensures) new in
+    first-identifiers (a .rules) (a .state) (pad .pad .result) _ (first .if1 .taken)
+    (front .front-of .ensures ∙ ap (λ (x : Satellites). take (x .count) (x .identifiers)) (reading .read-satellites .ensures)) in
+    let so = kept-so (a .rules) (a .state) (a .identifiers .now) (a .line .now) (pad .pad .result) _ (from .seen-so-far .result) (pad .pad .ensures) (from .seen-so-far .ensures) new in
     (laying .lay-behind .ensures .0 ∙ so .0, laying .lay-behind .ensures .1 ∙ so .1)
 
 returns-2 : tie.Need-returns-2
@@ -34,13 +34,13 @@ returns-2 c =
     let pad = from .before in
     let a = pad .before .before .before .args in
     let new =
-    further-names (a .rules) (a .state) (pad .pad .result) _ (further .if1 .left)
+    further-identifiers (a .rules) (a .state) (pad .pad .result) _ (further .if1 .left)
     (front .front-of2 .ensures ∙ ap (λ (x : Slots). take (a .state .left) (x .values)) (reading .read-slots .ensures)) in
-    let so = kept-so (a .rules) (a .state) (a .names .now) (a .line .now) (pad .pad .result) _ (from .seen-so-far .result) (pad .pad .ensures) (from .seen-so-far .ensures) new in
+    let so = kept-so (a .rules) (a .state) (a .identifiers .now) (a .line .now) (pad .pad .result) _ (from .seen-so-far .result) (pad .pad .ensures) (from .seen-so-far .ensures) new in
     (laying .lay-behind2 .ensures .0 ∙ so .0, laying .lay-behind2 .ensures .1 ∙ so .1)
 
-pub keep-names-spec : {M : Type 1} → statement M
-keep-names-spec =
+pub keep-identifiers-spec : {M : Type 1} → statement M
+keep-identifiers-spec =
     tie.close
     (tie.spec
     (λ c κs. search needs)

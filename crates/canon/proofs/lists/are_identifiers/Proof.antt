@@ -1,0 +1,33 @@
+-- `canon::lists::are_identifiers` meets its contract: the flag and what is left decide the whole.
+-- Assumes nothing.
+use mathlib.Core.Path.{_≡_, refl, _∙_}
+use mathlib.Core.Bool.{_&&_}
+use Prim.Native.Nat.{_-_}
+use borrow.Author.Needs.{needs}
+use lib.ListN.{length, drop}
+use Rattle.laws.specs.Texts.{every}
+use Rattle.layout.specs.Kind.{isIdentifier}
+use Rattle.layout.proofs.Lines.{flag-more, flag-end}
+use Rattle.canon.proofs.lists.are_identifiers.Statement.{statement}
+use Rattle.canon.proofs.lists.are_identifiers.Tie as tie
+
+abbrev Inv-loop : tie.InvT-loop
+Inv-loop identifiers all₀ i₀ all i = (all && every isIdentifier (drop i identifiers)) ≡ every isIdentifier identifiers
+
+abbrev μ-loop : tie.MeasureT-loop
+μ-loop identifiers all₀ i₀ all i = length identifiers - i
+
+loop-again : tie.Need-loop-again Inv-loop μ-loop
+loop-again c =
+    let in-loop = c .before .before in
+    let at-loop = in-loop .before in
+    rw (c .is-identifier .ensures)
+    (flag-more isIdentifier (at-loop .before .before .args .identifiers .now) (at-loop .loop .i) (at-loop .loop .all) (in-loop .loop-test .taken) ∙ at-loop .loop .inv)
+
+returns : tie.Need-returns Inv-loop μ-loop
+returns c =
+    let at-loop = c .before in
+    flag-end isIdentifier (at-loop .before .before .args .identifiers .now) (at-loop .loop .i) (at-loop .loop .all) (c .loop-test .left) ∙ at-loop .loop .inv
+
+pub are-identifiers-spec : {M : Type 1} → statement M
+are-identifiers-spec = tie.close (tie.spec Inv-loop μ-loop (λ c. refl) (λ c. search needs) (λ c. search needs) (λ c κs. search needs) (λ c. search needs) (λ c. search needs) loop-again returns)
