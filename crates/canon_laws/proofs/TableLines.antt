@@ -1,4 +1,4 @@
--- The lines of the epochs of a valid table, with its own names, instants and rows.
+-- The lines of the epochs of a valid table, with its own identifiers, instants and rows.
 -- Assumes nothing.
 use mathlib.Core.Path.{_≡_, sym, ap, _∙_}
 use mathlib.Core.List.{List}

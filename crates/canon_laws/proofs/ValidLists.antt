@@ -83,7 +83,7 @@ module _ (kind : Kind) (loud : silent kind ≡ false) (fits : fitsIn kind 3 ≡ 
       let more = slots-hold count left (at + 3) (lower lowest (faultAt item (padded l))) (omega arith) (omega arith) here in
       rw (some-left count, one-less count, loud) (and-both (test (numberIn (heldAt item (padded l)))) _ own more)
 
--- an exponent of the header is at most 999, an identifier a name
+-- an exponent of the header is at most 999, an identifier is one
 abbrev slotValid : Bool → ℕ → Bool
 slotValid true n = leb n 999
 slotValid false n = isIdentifier n

@@ -1,5 +1,5 @@
-// The cases of standard input, one after the other: a line of numbers (room for lengths, 1 for a walk, room for identifiers, how many names follow, how
-// many bytes), the names after them, and then so many bytes.
+// The cases of standard input, one after the other: a line of numbers (room for lengths, 1 for a walk, room for identifiers, how many identifiers follow, how
+// many bytes), the identifiers after them, and then so many bytes.
 ghost use Prim.Native.Nat.{_+_, _≤_};
 ghost use lib.ListN.{length};
 use crate::divided;
@@ -78,7 +78,7 @@ fn answer<'a>(room: u64, front: &[u64; 4], identifiers: &'a [u64], bytes: &'a [u
     }
 }
 
-// A case of which the names, as many as this list has, stand at `second`; gives where the next one begins.
+// A case of which the identifiers, as many as this list has, stand at `second`; gives where the next one begins.
 fn named(input: &[u8], room: u64, front: &[u64; 4], second: usize, identifiers: &mut [u64]) -> usize
     requires { ⌜ second ≤ length (now input) ⌝ }
     ensures { λ r. ⌜ (second ≤ r) × (r ≤ length (now (input .entry))) ⌝ }

@@ -197,13 +197,13 @@ fn short(file: &[u8], identifiers: &mut [u64]) {
     lent::shown(true, identifiers, brought(at));
 }
 
-// A walk over rows with these names for those of the header, and over lines.
+// A walk over rows with these identifiers for those of the header, and over lines.
 fn walk_with<'a>(file: &'a [u8], header: &'a [u64]) {
     rows(file, header);
     spots(file);
 }
 
-// A file walked with the identifiers that `begin` fills; with the given names where it is refused.
+// A file walked with the identifiers that `begin` fills; with the given identifiers where it is refused.
 fn into<'a>(file: &'a [u8], identifiers: &mut [u64], given: &'a [u64]) {
     let reading = row_walk::begin(file, identifiers);
     let header = reading.header;

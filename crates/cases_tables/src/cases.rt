@@ -4,7 +4,7 @@ use crate::lent;
 use crate::print;
 use reader::Reading;
 
-// How much of each list is lent, and what is asked: the comment, epoch and satellite by number, the satellite's name as a number.
+// How much of each list is lent, and what is asked: the comment, epoch and satellite by number, the satellite's identifier as a number.
 pub(crate) struct Case {
     pub identifiers: u64,
     pub exponents: u64,

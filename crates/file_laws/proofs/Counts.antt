@@ -54,7 +54,7 @@ module _ {rules : Rules} {lines : List (List ℕ)} (p : Plain rules lines) where
   unfolding nth
   count-is = rw (kind-3 p)
 
-  -- and the names by that number are the header's
+  -- and the identifiers by that number are the header's
   pub identifiers-are : slotsIn rules false (countOf rules lines) lines ≡ identifiers p
   identifiers-are = ap (λ (n : ℕ). slotsIn rules false n lines) count-is ∙ identifiers-in p
 

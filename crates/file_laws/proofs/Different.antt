@@ -1,4 +1,4 @@
--- The names of an accepted file are all different, so in an epoch each satellite has one P line and no other, and with velocities one V line.
+-- The identifiers of an accepted file are all different, so in an epoch each satellite has one P line and no other, and with velocities one V line.
 -- Assumes nothing.
 use mathlib.Core.Path.{_≡_, refl, sym, _∙_}
 use mathlib.Core.Logic.{_⊎_, inl, inr}
@@ -37,7 +37,7 @@ not-among b c (k ∷ known) e =
     let more = not-among b c known (here .1) in
     (rw (here .0, more .0), more .1)
 
--- where nothing repeats, no name is known before
+-- where nothing repeats, no identifier is known before
 not-known : (known identifiers : List ℕ) → repeats known identifiers ≡ false → (j : ℕ) → j < length identifiers → isOneOf (getD identifiers j 0) known ≡ false
 unfolding repeats
 not-known known [] e j h = absurd (not-suc-le-zero h)
@@ -46,7 +46,7 @@ not-known known (identifier ∷ identifiers) e (suc j) h =
     not-among (getD identifiers j 0) identifier known
     (not-known (known ++ (identifier ∷ [])) identifiers (neither (isOneOf identifier known) (repeats (known ++ (identifier ∷ [])) identifiers) e .1) j (le-of-suc-le-suc h)) .0
 
--- and no name stands twice
+-- and no identifier stands twice
 not-twice : (known identifiers : List ℕ) → repeats known identifiers ≡ false → (i j : ℕ) → i < j → j < length identifiers → getD identifiers i 0 ≡ getD identifiers j 0 → ⊥
 unfolding repeats
 not-twice known [] e i j less h same = not-suc-le-zero h
@@ -59,7 +59,7 @@ not-twice known (identifier ∷ identifiers) e (suc i) (suc j) less h same =
     not-twice (known ++ (identifier ∷ [])) identifiers (neither (isOneOf identifier known) (repeats (known ++ (identifier ∷ [])) identifiers) e .1) i j (le-of-suc-le-suc less) (le-of-suc-le-suc h) same
 
 module _ {rules : Rules} {lines : List (List ℕ)} (p : Plain rules lines) where
-  -- two satellites of one name are one
+  -- two satellites of one identifier are one
   pub identifiers-differ : (i j : ℕ) → i < satellites p → j < satellites p → getD (identifiers p) i 0 ≡ getD (identifiers p) j 0 → i ≡ j
   identifiers-differ i j hi hj same = go (sides i j)
     where

@@ -25,7 +25,7 @@ use Rattle.file_laws.proofs.Sorting.{record-kind, records-kind, slots-k
 use Rattle.file_laws.proofs.Body.{ByEpoch, by-epoch, body-none}
 
 module _ {rules : Rules} {lines : List (List ℕ)} (p : Plain rules lines) where
-  -- What the header says: the number of satellites and their names in header order, whether there are velocities, the start, the interval and
+  -- What the header says: the number of satellites and their identifiers in header order, whether there are velocities, the start, the interval and
   -- the number of epochs.
   abbrev pub satellites : ℕ
   satellites = countIn rules (padded (p .count))

@@ -41,7 +41,7 @@ module _ {rules : Rules} {lines : List (List ℕ)} (p : Plain rules lines) where
   pub identifiers-many : length (identifiers p) ≡ satellites p
   identifiers-many = slots-many false (satellites p) (p .count ∷ p .slots) (p .slots-many)
 
-  -- the table has these names
+  -- the table has these identifiers
   pub identifiers-in : slotsIn rules false (satellites p) lines ≡ identifiers p
   unfolding slotsIn
   identifiers-in = ap (λ (ls : List (List ℕ)). take (satellites p) (flat (map (slotNumbers false) ls))) (kind-3 p)

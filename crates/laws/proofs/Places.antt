@@ -22,4 +22,4 @@ in-part lent part text from i p t =
 
 -- two references to one stretch of memory are one machine value: a pointer and a count of bytes
 pub same-value : (r s : RefT (List ℕ)) → Same r s → slice-vals r ≡ slice-vals s
-same-value r s e = ap₂ (λ (a : ℕ × ℕ) (bytes : List ℕ). slice-vals (record { ptr = a; identifier = 0; now = bytes })) (e .1) (e .0)
+same-value r s e = ap₂ (λ (a : ℕ × ℕ) (bytes : List ℕ). slice-vals (record { ptr = a; name = 0; now = bytes })) (e .1) (e .0)

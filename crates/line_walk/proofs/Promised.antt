@@ -29,7 +29,7 @@ pub record Begins (file : RefT (List ℕ)) (spot : Spot) (w : Walker) : Type 0 w
   pub file-is : w .file ≡ file
   pub spot-is : w .spot ≡ spot
 
--- a walker v, moved from w with these names, which are then `kept`: the same file, the spot after the line, the list after it
+-- a walker v, moved from w with these identifiers, which are then `kept`: the same file, the spot after the line, the list after it
 pub record Moves (w : Walker) (identifiers : List ℕ) (v : Walker) (kept : List ℕ) : Type 0 where
   pub file : v .file ≡ w .file
   pub spot : v .spot ≡ spotAfter d (now (w .file)) identifiers (w .spot)

@@ -1,6 +1,6 @@
--- The names that the walks by hand of this crate use, passed on from the logic, so that they are listed by module once.
+-- The identifiers that the walks by hand of this crate use, passed on from the logic, so that they are listed by module once.
 pub use Prim.Native.Nat.{ℕ, zero, suc, _-_, _≤_, _<_, _^_}
-pub use base.Fml.{Lft, Share, GIdentifier, Fml, ftrue, flft, fat, froom, fdies}
+pub use base.Fml.{Lft, Share, GName, Fml, ftrue, flft, fat, froom, fdies}
 pub use base.Logic.{SProp, ent, emp, via, fst∗, sep, snd∗, exE, ex, id⊢}
 pub use contract.Lifetimes.{Lfts}
 pub use contract.Monad.{Fun, fact}

@@ -1,5 +1,5 @@
--- Places between the lines of a file. 01: "Readers go line by line. First they take plain bytes and a spot; afterwards a
--- walker that holds the file's bytes and its spot serves the adjustment's loop."
+-- Spots between the lines of a file. 01: "Readers go line by line. First they take plain bytes and a place; afterwards a
+-- walker that holds the file's bytes and its place serves the adjustment's loop."
 use mathlib.Core.List.{List}
 use Prim.Native.Nat.{ℕ, zero, suc}
 use Rattle.header.specs.declared.types.Rules.{Rules}

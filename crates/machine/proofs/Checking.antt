@@ -1,4 +1,4 @@
--- What a line must agree with: one step of each loop over bytes or names, and the answers of the calendar.
+-- What a line must agree with: one step of each loop over bytes or identifiers, and the answers of the calendar.
 -- Assumes nothing.
 use mathlib.Core.Path.{_≡_, refl, sym, ap, _∙_}
 use mathlib.Core.Bool.{Bool, true, false, _&&_, _||_, or-assoc, false≢true}
@@ -56,7 +56,7 @@ module _ (s : List ℕ) (i : ℕ) where
   unfolding firstUnprintable
   unprintable-end h = rw (rest-none s i h) (omega arith)
 
--- one name more of those among which one is looked for, or of which each must begin with a letter
+-- one identifier more of those among which one is looked for, or of which each must begin with a letter
 pub among-step : (identifier : ℕ) (identifiers : List ℕ) (i : ℕ) → i < length identifiers
     → isOneOf identifier (drop i identifiers) ≡ (eqb identifier (getD identifiers i 0) || isOneOf identifier (drop (i + 1) identifiers))
 among-step identifier identifiers i h = rw (rest-step identifiers i h)
@@ -71,13 +71,13 @@ every-step test s i h = rw (rest-step s i h)
 pub every-end : (test : ℕ → Bool) (s : List ℕ) (i : ℕ) → length s ≤ i → every test (drop i s) ≡ true
 every-end test s i h = rw (rest-none s i h)
 
--- among the names of two lists: among those of one
+-- among the identifiers of two lists: among those of one
 pub among-append : (identifier : ℕ) (s t : List ℕ) → isOneOf identifier (s ++ t) ≡ (isOneOf identifier s || isOneOf identifier t)
 among-append identifier [] t = refl
 among-append identifier (n ∷ s) t =
     ap (λ (b : Bool). eqb identifier n || b) (among-append identifier s t) ∙ sym (or-assoc (eqb identifier n) (isOneOf identifier s) (isOneOf identifier t))
 
--- the names of a line one after the other, those before the place known too; `take (i - 0)` is the part `[0..i]`
+-- the identifiers of a line one after the other, those before the place known too; `take (i - 0)` is the part `[0..i]`
 pub repeats-start : (known new : List ℕ) → repeats (known ++ take 0 new) (drop 0 new) ≡ repeats known new
 repeats-start known new = ap (λ (k : List ℕ). repeats k new) (append-nil known)
 

@@ -57,7 +57,7 @@ pub(crate) fn second_agrees(start8: u64, second: Second) -> bool
     ((week == second.week) & (second8 == second.seconds8)) & (day & fraction)
 }
 
-// Whether a name stands among others.
+// Whether an identifier stands among others.
 pub(crate) fn is_among(identifier: u64, identifiers: &[u64]) -> bool
     ensures { λ r. ⌜ r ≡ isOneOf identifier (now (identifiers .entry)) ⌝ }
 {
@@ -71,7 +71,7 @@ pub(crate) fn is_among(identifier: u64, identifiers: &[u64]) -> bool
     false
 }
 
-// Whether one of the new names stands among those known or earlier among the new.
+// Whether one of the new identifiers stands among those known or earlier among the new.
 pub fn repeats_identifier(known: &[u64], new: &[u64]) -> bool
     ensures result { λ r. ⌜ r ≡ repeats (now (known .entry)) (now (new .entry)) ⌝ }
 {
@@ -88,7 +88,7 @@ pub fn repeats_identifier(known: &[u64], new: &[u64]) -> bool
     false
 }
 
-// Whether every name begins with a letter.
+// Whether every identifier begins with a letter.
 fn all_begin(letter: u64, identifiers: &[u64]) -> bool
     ensures { λ r. ⌜ r ≡ every (λ identifier. eqb (letterOf identifier) letter) (now (identifiers .entry)) ⌝ }
 {
@@ -102,7 +102,7 @@ fn all_begin(letter: u64, identifiers: &[u64]) -> bool
     true
 }
 
-// Whether a file type agrees with the names: M with all, another with those that begin with it.
+// Whether a file type agrees with the identifiers: M with all, another with those that begin with it.
 pub fn type_agrees(file_type: u8, identifiers: &[u64]) -> bool
     ensures result { λ r. ⌜ r ≡ typeAgrees «file_type» (now (identifiers .entry)) ⌝ }
 {

@@ -37,7 +37,7 @@ pub(crate) fn seen_so_far(state: State) -> usize
     0
 }
 
-// The first names, as many as there are.
+// The first identifiers, as many as there are.
 pub(crate) fn front_of(identifiers: &[u64], n: usize) -> &[u64]
     ensures { λ r. ⌜ now r ≡ take n (now (identifiers .entry)) ⌝ }
 {
@@ -47,7 +47,7 @@ pub(crate) fn front_of(identifiers: &[u64], n: usize) -> &[u64]
     identifiers
 }
 
-// The name of the satellite whose row must come.
+// The identifier of the satellite whose row must come.
 pub(crate) fn identifier_due(state: State, identifiers: &[u64]) -> u64
     ensures { λ r. ⌜ r ≡ identifierDue state (now (identifiers .entry)) ⌝ }
 {

@@ -1,4 +1,4 @@
--- Laws of the questions, on plain values: a text without its trailing blanks, a name's number, where a line lies, and what bounds the lines
+-- Laws of the questions, on plain values: a text without its trailing blanks, an identifier's number, where a line lies, and what bounds the lines
 -- of an accepted file. Assumes nothing.
 use mathlib.Core.Path.{_≡_, refl, sym, ap, ap₂, _∙_}
 use mathlib.Core.Bool.{Bool, true, false, _&&_}
@@ -55,7 +55,7 @@ module _ (line : List ℕ) (n : ℕ) (told : n ≡ length (trimmed (wordsOf line
   pub text-told : take (n - 0) (wordsOf line) ≡ textIn line
   text-told = ap (λ (k : ℕ). take k (wordsOf line)) (sub-zero n ∙ told) ∙ trimmed-front (wordsOf line) ∙ ap trimmed (rest-part line 3)
 
--- a name's number, from a place on
+-- an identifier's number, from a place on
 module _ (identifier : ℕ) (identifiers : List ℕ) (i : ℕ) where
   pub index-here : i < length identifiers → identifier ≡ getD identifiers i 0 → i + indexOf identifier (drop i identifiers) ≡ i
   unfolding indexOf
@@ -200,7 +200,7 @@ at-comment rules r file t e k line text h is-line at-line is-text at-text =
 pub file-within : (bytes : List ℕ) (t : Tally) → fileOf d bytes ≡ front.File t → t .end ≤ length bytes
 file-within bytes t e = omega (arith, whole-ends d bytes t e .1)
 
--- names laid over the front of others, as many as there are or fewer
+-- identifiers laid over the front of others, as many as there are or fewer
 module _ (identifiers old now : List ℕ) (is : now ≡ laid identifiers old) (fits : length identifiers ≤ length old) where
   named : now ≡ identifiers ++ drop (length identifiers) old
   named = is ∙ laid-fits identifiers old fits

@@ -14,7 +14,7 @@ use crate::types::SatelliteAnswer;
 use header::Rules;
 use scan::Front;
 
-// The number of a name among others, or how many there are.
+// The number of an identifier among others, or how many there are.
 fn index_of(identifier: u64, identifiers: &[u64]) -> usize
     ensures { λ r. ⌜ r ≡ indexOf identifier (now (identifiers .entry)) ⌝ }
 {
@@ -39,7 +39,7 @@ fn no_satellite(number: usize, line: u64) -> SatelliteAnswer
     }
 }
 
-// The number of a name among those of a header.
+// The number of an identifier among those of a header.
 fn satellite_in(identifier: u64, identifiers: &[u64]) -> SatelliteAnswer
     ensures { λ r. ⌜ r ≡ satelliteIn identifier (now (identifiers .entry)) ⌝ }
 {
@@ -54,7 +54,7 @@ fn satellite_in(identifier: u64, identifiers: &[u64]) -> SatelliteAnswer
     no_satellite(13, 0)
 }
 
-// The number of a name among the identifiers of some lines, as many as they say and at most 255.
+// The number of an identifier among the identifiers of some lines, as many as they say and at most 255.
 fn satellite_among(rules: Rules, bytes: &[u8], identifier: u64) -> SatelliteAnswer
     requires { ⌜ (length (identifiersOf rules (linesOf (now bytes))) ≡ countOf rules (linesOf (now bytes))) × (countOf rules (linesOf (now bytes)) ≤ 255) ⌝ }
     ensures { λ r. ⌜ r ≡ satelliteIn identifier (identifiersOf rules (linesOf (now (bytes .entry)))) ⌝ }

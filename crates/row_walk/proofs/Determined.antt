@@ -1,4 +1,4 @@
--- Any two outcomes that a contract allows agree, in the answer and in every lent spot.
+-- Any two outcomes that a contract allows agree, in the answer and in every lent place.
 -- Assumes nothing.
 use mathlib.Core.Path.{_≡_, sym, _∙_}
 use denote.Ref.{now}

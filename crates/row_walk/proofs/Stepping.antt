@@ -31,7 +31,7 @@ use Rattle.row_walk.specs.declared.types.RowWalk.{RowWalk}
 use Rattle.row_walk.specs.declared.types.RowStep.{RowStep}
 use Rattle.row_walk.specs.declared.types.RowStep.the-variants as step
 
--- a row, with its spot or without
+-- a row, with its place or without
 module _ (epoch satellite : ℕ) (row : FloatRow) (next : RowWalk) where
   absent-shown : row .«place_absent» ≡ true → step.Absent epoch satellite row next ≡ shown epoch satellite row next
   unfolding shown

@@ -20,6 +20,6 @@ begunAs r room = cond (eqb (r .refusal) 0) (cond (leb (r .header .satellites) ro
 abbrev pub begins : Reading → ℕ → Bool
 begins r room = eqb (r .refusal) 0 && leb (r .header .satellites) room
 
--- the list afterwards: the identifiers from its first spot on, or as it was
+-- the list afterwards: the identifiers from its first place on, or as it was
 unfoldable pub identifiersBegun : Reading → List ℕ → List ℕ → List ℕ
 identifiersBegun r file old = cond (begins r (length old)) (over (slotsIn d false (r .header .satellites) (linesOf file)) old) old

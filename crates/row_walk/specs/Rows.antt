@@ -1,5 +1,5 @@
--- A walk over the rows of a file. 01: "afterwards a walker that holds the file's bytes and its spot serves the adjustment's loop"; "The adjustment asks
--- for a row of an accepted file and gets its three coordinates and the clock as f64 in the same units, exactly, or the word absent in spot of either;
+-- A walk over the rows of a file. 01: "afterwards a walker that holds the file's bytes and its place serves the adjustment's loop"; "The adjustment asks
+-- for a row of an accepted file and gets its three coordinates and the clock as f64 in the same units, exactly, or the word absent in place of either;
 -- in mode V too this is the P row."
 use mathlib.Core.Bool.{false, cond}
 use mathlib.Core.List.{List, [], _∷_}
@@ -59,7 +59,7 @@ epochOf passed n = cond (eqb n 0) 0 (passed / n)
 unfoldable pub satelliteOf : ℕ → ℕ → ℕ
 satelliteOf passed n = cond (eqb n 0) 0 (passed % n)
 
--- a row: absence of its spot is a case of its own
+-- a row: absence of its place is a case of its own
 unfoldable pub shown : ℕ → ℕ → FloatRow → RowWalk → RowStep
 shown epoch satellite row next = cond (row .«place_absent») (step.Absent epoch satellite row next) (step.At epoch satellite row next)
 

@@ -1,4 +1,4 @@
--- The paper's number of each answer of a walk over rows, then which case it is (0 the end, 1 a row with a spot, 2 a row without one, 3 a refusal), then
+-- The paper's number of each answer of a walk over rows, then which case it is (0 the end, 1 a row with a place, 2 a row without one, 3 a refusal), then
 -- its values.
 use Prim.Native.Nat.{ℕ}
 use Rattle.float_row.specs.Floats.{absentRow}

@@ -20,7 +20,7 @@ fn no_room() -> Reading
     }
 }
 
-// Judges a whole file and leaves the identifiers of its header in the first spots of `identifiers`: the file's own refusal first, then 12 with
+// Judges a whole file and leaves the identifiers of its header in the first places of `identifiers`: the file's own refusal first, then 12 with
 // line 0 where there is less room than satellites. On every refusal the list is as it was.
 pub fn begin(file: &[u8], identifiers: &mut [u64]) -> Reading
     ensures result { λ r. ⌜ r ≡ begunAs (judged d (now (file .entry)) (fileOf d (now (file .entry)))) (length (now (identifiers .entry))) ⌝ }

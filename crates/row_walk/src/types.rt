@@ -8,8 +8,8 @@ pub struct RowWalk {
     pub passed: u64,
 }
 
-// What comes next in a file: the P row of a satellite that has a spot, or of one that has none; the end; or the refusal of a line. Epochs and
-// satellites are counted from 0. A row without a spot has no coordinates (NaN); its clock may be known.
+// What comes next in a file: the P row of a satellite that has a place, or of one that has none; the end; or the refusal of a line. Epochs and
+// satellites are counted from 0. A row without a place has no coordinates (NaN); its clock may be known.
 pub enum RowStep {
     At {
         epoch: u64,

@@ -262,7 +262,7 @@ walker-short bytes g o k = walks.short-stays d bytes g o k
 
 -- By the promises of `new` and `moved`: k moves after a new walker at the first line it is where the judge's run is,
 pub walker-walks : (file : RefT (List ℕ)) (from : Walker) → Begins file firstSpot from → (k : ℕ) (w : Walker) (identifiers : List ℕ) → After from noIdentifiers k w identifiers
-    → AllGoOn (now file) k → k ≤ length (linesOf (now file)) → goingAt (w .place) identifiers ≡ after (now file) k
+    → AllGoOn (now file) k → k ≤ length (linesOf (now file)) → goingAt (w .spot) identifiers ≡ after (now file) k
 walker-walks file from begins k w identifiers steps goes h = walks.walker-walks file from begins k w identifiers steps goes h
 
 -- and the clauses of their contracts say just that of every outcome: that a walker begins so, and that it moves so.

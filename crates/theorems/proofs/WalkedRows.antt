@@ -365,7 +365,7 @@ module _ (bytes : List ℕ) (t : Tally) (accepted : fileOf d bytes ≡ front.Fil
   pub walk-ends : walkStep (header bytes .satellites * header bytes .epochs) ≡ step.End
   walk-ends = given (header bytes .satellites * header bytes .epochs) .end (sym rows-many)
 
-  -- ABSENCE IS A CASE: a row comes as absent exactly when its spot is marked so, that is when its three fields are zero, whatever its clock.
+  -- ABSENCE IS A CASE: a row comes as absent exactly when its place is marked so, that is when its three fields are zero, whatever its clock.
   module _ (k j : ℕ) (there : There bytes k j) where
     pub walk-absent : asked bytes k j .row .«place_absent» ≡ true
         → (next : RowWalk) × (walkStep (rowAt bytes k j) ≡ step.Absent k j (asked bytes k j .row) next)

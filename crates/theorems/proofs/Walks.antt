@@ -218,12 +218,12 @@ unfolding spotsAfter identifiersPast
 last-step rules bytes zero identifiers p = (refl, refl)
 last-step rules bytes (suc k) identifiers p = last-step rules bytes k (lineIdentifiers rules bytes (p .at) (p .state) identifiers) (spotAfter rules bytes identifiers p)
 
--- a walker and the names lent, so many moves after another
+-- a walker and the identifiers lent, so many moves after another
 pub data After (from : Walker) (first : List ℕ) : ℕ → Walker → List ℕ → Type 0 where
   none : After from first 0 from first
   more : {k : ℕ} {w v : Walker} {identifiers kept : List ℕ} → After from first k w identifiers → Moves w identifiers v kept → After from first (suc k) v kept
 
--- BY THE PROMISES OF `new` AND `moved`: k moves after a walker, the file is the same, the spot is k lines further and the names are theirs, for every k;
+-- BY THE PROMISES OF `new` AND `moved`: k moves after a walker, the file is the same, the spot is k lines further and the identifiers are theirs, for every k;
 pub record Further (from : Walker) (first : List ℕ) (k : ℕ) (w : Walker) (identifiers : List ℕ) : Type 0 where
   pub file : w .file ≡ from .file
   pub spot : w .spot ≡ spotsAfter d (now (from .file)) first (from .spot) k

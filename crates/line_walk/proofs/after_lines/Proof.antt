@@ -1,8 +1,8 @@
 -- `line_walk::after_lines` meets its contract: a walk of its MIR, by hand, with a loop over a struct that holds a reference. All that the proof knows of `new`, `moved` and `spot_of` is that each meets its contract.
--- The loop's invariant: the walker w holds the file that was passed, and so many lines from its spot, with the names as they are now, lead where all the lines from the first spot lead, in spot and names. The variant is the number of lines left.
--- In each turn the names are lent again, for a lifetime of the call, and come back at the list that `moved` leaves.
+-- The loop's invariant: the walker w holds the file that was passed, and so many lines from its spot, with the identifiers as they are now, lead where all the lines from the first spot lead, in spot and names. The variant is the number of lines left.
+-- In each turn the identifiers are lent again, for a lifetime of the call, and come back at the list that `moved` leaves.
 -- Assumes nothing.
-use Rattle.line_walk.proofs.Walking.{_≡_, refl, ap, ap₂, sym, subst, _∙_, ℕ, _-_, _<_, _^_, lt-of-le-of-lt, arith, WellFounded, InvImage·wf, List, [], _∷_, ltb, ltb→lt, nltb→le, length, Nat·lt-wfRel, fullShare, URA, Ty, Body, named, erased, imm, mut, w8, w64, tyInt, tyBool, tyRef, spot, field, deref, addrOf, aggregate, unsigned, copy, int, skipᴹ, seq, assign, block, loop, cond, exit, call, return, rvOpd, op2, subᴹ, lt, Val, vint, SProp, ent, sep, emp, via, fst∗, snd∗, exE, ex, id⊢, Lft, Share, GIdentifier, Fml, ftrue, fat, froom, fdies, flft, Memory, Routine, Heap, Out, Env, afterSeq, afterBlock, afterTurn, Calls, Loops, Wp, atReturn, WpFn, Tables, Atoms, sem, Lfts, Fun, fact, givenOf, tables, tablesOf, Given, Item, ‵, raw, _⊛_, ⋆, some, later, runs, lft-new, lft-end, anyQ, atRet, Sq, _$_, _∵_, !, qed, by, move, drop, use1, use2, use3, rewrite, split, join, pick, fsplit, fjoin, feqL, suffices, frame, await, done, look, look-in, whole, sub, agg, store, init, forget, stop, hop, fld, from, load, addr, lit, of-opd, bin, and-then, no-more, assigns, assigns-last, land, first, skips, jumps, blocks, branches, returns, enter, alloc1, alloc0, params1, pass1, pass0, free1, free0, exec, Below, again, loops, FmC, fmOf, WpFn-mono, RattleType, owns, Is, shows, uint-vals, uint-tells, u8, u64, usize, RefT, NamedLft, now, plain, namedLft, sliceTy, sliceVal, ShrSlice, MutSlice, Room, finally, mut-slice-tells, slice-vals, shr-slice-tells, shr-slice-lawful, shr-slice-copy, only, peeks, heard, nothing, Contract, Triple, calls-at, Vals, onEntry, Meets, tripleOf, entered, cited, Stays, stay-none, stay-none-slice, stay-slice, walkOf, goes-none, goes-none-slice, goes-slice, Walks, ends-at, walked, walk-meets, yes, ensured, lasts}
+use Rattle.line_walk.proofs.Walking.{_≡_, refl, ap, ap₂, sym, subst, _∙_, ℕ, _-_, _<_, _^_, lt-of-le-of-lt, arith, WellFounded, InvImage·wf, List, [], _∷_, ltb, ltb→lt, nltb→le, length, Nat·lt-wfRel, fullShare, URA, Ty, Body, named, erased, imm, mut, w8, w64, tyInt, tyBool, tyRef, spot, field, deref, addrOf, aggregate, unsigned, copy, int, skipᴹ, seq, assign, block, loop, cond, exit, call, return, rvOpd, op2, subᴹ, lt, Val, vint, SProp, ent, sep, emp, via, fst∗, snd∗, exE, ex, id⊢, Lft, Share, GName, Fml, ftrue, fat, froom, fdies, flft, Memory, Routine, Heap, Out, Env, afterSeq, afterBlock, afterTurn, Calls, Loops, Wp, atReturn, WpFn, Tables, Atoms, sem, Lfts, Fun, fact, givenOf, tables, tablesOf, Given, Item, ‵, raw, _⊛_, ⋆, some, later, runs, lft-new, lft-end, anyQ, atRet, Sq, _$_, _∵_, !, qed, by, move, drop, use1, use2, use3, rewrite, split, join, pick, fsplit, fjoin, feqL, suffices, frame, await, done, look, look-in, whole, sub, agg, store, init, forget, stop, hop, fld, from, load, addr, lit, of-opd, bin, and-then, no-more, assigns, assigns-last, land, first, skips, jumps, blocks, branches, returns, enter, alloc1, alloc0, params1, pass1, pass0, free1, free0, exec, Below, again, loops, FmC, fmOf, WpFn-mono, RattleType, owns, Is, shows, uint-vals, uint-tells, u8, u64, usize, RefT, NamedLft, now, plain, namedLft, sliceTy, sliceVal, ShrSlice, MutSlice, Room, finally, mut-slice-tells, slice-vals, shr-slice-tells, shr-slice-lawful, shr-slice-copy, only, peeks, heard, nothing, Contract, Triple, calls-at, Vals, onEntry, Meets, tripleOf, entered, cited, Stays, stay-none, stay-none-slice, stay-slice, walkOf, goes-none, goes-none-slice, goes-slice, Walks, ends-at, walked, walk-meets, yes, ensured, lasts}
 use Rattle.line_walk.proofs.Saying.{says-both}
 use Rattle.line_walk.proofs.Again.{LentAgain, lends-again, comes-back}
 use denote.Struct.Laws as LL
@@ -18,17 +18,17 @@ use Rattle.line_walk.proofs.Place as S
 use Rattle.line_walk.proofs.Place.Laws as S′
 use Rattle.line_walk.proofs.new as new
 use Rattle.line_walk.proofs.new.Symbol as new-def
-use Rattle.line_walk.proofs.new.Symbol.{identifier as #walker·new}
+use Rattle.line_walk.proofs.new.Symbol.{name as #walker·new}
 use Rattle.line_walk.proofs.new.Met as new-thm
 use Rattle.line_walk.proofs.moved as moved
 use Rattle.line_walk.proofs.moved.Symbol as moved-def
-use Rattle.line_walk.proofs.moved.Symbol.{identifier as #walker·moved}
+use Rattle.line_walk.proofs.moved.Symbol.{name as #walker·moved}
 use Rattle.line_walk.proofs.moved.Met as moved-thm
 use Rattle.line_walk.proofs.spot_of as spot-of
 use Rattle.line_walk.proofs.spot_of.Symbol as spot-of-def
-use Rattle.line_walk.proofs.spot_of.Symbol.{identifier as #walker·spot-of}
+use Rattle.line_walk.proofs.spot_of.Symbol.{name as #walker·spot-of}
 use Rattle.line_walk.proofs.spot_of.Met as spot-of-thm
-use Rattle.line_walk.proofs.after_lines.Key.{identifier as #walker·after-lines}
+use Rattle.line_walk.proofs.after_lines.Key.{name as #walker·after-lines}
 use Rattle.line_walk.proofs.after_lines as after
 use Rattle.line_walk.proofs.after_lines.Statement as stated
 use Rattle.line_walk.proofs.after_lines.Code as code
@@ -89,10 +89,10 @@ module _ {M : Type 1} (𝓤 : URA M) (H : Heap 𝓤) (A : Atoms 𝓤) (mem : Mem
   abbrev SpotOf : Contract 𝓤
   SpotOf = tripleOf 𝓤 H A spot-of.signature (spot-of.spec 𝓤 H A mem run)
 
-module _ {M : Type 1} (𝓤 : URA M) (H : Heap 𝓤) (A : Atoms 𝓤) (W : Given 𝓤 H A) (mem : Memory → SProp 𝓤) (run : Routine → Fun 𝓤) (κ κ′ : Lft) (q q′ : Share) (f : RefT (List ℕ)) (s : Spot) (n : ℕ) (b o : ℕ) (γ : GIdentifier) (ys : List ℕ) (gn : n < 2 ^ 64) (room : Room u64 (length ys)) where
-  -- the names, under the name δ at the list l
-  abbrev x : GIdentifier → List ℕ → RefT (List ℕ)
-  x δ l = record { ptr = (b, o); identifier = δ; now = l }
+module _ {M : Type 1} (𝓤 : URA M) (H : Heap 𝓤) (A : Atoms 𝓤) (W : Given 𝓤 H A) (mem : Memory → SProp 𝓤) (run : Routine → Fun 𝓤) (κ κ′ : Lft) (q q′ : Share) (f : RefT (List ℕ)) (s : Spot) (n : ℕ) (b o : ℕ) (γ : GName) (ys : List ℕ) (gn : n < 2 ^ 64) (room : Room u64 (length ys)) where
+  -- the identifiers, under the ghost name δ at the list l
+  abbrev x : GName → List ℕ → RefT (List ℕ)
+  x δ l = record { ptr = (b, o); name = δ; now = l }
 
   -- the machine values of the slices
   abbrev v : Val
@@ -126,18 +126,18 @@ module _ {M : Type 1} (𝓤 : URA M) (H : Heap 𝓤) (A : Atoms 𝓤) (W : Given
   abbrev OwnIdentifiers : List ℕ → Fml
   OwnIdentifiers l = MutSlice (named 1) κ′ u64 .own (x γ l) (m ∷ [])
 
-  -- the names, at a list as long, lent again for the lifetime ν, and back at another as long
-  abbrev Lent : Lft → GIdentifier → List ℕ → Fml
+  -- the identifiers, at a list as long, lent again for the lifetime ν, and back at another as long
+  abbrev Lent : Lft → GName → List ℕ → Fml
   Lent ν δ l = MutSlice (named 1) ν u64 .own (x δ l) (m ∷ [])
 
   lends : (ν : Lft) (l : List ℕ) → length l ≡ length ys
-      → ent 𝓤 (sep 𝓤 (sem 𝓤 H A (OwnIdentifiers l)) (A .lft κ′ q′)) (H .⇛ (ex 𝓤 (λ (δ : GIdentifier). sep 𝓤 (sem 𝓤 H A (Lent ν δ l)) (sem 𝓤 H A (LentAgain u64 κ′ ν q′ γ b o δ l)))))
+      → ent 𝓤 (sep 𝓤 (sem 𝓤 H A (OwnIdentifiers l)) (A .lft κ′ q′)) (H .⇛ (ex 𝓤 (λ (δ : GName). sep 𝓤 (sem 𝓤 H A (Lent ν δ l)) (sem 𝓤 H A (LentAgain u64 κ′ ν q′ γ b o δ l)))))
   lends ν l long =
       subst (λ (c : ℕ). ent 𝓤 (sep 𝓤 (sem 𝓤 H A (MutSlice (named 1) κ′ u64 .own (x γ l) (sliceVal (b, o) c ∷ []))) (A .lft κ′ q′))
-      (H .⇛ (ex 𝓤 (λ (δ : GIdentifier). sep 𝓤 (sem 𝓤 H A (MutSlice (named 1) ν u64 .own (x δ l) (sliceVal (b, o) c ∷ []))) (sem 𝓤 H A (LentAgain u64 κ′ ν q′ γ b o δ l))))))
+      (H .⇛ (ex 𝓤 (λ (δ : GName). sep 𝓤 (sem 𝓤 H A (MutSlice (named 1) ν u64 .own (x δ l) (sliceVal (b, o) c ∷ []))) (sem 𝓤 H A (LentAgain u64 κ′ ν q′ γ b o δ l))))))
       long (lends-again u64 κ′ ν q′ γ b o 𝓤 H A W (named 1) (named 1) l)
 
-  back : (ν : Lft) (δ : GIdentifier) (l zs : List ℕ) → length l ≡ length ys → length zs ≡ length l
+  back : (ν : Lft) (δ : GName) (l zs : List ℕ) → length l ≡ length ys → length zs ≡ length l
       → ent 𝓤 (sep 𝓤 (A .dead ν) (sep 𝓤 (sem 𝓤 H A (LentAgain u64 κ′ ν q′ γ b o δ l)) (sem 𝓤 H A (finally u64 δ zs)))) (H .⇛ (sep 𝓤 (sem 𝓤 H A (OwnIdentifiers zs)) (A .lft κ′ q′)))
   back ν δ l zs long same =
       subst (λ (c : ℕ). ent 𝓤 (sep 𝓤 (A .dead ν) (sep 𝓤 (sem 𝓤 H A (LentAgain u64 κ′ ν q′ γ b o δ l)) (sem 𝓤 H A (finally u64 δ zs))))
@@ -163,28 +163,28 @@ module _ {M : Type 1} (𝓤 : URA M) (H : Heap 𝓤) (A : Atoms 𝓤) (W : Given
       -- [the token of κ; that of κ′; what the parameters own]
       move ! (2 ∷ []) $ fsplit ! $ use1 W (‵ OwnFile ⊛ ‵ OwnFile) (shr-slice-copy 𝓤 H A W (named 0) κ u8 .twice f (v ∷ [])) $ split ! $ move ! (2 ∷ []) $ fsplit ! $
       use1 W (‵ OwnSpot ⊛ ‵ OwnSpot) (LL.copy S.the-type S′.the-copy 𝓤 H A W .twice s (S′.lowered s ∷ [])) $ split ! $ move ! (2 ∷ []) $ fsplit ! $ move ! (1 ∷ []) $ fsplit ! $
-      -- [what the names own; nothing; what n owns; what s owns, twice; what the file owns, twice; the token of κ; that of κ′]
+      -- [what the identifiers own; nothing; what n owns; what s owns, twice; what the file owns, twice; the token of κ; that of κ′]
       move ! (3 ∷ 1 ∷ []) $ fjoin ! $ move ! (4 ∷ 0 ∷ []) $ fjoin ! $ move ! (5 ∷ 0 ∷ []) $ use2 W (raw (New 𝓤 H A mem run .pre to-new)) asked $
-      -- [what `new` asks; what the names own; what n owns; what s owns; what the file owns; the token of κ′]
+      -- [what `new` asks; what the identifiers own; what n owns; what s owns; what the file owns; the token of κ′]
       frame ! $ move ! (4 ∷ []) $ frame ! $ frame ! $ move ! (2 ∷ []) $ frame ! $ move ! (1 ∷ []) $ frame ! $ done !
 
   new-said : (r : Walker) → ent 𝓤 (ensured 𝓤 H A new.ended (new.clauses 𝓤 H A mem run) (κ, tt) (f, (s, tt)) tt r) (fact 𝓤 ((r .file ≡ f) × (r .spot ≡ s)))
   new-said r = exE 𝓤 _ (λ ws. snd∗ 𝓤 (sem 𝓤 H A (lasts new.ended (κ, tt) (f, (s, tt)) ws)) (fact 𝓤 ((r .file ≡ f) × (r .spot ≡ s))))
 
-  -- the call of `moved`, at the walker w and the names, at the list l, lent for the lifetime ν
+  -- the call of `moved`, at the walker w and the identifiers, at the list l, lent for the lifetime ν
   abbrev OwnAt : Walker → Fml
   OwnAt w = B (κ, tt) .own w (T′.lowered w ∷ [])
 
   abbrev at-moved : ℕ → Lfts 2
   at-moved ν = (κ, (ν ∷ [], tt))
 
-  abbrev to-moved : Walker → ℕ → GIdentifier → List ℕ → Moved 𝓤 H A mem run .Ghost
+  abbrev to-moved : Walker → ℕ → GName → List ℕ → Moved 𝓤 H A mem run .Ghost
   to-moved w ν δ l = ((at-moved ν, (q, (fullShare, tt)), tt, (w, (x δ l, tt)), (T′.lowered w ∷ [], (m ∷ [], tt))), tt)
 
-  abbrev passed : Walker → ℕ → GIdentifier → List ℕ → Fml
+  abbrev passed : Walker → ℕ → GName → List ℕ → Fml
   passed w ν δ l = owns (B (κ, tt) ∷ MutSlice (named 1) (ν ∷ []) u64 ∷ []) (w, (x δ l, tt)) (T′.lowered w ∷ [], (m ∷ [], tt))
 
-  goes-moved : (w : Walker) (ν : ℕ) (δ : GIdentifier) (l : List ℕ) → ent 𝓤 (sep 𝓤 (A .lft κ q) (sep 𝓤 (A .lft (ν ∷ []) fullShare) (sem 𝓤 H A (passed w ν δ l)))) (Moved 𝓤 H A mem run .pre (to-moved w ν δ l))
+  goes-moved : (w : Walker) (ν : ℕ) (δ : GName) (l : List ℕ) → ent 𝓤 (sep 𝓤 (A .lft κ q) (sep 𝓤 (A .lft (ν ∷ []) fullShare) (sem 𝓤 H A (passed w ν δ l)))) (Moved 𝓤 H A mem run .pre (to-moved w ν δ l))
   goes-moved w ν δ l =
       qed W (‵ (flft κ q) ∷ ‵ (flft (ν ∷ []) fullShare) ∷ ‵ (passed w ν δ l) ∷ []) ∵ nothing ! $ move ! (2 ∷ 0 ∷ []) $ join ! $ move ! (1 ∷ 0 ∷ []) $ join ! $ join ! $ frame ! $ done !
 
@@ -210,10 +210,10 @@ module _ {M : Type 1} (𝓤 : URA M) (H : Heap 𝓤) (A : Atoms 𝓤) (W : Given
       qed W (‵ (S.the-row .own r (u ∷ [])) ∷ (‵ (flft κ q) ⊛ ‵ ftrue) ∷ ‵ (flft κ′ q′) ∷ ‵ (OwnIdentifiers zs) ∷ ‵ OwnFile ∷ ‵ OwnSpot ∷ ‵ OwnLines ∷ []) ∵
       suffices ! _ (ends-at 𝓤 H A after.ended stayed (after.clauses 𝓤 H A mem run) W ((κs, (q, (q′, tt)), tt, (f, (s, (n, (x γ ys, tt)))), at), tt) u r (tt, (tt, (tt, (zs, tt)))) (tt, (tt, (tt, (l, tt))))) $ says-both ! e k $
       move ! (1 ∷ []) $ split ! $ move ! (3 ∷ 1 ∷ []) $ join ! $ move ! (1 ∷ 0 ∷ []) $ join ! $ frame ! $
-      -- [the result; what the names own; what the file owns; what s owns; what n owns]
+      -- [the result; what the identifiers own; what the file owns; what s owns; what n owns]
       nothing ! $ move ! (2 ∷ 0 ∷ []) $ fjoin ! $ move ! (4 ∷ 0 ∷ []) $ fjoin ! $ move ! (3 ∷ 0 ∷ []) $ fjoin ! $ move ! (2 ∷ 0 ∷ []) $ fjoin ! $ frame ! $ done !
 
-  -- where the loop stands: the walker, the names, the number of lines left, and what is known of them
+  -- where the loop stands: the walker, the identifiers, the number of lines left, and what is known of them
   pub record Turn : Type 0 where
     pub w : Walker
     pub identifiers : List ℕ
@@ -230,7 +230,7 @@ module _ {M : Type 1} (𝓤 : URA M) (H : Heap 𝓤) (A : Atoms 𝓤) (W : Given
   Nearer-wf : WellFounded Nearer
   Nearer-wf = InvImage·wf (λ (i : Turn). i .left) (Nat·lt-wfRel .wf)
 
-  -- a line passed: the spot and the names after it
+  -- a line passed: the spot and the identifiers after it
   here : (i : Turn) (r : Walker) → Next (i .w) (i .identifiers) r → r .spot ≡ spotAfter rules-d (now f) (i .identifiers) (i .w .spot)
   here i r e = e .1 ∙ ap (λ (g : RefT (List ℕ)). spotAfter rules-d (now g) (i .identifiers) (i .w .spot)) (i .same)
 
@@ -263,7 +263,7 @@ module _ {M : Type 1} (𝓤 : URA M) (H : Heap 𝓤) (A : Atoms 𝓤) (W : Given
     abbrev En : Env 𝓤 H
     En = (S′.mir, l₀) ∷ (bytes, l₁) ∷ (S′.mir, l₂) ∷ (word, l₃) ∷ (words, l₄) ∷ (walker, l₅) ∷ (word, l₆) ∷ (tyBool, l₇) ∷ (walker, l₈) ∷ (again-ptr, l₉) ∷ (again-words, l₁₀) ∷ (walker, l₁₁) ∷ []
 
-    -- [what the walker w owns; the tokens of κ and κ′; what the names, at the list l, own; what the file, s and n own; room for _11, _10, _9, _8, _7; …]
+    -- [what the walker w owns; the tokens of κ and κ′; what the identifiers, at the list l, own; what the file, s and n own; room for _11, _10, _9, _8, _7; …]
     abbrev Front : Walker → List ℕ → List (Item 𝓤) → List (Item 𝓤)
     Front w l locals = ‵ (OwnAt w) ∷ ‵ (flft κ q) ∷ ‵ (flft κ′ q′) ∷ ‵ (OwnIdentifiers l) ∷ ‵ OwnFile ∷ ‵ OwnSpot ∷ ‵ OwnLines ∷
         ‵ (froom walker l₁₁ 0) ∷ ‵ (fdies walker l₁₁) ∷ ‵ (froom again-words l₁₀ 0) ∷ ‵ (fdies again-words l₁₀) ∷ ‵ (froom again-ptr l₉ 0) ∷ ‵ (fdies again-ptr l₉) ∷
@@ -288,14 +288,14 @@ module _ {M : Type 1} (𝓤 : URA M) (H : Heap 𝓤) (A : Atoms 𝓤) (W : Given
         assigns ! (bin ! (lit ! tt) (load ! (from ! (stop !)) (look ! 17 refl)) tt) (from ! (stop !)) (init ! 15 refl (tt, tt)) $
         peeks ! (B (κ, tt)) (Is (B (κ, tt))) (shows 𝓤 H A (B (κ, tt))) (i .w) (T′.lowered (i .w) ∷ []) (λ is.
         first ! $ branches ! (load ! (from ! (stop !)) (look ! 15 refl))
-        -- a line is left: the walker is passed to `moved`, with the names lent again, and what comes back takes its spot
+        -- a line is left: the walker is passed to `moved`, with the identifiers lent again, and what comes back takes its spot
         (λ less. skips ! $ exec ! C Λ En more (anyQ (Turned i)) $
         assigns ! (of-opd ! (load ! (from ! (stop !)) (look ! 19 refl))) (from ! (stop !)) (init ! 13 refl (LL.lawful (T.the-type αᵉ) (T′.the-laws αᵉ) 𝓤 H A W .typed (i .w) _ is .0)) $
         assigns ! (addr ! (from ! (fld ! refl (hop ! (look-in ! 21 (sub ! 0 refl (whole !))) (stop !))))) (from ! (stop !)) (init ! 11 refl (tt, tt)) $
         assigns ! (agg ! (and-then ! (load ! (from ! (stop !)) (look ! 11 refl)) (and-then ! (load ! (from ! (fld ! refl (stop !))) (look-in ! 21 (sub ! 1 refl (whole !)))) (no-more !)))) (from ! (stop !)) (init ! 9 refl (tt, (tt, (record { fits = room .0 }, tt)))) $
         lft-new ! tt (λ ν. move ! (4 ∷ 3 ∷ []) $
-        use2 W (later (some (λ (δ : GIdentifier). ‵ (Lent (ν ∷ []) δ (i .identifiers)) ⊛ ‵ (LentAgain u64 κ′ (ν ∷ []) q′ γ b o δ (i .identifiers))))) (lends (ν ∷ []) (i .identifiers) (i .long)) $ await ! tt $ pick ! (λ δ. split ! $
-        -- [the names lent; the lender's part; the token of ν; what the walker owns; the token of κ; what the file, s and n own; …]
+        use2 W (later (some (λ (δ : GName). ‵ (Lent (ν ∷ []) δ (i .identifiers)) ⊛ ‵ (LentAgain u64 κ′ (ν ∷ []) q′ γ b o δ (i .identifiers))))) (lends (ν ∷ []) (i .identifiers) (i .long)) $ await ! tt $ pick ! (λ δ. split ! $
+        -- [the identifiers lent; the lender's part; the token of ν; what the walker owns; the token of κ; what the file, s and n own; …]
         nothing ! $ move ! (1 ∷ 0 ∷ []) $ fjoin ! $ move ! (3 ∷ 0 ∷ []) $ fjoin ! $ move ! (3 ∷ 2 ∷ 0 ∷ []) $
         use3 W (raw (Moved 𝓤 H A mem run .pre (to-moved (i .w) ν δ (i .identifiers)))) (goes-moved (i .w) ν δ (i .identifiers)) $
         calls-at ! fm (Moved 𝓤 H A mem run) known-moved (to-moved (i .w) ν δ (i .identifiers)) (and-then ! (load ! (from ! (stop !)) (look ! 11 refl)) (and-then ! (load ! (from ! (stop !)) (look ! 7 refl)) (no-more !))) (λ u.
@@ -308,7 +308,7 @@ module _ {M : Type 1} (𝓤 : URA M) (H : Heap 𝓤) (A : Atoms 𝓤) (W : Given
         land ! (from ! (stop !)) (store ! 19 refl (LL.lawful (T.the-type αᵉ) (T′.the-laws αᵉ) 𝓤 H A W .typed r _ is′ .0)) $
         rewrite ! 19 (λ (z : Val). ‵ (fat fullShare walker l₅ 0 z)) (ap only (LL.tells (T.the-type (namedLft 1 0 tt (κ, tt))) (T′.the-laws (namedLft 1 0 tt (κ, tt))) r _ is′)) refl $
         rewrite ! 0 (λ (us : List Val). ‵ (B (κ, tt) .own r us)) (LL.tells (T.the-type (namedLft 1 0 tt (κ, tt))) (T′.the-laws (namedLft 1 0 tt (κ, tt))) r _ is′) refl $
-        -- the lifetime is ended, and the names come back at that list
+        -- the lifetime is ended, and the identifiers come back at that list
         move ! (1 ∷ []) $ split ! $ move ! (1 ∷ []) $ split ! $ lft-end ! tt $ move ! (0 ∷ 5 ∷ 4 ∷ []) $
         use3 W (later (‵ (OwnIdentifiers (zs .1 .0)) ⊛ ‵ (flft κ′ q′))) (back (ν ∷ []) δ (i .identifiers) (zs .1 .0) (i .long) l) $ await ! tt $ split ! $
         move ! (2 ∷ []) $ drop ! $ move ! (3 ∷ 2 ∷ 1 ∷ 0 ∷ []) $
@@ -363,7 +363,7 @@ module _ {M : Type 1} (𝓤 : URA M) (H : Heap 𝓤) (A : Atoms 𝓤) (W : Given
       rewrite ! 0 (λ (us : List Val). ‵ (B (κ, tt) .own r us)) (LL.tells (T.the-type (namedLft 1 0 tt (κ, tt))) (T′.the-laws (namedLft 1 0 tt (κ, tt))) r _ is) refl $
       -- [what the walker owns; the token of κ; what was kept; …]
       move ! (1 ∷ []) $ split ! $ move ! (1 ∷ []) $ drop ! $ move ! (2 ∷ []) $ split ! $ move ! (1 ∷ []) $ split ! $ move ! (1 ∷ []) $ split ! $ move ! (1 ∷ []) $ split ! $
-      -- [what s owns; n; the file; the names; the token of κ′; that of κ; the walker; …]
+      -- [what s owns; n; the file; the identifiers; the token of κ′; that of κ; the walker; …]
       move ! (6 ∷ 5 ∷ 4 ∷ 3 ∷ 2 ∷ 0 ∷ 1 ∷ []) $
       starts 𝓣 fm known-moved known-spot l₀ l₁ l₂ l₃ l₄ l₅ l₆ l₇ l₈ l₉ l₁₀ l₁₁ r e))))))))))))))))
 
@@ -372,7 +372,7 @@ module _ {M : Type 1} (𝓤 : URA M) (H : Heap 𝓤) (A : Atoms 𝓤) (W : Given
   after-walks : Walks 𝓤 H A after.ended stayed (WpFn 𝓤 H (𝓣 .C) (𝓣 .Λ) code.function) (after.clauses 𝓤 H A mem run)
   after-walks = walked 𝓤 H A after.ended stayed (after.clauses 𝓤 H A mem run) (WpFn 𝓤 H (𝓣 .C) (𝓣 .Λ) code.function)
       (λ κs. (slice-vals, (LL.vals S.the-type S′.the-laws, (uint-vals w64, (slice-vals, tt))))) (λ κs. (shr-slice-tells (named 0) (κs .0) u8, (LL.tells S.the-type S′.the-laws, (uint-tells w64, (mut-slice-tells (named 1) (κs .1 .0) u64, tt)))))
-      (λ κs qs bounds a g are. via 𝓤 _ (fst∗ 𝓤 _ (emp 𝓤)) (walk 𝓤 H A W mem run (κs .0) (κs .1 .0) (qs .0) (qs .1 .0) (a .0) (a .1 .0) (a .1 .1 .0) (a .1 .1 .1 .0 .ptr .0) (a .1 .1 .1 .0 .ptr .1) (a .1 .1 .1 .0 .identifier) (a .1 .1 .1 .0 .now) (are .1 .1 .0 .1) (are .1 .1 .1 .0 .0 .1)
+      (λ κs qs bounds a g are. via 𝓤 _ (fst∗ 𝓤 _ (emp 𝓤)) (walk 𝓤 H A W mem run (κs .0) (κs .1 .0) (qs .0) (qs .1 .0) (a .0) (a .1 .0) (a .1 .1 .0) (a .1 .1 .1 .0 .ptr .0) (a .1 .1 .1 .0 .ptr .1) (a .1 .1 .1 .0 .name) (a .1 .1 .1 .0 .now) (are .1 .1 .0 .1) (are .1 .1 .1 .0 .0 .1)
       𝓣 (fmOf 𝓤 H (W .laws) 𝓣) known-new known-moved known-spot (are .0) (are .1 .0)))
 
   after-meets : Meets 𝓤 H A after.signature (WpFn 𝓤 H (𝓣 .C) (𝓣 .Λ) code.function) (after.spec 𝓤 H A mem run)

@@ -1,7 +1,7 @@
--- `line_walk::moved` meets its contract: a walk of its MIR, by hand. The struct is taken apart, `spot_after` is called on the file, the spot and the names lent, and a struct is made anew of the file and the spot that comes back.
--- The struct is Copy: what it owns is had three times. One copy is kept whole for the exit, the callee takes the fields of another in their order, then the names, for good, and in the third the new spot takes the old one's.
+-- `line_walk::moved` meets its contract: a walk of its MIR, by hand. The struct is taken apart, `spot_after` is called on the file, the spot and the identifiers lent, and a struct is made anew of the file and the spot that comes back.
+-- The struct is Copy: what it owns is had three times. One copy is kept whole for the exit, the callee takes the fields of another in their order, then the identifiers, for good, and in the third the new spot takes the old one's.
 -- Assumes nothing.
-use Rattle.line_walk.proofs.Walking.{_≡_, refl, ap, subst, fullShare, List, [], _∷_, ℕ, Holds, length, URA, named, Val, WT, hasTy, SProp, ent, sep, emp, via, fst∗, id⊢, Lft, Share, GIdentifier, Fml, ftrue, flft, fat, Memory, Routine, Heap, Calls, Loops, WpFn, Tables, Atoms, sem, Lfts, Fun, fact, givenOf, tables, tablesOf, Given, Item, ‵, raw, _⊛_, given, ⋆, some, later, _$_, _∵_, !, qed, by, move, drop, use1, use2, rewrite, split, join, learn, pick, fsplit, fjoin, feqL, suffices, frame, await, done, whole, sub, look-in, agg, look, init, forget, stop, hop, fld, from, load, addr, of-opd, and-then, no-more, assigns, land, returns, enter, alloc1, alloc0, params1, pass1, pass0, free1, free0, FmC, fmOf, WpFn-mono, RattleType, owns, Is, shows, u8, u64, RefT, now, plain, namedLft, sliceVal, ShrSlice, MutSlice, Room, finally, slice-vals, mut-slice-tells, only, peeks, heard, nothing, Declared, all-own, own-open, own-put, Values, Contract, Triple, calls-at, Vals, onEntry, Meets, tripleOf, entered, cited, Stays, stay-none, gave-slice, walkOf, goes-none, goes-gave-slice, Walks, ends-at, walked, walk-meets, yes, ensured, lasts}
+use Rattle.line_walk.proofs.Walking.{_≡_, refl, ap, subst, fullShare, List, [], _∷_, ℕ, Holds, length, URA, named, Val, WT, hasTy, SProp, ent, sep, emp, via, fst∗, id⊢, Lft, Share, GName, Fml, ftrue, flft, fat, Memory, Routine, Heap, Calls, Loops, WpFn, Tables, Atoms, sem, Lfts, Fun, fact, givenOf, tables, tablesOf, Given, Item, ‵, raw, _⊛_, given, ⋆, some, later, _$_, _∵_, !, qed, by, move, drop, use1, use2, rewrite, split, join, learn, pick, fsplit, fjoin, feqL, suffices, frame, await, done, whole, sub, look-in, agg, look, init, forget, stop, hop, fld, from, load, addr, of-opd, and-then, no-more, assigns, land, returns, enter, alloc1, alloc0, params1, pass1, pass0, free1, free0, FmC, fmOf, WpFn-mono, RattleType, owns, Is, shows, u8, u64, RefT, now, plain, namedLft, sliceVal, ShrSlice, MutSlice, Room, finally, slice-vals, mut-slice-tells, only, peeks, heard, nothing, Declared, all-own, own-open, own-put, Values, Contract, Triple, calls-at, Vals, onEntry, Meets, tripleOf, entered, cited, Stays, stay-none, gave-slice, walkOf, goes-none, goes-gave-slice, Walks, ends-at, walked, walk-meets, yes, ensured, lasts}
 use Rattle.line_walk.proofs.Saying.{says-both}
 use denote.Struct.Laws as LL
 use Rattle.header.specs.Rules.{d as rules-d}
@@ -15,9 +15,9 @@ use Rattle.line_walk.proofs.Place as S
 use Rattle.line_walk.proofs.Place.Laws as S′
 use Rattle.line_walk.proofs.spot_after as after
 use Rattle.line_walk.proofs.spot_after.Symbol as after-def
-use Rattle.line_walk.proofs.spot_after.Symbol.{identifier as #walker·spot-after}
+use Rattle.line_walk.proofs.spot_after.Symbol.{name as #walker·spot-after}
 use Rattle.line_walk.proofs.spot_after.Met as after-thm
-use Rattle.line_walk.proofs.moved.Key.{identifier as #walker·moved}
+use Rattle.line_walk.proofs.moved.Key.{name as #walker·moved}
 use Rattle.line_walk.proofs.moved as own
 use Rattle.line_walk.proofs.moved.Statement as stated
 use Rattle.line_walk.proofs.moved.Code as code
@@ -34,16 +34,16 @@ module _ {M : Type 1} (𝓤 : URA M) (H : Heap 𝓤) (A : Atoms 𝓤) (mem : Mem
   abbrev SpotAfter : Contract 𝓤
   SpotAfter = tripleOf 𝓤 H A after.signature (after.spec 𝓤 H A mem run)
 
-module _ {M : Type 1} (𝓤 : URA M) (H : Heap 𝓤) (A : Atoms 𝓤) (W : Given 𝓤 H A) (mem : Memory → SProp 𝓤) (run : Routine → Fun 𝓤) (κ κ′ : Lft) (q q′ : Share) (d : Walker) (b o : ℕ) (γ : GIdentifier) (ys : List ℕ) where
+module _ {M : Type 1} (𝓤 : URA M) (H : Heap 𝓤) (A : Atoms 𝓤) (W : Given 𝓤 H A) (mem : Memory → SProp 𝓤) (run : Routine → Fun 𝓤) (κ κ′ : Lft) (q q′ : Share) (d : Walker) (b o : ℕ) (γ : GName) (ys : List ℕ) where
   abbrev κs : Lfts 2
   κs = (κ, (κ′, tt))
 
   abbrev mach : Val
   mach = T′.lowered d
 
-  -- the names lent
+  -- the identifiers lent
   abbrev x : RefT (List ℕ)
-  x = record { ptr = (b, o); identifier = γ; now = ys }
+  x = record { ptr = (b, o); name = γ; now = ys }
 
   -- the machine values of the slices
   abbrev v : Val
@@ -101,14 +101,14 @@ module _ {M : Type 1} (𝓤 : URA M) (H : Heap 𝓤) (A : Atoms 𝓤) (W : Given
   twice : ent 𝓤 (sem 𝓤 H A Own) (sep 𝓤 (sem 𝓤 H A Own) (sem 𝓤 H A Own))
   twice = LL.copy D (T′.the-copy (namedLft 2 0 tt κs)) 𝓤 H A W .twice d (mach ∷ [])
 
-  -- what the struct and the names own gives what the callee asks, and what the struct owns is kept twice
+  -- what the struct and the identifiers own gives what the callee asks, and what the struct owns is kept twice
   apart : ent 𝓤 (onEntry 𝓤 H A own.signature κs (q, (q′, tt)) (d, (x, tt)) vals) (sep 𝓤 (SpotAfter 𝓤 H A mem run .pre to) (sep 𝓤 (sem 𝓤 H A Own) (sem 𝓤 H A Own)))
   apart =
       qed W (Tokens ∷ ‵ (owns (B κs ∷ MutSlice (named 1) κ′ u64 ∷ []) (d, (x, tt)) vals) ∷ []) ∵
       move ! (1 ∷ []) $ fsplit ! $ use1 W (‵ Own ⊛ ‵ Own) twice $ split ! $ use1 W (‵ Own ⊛ ‵ Own) twice $ split ! $
       use1 W (given (mach ∷ [] ≡ mach ∷ []) (‵ (all-own (D .parts) L vd))) (own-open 𝓤 H A W D L vd mach) $ learn ! (λ _.
       fsplit ! $ move ! (1 ∷ []) $ fsplit ! $
-      -- [what the spot owns; nothing; what the file owns; what the struct owns, twice; what the names own; the tokens]
+      -- [what the spot owns; nothing; what the file owns; what the struct owns, twice; what the identifiers own; the tokens]
       move ! (0 ∷ 5 ∷ []) $ fjoin ! $ move ! (2 ∷ 0 ∷ []) $ fjoin ! $
       -- [what the callee's parameters own; nothing; what the struct owns, twice; the tokens]
       move ! (1 ∷ []) $ drop ! $ move ! (3 ∷ 0 ∷ []) $ use2 W (raw (SpotAfter 𝓤 H A mem run .pre to)) asked $ frame ! $ frame ! $ done !)
@@ -156,7 +156,7 @@ module _ {M : Type 1} (𝓤 : URA M) (H : Heap 𝓤) (A : Atoms 𝓤) (W : Given
       → Walks 𝓤 H A own.ended stayed (WpFn 𝓤 H C Λ code.function) (own.clauses 𝓤 H A mem run)
   moved-walks C Λ fm known = walked 𝓤 H A own.ended stayed (own.clauses 𝓤 H A mem run) (WpFn 𝓤 H C Λ code.function)
       (λ κs. (LL.vals (T.the-type (namedLft 2 0 tt κs)) (T′.the-laws (namedLft 2 0 tt κs)), (slice-vals, tt))) (λ κs. (LL.tells (T.the-type (namedLft 2 0 tt κs)) (T′.the-laws (namedLft 2 0 tt κs)), (mut-slice-tells (named 1) (κs .1 .0) u64, tt)))
-      (λ κs qs bounds a g are. via 𝓤 _ (fst∗ 𝓤 _ (emp 𝓤)) (walk 𝓤 H A W mem run (κs .0) (κs .1 .0) (qs .0) (qs .1 .0) (a .0) (a .1 .0 .ptr .0) (a .1 .0 .ptr .1) (a .1 .0 .identifier) (a .1 .0 .now) C Λ fm known
+      (λ κs qs bounds a g are. via 𝓤 _ (fst∗ 𝓤 _ (emp 𝓤)) (walk 𝓤 H A W mem run (κs .0) (κs .1 .0) (qs .0) (qs .1 .0) (a .0) (a .1 .0 .ptr .0) (a .1 .0 .ptr .1) (a .1 .0 .name) (a .1 .0 .now) C Λ fm known
       (LL.lawful (T.the-type (namedLft 2 0 tt κs)) (T′.the-laws (namedLft 2 0 tt κs)) 𝓤 H A W .typed (a .0) _ (are .0) .0) (are .1 .0 .0 .1)))
 
 moved-meets : {M : Type 1} (𝓤 : URA M) (H : Heap 𝓤) (A : Atoms 𝓤) (W : Given 𝓤 H A) (mem : Memory → SProp 𝓤) (run : Routine → Fun 𝓤) (𝓣 : Tables 𝓤 H)

@@ -9,7 +9,7 @@ use Rattle.line_walk.proofs.Walker as T
 use Rattle.line_walk.proofs.Walker.Laws as T′
 use Rattle.line_walk.proofs.Place as S
 use Rattle.line_walk.proofs.Place.Laws as S′
-use Rattle.line_walk.proofs.new.Key.{identifier as #walker·new}
+use Rattle.line_walk.proofs.new.Key.{name as #walker·new}
 use Rattle.line_walk.proofs.new as own
 use Rattle.line_walk.proofs.new.Statement as stated
 use Rattle.line_walk.proofs.new.Code as code

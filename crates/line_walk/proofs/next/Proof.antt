@@ -1,7 +1,7 @@
--- `line_walk::next` meets its contract: a walk of its MIR, by hand. The struct is taken apart, and `read_at` is called on the file, the spot and the names lent, of which the proof knows only that it meets its contract.
--- The struct is Copy: what it owns is had twice, one copy is kept whole for the exit, and of the other the callee takes the fields in their order, then the names. They are lent on at their own lifetime, share and ghost name, for good: what `read_at` says of the last list is what `next` says of it.
+-- `line_walk::next` meets its contract: a walk of its MIR, by hand. The struct is taken apart, and `read_at` is called on the file, the spot and the identifiers lent, of which the proof knows only that it meets its contract.
+-- The struct is Copy: what it owns is had twice, one copy is kept whole for the exit, and of the other the callee takes the fields in their order, then the identifiers. They are lent on at their own lifetime, share and ghost name, for good: what `read_at` says of the last list is what `next` says of it.
 -- Assumes nothing.
-use Rattle.line_walk.proofs.Walking.{_≡_, refl, List, [], _∷_, ℕ, Holds, length, URA, named, Val, WT, hasTy, SProp, ent, sep, emp, via, fst∗, id⊢, Lft, Share, GIdentifier, Fml, ftrue, flft, Memory, Routine, Heap, Calls, Loops, WpFn, Tables, Atoms, sem, Lfts, Fun, fact, givenOf, tables, tablesOf, Given, Item, ‵, raw, _⊛_, given, ⋆, some, later, _$_, _∵_, !, qed, by, move, drop, use1, use2, split, join, learn, pick, fsplit, fjoin, feqL, suffices, frame, await, done, whole, sub, look-in, agg, look, init, forget, stop, hop, fld, from, load, addr, of-opd, and-then, no-more, assigns, land, returns, enter, alloc1, alloc0, params1, pass1, pass0, free1, free0, FmC, fmOf, WpFn-mono, RattleType, owns, Is, shows, u8, u64, RefT, now, plain, namedLft, sliceVal, ShrSlice, MutSlice, Room, finally, slice-vals, mut-slice-tells, peeks, heard, nothing, Declared, all-own, own-open, Values, Contract, Triple, calls-at, Vals, onEntry, Meets, tripleOf, entered, cited, Stays, stay-none, gave-slice, walkOf, goes-none, goes-gave-slice, Walks, ends-at, walked, walk-meets, yes, ensured, lasts}
+use Rattle.line_walk.proofs.Walking.{_≡_, refl, List, [], _∷_, ℕ, Holds, length, URA, named, Val, WT, hasTy, SProp, ent, sep, emp, via, fst∗, id⊢, Lft, Share, GName, Fml, ftrue, flft, Memory, Routine, Heap, Calls, Loops, WpFn, Tables, Atoms, sem, Lfts, Fun, fact, givenOf, tables, tablesOf, Given, Item, ‵, raw, _⊛_, given, ⋆, some, later, _$_, _∵_, !, qed, by, move, drop, use1, use2, split, join, learn, pick, fsplit, fjoin, feqL, suffices, frame, await, done, whole, sub, look-in, agg, look, init, forget, stop, hop, fld, from, load, addr, of-opd, and-then, no-more, assigns, land, returns, enter, alloc1, alloc0, params1, pass1, pass0, free1, free0, FmC, fmOf, WpFn-mono, RattleType, owns, Is, shows, u8, u64, RefT, now, plain, namedLft, sliceVal, ShrSlice, MutSlice, Room, finally, slice-vals, mut-slice-tells, peeks, heard, nothing, Declared, all-own, own-open, Values, Contract, Triple, calls-at, Vals, onEntry, Meets, tripleOf, entered, cited, Stays, stay-none, gave-slice, walkOf, goes-none, goes-gave-slice, Walks, ends-at, walked, walk-meets, yes, ensured, lasts}
 use Rattle.line_walk.proofs.Saying.{says-both}
 use denote.Enum.Laws as EL
 use denote.Struct.Laws as LL
@@ -18,9 +18,9 @@ use Rattle.machine.proofs.types.LineRead as E
 use Rattle.machine.proofs.types.LineRead.Laws as E′
 use Rattle.line_walk.proofs.read_at as read-at
 use Rattle.line_walk.proofs.read_at.Symbol as read-at-def
-use Rattle.line_walk.proofs.read_at.Symbol.{identifier as #walker·read-at}
+use Rattle.line_walk.proofs.read_at.Symbol.{name as #walker·read-at}
 use Rattle.line_walk.proofs.read_at.Met as read-at-thm
-use Rattle.line_walk.proofs.next.Key.{identifier as #walker·next}
+use Rattle.line_walk.proofs.next.Key.{name as #walker·next}
 use Rattle.line_walk.proofs.next as own
 use Rattle.line_walk.proofs.next.Statement as stated
 use Rattle.line_walk.proofs.next.Code as code
@@ -37,16 +37,16 @@ module _ {M : Type 1} (𝓤 : URA M) (H : Heap 𝓤) (A : Atoms 𝓤) (mem : Mem
   abbrev ReadAt : Contract 𝓤
   ReadAt = tripleOf 𝓤 H A read-at.signature (read-at.spec 𝓤 H A mem run)
 
-module _ {M : Type 1} (𝓤 : URA M) (H : Heap 𝓤) (A : Atoms 𝓤) (W : Given 𝓤 H A) (mem : Memory → SProp 𝓤) (run : Routine → Fun 𝓤) (κ κ′ : Lft) (q q′ : Share) (d : Walker) (b o : ℕ) (γ : GIdentifier) (ys : List ℕ) where
+module _ {M : Type 1} (𝓤 : URA M) (H : Heap 𝓤) (A : Atoms 𝓤) (W : Given 𝓤 H A) (mem : Memory → SProp 𝓤) (run : Routine → Fun 𝓤) (κ κ′ : Lft) (q q′ : Share) (d : Walker) (b o : ℕ) (γ : GName) (ys : List ℕ) where
   abbrev κs : Lfts 2
   κs = (κ, (κ′, tt))
 
   abbrev mach : Val
   mach = T′.lowered d
 
-  -- the names lent
+  -- the identifiers lent
   abbrev x : RefT (List ℕ)
-  x = record { ptr = (b, o); identifier = γ; now = ys }
+  x = record { ptr = (b, o); name = γ; now = ys }
 
   -- the machine values of the slices
   abbrev v : Val
@@ -97,14 +97,14 @@ module _ {M : Type 1} (𝓤 : URA M) (H : Heap 𝓤) (A : Atoms 𝓤) (W : Given
   asked : ent 𝓤 (onEntry 𝓤 H A read-at.signature κs (q, (q′, tt)) (d .file, (d .spot, (x, tt))) passed) (ReadAt 𝓤 H A mem run .pre to)
   asked = qed W (Tokens ∷ ‵ (owns (ShrSlice (named 0) κ u8 ∷ S.the-row ∷ MutSlice (named 1) κ′ u64 ∷ []) (d .file, (d .spot, (x, tt))) passed) ∷ []) ∵ join ! $ frame ! $ done !
 
-  -- what the struct and the names own gives what the callee asks, and what the struct owns is kept
+  -- what the struct and the identifiers own gives what the callee asks, and what the struct owns is kept
   apart : ent 𝓤 (onEntry 𝓤 H A own.signature κs (q, (q′, tt)) (d, (x, tt)) vals) (sep 𝓤 (ReadAt 𝓤 H A mem run .pre to) (sem 𝓤 H A Own))
   apart =
       qed W (Tokens ∷ ‵ (owns (B κs ∷ MutSlice (named 1) κ′ u64 ∷ []) (d, (x, tt)) vals) ∷ []) ∵
       move ! (1 ∷ []) $ fsplit ! $ use1 W (‵ Own ⊛ ‵ Own) (LL.copy D (T′.the-copy (namedLft 2 0 tt κs)) 𝓤 H A W .twice d (mach ∷ [])) $ split ! $
       use1 W (given (mach ∷ [] ≡ mach ∷ []) (‵ (all-own (D .parts) L vd))) (own-open 𝓤 H A W D L vd mach) $ learn ! (λ _.
       fsplit ! $ move ! (1 ∷ []) $ fsplit ! $
-      -- [what the spot owns; nothing; what the file owns; what the struct owns; what the names own; the tokens]
+      -- [what the spot owns; nothing; what the file owns; what the struct owns; what the identifiers own; the tokens]
       move ! (0 ∷ 4 ∷ []) $ fjoin ! $ move ! (2 ∷ 0 ∷ []) $ fjoin ! $
       -- [what the callee's parameters own; nothing; what the struct owns; the tokens]
       move ! (1 ∷ []) $ drop ! $ move ! (2 ∷ 0 ∷ []) $ use2 W (raw (ReadAt 𝓤 H A mem run .pre to)) asked $ frame ! $ done !)
@@ -145,7 +145,7 @@ module _ {M : Type 1} (𝓤 : URA M) (H : Heap 𝓤) (A : Atoms 𝓤) (W : Given
       → Walks 𝓤 H A own.ended stayed (WpFn 𝓤 H C Λ code.function) (own.clauses 𝓤 H A mem run)
   next-walks C Λ fm known = walked 𝓤 H A own.ended stayed (own.clauses 𝓤 H A mem run) (WpFn 𝓤 H C Λ code.function)
       (λ κs. (LL.vals (T.the-type (namedLft 2 0 tt κs)) (T′.the-laws (namedLft 2 0 tt κs)), (slice-vals, tt))) (λ κs. (LL.tells (T.the-type (namedLft 2 0 tt κs)) (T′.the-laws (namedLft 2 0 tt κs)), (mut-slice-tells (named 1) (κs .1 .0) u64, tt)))
-      (λ κs qs bounds a g are. via 𝓤 _ (fst∗ 𝓤 _ (emp 𝓤)) (walk 𝓤 H A W mem run (κs .0) (κs .1 .0) (qs .0) (qs .1 .0) (a .0) (a .1 .0 .ptr .0) (a .1 .0 .ptr .1) (a .1 .0 .identifier) (a .1 .0 .now) C Λ fm known
+      (λ κs qs bounds a g are. via 𝓤 _ (fst∗ 𝓤 _ (emp 𝓤)) (walk 𝓤 H A W mem run (κs .0) (κs .1 .0) (qs .0) (qs .1 .0) (a .0) (a .1 .0 .ptr .0) (a .1 .0 .ptr .1) (a .1 .0 .name) (a .1 .0 .now) C Λ fm known
       (LL.lawful (T.the-type (namedLft 2 0 tt κs)) (T′.the-laws (namedLft 2 0 tt κs)) 𝓤 H A W .typed (a .0) _ (are .0) .0) (are .1 .0 .0 .1)))
 
 next-meets : {M : Type 1} (𝓤 : URA M) (H : Heap 𝓤) (A : Atoms 𝓤) (W : Given 𝓤 H A) (mem : Memory → SProp 𝓤) (run : Routine → Fun 𝓤) (𝓣 : Tables 𝓤 H)

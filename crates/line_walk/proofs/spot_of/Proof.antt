@@ -7,7 +7,7 @@ use Rattle.line_walk.specs.declared.Walker.{Walker}
 use Rattle.line_walk.proofs.Walker as T
 use Rattle.line_walk.proofs.Walker.Laws as T′
 use Rattle.line_walk.proofs.Place.Laws as S′
-use Rattle.line_walk.proofs.spot_of.Key.{identifier as #walker·spot-of}
+use Rattle.line_walk.proofs.spot_of.Key.{name as #walker·spot-of}
 use Rattle.line_walk.proofs.spot_of as own
 use Rattle.line_walk.proofs.spot_of.Statement as stated
 use Rattle.line_walk.proofs.spot_of.Code as code

@@ -1,4 +1,4 @@
--- `canon::lists::is_name` meets its contract.
+-- `canon::lists::is_identifier` meets its contract.
 -- Assumes nothing.
 use mathlib.Core.Path.{refl}
 use borrow.Author.Needs.{needs}

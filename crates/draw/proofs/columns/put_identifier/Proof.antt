@@ -1,4 +1,4 @@
--- `draw::columns::put_name` meets its contract.
+-- `draw::columns::put_identifier` meets its contract.
 -- Assumes nothing.
 use mathlib.Core.Path.{_≡_, _∙_, sym}
 use borrow.Author.Needs.{needs}

@@ -1,4 +1,4 @@
--- `draw::columns::with_name` meets its contract.
+-- `draw::columns::with_identifier` meets its contract.
 -- Assumes nothing.
 use borrow.Author.Needs.{needs}
 use Rattle.draw.proofs.columns.with_identifier.Statement.{statement}

@@ -1,4 +1,4 @@
--- `machine::checks::all_begin` meets its contract. The invariant: the names from i on decide for all.
+-- `machine::checks::all_begin` meets its contract. The invariant: the identifiers from i on decide for all.
 -- Assumes nothing.
 use mathlib.Core.Path.{_≡_, refl, sym, _∙_}
 use Prim.Native.Nat.{_-_}

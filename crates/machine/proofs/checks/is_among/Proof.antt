@@ -1,4 +1,4 @@
--- `machine::checks::is_among` meets its contract. The invariant: the names from i on decide.
+-- `machine::checks::is_among` meets its contract. The invariant: the identifiers from i on decide.
 -- Assumes nothing.
 use mathlib.Core.Path.{_≡_, refl, sym, _∙_}
 use Prim.Native.Nat.{_-_}

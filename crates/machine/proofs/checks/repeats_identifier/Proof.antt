@@ -1,4 +1,4 @@
--- `machine::checks::repeats_name` meets its contract. The invariant: the names from i on decide, those before them known too.
+-- `machine::checks::repeats_identifier` meets its contract. The invariant: the identifiers from i on decide, those before them known too.
 -- Assumes nothing.
 use mathlib.Core.Path.{_≡_, sym, _∙_}
 use mathlib.Core.Bool.{true, false}

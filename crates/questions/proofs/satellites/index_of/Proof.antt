@@ -1,4 +1,4 @@
--- `questions::satellites::index_of` meets its contract. The invariant: what is left, from here, has the name's number.
+-- `questions::satellites::index_of` meets its contract. The invariant: what is left, from here, has the identifier's number.
 -- Assumes nothing.
 use mathlib.Core.Path.{_≡_, sym, _∙_}
 use Prim.Native.Nat.{_+_, _-_, _≤_}

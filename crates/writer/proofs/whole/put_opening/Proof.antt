@@ -53,7 +53,7 @@ sub-put-slots : tie.Need-sub-put-slots
 unfolding slotLines
 sub-put-slots c = omega (arith, c .before .before .before .before .before .slot-lines .ensures)
 
--- the names past the first line
+-- the identifiers past the first line
 rest-identifiers : (c : tie.After-fewer)
     → slotLinesOf false (c .before .before .before .before .before .slot-lines .result - 1)
     (take (length (c .before .before .before .before .before .before .before .before .before .args .identifiers .now) - c .fewer .result) (drop (c .fewer .result) (c .before .before .before .before .before .before .before .before .before .args .identifiers .now)))
