@@ -106,7 +106,7 @@ impl Header {
         ensures epochs { λ r. do ⌜ (← ⟦Header::MAX_EPOCHS⟧ .entry) ≡ maxEpochs ⌝ }
         ensures comments { λ r. do ⌜ (← ⟦Header::MIN_COMMENTS⟧ .entry) ≡ minComments ⌝ }
         ensures interval { λ r. do ⌜ (← ⟦Header::MAX_INTERVAL⟧ .entry) ≡ maxInterval ⌝ }
-        ensures lies { λ r. do ⌜ (← ⟦Header::MAX_PLACE_BASE⟧ .entry) ≡ maxPlaceBase ⌝ }
+        ensures place { λ r. do ⌜ (← ⟦Header::MAX_PLACE_BASE⟧ .entry) ≡ maxPlaceBase ⌝ }
         ensures clock { λ r. do ⌜ (← ⟦Header::MAX_CLOCK_BASE⟧ .entry) ≡ maxClockBase ⌝ }
     {
         true

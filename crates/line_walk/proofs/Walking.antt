@@ -34,7 +34,7 @@ pub use lib.WfN.{Nat·lt-wfRel}
 pub use mathlib.Core.List.{List, [], _∷_}
 pub use mathlib.Core.Path.{refl, _≡_, sym, ap, ap₂, subst, _∙_}
 pub use mathlib.Core.WellFounded.{WellFounded, InvImage·wf}
-pub use mir.Syntax.{named, Ty, Body, erased, imm, w8, w64, tyInt, tyBool, tyRef, mut, spot, field, deref, addrOf, aggregate, unsigned, copy, int, skip as skipᴹ, seq, assign, block, loop, cond, exit, call, return, rvOpd, op2, sub as subᴹ, lt}
+pub use mir.Syntax.{named, Ty, Body, erased, imm, w8, w64, tyInt, tyBool, tyRef, mut, place, field, deref, addrOf, aggregate, unsigned, copy, int, skip as skipᴹ, seq, assign, block, loop, cond, exit, call, return, rvOpd, op2, sub as subᴹ, lt}
 pub use mir.Val.{Val, WT, hasTy, vint}
 pub use native.Mathlib.Nat.{lt-of-le-of-lt}
 pub use native.Mathlib.Omega.{arith}

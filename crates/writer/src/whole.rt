@@ -55,9 +55,9 @@ fn put_table(
     let listed = &identifiers[0..n];
     let count = h.comments as usize;
     let numbers = n * (h.epochs as usize) * canon::cell_width(h.velocity);
-    let mut at = put_opening(rules, h, identifiers, &exponents[0..n], out);
+    let mut at = put_opening(rules, h, listed, &exponents[0..n], out);
     at += heads::put_comments(h.comments, &comments[0..count * 77], &mut out[at..]);
-    at += epochs::put_epochs(h, identifiers, &rows[0..numbers], &mut out[at..]);
+    at += epochs::put_epochs(h, listed, &rows[0..numbers], &mut out[at..]);
     draw::plain::write_end(&mut out[at..]);
 }
 

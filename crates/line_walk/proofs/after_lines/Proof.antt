@@ -2,7 +2,7 @@
 -- The loop's invariant: the walker w holds the file that was passed, and so many lines from its spot, with the identifiers as they are now, lead where all the lines from the first spot lead, in spot and names. The variant is the number of lines left.
 -- In each turn the identifiers are lent again, for a lifetime of the call, and come back at the list that `moved` leaves.
 -- Assumes nothing.
-use Rattle.line_walk.proofs.Walking.{_≡_, refl, ap, ap₂, sym, subst, _∙_, ℕ, _-_, _<_, _^_, lt-of-le-of-lt, arith, WellFounded, InvImage·wf, List, [], _∷_, ltb, ltb→lt, nltb→le, length, Nat·lt-wfRel, fullShare, URA, Ty, Body, named, erased, imm, mut, w8, w64, tyInt, tyBool, tyRef, spot, field, deref, addrOf, aggregate, unsigned, copy, int, skipᴹ, seq, assign, block, loop, cond, exit, call, return, rvOpd, op2, subᴹ, lt, Val, vint, SProp, ent, sep, emp, via, fst∗, snd∗, exE, ex, id⊢, Lft, Share, GName, Fml, ftrue, fat, froom, fdies, flft, Memory, Routine, Heap, Out, Env, afterSeq, afterBlock, afterTurn, Calls, Loops, Wp, atReturn, WpFn, Tables, Atoms, sem, Lfts, Fun, fact, givenOf, tables, tablesOf, Given, Item, ‵, raw, _⊛_, ⋆, some, later, runs, lft-new, lft-end, anyQ, atRet, Sq, _$_, _∵_, !, qed, by, move, drop, use1, use2, use3, rewrite, split, join, pick, fsplit, fjoin, feqL, suffices, frame, await, done, look, look-in, whole, sub, agg, store, init, forget, stop, hop, fld, from, load, addr, lit, of-opd, bin, and-then, no-more, assigns, assigns-last, land, first, skips, jumps, blocks, branches, returns, enter, alloc1, alloc0, params1, pass1, pass0, free1, free0, exec, Below, again, loops, FmC, fmOf, WpFn-mono, RattleType, owns, Is, shows, uint-vals, uint-tells, u8, u64, usize, RefT, NamedLft, now, plain, namedLft, sliceTy, sliceVal, ShrSlice, MutSlice, Room, finally, mut-slice-tells, slice-vals, shr-slice-tells, shr-slice-lawful, shr-slice-copy, only, peeks, heard, nothing, Contract, Triple, calls-at, Vals, onEntry, Meets, tripleOf, entered, cited, Stays, stay-none, stay-none-slice, stay-slice, walkOf, goes-none, goes-none-slice, goes-slice, Walks, ends-at, walked, walk-meets, yes, ensured, lasts}
+use Rattle.line_walk.proofs.Walking.{_≡_, refl, ap, ap₂, sym, subst, _∙_, ℕ, _-_, _<_, _^_, lt-of-le-of-lt, arith, WellFounded, InvImage·wf, List, [], _∷_, ltb, ltb→lt, nltb→le, length, Nat·lt-wfRel, fullShare, URA, Ty, Body, named, erased, imm, mut, w8, w64, tyInt, tyBool, tyRef, place, field, deref, addrOf, aggregate, unsigned, copy, int, skipᴹ, seq, assign, block, loop, cond, exit, call, return, rvOpd, op2, subᴹ, lt, Val, vint, SProp, ent, sep, emp, via, fst∗, snd∗, exE, ex, id⊢, Lft, Share, GName, Fml, ftrue, fat, froom, fdies, flft, Memory, Routine, Heap, Out, Env, afterSeq, afterBlock, afterTurn, Calls, Loops, Wp, atReturn, WpFn, Tables, Atoms, sem, Lfts, Fun, fact, givenOf, tables, tablesOf, Given, Item, ‵, raw, _⊛_, ⋆, some, later, runs, lft-new, lft-end, anyQ, atRet, Sq, _$_, _∵_, !, qed, by, move, drop, use1, use2, use3, rewrite, split, join, pick, fsplit, fjoin, feqL, suffices, frame, await, done, look, look-in, whole, sub, agg, store, init, forget, stop, hop, fld, from, load, addr, lit, of-opd, bin, and-then, no-more, assigns, assigns-last, land, first, skips, jumps, blocks, branches, returns, enter, alloc1, alloc0, params1, pass1, pass0, free1, free0, exec, Below, again, loops, FmC, fmOf, WpFn-mono, RattleType, owns, Is, shows, uint-vals, uint-tells, u8, u64, usize, RefT, NamedLft, now, plain, namedLft, sliceTy, sliceVal, ShrSlice, MutSlice, Room, finally, mut-slice-tells, slice-vals, shr-slice-tells, shr-slice-lawful, shr-slice-copy, only, peeks, heard, nothing, Contract, Triple, calls-at, Vals, onEntry, Meets, tripleOf, entered, cited, Stays, stay-none, stay-none-slice, stay-slice, walkOf, goes-none, goes-none-slice, goes-slice, Walks, ends-at, walked, walk-meets, yes, ensured, lasts}
 use Rattle.line_walk.proofs.Saying.{says-both}
 use Rattle.line_walk.proofs.Again.{LentAgain, lends-again, comes-back}
 use denote.Struct.Laws as LL
@@ -14,21 +14,21 @@ use Rattle.line_walk.specs.declared.Walker.{Walker}
 use Rattle.line_walk.specs.declared.Spot.{Spot}
 use Rattle.line_walk.proofs.Walker as T
 use Rattle.line_walk.proofs.Walker.Laws as T′
-use Rattle.line_walk.proofs.Place as S
-use Rattle.line_walk.proofs.Place.Laws as S′
+use Rattle.line_walk.proofs.Spot as S
+use Rattle.line_walk.proofs.Spot.Laws as S′
 use Rattle.line_walk.proofs.new as new
 use Rattle.line_walk.proofs.new.Symbol as new-def
-use Rattle.line_walk.proofs.new.Symbol.{name as #walker·new}
+use Rattle.line_walk.proofs.new.Symbol.{name as #line-walk·new}
 use Rattle.line_walk.proofs.new.Met as new-thm
 use Rattle.line_walk.proofs.moved as moved
 use Rattle.line_walk.proofs.moved.Symbol as moved-def
-use Rattle.line_walk.proofs.moved.Symbol.{name as #walker·moved}
+use Rattle.line_walk.proofs.moved.Symbol.{name as #line-walk·moved}
 use Rattle.line_walk.proofs.moved.Met as moved-thm
 use Rattle.line_walk.proofs.spot_of as spot-of
 use Rattle.line_walk.proofs.spot_of.Symbol as spot-of-def
-use Rattle.line_walk.proofs.spot_of.Symbol.{name as #walker·spot-of}
+use Rattle.line_walk.proofs.spot_of.Symbol.{name as #line-walk·spot-of}
 use Rattle.line_walk.proofs.spot_of.Met as spot-of-thm
-use Rattle.line_walk.proofs.after_lines.Key.{name as #walker·after-lines}
+use Rattle.line_walk.proofs.after_lines.Key.{name as #line-walk·after-lines}
 use Rattle.line_walk.proofs.after_lines as after
 use Rattle.line_walk.proofs.after_lines.Statement as stated
 use Rattle.line_walk.proofs.after_lines.Code as code
@@ -62,21 +62,21 @@ again-words = sliceTy (tyRef erased mut (tyInt w64))
 -- a turn of the loop: the test, and what follows it
 abbrev more : Body
 more =
-    seq (assign (spot 8 []) (rvOpd (copy (spot 5 []))))
-    (seq (assign (spot 9 []) (addrOf (spot 4 (field 0 ∷ deref (tyInt w64) ∷ []))))
-    (seq (assign (spot 10 []) (aggregate (copy (spot 9 []) ∷ copy (spot 4 (field 1 ∷ [])) ∷ [])))
-    (seq (call #walker·moved (copy (spot 8 []) ∷ copy (spot 10 []) ∷ []) (spot 5 [])) (assign (spot 6 []) (op2 (subᴹ unsigned) (copy (spot 6 [])) (int w64 1))))))
+    seq (assign (place 8 []) (rvOpd (copy (place 5 []))))
+    (seq (assign (place 9 []) (addrOf (place 4 (field 0 ∷ deref (tyInt w64) ∷ []))))
+    (seq (assign (place 10 []) (aggregate (copy (place 9 []) ∷ copy (place 4 (field 1 ∷ [])) ∷ [])))
+    (seq (call #line-walk·moved (copy (place 8 []) ∷ copy (place 10 []) ∷ []) (place 5 [])) (assign (place 6 []) (op2 (subᴹ unsigned) (copy (place 6 [])) (int w64 1))))))
 
 abbrev turn : Body
-turn = seq (assign (spot 7 []) (op2 (lt unsigned) (int w64 0) (copy (spot 6 [])))) (seq (cond (copy (spot 7 [])) skipᴹ (exit 1)) more)
+turn = seq (assign (place 7 []) (op2 (lt unsigned) (int w64 0) (copy (place 6 [])))) (seq (cond (copy (place 7 [])) skipᴹ (exit 1)) more)
 
 -- what runs after the loop
 abbrev rest : Body
-rest = seq (assign (spot 11 []) (rvOpd (copy (spot 5 [])))) (seq (call #walker·spot-of (copy (spot 11 []) ∷ []) (spot 0 [])) return)
+rest = seq (assign (place 11 []) (rvOpd (copy (place 5 [])))) (seq (call #line-walk·spot-of (copy (place 11 []) ∷ []) (place 0 [])) return)
 
 -- what runs after the call of `new`
 abbrev follows : Body
-follows = seq (assign (spot 6 []) (rvOpd (copy (spot 3 [])))) (seq (block (loop turn)) rest)
+follows = seq (assign (place 6 []) (rvOpd (copy (place 3 [])))) (seq (block (loop turn)) rest)
 
 module _ {M : Type 1} (𝓤 : URA M) (H : Heap 𝓤) (A : Atoms 𝓤) (mem : Memory → SProp 𝓤) (run : Routine → Fun 𝓤) where
   -- the contracts that the proof cites
@@ -253,7 +253,7 @@ module _ {M : Type 1} (𝓤 : URA M) (H : Heap 𝓤) (A : Atoms 𝓤) (W : Given
         ∙ first-line-more rules-d (now f) (i .identifiers) (i .w .spot) (i .left) h .1 ∙ i .keeps;
   }
 
-  module _ (𝓣 : Tables 𝓤 H) (fm : FmC 𝓤 H (W .laws) (𝓣 .C)) (known-moved : Triple 𝓤 (𝓣 .C #walker·moved) (Moved 𝓤 H A mem run)) (known-spot : Triple 𝓤 (𝓣 .C #walker·spot-of) (SpotOf 𝓤 H A mem run)) (l₀ l₁ l₂ l₃ l₄ l₅ l₆ l₇ l₈ l₉ l₁₀ l₁₁ : ℕ) where
+  module _ (𝓣 : Tables 𝓤 H) (fm : FmC 𝓤 H (W .laws) (𝓣 .C)) (known-moved : Triple 𝓤 (𝓣 .C #line-walk·moved) (Moved 𝓤 H A mem run)) (known-spot : Triple 𝓤 (𝓣 .C #line-walk·spot-of) (SpotOf 𝓤 H A mem run)) (l₀ l₁ l₂ l₃ l₄ l₅ l₆ l₇ l₈ l₉ l₁₀ l₁₁ : ℕ) where
     abbrev C : Calls 𝓤 H
     C = 𝓣 .C
 
@@ -346,7 +346,7 @@ module _ {M : Type 1} (𝓤 : URA M) (H : Heap 𝓤) (A : Atoms 𝓤) (W : Given
           keeps = ap (λ (p : Spot). identifiersPast rules-d (now f) ys p n) (e .1);
         })
 
-  walk : (𝓣 : Tables 𝓤 H) → FmC 𝓤 H (W .laws) (𝓣 .C) → Triple 𝓤 (𝓣 .C #walker·new) (New 𝓤 H A mem run) → Triple 𝓤 (𝓣 .C #walker·moved) (Moved 𝓤 H A mem run) → Triple 𝓤 (𝓣 .C #walker·spot-of) (SpotOf 𝓤 H A mem run)
+  walk : (𝓣 : Tables 𝓤 H) → FmC 𝓤 H (W .laws) (𝓣 .C) → Triple 𝓤 (𝓣 .C #line-walk·new) (New 𝓤 H A mem run) → Triple 𝓤 (𝓣 .C #line-walk·moved) (Moved 𝓤 H A mem run) → Triple 𝓤 (𝓣 .C #line-walk·spot-of) (SpotOf 𝓤 H A mem run)
       → Is (ShrSlice (named 0) κ u8) f (v ∷ []) → Is S.the-row s (S′.lowered s ∷ [])
       → ent 𝓤 (onEntry 𝓤 H A after.signature κs (q, (q′, tt)) (f, (s, (n, (x γ ys, tt)))) at) (WpFn 𝓤 H (𝓣 .C) (𝓣 .Λ) code.function (v ∷ S′.lowered s ∷ vint w64 n ∷ m ∷ []) Post)
   walk 𝓣 fm known-new known-moved known-spot p ps =
@@ -368,7 +368,7 @@ module _ {M : Type 1} (𝓤 : URA M) (H : Heap 𝓤) (A : Atoms 𝓤) (W : Given
       starts 𝓣 fm known-moved known-spot l₀ l₁ l₂ l₃ l₄ l₅ l₆ l₇ l₈ l₉ l₁₀ l₁₁ r e))))))))))))))))
 
 module _ {M : Type 1} (𝓤 : URA M) (H : Heap 𝓤) (A : Atoms 𝓤) (W : Given 𝓤 H A) (mem : Memory → SProp 𝓤) (run : Routine → Fun 𝓤) (𝓣 : Tables 𝓤 H)
-    (known-new : Triple 𝓤 (𝓣 .C #walker·new) (New 𝓤 H A mem run)) (known-moved : Triple 𝓤 (𝓣 .C #walker·moved) (Moved 𝓤 H A mem run)) (known-spot : Triple 𝓤 (𝓣 .C #walker·spot-of) (SpotOf 𝓤 H A mem run)) where
+    (known-new : Triple 𝓤 (𝓣 .C #line-walk·new) (New 𝓤 H A mem run)) (known-moved : Triple 𝓤 (𝓣 .C #line-walk·moved) (Moved 𝓤 H A mem run)) (known-spot : Triple 𝓤 (𝓣 .C #line-walk·spot-of) (SpotOf 𝓤 H A mem run)) where
   after-walks : Walks 𝓤 H A after.ended stayed (WpFn 𝓤 H (𝓣 .C) (𝓣 .Λ) code.function) (after.clauses 𝓤 H A mem run)
   after-walks = walked 𝓤 H A after.ended stayed (after.clauses 𝓤 H A mem run) (WpFn 𝓤 H (𝓣 .C) (𝓣 .Λ) code.function)
       (λ κs. (slice-vals, (LL.vals S.the-type S′.the-laws, (uint-vals w64, (slice-vals, tt))))) (λ κs. (shr-slice-tells (named 0) (κs .0) u8, (LL.tells S.the-type S′.the-laws, (uint-tells w64, (mut-slice-tells (named 1) (κs .1 .0) u64, tt)))))
@@ -383,8 +383,8 @@ pub after-lines-spec : {M : Type 1} → stated.statement M
 unfolding code.routine tablesOf
 after-lines-spec 𝓤 H 𝓜 𝓖 𝓡 =
     entered 𝓤 H (tripleOf 𝓤 H (𝓖 .A) after.signature (after.spec 𝓤 H (𝓖 .A) (𝓜 .mem) (𝓡 .run)))
-    (tables 𝓤 H 𝓜 𝓡 code.env .C) (tables 𝓤 H 𝓜 𝓡 code.env .Λ) #walker·after-lines code.function (code.unfolded 𝓤 H 𝓜 𝓡)
+    (tables 𝓤 H 𝓜 𝓡 code.env .C) (tables 𝓤 H 𝓜 𝓡 code.env .Λ) #line-walk·after-lines code.function (code.unfolded 𝓤 H 𝓜 𝓡)
     (after-meets 𝓤 H (𝓖 .A) (givenOf 𝓤 H 𝓜 𝓖) (𝓜 .mem) (𝓡 .run) (tablesOf 𝓤 H 𝓜 (tables 𝓤 H 𝓜 𝓡 code.env))
-    (cited 𝓤 H (New 𝓤 H (𝓖 .A) (𝓜 .mem) (𝓡 .run)) 𝓜 𝓡 code.env #walker·new new-def.routine code.calls-line-walk·new (new-thm.met 𝓤 H 𝓜 𝓖 𝓡))
-    (cited 𝓤 H (Moved 𝓤 H (𝓖 .A) (𝓜 .mem) (𝓡 .run)) 𝓜 𝓡 code.env #walker·moved moved-def.routine code.calls-line-walk·moved (moved-thm.met 𝓤 H 𝓜 𝓖 𝓡))
-    (cited 𝓤 H (SpotOf 𝓤 H (𝓖 .A) (𝓜 .mem) (𝓡 .run)) 𝓜 𝓡 code.env #walker·spot-of spot-of-def.routine code.calls-line-walk·spot-of (spot-of-thm.met 𝓤 H 𝓜 𝓖 𝓡)))
+    (cited 𝓤 H (New 𝓤 H (𝓖 .A) (𝓜 .mem) (𝓡 .run)) 𝓜 𝓡 code.env #line-walk·new new-def.routine code.calls-line-walk·new (new-thm.met 𝓤 H 𝓜 𝓖 𝓡))
+    (cited 𝓤 H (Moved 𝓤 H (𝓖 .A) (𝓜 .mem) (𝓡 .run)) 𝓜 𝓡 code.env #line-walk·moved moved-def.routine code.calls-line-walk·moved (moved-thm.met 𝓤 H 𝓜 𝓖 𝓡))
+    (cited 𝓤 H (SpotOf 𝓤 H (𝓖 .A) (𝓜 .mem) (𝓡 .run)) 𝓜 𝓡 code.env #line-walk·spot-of spot-of-def.routine code.calls-line-walk·spot-of (spot-of-thm.met 𝓤 H 𝓜 𝓖 𝓡)))

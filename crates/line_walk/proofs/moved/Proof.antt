@@ -11,13 +11,13 @@ use Rattle.line_walk.specs.declared.Walker.{Walker}
 use Rattle.line_walk.specs.declared.Spot.{Spot}
 use Rattle.line_walk.proofs.Walker as T
 use Rattle.line_walk.proofs.Walker.Laws as T′
-use Rattle.line_walk.proofs.Place as S
-use Rattle.line_walk.proofs.Place.Laws as S′
+use Rattle.line_walk.proofs.Spot as S
+use Rattle.line_walk.proofs.Spot.Laws as S′
 use Rattle.line_walk.proofs.spot_after as after
 use Rattle.line_walk.proofs.spot_after.Symbol as after-def
-use Rattle.line_walk.proofs.spot_after.Symbol.{name as #walker·spot-after}
+use Rattle.line_walk.proofs.spot_after.Symbol.{name as #line-walk·spot-after}
 use Rattle.line_walk.proofs.spot_after.Met as after-thm
-use Rattle.line_walk.proofs.moved.Key.{name as #walker·moved}
+use Rattle.line_walk.proofs.moved.Key.{name as #line-walk·moved}
 use Rattle.line_walk.proofs.moved as own
 use Rattle.line_walk.proofs.moved.Statement as stated
 use Rattle.line_walk.proofs.moved.Code as code
@@ -122,7 +122,7 @@ module _ {M : Type 1} (𝓤 : URA M) (H : Heap 𝓤) (A : Atoms 𝓤) (W : Given
       -- [what the new spot owns; what the struct owns]: the one takes its spot in the other
       move ! (1 ∷ 0 ∷ []) $ by ! (own-put 𝓤 H A W D L 1 vd r mach)
 
-  module _ (C : Calls 𝓤 H) (Λ : Loops 𝓤 H) (fm : FmC 𝓤 H (W .laws) C) (known : Triple 𝓤 (C #walker·spot-after) (SpotAfter 𝓤 H A mem run)) where
+  module _ (C : Calls 𝓤 H) (Λ : Loops 𝓤 H) (fm : FmC 𝓤 H (W .laws) C) (known : Triple 𝓤 (C #line-walk·spot-after) (SpotAfter 𝓤 H A mem run)) where
     walk : Holds (hasTy (T′.mir (named 0)) mach) × WT mach → Room u64 (length ys) → ent 𝓤 (onEntry 𝓤 H A own.signature κs (q, (q′, tt)) (d, (x, tt)) vals) (WpFn 𝓤 H C Λ code.function (mach ∷ m ∷ []) Post)
     walk wt room =
         qed W (raw (onEntry 𝓤 H A own.signature κs (q, (q′, tt)) (d, (x, tt)) vals) ∷ []) ∵ enter ! C Λ code.function (mach ∷ m ∷ []) _ $
@@ -152,7 +152,7 @@ module _ {M : Type 1} (𝓤 : URA M) (H : Heap 𝓤) (A : Atoms 𝓤) (W : Given
         move ! (3 ∷ []) $ split ! $ move ! (2 ∷ 3 ∷ 4 ∷ []) $ by ! (exits r (zs .1 .1 .0) e k l)))))))))))))))))
 
 module _ {M : Type 1} (𝓤 : URA M) (H : Heap 𝓤) (A : Atoms 𝓤) (W : Given 𝓤 H A) (mem : Memory → SProp 𝓤) (run : Routine → Fun 𝓤) where
-  moved-walks : (C : Calls 𝓤 H) (Λ : Loops 𝓤 H) → FmC 𝓤 H (W .laws) C → Triple 𝓤 (C #walker·spot-after) (SpotAfter 𝓤 H A mem run)
+  moved-walks : (C : Calls 𝓤 H) (Λ : Loops 𝓤 H) → FmC 𝓤 H (W .laws) C → Triple 𝓤 (C #line-walk·spot-after) (SpotAfter 𝓤 H A mem run)
       → Walks 𝓤 H A own.ended stayed (WpFn 𝓤 H C Λ code.function) (own.clauses 𝓤 H A mem run)
   moved-walks C Λ fm known = walked 𝓤 H A own.ended stayed (own.clauses 𝓤 H A mem run) (WpFn 𝓤 H C Λ code.function)
       (λ κs. (LL.vals (T.the-type (namedLft 2 0 tt κs)) (T′.the-laws (namedLft 2 0 tt κs)), (slice-vals, tt))) (λ κs. (LL.tells (T.the-type (namedLft 2 0 tt κs)) (T′.the-laws (namedLft 2 0 tt κs)), (mut-slice-tells (named 1) (κs .1 .0) u64, tt)))
@@ -160,7 +160,7 @@ module _ {M : Type 1} (𝓤 : URA M) (H : Heap 𝓤) (A : Atoms 𝓤) (W : Given
       (LL.lawful (T.the-type (namedLft 2 0 tt κs)) (T′.the-laws (namedLft 2 0 tt κs)) 𝓤 H A W .typed (a .0) _ (are .0) .0) (are .1 .0 .0 .1)))
 
 moved-meets : {M : Type 1} (𝓤 : URA M) (H : Heap 𝓤) (A : Atoms 𝓤) (W : Given 𝓤 H A) (mem : Memory → SProp 𝓤) (run : Routine → Fun 𝓤) (𝓣 : Tables 𝓤 H)
-    → Triple 𝓤 (𝓣 .C #walker·spot-after) (SpotAfter 𝓤 H A mem run)
+    → Triple 𝓤 (𝓣 .C #line-walk·spot-after) (SpotAfter 𝓤 H A mem run)
     → Meets 𝓤 H A own.signature (WpFn 𝓤 H (𝓣 .C) (𝓣 .Λ) code.function) (own.spec 𝓤 H A mem run)
 moved-meets 𝓤 H A W mem run 𝓣 known = walk-meets 𝓤 H A own.ended stayed W (goes-none 𝓤 H A W 2 B yes (λ κs x f. refl), (goes-gave-slice 𝓤 H A W 2 1 tt (plain (λ _. u64)), tt)) (own.clauses 𝓤 H A mem run) (WpFn 𝓤 H (𝓣 .C) (𝓣 .Λ) code.function) (WpFn-mono 𝓤 H (W .laws) 𝓣 code.function)
     (moved-walks 𝓤 H A W mem run (𝓣 .C) (𝓣 .Λ) (fmOf 𝓤 H (W .laws) 𝓣) known)
@@ -169,6 +169,6 @@ pub moved-spec : {M : Type 1} → stated.statement M
 unfolding code.routine tablesOf
 moved-spec 𝓤 H 𝓜 𝓖 𝓡 =
     entered 𝓤 H (tripleOf 𝓤 H (𝓖 .A) own.signature (own.spec 𝓤 H (𝓖 .A) (𝓜 .mem) (𝓡 .run)))
-    (tables 𝓤 H 𝓜 𝓡 code.env .C) (tables 𝓤 H 𝓜 𝓡 code.env .Λ) #walker·moved code.function (code.unfolded 𝓤 H 𝓜 𝓡)
+    (tables 𝓤 H 𝓜 𝓡 code.env .C) (tables 𝓤 H 𝓜 𝓡 code.env .Λ) #line-walk·moved code.function (code.unfolded 𝓤 H 𝓜 𝓡)
     (moved-meets 𝓤 H (𝓖 .A) (givenOf 𝓤 H 𝓜 𝓖) (𝓜 .mem) (𝓡 .run) (tablesOf 𝓤 H 𝓜 (tables 𝓤 H 𝓜 𝓡 code.env))
-    (cited 𝓤 H (SpotAfter 𝓤 H (𝓖 .A) (𝓜 .mem) (𝓡 .run)) 𝓜 𝓡 code.env #walker·spot-after after-def.routine code.calls-line-walk·spot-after (after-thm.met 𝓤 H 𝓜 𝓖 𝓡)))
+    (cited 𝓤 H (SpotAfter 𝓤 H (𝓖 .A) (𝓜 .mem) (𝓡 .run)) 𝓜 𝓡 code.env #line-walk·spot-after after-def.routine code.calls-line-walk·spot-after (after-thm.met 𝓤 H 𝓜 𝓖 𝓡)))

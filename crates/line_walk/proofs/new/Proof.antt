@@ -7,9 +7,9 @@ use Rattle.line_walk.specs.declared.Walker.{Walker}
 use Rattle.line_walk.specs.declared.Spot.{Spot}
 use Rattle.line_walk.proofs.Walker as T
 use Rattle.line_walk.proofs.Walker.Laws as T′
-use Rattle.line_walk.proofs.Place as S
-use Rattle.line_walk.proofs.Place.Laws as S′
-use Rattle.line_walk.proofs.new.Key.{name as #walker·new}
+use Rattle.line_walk.proofs.Spot as S
+use Rattle.line_walk.proofs.Spot.Laws as S′
+use Rattle.line_walk.proofs.new.Key.{name as #line-walk·new}
 use Rattle.line_walk.proofs.new as own
 use Rattle.line_walk.proofs.new.Statement as stated
 use Rattle.line_walk.proofs.new.Code as code
@@ -74,5 +74,5 @@ pub new-spec : {M : Type 1} → stated.statement M
 unfolding code.routine tablesOf
 new-spec 𝓤 H 𝓜 𝓖 𝓡 =
     entered 𝓤 H (tripleOf 𝓤 H (𝓖 .A) own.signature (own.spec 𝓤 H (𝓖 .A) (𝓜 .mem) (𝓡 .run)))
-    (tables 𝓤 H 𝓜 𝓡 code.env .C) (tables 𝓤 H 𝓜 𝓡 code.env .Λ) #walker·new code.function (code.unfolded 𝓤 H 𝓜 𝓡)
+    (tables 𝓤 H 𝓜 𝓡 code.env .C) (tables 𝓤 H 𝓜 𝓡 code.env .Λ) #line-walk·new code.function (code.unfolded 𝓤 H 𝓜 𝓡)
     (new-meets 𝓤 H (𝓖 .A) (givenOf 𝓤 H 𝓜 𝓖) (𝓜 .mem) (𝓡 .run) (tablesOf 𝓤 H 𝓜 (tables 𝓤 H 𝓜 𝓡 code.env)))

@@ -12,15 +12,15 @@ use Rattle.machine.specs.declared.types.LineRead.{LineRead}
 use Rattle.line_walk.specs.declared.Walker.{Walker}
 use Rattle.line_walk.proofs.Walker as T
 use Rattle.line_walk.proofs.Walker.Laws as T′
-use Rattle.line_walk.proofs.Place as S
-use Rattle.line_walk.proofs.Place.Laws as S′
+use Rattle.line_walk.proofs.Spot as S
+use Rattle.line_walk.proofs.Spot.Laws as S′
 use Rattle.machine.proofs.types.LineRead as E
 use Rattle.machine.proofs.types.LineRead.Laws as E′
 use Rattle.line_walk.proofs.read_at as read-at
 use Rattle.line_walk.proofs.read_at.Symbol as read-at-def
-use Rattle.line_walk.proofs.read_at.Symbol.{name as #walker·read-at}
+use Rattle.line_walk.proofs.read_at.Symbol.{name as #line-walk·read-at}
 use Rattle.line_walk.proofs.read_at.Met as read-at-thm
-use Rattle.line_walk.proofs.next.Key.{name as #walker·next}
+use Rattle.line_walk.proofs.next.Key.{name as #line-walk·next}
 use Rattle.line_walk.proofs.next as own
 use Rattle.line_walk.proofs.next.Statement as stated
 use Rattle.line_walk.proofs.next.Code as code
@@ -116,7 +116,7 @@ module _ {M : Type 1} (𝓤 : URA M) (H : Heap 𝓤) (A : Atoms 𝓤) (W : Given
       suffices ! _ (ends-at 𝓤 H A own.ended stayed (own.clauses 𝓤 H A mem run) W ((κs, (q, (q′, tt)), tt, (d, (x, tt)), vals), tt) u r (tt, (zs, tt)) (tt, (l, tt))) $ says-both ! e k $
       move ! (1 ∷ []) $ frame ! $ nothing ! $ move ! (2 ∷ 0 ∷ []) $ fjoin ! $ move ! (2 ∷ 0 ∷ []) $ fjoin ! $ frame ! $ done !
 
-  module _ (C : Calls 𝓤 H) (Λ : Loops 𝓤 H) (fm : FmC 𝓤 H (W .laws) C) (known : Triple 𝓤 (C #walker·read-at) (ReadAt 𝓤 H A mem run)) where
+  module _ (C : Calls 𝓤 H) (Λ : Loops 𝓤 H) (fm : FmC 𝓤 H (W .laws) C) (known : Triple 𝓤 (C #line-walk·read-at) (ReadAt 𝓤 H A mem run)) where
     walk : Holds (hasTy (T′.mir (named 0)) mach) × WT mach → Room u64 (length ys) → ent 𝓤 (onEntry 𝓤 H A own.signature κs (q, (q′, tt)) (d, (x, tt)) vals) (WpFn 𝓤 H C Λ code.function (mach ∷ m ∷ []) Post)
     walk wt room =
         qed W (raw (onEntry 𝓤 H A own.signature κs (q, (q′, tt)) (d, (x, tt)) vals) ∷ []) ∵ enter ! C Λ code.function (mach ∷ m ∷ []) _ $
@@ -141,7 +141,7 @@ module _ {M : Type 1} (𝓤 : URA M) (H : Heap 𝓤) (A : Atoms 𝓤) (W : Given
         by ! (exits r u (zs .1 .1 .0) e k l)))))))))))))))
 
 module _ {M : Type 1} (𝓤 : URA M) (H : Heap 𝓤) (A : Atoms 𝓤) (W : Given 𝓤 H A) (mem : Memory → SProp 𝓤) (run : Routine → Fun 𝓤) where
-  next-walks : (C : Calls 𝓤 H) (Λ : Loops 𝓤 H) → FmC 𝓤 H (W .laws) C → Triple 𝓤 (C #walker·read-at) (ReadAt 𝓤 H A mem run)
+  next-walks : (C : Calls 𝓤 H) (Λ : Loops 𝓤 H) → FmC 𝓤 H (W .laws) C → Triple 𝓤 (C #line-walk·read-at) (ReadAt 𝓤 H A mem run)
       → Walks 𝓤 H A own.ended stayed (WpFn 𝓤 H C Λ code.function) (own.clauses 𝓤 H A mem run)
   next-walks C Λ fm known = walked 𝓤 H A own.ended stayed (own.clauses 𝓤 H A mem run) (WpFn 𝓤 H C Λ code.function)
       (λ κs. (LL.vals (T.the-type (namedLft 2 0 tt κs)) (T′.the-laws (namedLft 2 0 tt κs)), (slice-vals, tt))) (λ κs. (LL.tells (T.the-type (namedLft 2 0 tt κs)) (T′.the-laws (namedLft 2 0 tt κs)), (mut-slice-tells (named 1) (κs .1 .0) u64, tt)))
@@ -149,7 +149,7 @@ module _ {M : Type 1} (𝓤 : URA M) (H : Heap 𝓤) (A : Atoms 𝓤) (W : Given
       (LL.lawful (T.the-type (namedLft 2 0 tt κs)) (T′.the-laws (namedLft 2 0 tt κs)) 𝓤 H A W .typed (a .0) _ (are .0) .0) (are .1 .0 .0 .1)))
 
 next-meets : {M : Type 1} (𝓤 : URA M) (H : Heap 𝓤) (A : Atoms 𝓤) (W : Given 𝓤 H A) (mem : Memory → SProp 𝓤) (run : Routine → Fun 𝓤) (𝓣 : Tables 𝓤 H)
-    → Triple 𝓤 (𝓣 .C #walker·read-at) (ReadAt 𝓤 H A mem run)
+    → Triple 𝓤 (𝓣 .C #line-walk·read-at) (ReadAt 𝓤 H A mem run)
     → Meets 𝓤 H A own.signature (WpFn 𝓤 H (𝓣 .C) (𝓣 .Λ) code.function) (own.spec 𝓤 H A mem run)
 next-meets 𝓤 H A W mem run 𝓣 known = walk-meets 𝓤 H A own.ended stayed W (goes-none 𝓤 H A W 2 B yes (λ κs x f. refl), (goes-gave-slice 𝓤 H A W 2 1 tt (plain (λ _. u64)), tt)) (own.clauses 𝓤 H A mem run) (WpFn 𝓤 H (𝓣 .C) (𝓣 .Λ) code.function) (WpFn-mono 𝓤 H (W .laws) 𝓣 code.function)
     (next-walks 𝓤 H A W mem run (𝓣 .C) (𝓣 .Λ) (fmOf 𝓤 H (W .laws) 𝓣) known)
@@ -158,6 +158,6 @@ pub next-spec : {M : Type 1} → stated.statement M
 unfolding code.routine tablesOf
 next-spec 𝓤 H 𝓜 𝓖 𝓡 =
     entered 𝓤 H (tripleOf 𝓤 H (𝓖 .A) own.signature (own.spec 𝓤 H (𝓖 .A) (𝓜 .mem) (𝓡 .run)))
-    (tables 𝓤 H 𝓜 𝓡 code.env .C) (tables 𝓤 H 𝓜 𝓡 code.env .Λ) #walker·next code.function (code.unfolded 𝓤 H 𝓜 𝓡)
+    (tables 𝓤 H 𝓜 𝓡 code.env .C) (tables 𝓤 H 𝓜 𝓡 code.env .Λ) #line-walk·next code.function (code.unfolded 𝓤 H 𝓜 𝓡)
     (next-meets 𝓤 H (𝓖 .A) (givenOf 𝓤 H 𝓜 𝓖) (𝓜 .mem) (𝓡 .run) (tablesOf 𝓤 H 𝓜 (tables 𝓤 H 𝓜 𝓡 code.env))
-    (cited 𝓤 H (ReadAt 𝓤 H (𝓖 .A) (𝓜 .mem) (𝓡 .run)) 𝓜 𝓡 code.env #walker·read-at read-at-def.routine code.calls-line-walk·read-at (read-at-thm.met 𝓤 H 𝓜 𝓖 𝓡)))
+    (cited 𝓤 H (ReadAt 𝓤 H (𝓖 .A) (𝓜 .mem) (𝓡 .run)) 𝓜 𝓡 code.env #line-walk·read-at read-at-def.routine code.calls-line-walk·read-at (read-at-thm.met 𝓤 H 𝓜 𝓖 𝓡)))

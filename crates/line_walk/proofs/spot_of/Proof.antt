@@ -6,8 +6,8 @@ use denote.Struct.Laws as LL
 use Rattle.line_walk.specs.declared.Walker.{Walker}
 use Rattle.line_walk.proofs.Walker as T
 use Rattle.line_walk.proofs.Walker.Laws as T′
-use Rattle.line_walk.proofs.Place.Laws as S′
-use Rattle.line_walk.proofs.spot_of.Key.{name as #walker·spot-of}
+use Rattle.line_walk.proofs.Spot.Laws as S′
+use Rattle.line_walk.proofs.spot_of.Key.{name as #line-walk·spot-of}
 use Rattle.line_walk.proofs.spot_of as own
 use Rattle.line_walk.proofs.spot_of.Statement as stated
 use Rattle.line_walk.proofs.spot_of.Code as code
@@ -72,5 +72,5 @@ pub spot-of-spec : {M : Type 1} → stated.statement M
 unfolding code.routine tablesOf
 spot-of-spec 𝓤 H 𝓜 𝓖 𝓡 =
     entered 𝓤 H (tripleOf 𝓤 H (𝓖 .A) own.signature (own.spec 𝓤 H (𝓖 .A) (𝓜 .mem) (𝓡 .run)))
-    (tables 𝓤 H 𝓜 𝓡 code.env .C) (tables 𝓤 H 𝓜 𝓡 code.env .Λ) #walker·spot-of code.function (code.unfolded 𝓤 H 𝓜 𝓡)
+    (tables 𝓤 H 𝓜 𝓡 code.env .C) (tables 𝓤 H 𝓜 𝓡 code.env .Λ) #line-walk·spot-of code.function (code.unfolded 𝓤 H 𝓜 𝓡)
     (spot-of-meets 𝓤 H (𝓖 .A) (givenOf 𝓤 H 𝓜 𝓖) (𝓜 .mem) (𝓡 .run) (tablesOf 𝓤 H 𝓜 (tables 𝓤 H 𝓜 𝓡 code.env)))

@@ -22,7 +22,7 @@ loop-holds : tie.Need-loop-holds Inv-loop μ-loop
 loop-holds c = going-first (c .before .before .args .rules) (c .before .before .args .bytes .now) (c .start .result) (c .start .ensures)
 
 -- where the line has been read
-after-read : (c : tie.After-line-at Inv-loop μ-loop) (w : LineRead) → c .line-at .result ≡ w
+after-read : (c : tie.After-line-known Inv-loop μ-loop) (w : LineRead) → c .line-known .result ≡ w
     → let here = c .before .before .before in
     let a = here .before .before .before .args in
     Turned (a .rules) (a .bytes .now) (here .loop .identifiers) (here .loop .state) (here .loop .tally) w
@@ -30,7 +30,7 @@ after-read c w e =
     let here = c .before .before .before in
     let a = here .before .before .before .args in
     turned (a .rules) (a .bytes .now) (here .loop .identifiers) (here .loop .state) (here .loop .tally) (here .loop .inv)
-    (c .line-at .result) w (toldRead-one _ _ (c .line-at .ensures)) e
+    (c .line-known .result) w (toldRead-one _ _ (c .line-known .ensures)) e
 
 returns : tie.Need-returns Inv-loop μ-loop
 returns c = ap toldFront (c .refused .ensures ∙ after-read (c .before .before .before) _ (c .before .enum-told .given .1))
