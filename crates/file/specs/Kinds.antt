@@ -27,3 +27,8 @@ ofKind rules kind lines = select (isKind rules kind) lines
 -- the first of them
 abbrev pub firstOfKind : Rules → ℕ → List (List ℕ) → List ℕ
 firstOfKind rules kind lines = nth 0 (ofKind rules kind lines)
+
+-- the kind of P lines (false) and of V lines (true)
+abbrev pub rowNumber : Bool → ℕ
+rowNumber true = 11
+rowNumber false = 10

@@ -43,42 +43,44 @@ use Rattle.canon_laws.proofs.Rewriting as rewriting
 use Rattle.canon_laws.specs.Held.{Holds, rewritten as formOf}
 use Rattle.divide.specs.Dividing.{Divides, sum, division, divideOf, lengthsAfter}
 use Rattle.line_walk.specs.Spots.{firstSpot}
-use Rattle.file_laws.proofs.Exact.{exactSigned}
+use Rattle.file.specs.Exact.{exactSigned}
 use Rattle.file_laws.proofs.Notes.{SameTable}
 use Rattle.file_laws.proofs.Rule.{absentIn}
-use Rattle.scan_laws.proofs.Stepping.{Stands}
+use Rattle.scan_laws.specs.Lines.{Stands}
 use Rattle.laws.specs.Places.{PartAt}
 use Rattle.laws.proofs.Places as places
 use Rattle.questions.specs.Questions.{commentAnswer}
 use Rattle.questions.proofs.Theorems as asking
 use Rattle.questions.proofs.Theorems.{CommentPost}
 use Rattle.theorems.proofs.Judging as judging
-use Rattle.theorems.proofs.Judging.{FirstFault, after, AllGoOn}
+use Rattle.theorems.specs.Faults.{FirstFault, after, AllGoOn}
 use Rattle.theorems.proofs.Reading as reading
-use Rattle.theorems.proofs.Reading.{header, rowAt, There, RowOf}
+use Rattle.theorems.specs.Files.{header, rowAt, There, RowOf}
 use Rattle.theorems.proofs.Floats as floats
-use Rattle.theorems.proofs.Floats.{Exactly, asked, held}
+use Rattle.theorems.specs.Files.{held}
+use Rattle.theorems.specs.Asked.{Exactly, asked}
 use Rattle.theorems.proofs.Room as room
-use Rattle.theorems.proofs.Room.{foundIn, Room, Short, rowsNeeded}
+use Rattle.theorems.specs.Room.{foundIn, Room, Short, rowsNeeded}
 use Rattle.theorems.proofs.RewriteRoom as rewriteRoom
 use Rattle.theorems.proofs.Writing as writing
 use Rattle.theorems.proofs.Rewritten as rewritten
-use Rattle.theorems.proofs.Rewritten.{writtenBytes, lentTable}
+use Rattle.theorems.specs.Again.{writtenBytes, lentTable}
 use Rattle.theorems.proofs.Correlations as correlations
 use Rattle.theorems.proofs.Correlations.{OnlyAfterTwo}
 use Rattle.theorems.proofs.Dividing as dividing
-use Rattle.theorems.proofs.Dividing.{AtFront, TooMany}
+use Rattle.theorems.specs.Divided.{AtFront, TooMany}
 use Rattle.theorems.proofs.LineRoom as lent-list
 use Rattle.theorems.proofs.Walks as walks
-use Rattle.theorems.proofs.Walks.{goingAt, walkedFrom, overLines, After}
+use Rattle.theorems.proofs.Walks.{After}
+use Rattle.theorems.specs.Walked.{goingAt, walkedFrom, overLines}
 use Rattle.line_walk.proofs.Promised as promised
 use Rattle.line_walk.proofs.Promised.{Begins, Moves}
 use Rattle.line_walk.proofs.new as new
 use Rattle.line_walk.proofs.moved as moved
 use Rattle.theorems.proofs.WalkedRows as walked
-use Rattle.theorems.proofs.WalkedRows.{Identified, walkStep}
+use Rattle.theorems.specs.Walked.{Identified, walkStep}
 use Rattle.theorems.proofs.Beginning as beginning
-use Rattle.theorems.proofs.Beginning.{begun, begunList}
+use Rattle.theorems.specs.Walked.{begun, begunList}
 use Rattle.theorems.proofs.Exist as exist
 use Rattle.theorems.proofs.Cases as cases
 use Rattle.theorems.proofs.Cases.{Case}

@@ -19,13 +19,16 @@ use Rattle.file.specs.Table.{rowNumbers, rowsIn}
 use Rattle.scan.specs.Run.{IsFile}
 use Rattle.stored_row.specs.Stored.{placeIn, clockIn}
 use Rattle.reader.specs.Reading.{fileOf, readAnswer, rowsAfter}
-use Rattle.file_laws.proofs.Exact.{exactSigned, exactNumbers, Bounded, row-bounded, row-in, row-exact}
+use Rattle.file_laws.proofs.Exact.{Bounded, row-bounded, row-in, row-exact}
+use Rattle.file.specs.Exact.{exactSigned, exactNumbers}
 use Rattle.stored_row.proofs.Theorems.{place-back, clock-back}
-use Rattle.theorems.proofs.Reading.{header, identifier, rowsOf, rowAt, There, the-row, the-motion, row-holds, row-holds-both, motion-holds}
+use Rattle.theorems.proofs.Reading.{the-row, the-motion, row-holds, row-holds-both, motion-holds}
+use Rattle.theorems.specs.Files.{header, identifier, rowLinesOf, rowAt, There}
 use Rattle.theorems.proofs.Filled.{rows-filled}
 use Rattle.record.specs.declared.types.Row.{Row}
 use Rattle.stored_row.specs.declared.types.Place.the-variants as place
 use Rattle.stored_row.specs.declared.types.ClockRead.the-variants as clock
+use Rattle.theorems.specs.Files.{lineAsked, held, tableRow}
 
 -- a part of twelve that is there ends before the list does
 module _ (numbers : List ℤ) (m : ℕ) (part : List ℤ) (wide : length part ≡ 12) (stored : take 12 (drop m numbers) ≡ part) where
@@ -68,14 +71,6 @@ module _ (numbers : List ℤ) (r : ℕ) (row : Row) (bounded : Bounded row) (sto
       ap (λ (s : List ℤ). clockIn s r) (sym parts)
       ∙ clock-back (take (12 * r) numbers) (drop 12 (drop (12 * r) numbers)) row r before (bounded .clock)
 
--- the row that a P line (false) or V line (true) holds, and its number among the rows of the table: in mode V each V row stands after its P row
-abbrev pub held : Bool → List ℕ → ℕ → ℕ → Row
-held v bytes k j = rowOf v (nth (rowAt bytes k j) (rowsOf v bytes))
-
-abbrev pub tableRow : Bool → List ℕ → ℕ → ℕ → ℕ
-tableRow true bytes k j = 2 * rowAt bytes k j + 1
-tableRow false bytes k j = cond (header bytes .velocity) (2 * rowAt bytes k j) (rowAt bytes k j)
-
 -- a whole file, read into these lists with success
 module _ (bytes : List ℕ) (accepted : IsFile d bytes) (identifiers exponents comments : List ℕ) (old : List ℤ)
     (success : readAnswer d bytes (fileOf d bytes) identifiers exponents comments old .refusal ≡ 0) where
@@ -88,13 +83,13 @@ module _ (bytes : List ℕ) (accepted : IsFile d bytes) (identifiers exponents c
 
   -- V rows are asked for in mode V alone
   module _ (k j : ℕ) (there : There bytes k j) (v : Bool) (mode : v ≡ true → header bytes .velocity ≡ true) where
-    named : isRowLine d v (identifier bytes j) (nth (rowAt bytes k j) (rowsOf v bytes)) ≡ true
+    named : isRowLine d v (identifier bytes j) (nth (rowAt bytes k j) (rowLinesOf v bytes)) ≡ true
     named = go v mode
       where
         go : (t : Bool) → (t ≡ true → header bytes .velocity ≡ true)
-            → isRowLine d t (identifier bytes j) (nth (rowAt bytes k j) (rowsOf t bytes)) ≡ true
-        go true m = the-motion bytes accepted k j there (m refl) .identifiers-it
-        go false m = the-row bytes accepted k j there .identifiers-it
+            → isRowLine d t (identifier bytes j) (nth (rowAt bytes k j) (rowLinesOf t bytes)) ≡ true
+        go true m = the-motion bytes accepted k j there (m refl) .names-it
+        go false m = the-row bytes accepted k j there .names-it
 
     in-table : take 12 (drop (12 * tableRow v bytes k j) (rowsIn d (linesOf bytes))) ≡ exactNumbers (held v bytes k j)
     in-table = go v mode
@@ -122,11 +117,11 @@ module _ (bytes : List ℕ) (accepted : IsFile d bytes) (identifiers exponents c
     as-stored : take 12 (drop (12 * tableRow v bytes k j) lent) ≡ rowNumbers (held v bytes k j)
     as-stored =
         lent-row
-        ∙ sym (row-exact d v (identifier bytes j) (nth (rowAt bytes k j) (rowsOf v bytes)) named)
-        ∙ ap rowNumbers (row-in d v (identifier bytes j) (nth (rowAt bytes k j) (rowsOf v bytes)) named)
+        ∙ sym (row-exact d v (identifier bytes j) (nth (rowAt bytes k j) (rowLinesOf v bytes)) named)
+        ∙ ap rowNumbers (row-in d v (identifier bytes j) (nth (rowAt bytes k j) (rowLinesOf v bytes)) named)
 
     bounded : Bounded (held v bytes k j)
-    bounded = row-bounded d v (identifier bytes j) (nth (rowAt bytes k j) (rowsOf v bytes)) named
+    bounded = row-bounded d v (identifier bytes j) (nth (rowAt bytes k j) (rowLinesOf v bytes)) named
 
     -- Asked by name, its place or velocity is absent where the three fields of the line are zero, else it is those three, whatever the clock.
     pub lent-place : placeIn lent (tableRow v bytes k j)

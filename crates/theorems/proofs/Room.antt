@@ -28,26 +28,7 @@ use Rattle.reader.specs.declared.types.Reading.{Reading}
 use Rattle.scan.specs.declared.Tally.{Tally}
 use Rattle.scan.specs.declared.Front.{Front}
 use Rattle.scan.specs.declared.Front.the-variants as front
-
--- what is found in some bytes: a whole file (true), or a file at their front (false)
-abbrev pub foundIn : Bool → List ℕ → Front
-foundIn true bytes = fileOf d bytes
-foundIn false bytes = frontOf d bytes
-
--- the numbers of all rows: 12 for each satellite and epoch, twice that in mode V
-abbrev pub rowsNeeded : Header → ℕ
-rowsNeeded h = cond (h .velocity) (24 * (h .satellites * h .epochs)) (12 * (h .satellites * h .epochs))
-
--- room for n identifiers and n exponents, for 77 bytes of each comment and for the numbers of all rows
-pub record Room (h : Header) (i x c r : ℕ) : Type 0 where
-  pub identifiers : h .satellites ≤ i
-  pub exponents : h .satellites ≤ x
-  pub comments : 77 * h .comments ≤ c
-  pub rows : rowsNeeded h ≤ r
-
--- one of them is missing
-abbrev pub Short : Header → ℕ → ℕ → ℕ → ℕ → Type 0
-Short h i x c r = (i < h .satellites) ⊎ ((x < h .satellites) ⊎ ((c < 77 * h .comments) ⊎ (r < rowsNeeded h)))
+use Rattle.theorems.specs.Room.{foundIn, answer, fills, rowsNeeded, Room, Short}
 
 -- A file that was found is one at the front.
 found-front : (whole : Bool) (bytes : List ℕ) (t : Tally) → foundIn whole bytes ≡ front.File t → frontOf d bytes ≡ front.File t
@@ -148,13 +129,6 @@ short-no-room h i x c r (inr (inr (inl s))) room = omega (arith, room .comments)
 short-no-room h i x c r (inr (inr (inr s))) room = omega (arith, room .rows)
 
 module _ (whole : Bool) (bytes : List ℕ) where
-  -- the answer of a reading that was lent so much room, and whether it fills
-  abbrev pub answer : ℕ → ℕ → ℕ → ℕ → Reading
-  answer i x c r = delivered d bytes (foundIn whole bytes) i x c r
-
-  abbrev pub fills : ℕ → ℕ → ℕ → ℕ → Bool
-  fills i x c r = enough d bytes (foundIn whole bytes) i x c r
-
   -- the header of the table of a file that is found to end at a byte
   abbrev pub headerTo : Tally → Header
   headerTo t = headerIn d (linesTo (t .end) bytes)
