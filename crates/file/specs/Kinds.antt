@@ -1,5 +1,5 @@
 -- The kind of a line as it stands in a file, a short line being padded, and the lines of a kind.
-use mathlib.Core.Bool.{Bool, _||_}
+use mathlib.Core.Bool.{Bool, _||_, true, false}
 use mathlib.Core.List.{List}
 use Prim.Native.Nat.{ℕ}
 use lib.Dec.{eqb}

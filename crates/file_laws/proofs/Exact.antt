@@ -118,7 +118,7 @@ module _ (rules : Rules) (v : Bool) (identifier : ℕ) (l : List ℕ) (is : isRo
       go true = refl
       go false = refl
 
-  exponents-bounded : (rowOf v l .«x_exponent» ≤ 1000) × (rowOf v l .«y_exponent» ≤ 1000) × (rowOf v l .«z_exponent» ≤ 1000) × (rowOf v l .«clock_exponent» ≤ 1000)
+  pub exponents-bounded : (rowOf v l .«x_exponent» ≤ 1000) × (rowOf v l .«y_exponent» ≤ 1000) × (rowOf v l .«z_exponent» ≤ 1000) × (rowOf v l .«clock_exponent» ≤ 1000)
   unfolding rowTaken
   exponents-bounded = (
     exponent-bounded 62 63 l (omega arith) (omega arith) (omega arith),

@@ -28,7 +28,9 @@ use Rattle.questions.specs.Questions.{rowBegins}
 use Rattle.float_row.specs.Floats.{floatUnless, floatRow, absentRow, rowAnswer}
 use Rattle.scan_laws.proofs.Files.{whole-taken}
 use Rattle.file.proofs.Exact.{stored-exact}
-use Rattle.file_laws.proofs.Exact.{Bounded, row-bounded}
+use Rattle.file_laws.proofs.Exact.{Bounded, row-bounded, row-in}
+use Rattle.file_laws.proofs.Rule.{absentIn}
+use Rattle.record.specs.Absence.{placeAbsent}
 use Rattle.file.specs.Exact.{exactSigned}
 use Rattle.theorems.proofs.Room.{found-numbered}
 use Rattle.theorems.proofs.Reading.{the-row}
@@ -163,22 +165,33 @@ module _ (bytes : List ℕ) (accepted : IsFile d bytes) (k j : ℕ) (there : The
   named : isRowLine d false (identifier bytes j) (nth (rowAt bytes k j) (rowLinesOf false bytes)) ≡ true
   named = the-row bytes accepted k j there .names-it
 
+  -- It is answered, never refused,
+  pub asked-answered : asked bytes k j .refusal ≡ 0
+  asked-answered = ap (λ (a : RowAnswer). a .refusal) (row-asked bytes accepted k j there)
+
+  -- and marked absent where its P line has three zeros.
+  pub absent-line : asked bytes k j .row .«place_absent» ≡ absentIn d (lineAsked false bytes k j)
+  unfolding floatRow
+  absent-line =
+      rw (row-asked bytes accepted k j there)
+      (ap (λ (r : Row). placeAbsent (r .x .magnitude) (r .y .magnitude) (r .z .magnitude)) (sym (row-in d false (identifier bytes j) (lineAsked false bytes k j) named)))
+
   -- Where its place is not marked absent, its three coordinates are exactly those of its P line.
   pub asked-place : asked bytes k j .row .«place_absent» ≡ false
-      → Exactly (asked bytes k j .row .x) (exactSigned (held .x))
-      × Exactly (asked bytes k j .row .y) (exactSigned (held .y))
-      × Exactly (asked bytes k j .row .z) (exactSigned (held .z))
+      → Exactly (asked bytes k j .row .x) (exactSigned (held false bytes k j .x))
+      × Exactly (asked bytes k j .row .y) (exactSigned (held false bytes k j .y))
+      × Exactly (asked bytes k j .row .z) (exactSigned (held false bytes k j .z))
   asked-place = rw (row-asked bytes accepted k j there) (place-exact (identifier bytes j) (nth (rowAt bytes k j) (rowLinesOf false bytes)) named)
 
   -- Where its clock is not marked absent, it is exactly that of its P line.
-  pub asked-clock : asked bytes k j .row .«clock_absent» ≡ false → Exactly (asked bytes k j .row .clock) (exactSigned (held .clock))
+  pub asked-clock : asked bytes k j .row .«clock_absent» ≡ false → Exactly (asked bytes k j .row .clock) (exactSigned (held false bytes k j .clock))
   asked-clock = rw (row-asked bytes accepted k j there) (clock-exact (identifier bytes j) (nth (rowAt bytes k j) (rowLinesOf false bytes)) named)
 
   -- Its place is marked absent exactly when the three fields are zero, whatever the clock.
   pub asked-no-place : (asked bytes k j .row .«place_absent» ≡ true)
-      ↔ ((exactSigned (held .x) ≡ pos 0) × (exactSigned (held .y) ≡ pos 0) × (exactSigned (held .z) ≡ pos 0))
-  asked-no-place = rw (row-asked bytes accepted k j there) (place-absent held)
+      ↔ ((exactSigned (held false bytes k j .x) ≡ pos 0) × (exactSigned (held false bytes k j .y) ≡ pos 0) × (exactSigned (held false bytes k j .z) ≡ pos 0))
+  asked-no-place = rw (row-asked bytes accepted k j there) (place-absent (held false bytes k j))
 
   -- Its clock is marked absent exactly at +999,999,999,999, whatever the place.
-  pub asked-no-clock : (asked bytes k j .row .«clock_absent» ≡ true) ↔ (exactSigned (held .clock) ≡ pos 999_999_999_999)
-  asked-no-clock = rw (row-asked bytes accepted k j there) (clock-absent held)
+  pub asked-no-clock : (asked bytes k j .row .«clock_absent» ≡ true) ↔ (exactSigned (held false bytes k j .clock) ≡ pos 999_999_999_999)
+  asked-no-clock = rw (row-asked bytes accepted k j there) (clock-absent (held false bytes k j))

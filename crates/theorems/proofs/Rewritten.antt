@@ -1,9 +1,9 @@
 -- Writing and reading, one after the other, by what the two functions promise: what `write` wrote, `read` returns; what `read` returned, `write` writes
 -- as the canonical form of the file, and canonical bytes as they were.
 -- Assumes nothing.
-use mathlib.Core.Path.{_≡_, sym, ap, _∙_, subst}
-use mathlib.Core.Bool.{true}
-use mathlib.Core.List.{List}
+use mathlib.Core.Path.{_≡_, sym, ap, ap₂, _∙_, subst}
+use mathlib.Core.Bool.{true, false}
+use mathlib.Core.List.{List, [], _++_}
 use mathlib.Core.Logic.{_↔_}
 use Prim.Native.Nat.{ℕ, _*_, _≤_}
 use native.Mathlib.Omega.{arith}
@@ -13,9 +13,16 @@ use lib.Seq.{take-append-le}
 use Rattle.header.specs.Rules.{d}
 use Rattle.lines.specs.Lent.{over}
 use Rattle.lines.specs.Lines.{linesOf}
-use Rattle.file.specs.Table.{headerIn}
+use Rattle.file.specs.Table.{headerIn, commentsIn, rowsIn}
+use Rattle.header.specs.Header.{noHeader}
 use Rattle.scan.specs.Run.{IsFile}
-use Rattle.reader.specs.Reading.{fileOf, linesTo, readAnswer, identifiersAfter, exponentsAfter, commentsAfter, rowsAfter}
+use Rattle.reader.specs.Reading.{frontOf, fileOf, linesTo, linesIn, filled, fills, identifiersOf, readAnswer, identifiersAfter, exponentsAfter, commentsAfter, rowsAfter}
+use Rattle.reader.specs.Reading as reading
+use Rattle.scan_laws.proofs.Local.{whole-ends}
+use Rattle.theorems.proofs.Judging.{delivered-after, filled-after}
+use Rattle.scan.specs.declared.Tally.{Tally}
+use Rattle.scan.specs.declared.Front.{Front}
+use Rattle.scan.specs.declared.Front.the-variants as front
 use Rattle.scan_laws.proofs.Files.{d-exactly, file-plain, whole-taken}
 use Rattle.canon.specs.Table.{Table, tableOf, commentWidth, cellWidth, cellsIn, tableIdentifiers, exponentsOf, commentsOf, rowsOf}
 use Rattle.canon.specs.Valid.{valid}
@@ -178,3 +185,60 @@ module _ (bytes : List ℕ) (accepted : IsFile d bytes) (identifiers exponents c
       ∙ ap (rewritten d) is
       ∙ rewriting.form-again d d-proper t ok
       ∙ sym is
+
+  -- so `write` answers 0 and their length, and lays them.
+  pub canonical-again : (t : Table) → valid d t ≡ true → bytes ≡ canonical d t → (out : List ℕ) → length bytes ≤ length out
+      → (measured d lent (length out) ≡ record { refusal = 0; length = length bytes }) × (outAfter d lent out ≡ over bytes out)
+  canonical-again t ok is out room =
+      let same : rewritten d bytes ≡ bytes = sym lent-form ∙ form-is-file t ok is in
+      let enough : length (rewritten d bytes) ≤ length out = subst (λ (s : List ℕ). length s ≤ length out) (sym same) room in (
+        lent-answer out enough ∙ ap (λ (s : List ℕ). record { refusal = 0; length = length s }) same,
+        lent-written out enough ∙ ap (λ (s : List ℕ). over s out) same,
+      )
+
+-- A FILE AT THE FRONT is read as the file alone, whatever follows it: the same answer, and the same header and lists.
+module _ (a b : List ℕ) (accepted : IsFile d a) (identifiers exponents comments : List ℕ) (rows : List ℤ) where
+  abbrev t : Tally
+  t = accepted .0
+
+  alone : frontOf d a ≡ front.File t
+  alone = whole-ends d a t (accepted .1) .0
+
+  same-found : frontOf d a ≡ fileOf d a
+  same-found = alone ∙ sym (accepted .1)
+
+  pub front-as-alone : readAnswer d (a ++ b) (frontOf d (a ++ b)) identifiers exponents comments rows ≡ readAnswer d a (fileOf d a) identifiers exponents comments rows
+  front-as-alone =
+      delivered-after a b t alone (length identifiers) (length exponents) (length comments) (length rows)
+      ∙ ap (λ (f : Front). readAnswer d a f identifiers exponents comments rows) same-found
+
+  list-alone : {A : Type 0} (list : List (List ℕ) → List A) (old : List A)
+      → filled (fills d (a ++ b) (frontOf d (a ++ b)) identifiers exponents comments rows) (list (linesIn (a ++ b) (frontOf d (a ++ b)))) old
+      ≡ filled (fills d a (fileOf d a) identifiers exponents comments rows) (list (linesIn a (fileOf d a))) old
+  list-alone list old =
+      filled-after a b t alone list (length identifiers) (length exponents) (length comments) (length rows) old
+      ∙ ap (λ (f : Front). filled (fills d a f identifiers exponents comments rows) (list (linesIn a f)) old) same-found
+
+  pub front-table : lentTable false (a ++ b) identifiers exponents comments rows ≡ lentTable true a identifiers exponents comments rows
+  front-table =
+      ap₂ (λ (x y : Table). tableOf (x .header) (x .identifiers) (y .exponents) (y .comments) (y .rows)) first second
+    where
+      first : tableOf (readAnswer d (a ++ b) (frontOf d (a ++ b)) identifiers exponents comments rows .header)
+          (identifiersAfter d (a ++ b) (frontOf d (a ++ b)) identifiers exponents comments rows) [] [] []
+          ≡ tableOf (readAnswer d a (fileOf d a) identifiers exponents comments rows .header)
+          (identifiersAfter d a (fileOf d a) identifiers exponents comments rows) [] [] []
+      first = ap₂ (λ (r : Reading) (l : List ℕ). tableOf (r .header) l [] [] []) front-as-alone (list-alone (identifiersOf d) identifiers)
+
+      notes : tableOf noHeader [] (exponentsAfter d (a ++ b) (frontOf d (a ++ b)) identifiers exponents comments rows)
+          (commentsAfter d (a ++ b) (frontOf d (a ++ b)) identifiers exponents comments rows) []
+          ≡ tableOf noHeader [] (exponentsAfter d a (fileOf d a) identifiers exponents comments rows)
+          (commentsAfter d a (fileOf d a) identifiers exponents comments rows) []
+      notes = ap₂ (λ (x c : List ℕ). tableOf noHeader [] x c []) (list-alone (reading.exponentsOf d) exponents) (list-alone (commentsIn d) comments)
+
+      second : tableOf noHeader [] (exponentsAfter d (a ++ b) (frontOf d (a ++ b)) identifiers exponents comments rows)
+          (commentsAfter d (a ++ b) (frontOf d (a ++ b)) identifiers exponents comments rows)
+          (rowsAfter d (a ++ b) (frontOf d (a ++ b)) identifiers exponents comments rows)
+          ≡ tableOf noHeader [] (exponentsAfter d a (fileOf d a) identifiers exponents comments rows)
+          (commentsAfter d a (fileOf d a) identifiers exponents comments rows)
+          (rowsAfter d a (fileOf d a) identifiers exponents comments rows)
+      second = ap₂ (λ (x : Table) (r : List ℤ). tableOf noHeader [] (x .exponents) (x .comments) r) notes (list-alone (rowsIn d) rows)

@@ -6,6 +6,8 @@ use mathlib.Core.Bool.{Bool, true, false, cond, _&&_, false≢true}
 use mathlib.Core.Logic.{_⊎_, inl, inr, _↔_}
 use mathlib.Core.List.{List}
 use Prim.Native.Nat.{ℕ, _+_, _*_, _/_, _≤_, _<_}
+use native.Mathlib.Nat.{lt-of-not-le}
+use native.Mathlib.Decide.{decLe}
 use native.Mathlib.Omega.{arith}
 use borrow.Author.Tests.{leb-true, le-leb}
 use lib.Dec.{leb}
@@ -15,7 +17,7 @@ use Rattle.laws.proofs.Bools.{and-left, and-right, and-both}
 use Rattle.header.specs.Rules.{d}
 use Rattle.file.specs.Plain.{Plain}
 use Rattle.file.specs.Table.{countOf, headerIn, commentsIn, rowLines, rowsIn}
-use Rattle.reader.specs.Reading.{refusedWith, linesTo, acceptedAs, frontOf, fileOf, roomFor, enough, delivered, filled, identifiersOf, exponentsOf}
+use Rattle.reader.specs.Reading.{refusedWith, linesTo, acceptedAs, frontOf, fileOf, roomFor, enough, delivered, filled, identifiersOf, exponentsOf, commentWidth}
 use Rattle.scan_laws.proofs.Files.{front-plain}
 use Rattle.scan_laws.proofs.Local.{whole-ends}
 use Rattle.scan_laws.proofs.Used.{accepted-front}
@@ -128,6 +130,16 @@ short-no-room h i x c r (inr (inl s)) room = omega (arith, room .exponents)
 short-no-room h i x c r (inr (inr (inl s))) room = omega (arith, room .comments)
 short-no-room h i x c r (inr (inr (inr s))) room = omega (arith, room .rows)
 
+pub room-or-short : (h : Header) (i x c r : ℕ) → Room h i x c r ⊎ Short h i x c r
+room-or-short h i x c r = go (decLe (h .satellites) i) (decLe (h .satellites) x) (decLe (commentWidth * h .comments) c) (decLe (rowsNeeded h) r)
+  where
+    go : Dec (h .satellites ≤ i) → Dec (h .satellites ≤ x) → Dec (commentWidth * h .comments ≤ c) → Dec (rowsNeeded h ≤ r) → Room h i x c r ⊎ Short h i x c r
+    go (yes a) (yes b) (yes e) (yes f) = inl (record { identifiers = a; exponents = b; comments = e; rows = f })
+    go (no a) b e f = inr (inl (omega arith))
+    go (yes a) (no b) e f = inr (inr (inl (omega arith)))
+    go (yes a) (yes b) (no e) f = inr (inr (inr (inl (omega arith))))
+    go (yes a) (yes b) (yes e) (no f) = inr (inr (inr (inr (lt-of-not-le f))))
+
 module _ (whole : Bool) (bytes : List ℕ) where
   -- the header of the table of a file that is found to end at a byte
   abbrev pub headerTo : Tally → Header
@@ -136,7 +148,7 @@ module _ (whole : Bool) (bytes : List ℕ) where
   module _ (t : Tally) (found : foundIn whole bytes ≡ front.File t) where
     -- ROOM: a reading fills exactly where there is room for n identifiers and exponents, for 77 bytes of each comment and for 12 numbers of
     -- each row.
-    pub fills-exactly : (i x c r : ℕ) → (fills i x c r ≡ true) ↔ Room (headerTo t) i x c r
+    pub fills-exactly : (i x c r : ℕ) → (fills whole bytes i x c r ≡ true) ↔ Room (headerTo t) i x c r
     unfolding enough
     fills-exactly i x c r = (
       λ e. room-needed bytes t (found-front whole bytes t found) i x c r (rw found at e),
@@ -151,28 +163,28 @@ module _ (whole : Bool) (bytes : List ℕ) where
     lists-long = let e = found-front whole bytes t found in (identifiers-long bytes t e, exponents-long bytes t e, comments-long bytes t e, rows-long bytes t e)
 
     -- With that room the answer is 0,
-    pub room-accepted : (i x c r : ℕ) → Room (headerTo t) i x c r → answer i x c r ≡ acceptedAs d bytes t
+    pub room-accepted : (i x c r : ℕ) → Room (headerTo t) i x c r → answer whole bytes i x c r ≡ acceptedAs d bytes t
     unfolding delivered
     room-accepted i x c r room = rw (found, room-suffices bytes t (found-front whole bytes t found) i x c r room)
 
     -- so it is with no place more than that,
-    pub exact-room : answer (headerTo t .satellites) (headerTo t .satellites) (77 * headerTo t .comments) (rowsNeeded (headerTo t)) ≡ acceptedAs d bytes t
+    pub exact-room : answer whole bytes (headerTo t .satellites) (headerTo t .satellites) (77 * headerTo t .comments) (rowsNeeded (headerTo t)) ≡ acceptedAs d bytes t
     exact-room =
         room-accepted (headerTo t .satellites) (headerTo t .satellites) (77 * headerTo t .comments) (rowsNeeded (headerTo t))
         (record { identifiers = omega arith; exponents = omega arith; comments = omega arith; rows = omega arith })
 
     -- and with one less anywhere it is 12, line 0.
-    pub short-refused : (i x c r : ℕ) → Short (headerTo t) i x c r → answer i x c r ≡ refusedWith 12 0
+    pub short-refused : (i x c r : ℕ) → Short (headerTo t) i x c r → answer whole bytes i x c r ≡ refusedWith 12 0
     unfolding delivered
     short-refused i x c r short = go (roomFor (countOf d (linesTo (t .end) bytes)) t i x c r) refl
       where
-        go : (b : Bool) → roomFor (countOf d (linesTo (t .end) bytes)) t i x c r ≡ b → answer i x c r ≡ refusedWith 12 0
+        go : (b : Bool) → roomFor (countOf d (linesTo (t .end) bytes)) t i x c r ≡ b → answer whole bytes i x c r ≡ refusedWith 12 0
         go true e =
             absurd (short-no-room (headerTo t) i x c r short (room-needed bytes t (found-front whole bytes t found) i x c r e))
         go false e = rw (found, e)
 
   -- The answer decides: a reading fills exactly where it answers 0.
-  pub answer-decides : (i x c r : ℕ) → (answer i x c r .refusal ≡ 0) ↔ (fills i x c r ≡ true)
+  pub answer-decides : (i x c r : ℕ) → (answer whole bytes i x c r .refusal ≡ 0) ↔ (fills whole bytes i x c r ≡ true)
   unfolding delivered enough
   answer-decides i x c r = go (foundIn whole bytes) refl
     where
@@ -187,16 +199,16 @@ module _ (whole : Bool) (bytes : List ℕ) where
           by false = (λ e. absurd (omega arith), λ e. absurd (false≢true e))
 
   -- REFUSALS CHANGE NOTHING: where the answer is not 0, every lent list is as it was.
-  pub refusal-keeps : {A : Type 0} (i x c r : ℕ) (new old : List A) → (answer i x c r .refusal ≡ 0 → ⊥) → filled (fills i x c r) new old ≡ old
-  refusal-keeps {A} i x c r new old refused = go (fills i x c r) refl
+  pub refusal-keeps : {A : Type 0} (i x c r : ℕ) (new old : List A) → (answer whole bytes i x c r .refusal ≡ 0 → ⊥) → filled (fills whole bytes i x c r) new old ≡ old
+  refusal-keeps {A} i x c r new old refused = go (fills whole bytes i x c r) refl
     where
-      go : (b : Bool) → fills i x c r ≡ b → filled b new old ≡ old
+      go : (b : Bool) → fills whole bytes i x c r ≡ b → filled b new old ≡ old
       go true e = absurd (refused (answer-decides i x c r .1 e))
       go false e = refl
 
   -- Where it is 0, the new elements stand from the first place on, and the places past them are as they were.
-  pub success-fills : {A : Type 0} (i x c r : ℕ) (new old : List A) → answer i x c r .refusal ≡ 0
-      → (take (length new) (filled (fills i x c r) new old) ≡ new) × (drop (length new) (filled (fills i x c r) new old) ≡ drop (length new) old)
+  pub success-fills : {A : Type 0} (i x c r : ℕ) (new old : List A) → answer whole bytes i x c r .refusal ≡ 0
+      → (take (length new) (filled (fills whole bytes i x c r) new old) ≡ new) × (drop (length new) (filled (fills whole bytes i x c r) new old) ≡ drop (length new) old)
   success-fills i x c r new old zero =
       let e = answer-decides i x c r .0 zero in (
         ap (λ (b : Bool). take (length new) (filled b new old)) e ∙ take-at new (drop (length new) old) (length new) refl,

@@ -208,8 +208,8 @@ module _ (bytes identifiers : List ℕ) where
     -- the answer of step i: row i of those that follow, or the end after the last
     record Gives (w : RowWalk) (r i : ℕ) (rows : List (List ℕ)) : Type 0 where
       row : i < length rows
-          → (next : RowWalk) × (stepsFrom w i ≡ shown (epochOf (r + i) n) (satelliteOf (r + i) n) (floatRow (rowOf false (nth i rows))) next)
-      end : i ≡ length rows → stepsFrom w i ≡ step.End
+          → (next : RowWalk) × (stepsFrom bytes identifiers w i ≡ shown (epochOf (r + i) n) (satelliteOf (r + i) n) (floatRow (rowOf false (nth i rows))) next)
+      end : i ≡ length rows → stepsFrom bytes identifiers w i ≡ step.End
 
     -- the first of them
     gives-first : (p : Spot) (r : ℕ) (rows : List (List ℕ))
@@ -229,9 +229,9 @@ module _ (bytes identifiers : List ℕ) where
         → Gives (record { spot = next; passed = r + 1 }) (r + 1) i others → Gives (record { spot = p; passed = r }) r (suc i) (l ∷ others)
     unfolding stepsFrom nth
     gives-later i p next r l others first more =
-        let leads : stepsFrom (record { spot = p; passed = r }) (suc i) ≡ stepsFrom (record { spot = next; passed = r + 1 }) i =
-        ap (λ (x : RowStep). onRow x (λ (w : RowWalk). stepsFrom w i)) first
-        ∙ row-leads (epochOf r n) (satelliteOf r n) (floatRow (rowOf false l)) (record { spot = next; passed = r + 1 }) (λ w. stepsFrom w i) in
+        let leads : stepsFrom bytes identifiers (record { spot = p; passed = r }) (suc i) ≡ stepsFrom bytes identifiers (record { spot = next; passed = r + 1 }) i =
+        ap (λ (x : RowStep). onRow x (λ (w : RowWalk). stepsFrom bytes identifiers w i)) first
+        ∙ row-leads (epochOf r n) (satelliteOf r n) (floatRow (rowOf false l)) (record { spot = next; passed = r + 1 }) (λ w. stepsFrom bytes identifiers w i) in
         let sum : r + 1 + i ≡ r + suc i = omega arith in
         record {
           row = λ some. let x = more .row (le-of-suc-le-suc some) in (x .0, leads ∙ rw (← sum) (x .1));
@@ -324,7 +324,7 @@ module _ (bytes : List ℕ) (t : Tally) (accepted : fileOf d bytes ≡ front.Fil
       gives bytes identifiers n i firstSpot lines 0 (ahead (t .lines - 1) 0 first) refl (omega (arith, few))
 
   -- THE WALK: step k * n + j gives epoch k and satellite j, and the row that the row question gives for them.
-  pub walk-gives : (k j : ℕ) → There bytes k j → (next : RowWalk) × (walkStep (rowAt bytes k j) ≡ shown k j (asked bytes k j .row) next)
+  pub walk-gives : (k j : ℕ) → There bytes k j → (next : RowWalk) × (walkStep bytes identifiers (rowAt bytes k j) ≡ shown k j (asked bytes k j .row) next)
   unfolding epochOf satelliteOf
   walk-gives k j there =
       let some : 0 < n = omega (arith, there .satellite) in
@@ -346,17 +346,17 @@ module _ (bytes : List ℕ) (t : Tally) (accepted : fileOf d bytes ≡ front.Fil
           omega (arith, there .satellite, rows-many)
 
   -- After all rows, satellites times epochs of them, comes the end.
-  pub walk-ends : walkStep (header bytes .satellites * header bytes .epochs) ≡ step.End
+  pub walk-ends : walkStep bytes identifiers (header bytes .satellites * header bytes .epochs) ≡ step.End
   walk-ends = given (header bytes .satellites * header bytes .epochs) .end (sym rows-many)
 
   -- ABSENCE IS A CASE: a row comes as absent exactly when its place is marked so, that is when its three fields are zero, whatever its clock.
   module _ (k j : ℕ) (there : There bytes k j) where
     pub walk-absent : asked bytes k j .row .«place_absent» ≡ true
-        → (next : RowWalk) × (walkStep (rowAt bytes k j) ≡ step.Absent k j (asked bytes k j .row) next)
+        → (next : RowWalk) × (walkStep bytes identifiers (rowAt bytes k j) ≡ step.Absent k j (asked bytes k j .row) next)
     unfolding shown
     walk-absent e = let x = walk-gives k j there in (x .0, x .1 ∙ rw e)
 
     pub walk-at : asked bytes k j .row .«place_absent» ≡ false
-        → (next : RowWalk) × (walkStep (rowAt bytes k j) ≡ step.At k j (asked bytes k j .row) next)
+        → (next : RowWalk) × (walkStep bytes identifiers (rowAt bytes k j) ≡ step.At k j (asked bytes k j .row) next)
     unfolding shown
     walk-at e = let x = walk-gives k j there in (x .0, x .1 ∙ rw e)
