@@ -271,18 +271,18 @@ typedef struct {
 /* Before the first line. */
 sp3_spot_t sp3_first_spot(void);
 
-/* The plain line reader: what the line at a spot does. A `+ ` line without fault leaves its identifiers in `names` (255 places suffice), after those
- * of the lines before it; no other line changes `names`, which is lent to the next line as this one left it. Refused: 1 where no LF is left; 12 at the
- * `+ ` line without fault that brings more identifiers than there are places for, and `names` is then as it was. Never 11 or 13. */
-sp3_line_answer_t sp3_read_line(const uint8_t *file, size_t length, sp3_spot_t spot, uint64_t *names, size_t name_room);
+/* The plain line reader: what the line at a spot does. A `+ ` line without fault leaves its identifiers in `identifiers` (255 places suffice), after those
+ * of the lines before it; no other line changes `identifiers`, which is lent to the next line as this one left it. Refused: 1 where no LF is left; 12 at the
+ * `+ ` line without fault that brings more identifiers than there are places for, and `identifiers` is then as it was. Never 11 or 13. */
+sp3_line_answer_t sp3_read_line(const uint8_t *file, size_t length, sp3_spot_t spot, uint64_t *identifiers, size_t identifier_room);
 
 /* The line reader where all identifiers of the header are known (sp3_begin): what the line at a spot does. Refused: as sp3_read_line, but never 12. */
-sp3_line_answer_t sp3_next_line(const uint8_t *file, size_t length, const uint64_t *names, size_t name_count, sp3_spot_t spot);
+sp3_line_answer_t sp3_next_line(const uint8_t *file, size_t length, const uint64_t *identifiers, size_t identifier_count, sp3_spot_t spot);
 
-/* The walker's steps: the spot so many lines further, each line read as by sp3_read_line. Afterwards `names` (255 places suffice) holds the identifiers
+/* The walker's steps: the spot so many lines further, each line read as by sp3_read_line. Afterwards `identifiers` (255 places suffice) holds the identifiers
  * of the `+ ` lines that were passed; to go on from there lend it as it is. The spot stays at a line that is refused, with 12 too, and at the one that
  * ends the file. Every step costs a line, also one that stays. Has no refusal. */
-sp3_spot_t sp3_after_lines(const uint8_t *file, size_t length, uint64_t *names, size_t name_room, sp3_spot_t spot, size_t lines);
+sp3_spot_t sp3_after_lines(const uint8_t *file, size_t length, uint64_t *identifiers, size_t identifier_room, sp3_spot_t spot, size_t lines);
 
 /* ---- A file row by row, for the adjustment's loop ---- */
 
@@ -311,8 +311,8 @@ sp3_reading_t sp3_begin(const uint8_t *file, size_t length, uint64_t *identifier
 sp3_row_walk_t sp3_first_row(void);
 
 /* The next P row in order, in mode V too; each line on the way is judged. A file that sp3_begin accepted gives all its rows, then the end.
- * Refused: 10 at its line where `names` are another file's. */
-sp3_row_step_t sp3_next_row(const uint8_t *file, size_t length, const uint64_t *names, size_t name_count, sp3_row_walk_t from);
+ * Refused: 10 at its line where `identifiers` are another file's. */
+sp3_row_step_t sp3_next_row(const uint8_t *file, size_t length, const uint64_t *identifiers, size_t identifier_count, sp3_row_walk_t from);
 
 #ifdef __cplusplus
 }

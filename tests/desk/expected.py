@@ -133,7 +133,7 @@ def divide(lengths, rest=None):
 
 
 class Oracles:
-    """The programs of tests/files.rs, tests/forms.rs and tests/stretches.rs, compiled into a folder."""
+    """The programs of tests/files.rs, tests/forms.rs and tests/divide.rs, compiled into a folder."""
 
     def __init__(self, folder):
         self.folder = folder
@@ -169,7 +169,7 @@ class Oracles:
 
     def division(self, stretch):
         """Refusal, line, the byte where the rest begins, and the lengths."""
-        lines = self.ask("stretches", "answer", batch=b"1000 0 0 0 %d\n" % len(stretch) + stretch).decode().split("\n")
+        lines = self.ask("divide", "answer", batch=b"1000 0 0 0 %d\n" % len(stretch) + stretch).decode().split("\n")
         number, line, count, rest = (int(word) for word in lines[1].split()[1:])
         lengths = [int(text.split()[1]) for text in lines[2 : 2 + count]]
         return number, line, rest, lengths

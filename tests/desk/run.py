@@ -3,7 +3,7 @@
 
     run.py FOLDER
 
-FOLDER has `tool/sp3`, the tool; `failing`, the tool with tests/desk/failing.c in it; and the oracles `files`, `forms` and `stretches`. Files are made
+FOLDER has `tool/sp3`, the tool; `failing`, the tool with tests/desk/failing.c in it; and the oracles `files`, `forms` and `divide`. Files are made
 in FOLDER. Prints how many tests passed; at the first difference prints what was expected and what came, and ends with 1.
 """
 import errno

@@ -44,7 +44,7 @@ mod table;
 mod walk;
 mod writing;
 
-pub use ffi::{Bases, Header, HeaderParts, Moment, Spot, RowWalk, Texts};
+pub use ffi::{Bases, Header, HeaderParts, Moment, RowWalk, Spot, Texts};
 pub use lines::{after_lines, first_spot, next_line, read_line, Line};
 pub use questions::{
     comment, comment_answer, date, identifier, identifier_text, moment, row, satellite_of, Date,
