@@ -24,8 +24,22 @@ def words():
 WORDS = words()
 
 
-def refused(subject, number, line):
-    return f"{subject}: refused {number} line {line}: {WORDS[number]}\n"
+def hint(content, number, line):
+    """What the bytes that were refused make plain, with a blank before it; nothing where they do not."""
+    if re.match(rb"\x1f[\x8b\x9d]", content):
+        return " (compressed: zcat FILE | sp3 check -)"
+    text = content.split(b"\n")[line - 1]
+    version = re.match(rb"#([abc])", text)
+    if number == 2 and re.fullmatch(rb"[ -~]*\r", text):
+        return " (the line ends in CR LF: tr -d '\\r' < FILE | sp3 check -)"
+    if number == 4 and line == 1 and version:
+        return f" (this is SP3-{version[1].decode()}; only SP3-d is read)"
+    return " (another file follows: sp3 divide FILE)" if number == 11 and text.startswith(b"#") else ""
+
+
+def refused(subject, number, line, content=b""):
+    """What is said of a refusal; of bytes that were refused also what they make plain."""
+    return f"{subject}: refused {number} line {line}: {WORDS[number]}{hint(content, number, line) if content else ''}\n"
 
 
 class Held:
