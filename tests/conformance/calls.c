@@ -9,8 +9,8 @@
 
 /* What the paper's file needs; room for more than its bytes; how far its row stands before its end (61 bytes with its LF, `EOF` 4); where its first
  * `+ ` line begins (two lines of 61 bytes stand before it), and more lines than it has. */
-enum { IDENTIFIERS = 1, COMMENTS = 4, TEXT = COMMENTS * SP3_COMMENT_WIDTH, NUMBERS = SP3_ROW_WIDTH, LENGTH = 1215, ROOM = 2 * LENGTH, ROW_FROM_END = 65,
-       IDENTIFIERS_LINE = 122, ALL_LINES = 99 };
+enum { IDENTIFIERS = 1, COMMENTS = 4, TEXT = COMMENTS * SP3_COMMENT_WIDTH, NUMBERS = SP3_ROW_WIDTH, LENGTH = 1215, ROOM = 2 * LENGTH,
+       ROW_FROM_END = 65, IDENTIFIERS_LINE = 122, ALL_LINES = 99 };
 
 /* What is changed in the paper's table before it is written. */
 enum { AS_READ, EXPONENT_1000, IDENTIFIER_00, THREE_COMMENTS, CLOCK_LARGE, FLAG_2, PAST_2099 };
@@ -138,8 +138,8 @@ static answer_t write_into(stretch_t file, const size_t *with)
     static uint8_t out[ROOM];
     table_t t = table_of(file);
     change(&t, with[0]);
-    return alone(sp3_write(t.header, t.identifiers, with[1], t.exponents, IDENTIFIERS, t.comments, TEXT, t.rows, t.header.epochs * NUMBERS, out, with[2])
-                     .refusal);
+    size_t numbers = t.header.epochs * NUMBERS;
+    return alone(sp3_write(t.header, t.identifiers, with[1], t.exponents, IDENTIFIERS, t.comments, TEXT, t.rows, numbers, out, with[2]).refusal);
 }
 
 /* with: mode, satellites, month and day in 2001 */

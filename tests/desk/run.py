@@ -219,7 +219,8 @@ def unhinted():
     """Files that are refused with the same numbers for something else."""
     whole = make.joined(PAPER)
     return [(b"\x1f", 1, 1), (b"\x1f\x8c\n", 2, 1), (b"#" + gzip.compress(whole, mtime=0)[:2] + b"\n", 2, 1),
-            *((whole.replace(b"ROW\n", text), 2, 19) for text in (b"\rROW\n", b"\tROW\r\n", b"ROW\r\r\n")), (b"\r", 1, 1), *((whole.replace(b"#d", mark), 4, 1) for mark in (b"#e", b"#D", b"# ", b"##", b"%c")), (b"#\n", 4, 1), (b"\n", 4, 1),
+            *((whole.replace(b"ROW\n", text), 2, 19) for text in (b"\rROW\n", b"\tROW\r\n", b"ROW\r\r\n")), (b"\r", 1, 1),
+            *((whole.replace(b"#d", mark), 4, 1) for mark in (b"#e", b"#D", b"# ", b"##", b"%c")), (b"#\n", 4, 1), (b"\n", 4, 1),
             (whole.replace(b"\n##", b"\n#c", 1), 4, 2), (whole.replace(b"#dP", b"#cP\x80"), 2, 1), (whole + b"\n#d", 11, 26), (whole + b"+", 11, 26)]
 
 

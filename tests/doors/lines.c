@@ -87,12 +87,14 @@ static void check_room(bytes_t file, sp3_spot_t at, sp3_line_answer_t line, cons
     }
 }
 
-/* A line that is refused where a `+ ` line is due is refused the same with room for the identifiers before it alone: its own fault comes before 12. */
+/* A line that is refused where a `+ ` line is due is refused the same with room for the identifiers before it alone: its own fault comes before 12.
+ */
 static void check_fault(bytes_t file, sp3_spot_t at, sp3_line_answer_t line, const uint64_t *identifiers) {
     size_t room = brought(at);
     uint64_t *list = lent_numbers(room, NUMBER_MARK);
     memcpy(list, identifiers, room * sizeof *list);
-    check(same_line(read_at(file, at, list, room), line) && same_identifiers(list, identifiers, room), "a line refused without room for its identifiers");
+    bool same = same_line(read_at(file, at, list, room), line) && same_identifiers(list, identifiers, room);
+    check(same, "a line refused without room for its identifiers");
 }
 
 /* A line that was read: one that brings no identifiers leaves them as they were; a `+ ` line needs room for just its own and those before it. */

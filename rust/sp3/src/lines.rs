@@ -39,10 +39,10 @@ pub fn first_spot() -> Spot {
     ffi::sp3_first_spot()
 }
 
-/// What the line at a spot does. A `+ ` line without fault leaves its identifiers in `identifiers` (255 places suffice), after those of the lines
-/// before it; no other line changes `identifiers`, which is lent to the next line as this one left it.
+/// What the line at a spot does. A `+ ` line without fault leaves its own in `identifiers` (255 places suffice), after those of the lines before
+/// it; no other line changes the list, which is lent to the next line as this one left it.
 ///
-/// Refused: 1 where no LF is left, 12 at the `+ ` line without fault that brings more identifiers than `identifiers` has places for; `identifiers` is then
+/// Refused: 1 where no LF is left, 12 at the `+ ` line without fault that brings more identifiers than the list has places for; the list is then
 /// as it was.
 ///
 /// ```
@@ -97,7 +97,7 @@ pub fn next_line(file: &[u8], identifiers: &[u64], spot: Spot) -> Result<Line, L
     answer.told()
 }
 
-/// The spot so many lines further, each line read as by [`read_line`]. Afterwards `identifiers` (255 places suffice) holds the identifiers of the
+/// The spot so many lines further, each line read as by [`read_line`]. Afterwards `identifiers` (255 places suffice) holds those of the
 /// `+ ` lines that were passed; to go on from there lend it as it is. The spot stays at a line that is refused, with 12 too, and at the EOF
 /// line.
 ///

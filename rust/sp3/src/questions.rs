@@ -104,7 +104,8 @@ impl ffi::Row {
     }
 }
 
-/// The P row of an epoch and a satellite of the header, both counted from 0; in mode V too.
+/// The P row of an epoch and a satellite of the header, both counted from 0; in mode V too. Every call judges the whole file, as
+/// [`judge`](crate::judge) does: the way through all rows is the walk, [`rows`](crate::rows) or [`begin`](crate::begin).
 ///
 /// Refused: the file's own refusal first, then 13 with line 0 for epoch 1 of a file that has one.
 ///
