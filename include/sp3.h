@@ -188,7 +188,8 @@ typedef struct {
 } sp3_division_t;
 
 /* Divides a stretch of files laid end to end; their lengths go to the first places of `lengths`, also where the rest is refused. An empty stretch
- * is 0 files, refusal 0. Refused: 12 alone, all other parts 0, where there are more files than places; the rest itself is never refused with 11 or 12. */
+ * is 0 files, refusal 0. Refused: 12 alone, all other parts 0, where there are more files than places; the rest itself is never refused with 11 or
+ * 12. */
 sp3_division_t sp3_divide(const uint8_t *stretch, size_t length, uint64_t *lengths, size_t room);
 
 /* ---- Questions about one whole file, which is judged at each call: its own refusal first, then 13 with line 0 ---- */
@@ -286,8 +287,8 @@ sp3_line_answer_t sp3_read_line(const uint8_t *file, size_t length, sp3_spot_t s
 sp3_line_answer_t sp3_next_line(const uint8_t *file, size_t length, const uint64_t *identifiers, size_t identifier_count, sp3_spot_t spot);
 
 /* The walker's steps: the spot so many lines further, each line read as by sp3_read_line. Afterwards `identifiers` (255 places suffice) holds those
- * of the `+ ` lines that were passed; to go on from there lend it as it is. The spot stays at a line that is refused, with 12 too, and at the one that
- * ends the file. Every step costs a line, also one that stays. Has no refusal. */
+ * of the `+ ` lines that were passed; to go on from there lend it as it is. The spot stays at a line that is refused, with 12 too, and at the one
+ * that ends the file. Every step costs a line, also one that stays. Has no refusal. */
 sp3_spot_t sp3_after_lines(const uint8_t *file, size_t length, uint64_t *identifiers, size_t identifier_room, sp3_spot_t spot, size_t lines);
 
 /* ---- A file row by row, for the adjustment's loop ---- */
