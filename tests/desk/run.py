@@ -258,7 +258,9 @@ def test_edges(desk):
 
 
 def test_samples(desk):
-    """The stored samples, by the numbers that they were made from."""
+    """The stored samples, by the numbers that they were made from; one that is refused, which README.md shows."""
+    late = str(ROOT / "samples/late.sp3")
+    desk.expect(["check", late], 1, refused(late, 9, 23))
     day, velocity, files = of_model(make.day()), of_model(make.velocity()), make.season_files()
     names = [str(ROOT / "samples" / name) for name in ("day.sp3", "velocity.sp3", "season.sp3")]
     for name, held, form in ((names[0], day, make.samples()["day.sp3"]), (names[1], velocity, make.joined(make.file_lines(make.velocity())))):
