@@ -1,6 +1,6 @@
 -- The words of the front page: where each is defined. The definitions in reading order are in docs/READING.md.
-pub use mathlib.Core.Path.{_≡_}
-pub use mathlib.Core.Bool.{Bool, true, false, not, cond}
+pub use mathlib.Core.Path.{_≡_, _∙_}
+pub use mathlib.Core.Bool.{Bool, true, false, not, _&&_, cond}
 pub use mathlib.Core.Logic.{_↔_}
 pub use mathlib.Core.List.{List, [], _++_, map}
 pub use Prim.Native.Nat.{ℕ, _+_, _*_, _≤_, _<_}
@@ -17,6 +17,7 @@ pub use ghost.Atoms.{Atoms}
 pub use prog.Memory.{Memory}
 pub use prog.Routine.{Routine}
 pub use prog.Wp.{Heap}
+pub use lib.Dec.{leb}
 pub use lib.IntN.{ℤ, pos}
 pub use lib.ListN.{length, getD, take, drop}
 pub use Rattle.header.specs.Rules.{d}
