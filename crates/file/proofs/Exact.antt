@@ -4,9 +4,15 @@ use mathlib.Core.Path.{_≡_}
 use mathlib.Core.Bool.{Bool}
 use Prim.Native.Nat.{ℕ, _≤_}
 use borrow.Author.Tests.{le-leb}
+use lib.IntN.{ℤ}
 use Rattle.field.specs.Sign.{largest, signedInt}
+use Rattle.record.specs.declared.types.Signed.{Signed}
 use Rattle.file.specs.Table.{storedInt}
 
 pub stored-exact : (negative : Bool) (m : ℕ) → m ≤ largest → storedInt negative m ≡ signedInt negative m
 unfolding storedInt
 stored-exact negative m h = rw (le-leb m largest h)
+
+-- sign and magnitude as the whole number that they are
+abbrev pub exactSigned : Signed → ℤ
+exactSigned s = signedInt (s .negative) (s .magnitude)

@@ -26,12 +26,12 @@ use Rattle.record.specs.Rows.{rowItems, rowFrom, rowFault, rowTaken, rowOf, cut
 use Rattle.header.specs.declared.types.Rules.{Rules}
 use Rattle.field.specs.declared.Exponent.{Exponent}
 use Rattle.field.specs.declared.Exponent.the-variants as exponents
-use Rattle.record.specs.declared.types.Signed.{Signed}
 use Rattle.record.specs.declared.types.Row.{Row}
 use Rattle.record.specs.declared.types.LineKind.the-variants as kind
 use Rattle.file.specs.Kinds.{kindIn, isRow}
 use Rattle.file.specs.Plain.{rowKind, isRowLine, Plain}
 use Rattle.file.proofs.Exact.{stored-exact}
+pub use Rattle.file.proofs.Exact.{exactSigned}
 use Rattle.file.specs.Table.{rowIn, storedCount, markNumber, storedMark, rowNumbers, numbersOfRows, rowLines, rowsIn}
 use Rattle.laws.proofs.Bools.{and-right}
 use Rattle.field.proofs.Again.{exponent-again}
@@ -77,9 +77,6 @@ module _ (first last : ℕ) (l : List ℕ) (starts : 1 ≤ first) (ends : last �
       go exponents.Malformed e = omega arith
 
 -- the twelve numbers of a row as they are
-abbrev pub exactSigned : Signed → ℤ
-exactSigned s = signedInt (s .negative) (s .magnitude)
-
 unfoldable pub exactNumbers : Row → List ℤ
 exactNumbers p =
     exactSigned (p .x)
