@@ -17,7 +17,7 @@ use Rattle.header.specs.Rules.{maxEpochs}
 use Rattle.header.specs.Header.{maxInterval, maxPlaceBase, maxClockBase}
 use Rattle.header.specs.Letters.{fileTypes, timeSystems}
 use Rattle.record.specs.Absence.{largestExponent}
-use Rattle.machine.specs.Checks.{repeats, typeAgrees}
+use Rattle.record.specs.Agrees.{repeats, typeAgrees}
 use Rattle.header.specs.declared.types.Rules.{Rules}
 use Rattle.header.specs.declared.types.Header.{Header}
 use Rattle.header.specs.declared.types.Texts.{Texts}

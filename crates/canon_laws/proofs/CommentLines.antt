@@ -18,11 +18,10 @@ use Rattle.layout.specs.Kind.Held.{words}
 use Rattle.layout.specs.Layout.{canShow, faultOf, wordsAt}
 use Rattle.layout.specs.Line.{padded, lineOf, consTrimmed, trimmed}
 use Rattle.header.specs.declared.types.Rules.{Rules}
-use Rattle.record.specs.LineKinds.{toldKind, kindOf}
+use Rattle.record.specs.LineKinds.{toldKind, kindOf, longest}
 use Rattle.record.specs.Plain.{commentItems, commentLine}
 use Rattle.record.specs.declared.types.LineKind.the-variants as kind
 use Rattle.record.proofs.Tiled.{comment-tiled}
-use Rattle.machine.specs.Faults.{longest}
 use Rattle.file.specs.Kinds.{isKind}
 use Rattle.file.specs.Table.{commentText}
 use Rattle.file.specs.Plain.{isLine, isCommentLine, everyLine}

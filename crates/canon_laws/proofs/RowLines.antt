@@ -19,9 +19,8 @@ use Rattle.layout.specs.Kind.Kind.{unused}
 use Rattle.layout.specs.Layout.{Item, Values, columns, canShow, showLine}
 use Rattle.layout.specs.Line.{padded, lineOf}
 use Rattle.record.specs.Absence.{largestExponent}
-use Rattle.record.specs.LineKinds.{kindOf}
+use Rattle.record.specs.LineKinds.{kindOf, longest}
 use Rattle.record.specs.Rows.{bodyItems, flagItems, bodyValues, flagValues, rowItems, rowValues, rowFault, rowLine, rowTaken, rowOf, cut}
-use Rattle.machine.specs.Faults.{longest}
 use Rattle.header.specs.declared.types.Rules.{Rules}
 use Rattle.record.specs.declared.types.Row.{Row}
 use Rattle.file.specs.Plain.{rowKind, isRecord, isRowLine}

@@ -22,7 +22,7 @@ use Rattle.lines.specs.Lines.{nth}
 use Rattle.record.specs.Opening.{firstItems, firstOf, secondItems, secondOf, epochItems, epochOf}
 use Rattle.record.specs.Descriptors.{descriptorItems, descriptorOf, baseItems, baseOf}
 use Rattle.record.specs.Times.{dateFault}
-use Rattle.machine.specs.Checks.{instantIn, weekAgrees, secondAgrees, typeAgrees}
+use Rattle.record.specs.Agrees.{instantIn, weekAgrees, secondAgrees, typeAgrees}
 use Rattle.header.specs.declared.types.Rules.{Rules}
 use Rattle.header.specs.declared.types.Header.{Header}
 use Rattle.header.specs.declared.types.Moment.{Moment}

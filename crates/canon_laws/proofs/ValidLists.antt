@@ -24,8 +24,8 @@ use Rattle.lines.specs.Lent.{flat}
 use Rattle.record.specs.SlotLines.{slotKind, satellitesOf, moreOf}
 use Rattle.record.specs.Plain.{commentItems}
 use Rattle.record.specs.Descriptors.{descriptorOf}
-use Rattle.machine.specs.Checks.{typeAgrees}
-use Rattle.machine.specs.Faults.{longest}
+use Rattle.record.specs.Agrees.{typeAgrees}
+use Rattle.record.specs.LineKinds.{longest}
 use Rattle.header.specs.declared.types.Rules.{Rules}
 use Rattle.record.specs.declared.types.LineKind.the-variants as kind
 use Rattle.file.specs.Plain.{isLine, isRecord, everyLine, slotsOfKind, areSlots, isCommentLine, Plain}

@@ -4,10 +4,11 @@
 use mathlib.Core.Bool.{Bool, true, false, cond}
 use mathlib.Core.List.{List, [], _∷_, map}
 use Prim.Native.Nat.{ℕ}
-use lib.Dec.{eqb, leb}
+use lib.Dec.{leb}
 use lib.IntN.{ℤ, pos}
 use lib.ListN.{length, take}
 use Rattle.field.specs.Sign.{largest, signedInt}
+use Rattle.header.specs.Header.{headerMade}
 use Rattle.layout.specs.Line.{padded}
 use Rattle.lines.specs.Lent.{flat}
 use Rattle.lines.specs.Lines.{select}
@@ -16,7 +17,7 @@ use Rattle.record.specs.SlotLines.{satellitesOf, moreOf}
 use Rattle.record.specs.Descriptors.{descriptorOf, baseOf}
 use Rattle.record.specs.Plain.{commentOf}
 use Rattle.record.specs.Rows.{rowOf}
-use Rattle.machine.specs.Checks.{instantIn}
+use Rattle.record.specs.Agrees.{instantIn}
 use Rattle.header.specs.declared.types.Rules.{Rules}
 use Rattle.header.specs.declared.types.Header.{Header}
 use Rattle.record.specs.declared.types.First.{First}
@@ -28,18 +29,8 @@ use Rattle.file.specs.Kinds.{isKind, isRow, ofKind, firstOfKind}
 
 -- the header of its first `#d`, `##`, `+ `, `%c` and `%f` lines, and the number of its comments
 abbrev pub headerFrom : First → ℕ → ℕ → Descriptor → BaseLine → ℕ → Header
-headerFrom f interval8 n d b comments = record {
-  velocity = eqb (f .mode) 86;
-  start8 = instantIn (f .start);
-  epochs = f .epochs;
-  interval8 = interval8;
-  texts = f .texts;
-  satellites = n;
-  comments = comments;
-  «file_type» = d .«file_type»;
-  «time_system» = d .«time_system»;
-  bases = b .bases;
-}
+headerFrom f interval8 n d b comments =
+    headerMade (f .mode) (instantIn (f .start)) (f .epochs) interval8 (f .texts) n comments (d .«file_type») (d .«time_system») (b .bases)
 
 -- the first line of a kind, padded to 80 columns
 abbrev pub paddedFirst : Rules → ℕ → List (List ℕ) → List ℕ

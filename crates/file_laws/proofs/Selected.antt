@@ -9,7 +9,7 @@ use lib.Dec.{eqb}
 use Rattle.laws.specs.Tests.{within}
 use Rattle.layout.specs.Layout.{faultOf}
 use Rattle.layout.specs.Line.{padded}
-use Rattle.machine.specs.Checks.{instantIn, secondAgrees, typeAgrees}
+use Rattle.record.specs.Agrees.{instantIn, secondAgrees, typeAgrees}
 use Rattle.record.specs.Descriptors.{descriptorOf, characterItems, baseOf, floatItems, integerItems}
 use Rattle.record.specs.Opening.{firstOf, secondOf}
 use Rattle.record.specs.Plain.{commentItems, endItems}

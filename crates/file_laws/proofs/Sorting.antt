@@ -13,9 +13,8 @@ use Rattle.layout.specs.Kind.{identifierCode}
 use Rattle.layout.specs.Layout.{faultOf}
 use Rattle.layout.specs.Line.{padded}
 use Rattle.lines.specs.Lines.{select}
-use Rattle.machine.specs.Checks.{instantIn}
-use Rattle.machine.specs.Faults.{longest}
-use Rattle.record.specs.LineKinds.{toldKind}
+use Rattle.record.specs.Agrees.{instantIn}
+use Rattle.record.specs.LineKinds.{toldKind, longest}
 use Rattle.record.specs.Opening.{epochOf}
 use Rattle.record.specs.Plain.{commentItems}
 use Rattle.record.specs.Rows.{rowFault, cut}

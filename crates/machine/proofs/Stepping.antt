@@ -19,14 +19,13 @@ use Rattle.lines.specs.Lines.{lineLength, linesOf}
 use Rattle.lines.proofs.Ends.{no-line, first-line}
 use Rattle.lines.proofs.Laying.{rest-lent, rest-back, laid-fits}
 use Rattle.lines.proofs.Lined.{Lined, lined}
-use Rattle.record.specs.LineKinds.{toldKind, kindOf}
+use Rattle.record.specs.LineKinds.{toldKind, kindOf, longest}
 use Rattle.record.specs.SlotLines.{satellitesOf, moreOf}
 use Rattle.record.proofs.Determined.{toldKind-one}
 use Rattle.header.specs.declared.types.Rules.{Rules}
 use Rattle.record.specs.declared.types.LineKind.{LineKind}
-use Rattle.machine.specs.Checks.{firstUnprintable}
+use Rattle.machine.specs.Faults.{firstUnprintable}
 use Rattle.machine.specs.State.{seen, identifiersIn, fitBehind, laidBehind, hasRoom, identifiersJoined}
-use Rattle.machine.specs.Faults.{longest}
 use Rattle.machine.specs.Step.{judgedLine, printedLine, stepOf, identifiersBrought, keptOn, identifiersKept, findsRoom, ifRoom, stepWithin, readAs, readFirst, identifiersFirst, lineKnown, lineRead, lineIdentifiers}
 use Rattle.machine.specs.Told.{toldRead}
 use Rattle.machine.proofs.Told.{toldRead-one}

@@ -10,12 +10,11 @@ use Rattle.laws.specs.Texts.{every, isPrintable}
 use Rattle.layout.specs.Fault.{keyNumber, columnOf}
 use Rattle.layout.specs.Line.{padded}
 use Rattle.lines.specs.Lines.{linesOf}
-use Rattle.record.specs.LineKinds.{kindOf}
+use Rattle.record.specs.LineKinds.{kindOf, longest}
 use Rattle.header.specs.declared.types.Rules.{Rules}
 use Rattle.record.specs.declared.types.LineKind.{LineKind}
-use Rattle.machine.specs.Checks.{firstUnprintable}
 use Rattle.machine.specs.State.{hasRoom, identifiersJoined}
-use Rattle.machine.specs.Faults.{longest, standingFault}
+use Rattle.machine.specs.Faults.{firstUnprintable, standingFault}
 use Rattle.machine.specs.Next.{nextOf}
 use Rattle.machine.specs.declared.types.State.{State}
 use Rattle.machine.specs.declared.types.Verdict.{Verdict}

@@ -37,18 +37,18 @@ fn header_of(rules: Rules, bytes: &[u8], comments: u64) -> Header
     let base_line = file::padded_line(rules, bytes, 6);
     let based = record::descriptors::read_bases(&base_line);
     let bases = based.bases;
-    Header {
-        velocity: first.mode == b'V',
-        start8: machine::instant_in(start),
-        epochs: first.epochs,
-        interval8: second.interval8,
+    Header::of(
+        first.mode,
+        machine::instant_in(start),
+        first.epochs,
+        second.interval8,
         texts,
-        satellites: file::count_of(rules, bytes),
+        file::count_of(rules, bytes),
         comments,
-        file_type: descriptor.file_type,
+        descriptor.file_type,
         time_system,
         bases,
-    }
+    )
 }
 
 // What is found in some bytes: one whole file, or one at their front.

@@ -138,4 +138,4 @@ pub satellite-in-determined : (κs : _) (a : _) (r r′ : _) (s s′ : _) → sa
 satellite-in-determined κs a r r′ s s′ p q = p ∙ sym q
 
 pub kind-by-determined : (κs : _) (a : _) (r r′ : _) (s s′ : _) → kind-by.Post κs a r s → kind-by.Post κs a r′ s′ → r ≡ r′
-kind-by-determined κs a r r′ s s′ p q = p ∙ sym q
+kind-by-determined κs a r r′ s s′ p q = toldKind-one r r′ (p ∙ sym q)

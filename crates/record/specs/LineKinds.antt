@@ -2,7 +2,7 @@
 -- The first line's second column has the letter of the version. What is no kind is `Other`.
 use mathlib.Core.Bool.{cond, _&&_}
 use mathlib.Core.List.{List}
-use Prim.Native.Nat.{ℕ}
+use Prim.Native.Nat.{ℕ, min}
 use lib.Dec.{eqb}
 use lib.ListN.{getD}
 use Rattle.header.specs.declared.types.Rules.{Rules}
@@ -68,3 +68,21 @@ kindBy letter first second third =
 -- the kind of a line of 80 columns
 unfoldable pub kindOf : Rules → List ℕ → LineKind
 kindOf rules line = kindBy (rules .letter) (getD line 0 0) (getD line 1 0) (getD line 2 0)
+
+-- the columns that a line of a kind may have: 80, or fewer of a comment where the version says so
+abbrev pub longest : Rules → LineKind → ℕ
+longest rules kind.Other = 80
+longest rules kind.First = 80
+longest rules kind.Second = 80
+longest rules kind.Satellites = 80
+longest rules kind.Accuracies = 80
+longest rules kind.Characters = 80
+longest rules kind.Floats = 80
+longest rules kind.Integers = 80
+longest rules kind.Comment = min 80 (rules .«comment_columns»)
+longest rules kind.Epoch = 80
+longest rules kind.Position = 80
+longest rules kind.Velocity = 80
+longest rules kind.PositionCorrelation = 80
+longest rules kind.VelocityCorrelation = 80
+longest rules kind.EndOfFile = 80

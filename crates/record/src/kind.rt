@@ -85,7 +85,7 @@ fn e_kind(second: u8, third: u8) -> LineKind
 
 // The kind of a line by its first three bytes, blanks where it is shorter, in the version of this letter: `/*` is a comment.
 pub fn kind_by(letter: u8, first: u8, second: u8, third: u8) -> LineKind
-    ensures result { λ r. ⌜ r ≡ kindBy letter first second third ⌝ }
+    ensures result { λ r. ⌜ toldKind r ≡ toldKind (kindBy letter first second third) ⌝ }
 {
     if first == b'P' {
         return LineKind::Position;

@@ -13,7 +13,7 @@ use Rattle.layout.specs.Line.{padded}
 use Rattle.record.specs.Descriptors.{descriptorOf, characterItems, baseOf, floatItems, integerItems}
 use Rattle.header.specs.declared.types.Rules.{Rules}
 use Rattle.record.specs.declared.types.LineKind.the-variants as kind
-use Rattle.machine.specs.Checks.{typeAgrees}
+use Rattle.record.specs.Agrees.{typeAgrees}
 use Rattle.machine.specs.Faults.{recordFault, charactersFault, floatsFault}
 use Rattle.machine.specs.Next.{expect, nextOf, commentsDue, afterIntegers}
 use Rattle.machine.specs.declared.types.State.{State}

@@ -18,7 +18,7 @@ use Rattle.record.specs.Opening.{epochOf}
 use Rattle.record.specs.Plain.{endItems}
 use Rattle.header.specs.declared.types.Rules.{Rules}
 use Rattle.record.specs.declared.types.LineKind.the-variants as kind
-use Rattle.machine.specs.Checks.{instantIn}
+use Rattle.record.specs.Agrees.{instantIn}
 use Rattle.machine.specs.Faults.{epochFault}
 use Rattle.machine.specs.Next.{afterEpoch}
 use Rattle.machine.specs.declared.types.State.{State}

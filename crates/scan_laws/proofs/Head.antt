@@ -18,7 +18,7 @@ use Rattle.header.proofs.Theorems.{slots-enough}
 use Rattle.header.specs.declared.types.Rules.{Rules}
 use Rattle.record.specs.declared.types.First.{First}
 use Rattle.record.specs.declared.types.LineKind.the-variants as kind
-use Rattle.machine.specs.Checks.{instantIn, secondAgrees}
+use Rattle.record.specs.Agrees.{instantIn, secondAgrees}
 use Rattle.machine.specs.State.{startState}
 use Rattle.machine.specs.Faults.{recordFault, secondFault}
 use Rattle.machine.specs.Next.{afterFirst, afterSecond, afterCount}

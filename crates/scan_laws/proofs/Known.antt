@@ -11,12 +11,12 @@ use lib.Seq.{getD-take}
 use borrow.Author.Tests.{eqb-true, eqb-false, ne-eqb}
 use Rattle.laws.specs.Texts.{every, isPrintable}
 use Rattle.layout.specs.Line.{padded}
-use Rattle.record.specs.LineKinds.{toldKind, kindOf}
+use Rattle.record.specs.LineKinds.{toldKind, kindOf, longest}
 use Rattle.header.specs.declared.types.Rules.{Rules}
 use Rattle.record.specs.declared.types.LineKind.{LineKind}
 use Rattle.record.specs.declared.types.LineKind.the-variants as kind
 use Rattle.machine.specs.State.{stands, seen}
-use Rattle.machine.specs.Faults.{longest, charactersFault, namedFault, standingFault}
+use Rattle.machine.specs.Faults.{charactersFault, namedFault, standingFault}
 use Rattle.machine.specs.Next.{lineLess, leave, afterAccuracies, commentsDue, afterIntegers, afterEpoch, satelliteDone, afterPosition, nextOf}
 use Rattle.machine.specs.Step.{onKey, judgedLine, printedLine, stepOf}
 use Rattle.machine.specs.declared.types.State.{State}

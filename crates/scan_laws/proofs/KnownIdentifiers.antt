@@ -16,7 +16,7 @@ use Rattle.header.specs.Rules.{slotLines}
 use Rattle.header.specs.declared.types.Rules.{Rules}
 use Rattle.record.specs.declared.types.LineKind.{LineKind}
 use Rattle.record.specs.declared.types.LineKind.the-variants as kind
-use Rattle.machine.specs.Checks.{repeats}
+use Rattle.record.specs.Agrees.{repeats}
 use Rattle.machine.specs.State.{stands}
 use Rattle.machine.specs.Faults.{recordFault}
 use Rattle.machine.specs.Next.{afterCount, afterSatellites, nextOf}

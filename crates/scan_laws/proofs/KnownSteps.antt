@@ -17,7 +17,7 @@ use Rattle.record.specs.SlotLines.{satellitesOf}
 use Rattle.header.specs.Rules.{slotLines}
 use Rattle.header.specs.declared.types.Rules.{Rules}
 use Rattle.record.specs.declared.types.LineKind.the-variants as kind
-use Rattle.machine.specs.Checks.{secondAgrees}
+use Rattle.record.specs.Agrees.{secondAgrees}
 use Rattle.machine.specs.State.{startState, noIdentifiers}
 use Rattle.machine.specs.Next.{expect, leave, afterCount}
 use Rattle.machine.specs.Step.{stepOf}

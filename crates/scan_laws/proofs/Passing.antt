@@ -12,13 +12,13 @@ use Rattle.laws.specs.Texts.{every, isPrintable}
 use Rattle.laws.proofs.Bools.{and-left, and-right}
 use Rattle.layout.specs.Fault.{keyed}
 use Rattle.layout.specs.Line.{padded}
-use Rattle.record.specs.LineKinds.{toldKind, kindOf}
+use Rattle.record.specs.LineKinds.{toldKind, kindOf, longest}
 use Rattle.record.proofs.Determined.{toldKind-one}
 use Rattle.header.specs.declared.types.Rules.{Rules}
 use Rattle.record.specs.declared.types.LineKind.{LineKind}
 use Rattle.record.specs.declared.types.LineKind.the-variants as kind
 use Rattle.machine.specs.State.{stands}
-use Rattle.machine.specs.Faults.{longest, recordFault, standingFault}
+use Rattle.machine.specs.Faults.{recordFault, standingFault}
 use Rattle.machine.specs.Next.{nextOf}
 use Rattle.machine.specs.Step.{onKey, judgedLine, printedLine, stepOf, identifiersBrought}
 use Rattle.machine.specs.declared.types.State.{State}

@@ -17,7 +17,7 @@ use Rattle.header.specs.Rules.{maxSatellites}
 use Rattle.header.specs.declared.types.Rules.{Rules}
 use Rattle.record.specs.declared.types.LineKind.{LineKind}
 use Rattle.record.specs.declared.types.LineKind.the-variants as kind
-use Rattle.machine.specs.Checks.{repeats}
+use Rattle.record.specs.Agrees.{repeats}
 use Rattle.machine.specs.State.{seen, knownIdentifiers, isFirst, identifiersIn, hasRoom}
 use Rattle.machine.specs.Faults.{recordFault, satellitesFault}
 use Rattle.machine.specs.Next.{lineLess, afterFirst, afterSecond, afterCount, afterIdentifiers, afterSatellites, afterAccuracies, commentsDue, afterIntegers, afterEpoch, satelliteDone, afterPosition, nextOf}

@@ -15,10 +15,10 @@ use Rattle.laws.specs.Texts.{every, isPrintable}
 use Rattle.layout.specs.Line.{padded}
 use Rattle.header.specs.Rules.{d}
 use Rattle.lines.specs.Lines.{linesOf, select, nth}
-use Rattle.record.specs.LineKinds.{toldKind, kindOf}
+use Rattle.record.specs.LineKinds.{toldKind, kindOf, longest}
 use Rattle.record.specs.Rows.{rowOf}
 use Rattle.file.specs.Kinds.{isKind, ofKind}
-use Rattle.machine.specs.Faults.{longest, standingFault}
+use Rattle.machine.specs.Faults.{standingFault}
 use Rattle.machine.specs.Next.{nextOf}
 use Rattle.machine.specs.Step.{onKey, judgedLine, printedLine, stepOf, readFirst}
 use Rattle.float_row.specs.Floats.{floatRow, lineFrom}

@@ -55,7 +55,7 @@ pub use Rattle.theorems.specs.Faults.{FirstFault, after, AllGoOn}
 pub use Rattle.theorems.proofs.Reading as reading
 pub use Rattle.theorems.specs.Files.{header, rowAt, There, RowOf, held, identifier, rowLinesOf, lineAsked, tableRow}
 pub use Rattle.theorems.proofs.Floats as floats
-pub use Rattle.theorems.specs.Asked.{Exactly, asked, rowFound, rowRefused}
+pub use Rattle.theorems.specs.Asked.{asked, rowFound, rowRefused}
 pub use Rattle.theorems.proofs.Room as room
 pub use Rattle.theorems.specs.Room.{foundIn, Room, Short, rowsNeeded, answer, fills}
 pub use Rattle.theorems.proofs.RewriteRoom as rewriteRoom
@@ -101,3 +101,4 @@ pub use Rattle.theorems.proofs.Filled as filling
 pub use Rattle.theorems.proofs.Lent as lent
 pub use Rattle.theorems.proofs.Exist.{oneRow}
 pub use Rattle.record.specs.declared.types.Row.{Row}
+pub use Rattle.float_row.specs.Floats.{Exactly}
