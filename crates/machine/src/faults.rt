@@ -3,7 +3,7 @@ ghost use mathlib.Core.Path.{_≡_};
 ghost use Prim.Native.Nat.{_+_, _≤_};
 ghost use lib.Dec.{eqb};
 ghost use lib.ListN.{take};
-ghost use Rattle.layout.specs.Fault.{lower};
+ghost use Rattle.layout.specs.Fault.{lower, keyed};
 ghost use Rattle.layout.specs.Kind.{unless};
 ghost use Rattle.record.specs.LineKinds.{toldKind};
 ghost use Rattle.machine.specs.State.{seen, identifierDue};
@@ -13,8 +13,13 @@ use crate::types::State;
 use header::Rules;
 use record::LineKind;
 
-// 4, which names no column.
-const NOT_HERE: usize = 512;
+// The key of a fault of this number that names no column.
+fn key_alone(number: usize) -> usize
+    requires { ⌜ number ≤ 13 ⌝ }
+    ensures { λ r. ⌜ r ≡ keyed number 0 ⌝ }
+{
+    number * 128
+}
 
 // The lower of a fault and one of this number that a test not passed earns; it names no column.
 fn lower_unless(lowest: usize, passed: bool, number: usize) -> usize
@@ -24,7 +29,7 @@ fn lower_unless(lowest: usize, passed: bool, number: usize) -> usize
     if passed {
         return lowest;
     }
-    layout::lower(lowest, number * 128)
+    layout::lower(lowest, key_alone(number))
 }
 
 // How many satellites have had their slot, or their row of this epoch.
@@ -168,7 +173,7 @@ fn record_fault(
         LineKind::Floats => floats_fault(state, line),
         LineKind::Integers => record::descriptors::integers_fault(line),
         LineKind::EndOfFile => record::plain::end_fault(line),
-        LineKind::Other => NOT_HERE,
+        LineKind::Other => key_alone(4),
     }
 }
 
@@ -209,7 +214,7 @@ pub(crate) fn standing_fault(
     if (number == state.due) | (number == state.also) {
         return record_fault(kind, rules, state, identifiers, line);
     }
-    NOT_HERE
+    key_alone(4)
 }
 
 // The columns that a line of a kind may have.
