@@ -5,6 +5,7 @@ use crate::lent;
 use crate::print;
 use float_row::FloatRow;
 use line_walk::Spot;
+use record::kind::SATELLITES_KIND;
 use row_walk::RowStep;
 
 // The epoch and the satellite of a row.
@@ -180,7 +181,7 @@ fn spots(file: &[u8]) {
 // How many identifiers the lines before a spot have brought: where `+ ` lines are still due, those of the satellites that have had their slot.
 fn brought(at: Spot) -> u64 {
     let state = at.state;
-    if state.due != 3 {
+    if state.due != SATELLITES_KIND {
         return state.satellites;
     }
     if state.satellites < state.left {

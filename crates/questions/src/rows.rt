@@ -8,6 +8,7 @@ ghost use Rattle.reader.specs.Reading.{fileOf};
 ghost use Rattle.questions.specs.Questions.{epochsOf, noRow, rowAt, rowBegins};
 use crate::types::RowBegins;
 use header::Rules;
+use record::kind::POSITION_KIND;
 use scan::Front;
 
 // A refusal beside no row.
@@ -32,7 +33,7 @@ fn row_at(rules: Rules, bytes: &[u8], epoch: u64, satellite: u64) -> RowBegins
         return RowBegins {
             refusal: 0,
             line: 0,
-            at: file::line_begins(rules, bytes, 10, epoch * n + satellite),
+            at: file::line_begins(rules, bytes, POSITION_KIND, epoch * n + satellite),
         };
     }
     no_row(13, 0)

@@ -11,6 +11,7 @@ use lib.ListN.{length, take}
 use Rattle.lines.specs.Lent.{over}
 use Rattle.lines.specs.Lines.{linesOf}
 use Rattle.header.specs.Header.{noHeader}
+use Rattle.record.specs.LineKinds.{commentKind}
 use Rattle.file.specs.Kinds.{ofKind}
 use Rattle.file.specs.Table.{countOf, headerIn, slotsIn, commentsIn, rowWidth, rowLines, rowsIn}
 use Rattle.scan.specs.Run.{scanOf, wholeFront}
@@ -49,7 +50,7 @@ fileOf rules bytes = wholeFront (length bytes) (scanOf rules bytes)
 abbrev pub Accounted : Rules → List ℕ → Front → Type 0
 Accounted rules bytes (front.File t) =
     (t .end ≤ length bytes)
-    × (t .comments ≡ length (ofKind rules 8 (linesTo (t .end) bytes)))
+    × (t .comments ≡ length (ofKind rules commentKind (linesTo (t .end) bytes)))
     × (t .rows ≡ length (rowLines rules (linesTo (t .end) bytes)))
 Accounted rules bytes (front.Refused number line column) = Unit
 

@@ -7,6 +7,7 @@ ghost use lib.ListN.{length, take};
 ghost use Rattle.lines.specs.Lent.{flat};
 ghost use Rattle.lines.specs.Lines.{linesOf};
 ghost use Rattle.header.specs.Rules.{d};
+ghost use Rattle.record.specs.LineKinds.{commentKind};
 ghost use Rattle.file.specs.Kinds.{ofKind};
 ghost use Rattle.file.specs.Table.{slotsIn, commentText, rowWidth, rowLines, numbersOfRows};
 ghost use Rattle.reader.specs.Reading.{frontOf, fileOf, Accounted, roomFor, filled, readAnswer, identifiersAfter, exponentsAfter, commentsAfter, rowsAfter};
@@ -38,7 +39,7 @@ fn fill_lists(
 )
     ensures { λ _. ⌜ now (identifiers .exit) ≡ filled enough (take (length (now (identifiers .entry))) (slotsIn rules false n (linesOf (now (bytes .entry))))) (now (identifiers .entry)) ⌝ }
     ensures { λ _. ⌜ now (exponents .exit) ≡ filled enough (take (length (now (exponents .entry))) (slotsIn rules true n (linesOf (now (bytes .entry))))) (now (exponents .entry)) ⌝ }
-    ensures { λ _. ⌜ now (comments .exit) ≡ filled enough (take (length (now (comments .entry))) (flat (map commentText (take count (ofKind rules 8 (linesOf (now (bytes .entry)))))))) (now (comments .entry)) ⌝ }
+    ensures { λ _. ⌜ now (comments .exit) ≡ filled enough (take (length (now (comments .entry))) (flat (map commentText (take count (ofKind rules commentKind (linesOf (now (bytes .entry)))))))) (now (comments .entry)) ⌝ }
     ensures { λ _. ⌜ now (rows .exit) ≡ filled enough (numbersOfRows rules (take (length (now (rows .entry)) / rowWidth) (rowLines rules (linesOf (now (bytes .entry)))))) (now (rows .entry)) ⌝ }
 {
     if !enough {

@@ -8,6 +8,7 @@ use Prim.Native.Nat.{ℕ, _+_}
 use lib.Dec.{ltb}
 use lib.ListN.{length}
 use Rattle.lines.specs.Lines.{linesOf}
+use Rattle.record.specs.LineKinds.{commentKind}
 use Rattle.file.specs.Kinds.{isKind, isRow}
 use Rattle.header.specs.declared.types.Rules.{Rules}
 use Rattle.machine.specs.State.{startState, noIdentifiers}
@@ -32,7 +33,7 @@ unfoldable pub counted : Rules → Tally → List ℕ → Tally
 counted rules t l = record {
   lines = t .lines + 1;
   end = t .end + length l + 1;
-  comments = oneMore (isKind rules 8 l) (t .comments);
+  comments = oneMore (isKind rules commentKind l) (t .comments);
   rows = oneMore (isRow rules l) (t .rows);
 }
 

@@ -9,6 +9,10 @@ ghost use Rattle.scan.specs.Run.{counted, scanOf, wholeFront};
 use header::Rules;
 use machine::LineRead;
 use machine::State;
+use record::kind::COMMENT_KIND;
+use record::kind::POSITION_KIND;
+use record::kind::SATELLITES_KIND;
+use record::kind::VELOCITY_KIND;
 
 // What has been read so far: lines, bytes, comments, and rows of both kinds.
 pub struct Tally {
@@ -46,12 +50,12 @@ fn count_line(rules: Rules, tally: Tally, line: &[u8]) -> Tally
     ensures { λ r. ⌜ r ≡ counted rules tally (now (line .entry)) ⌝ }
 {
     let kind = kind_told(rules, line);
-    let comments = if kind == 8 {
+    let comments = if kind == COMMENT_KIND {
         tally.comments + 1
     } else {
         tally.comments
     };
-    let rows = if (kind == 10) | (kind == 11) {
+    let rows = if (kind == POSITION_KIND) | (kind == VELOCITY_KIND) {
         tally.rows + 1
     } else {
         tally.rows
@@ -105,7 +109,7 @@ pub fn scan_front(rules: Rules, bytes: &[u8]) -> Front
                 state: next,
             } => {
                 let text = &bytes[at..end - 1];
-                if state.due == 3 {
+                if state.due == SATELLITES_KIND {
                     machine::keep_identifiers(rules, state, &mut identifiers, text);
                 }
                 tally = count_line(rules, tally, text);
