@@ -16,7 +16,7 @@ use Rattle.layout.specs.Kind.{isIdentifier}
 use Rattle.layout.specs.Line.{lineOf}
 use Rattle.lines.specs.Lent.{flat}
 use Rattle.lines.specs.Lines.{select}
-use Rattle.record.specs.LineKinds.{toldKind}
+use Rattle.record.specs.LineKinds.{positionKind, velocityKind, toldKind}
 use Rattle.record.specs.Opening.{epochLine}
 use Rattle.record.specs.Rows.{rowLine}
 use Rattle.header.specs.declared.types.Rules.{Rules}
@@ -106,7 +106,7 @@ module _ (rules : Rules) where
         ends = (row-ends velocity identifier row valid named, tt);
       }
     where
-      told : (v : Bool) → (eqb (toldKind (rowKind v)) 10 || eqb (toldKind (rowKind v)) 11) ≡ true
+      told : (v : Bool) → (eqb (toldKind (rowKind v)) positionKind || eqb (toldKind (rowKind v)) velocityKind) ≡ true
       told true = refl
       told false = refl
 

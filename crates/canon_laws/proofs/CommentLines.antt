@@ -18,7 +18,7 @@ use Rattle.layout.specs.Kind.Held.{words}
 use Rattle.layout.specs.Layout.{canShow, faultOf, wordsAt}
 use Rattle.layout.specs.Line.{padded, lineOf, consTrimmed, trimmed}
 use Rattle.header.specs.declared.types.Rules.{Rules}
-use Rattle.record.specs.LineKinds.{toldKind, kindOf}
+use Rattle.record.specs.LineKinds.{commentKind, toldKind, kindOf}
 use Rattle.record.specs.Plain.{commentItems, commentLine}
 use Rattle.record.specs.declared.types.LineKind.the-variants as kind
 use Rattle.record.proofs.Tiled.{comment-tiled}
@@ -70,7 +70,7 @@ module _ (rules : Rules) (proper : Proper rules) (text : List ℕ) (wide : lengt
   comment-is =
       let l = lineOf (commentLine text) in
       let vs = words text ∷ [] in
-      let of-kind : isKind rules 8 l ≡ true = eq-eqb _ _ (ap (λ (s : List ℕ). toldKind (kindOf rules s)) (bare-padded commentItems vs comment-tiled comment-can)) in
+      let of-kind : isKind rules commentKind l ≡ true = eq-eqb _ _ (ap (λ (s : List ℕ). toldKind (kindOf rules s)) (bare-padded commentItems vs comment-tiled comment-can)) in
       and-both (isLine rules kind.Comment l) (eqb (faultOf commentItems (padded l)) 0)
       (and-both (every isPrintable l) _ (bare-printable commentItems vs comment-tiled comment-can)
       (and-both (leb (length l) (longest rules kind.Comment)) _ (le-leb (length l) (longest rules kind.Comment) short) of-kind))

@@ -23,6 +23,7 @@ use Rattle.record.specs.Opening.{firstItems, firstOf}
 use Rattle.record.specs.Rows.{cut}
 use Rattle.record.specs.SlotLines.{countItem, satelliteItems, satellitesOf}
 use Rattle.record.specs.Times.{dateFault}
+use Rattle.record.specs.LineKinds.{positionKind}
 use Rattle.header.specs.declared.types.Rules.{Rules}
 use Rattle.record.specs.declared.types.LineKind.the-variants as kind
 use Rattle.file.specs.Kinds.{ofKind}
@@ -135,6 +136,6 @@ module _ {rules : Rules} {lines : List (List ℕ)} (p : Plain rules lines) where
   motions-room both = rows-room ∙ ap (λ (n : ℕ). 12 * n) (rows-many-both both)
 
   -- the places that are known and those that are absent are together one for each satellite and epoch
-  pub places-known-and-absent : length (select (absentIn rules) (ofKind rules 10 lines)) + length (select (λ (l : List ℕ). not (absentIn rules l)) (ofKind rules 10 lines))
+  pub places-known-and-absent : length (select (absentIn rules) (ofKind rules positionKind lines)) + length (select (λ (l : List ℕ). not (absentIn rules l)) (ofKind rules positionKind lines))
       ≡ satellites p * epochs p
-  places-known-and-absent = both-selected (absentIn rules) (ofKind rules 10 lines) ∙ places-many p
+  places-known-and-absent = both-selected (absentIn rules) (ofKind rules positionKind lines) ∙ places-many p

@@ -12,6 +12,7 @@ use lib.Seq.{take-at, drop-append-add, getD-take, getD-drop}
 use Rattle.lines.specs.Lent.{flat}
 use Rattle.lines.specs.Lines.{nth}
 use Rattle.record.specs.Rows.{rowOf}
+use Rattle.record.specs.LineKinds.{commentKind, positionKind, velocityKind}
 use Rattle.header.specs.declared.types.Rules.{Rules}
 use Rattle.file.specs.Kinds.{ofKind}
 use Rattle.file.specs.Plain.{Plain}
@@ -43,11 +44,11 @@ module _ (rules : Rules) (lines : List (List ℕ)) where
       ap (λ (m : ℕ). take 12 (drop m (rowsIn rules lines))) (mul-comm 12 r)
       ∙ part-stored 12 (λ (l : List ℕ). rowNumbers (rowIn rules l)) (row-wide rules) (rowLines rules lines) r h
 
-  pub comment-stored : (c : ℕ) → c < length (ofKind rules 8 lines) → take 77 (drop (77 * c) (commentsIn rules lines)) ≡ commentText (nth c (ofKind rules 8 lines))
+  pub comment-stored : (c : ℕ) → c < length (ofKind rules commentKind lines) → take 77 (drop (77 * c) (commentsIn rules lines)) ≡ commentText (nth c (ofKind rules commentKind lines))
   unfolding commentsIn
   comment-stored c h =
       ap (λ (m : ℕ). take 77 (drop m (commentsIn rules lines))) (mul-comm 77 c)
-      ∙ part-stored 77 commentText comment-wide (ofKind rules 8 lines) c h
+      ∙ part-stored 77 commentText comment-wide (ofKind rules commentKind lines) c h
 
   -- identifier or exponent 17 * k + i stands in slot i of the k-th line of its kind
   pub slot-stored : (accuracies : Bool) (n k i : ℕ) → k < length (ofKind rules (slotLineKind accuracies) lines) → i < 17 → 17 * k + i < n
@@ -73,10 +74,10 @@ module _ {rules : Rules} {lines : List (List ℕ)} (p : Plain rules lines) (k j 
   rowAt = k * satellites p + j
 
   abbrev pub placeLine : List ℕ
-  placeLine = nth rowAt (ofKind rules 10 lines)
+  placeLine = nth rowAt (ofKind rules positionKind lines)
 
   abbrev pub motionLine : List ℕ
-  motionLine = nth rowAt (ofKind rules 11 lines)
+  motionLine = nth rowAt (ofKind rules velocityKind lines)
 
   -- without velocities: its twelve numbers stand at 12 * (k * n + j), and are those of its P line
   pub place-stored : velocities p ≡ false → take 12 (drop (12 * rowAt) (rowsIn rules lines)) ≡ exactNumbers (rowOf false placeLine)

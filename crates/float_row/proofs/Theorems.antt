@@ -17,6 +17,7 @@ use Rattle.lines.specs.Lines.{linesOf, nth}
 use Rattle.header.specs.Rules.{d}
 use Rattle.record.specs.Absence.{placeAbsent, clockAbsent}
 use Rattle.record.specs.Rows.{rowOf}
+use Rattle.record.specs.LineKinds.{positionKind}
 use Rattle.file.specs.Kinds.{ofKind}
 use Rattle.file.specs.Table.{storedInt, countOf}
 use Rattle.record.specs.declared.types.Signed.{Signed}
@@ -148,7 +149,7 @@ refused-is-absent bytes place some = rw (ne-eqb (place .refusal) 0 some)
 module _ (bytes : List ℕ) (t : Tally) (e : fileOf d bytes ≡ front.File t) where
   module _ (epoch satellite : ℕ) (some : epoch < epochsOf d (linesOf bytes)) (one : satellite < countOf d (linesOf bytes)) where
     abbrev pub asked : Row
-    asked = rowOf false (nth (epoch * countOf d (linesOf bytes) + satellite) (ofKind d 10 (linesOf bytes)))
+    asked = rowOf false (nth (epoch * countOf d (linesOf bytes) + satellite) (ofKind d positionKind (linesOf bytes)))
 
     pub row-given : rowAnswer bytes (rowBegins d bytes (fileOf d bytes) epoch satellite) ≡ record { refusal = 0; line = 0; row = floatRow asked }
     unfolding rowAnswer

@@ -19,6 +19,7 @@ use Rattle.lines.specs.Lent.{laid}
 use Rattle.lines.proofs.Laying.{laid-fits}
 use Rattle.lines.specs.Lines.{linesOf, bytesIn, select, nth, beginsFrom}
 use Rattle.header.specs.Rules.{d}
+use Rattle.record.specs.LineKinds.{commentKind, positionKind}
 use Rattle.file.specs.Kinds.{isKind, ofKind}
 use Rattle.file.specs.Plain.{Plain}
 use Rattle.file.specs.Table.{firstIn, countOf, slotsIn}
@@ -78,7 +79,7 @@ comment-told rules lines k place indent line text p l i t = rw (p, i, t, l)
 -- and it begins within the bytes
 pub text-within : (rules : Rules) (bytes : List ℕ) (k place indent : ℕ) (line : List ℕ)
     → place ≡ commentBegins rules (linesOf bytes) k → line ≡ commentLine rules (linesOf bytes) k → indent ≡ min 3 (length line) → place + indent ≤ length bytes
-text-within rules bytes k place indent line p l i = omega (arith, ap length l, line-within (isKind rules 8) k bytes)
+text-within rules bytes k place indent line p l i = omega (arith, ap length l, line-within (isKind rules commentKind) k bytes)
 
 pub epochs-are : {rules : Rules} {lines : List (List ℕ)} (p : Plain rules lines) → epochsOf rules lines ≡ epochs p
 unfolding nth
@@ -120,10 +121,10 @@ module _ (rules : Rules) (lines : List (List ℕ)) (epoch satellite : ℕ) (f : 
   has-row : (b : Bool) → (ltb epoch (f .epochs) && ltb satellite n) ≡ b → (ltb epoch (epochsOf rules lines) && ltb satellite (countOf rules lines)) ≡ b
   has-row b e = sym (ap (λ (x : First). ltb epoch (x .epochs) && ltb satellite (countOf rules lines)) is-first) ∙ sym (ap (λ (m : ℕ). ltb epoch (f .epochs) && ltb satellite m) is-count) ∙ e
 
-  pub row-told : (place : ℕ) → (ltb epoch (f .epochs) && ltb satellite n) ≡ true → place ≡ beginsFrom (isKind rules 10) (epoch * n + satellite) 0 lines
+  pub row-told : (place : ℕ) → (ltb epoch (f .epochs) && ltb satellite n) ≡ true → place ≡ beginsFrom (isKind rules positionKind) (epoch * n + satellite) 0 lines
       → _≡_ {A = RowBegins} (record { refusal = 0; line = 0; at = place }) (rowAt rules lines epoch satellite)
   row-told place has e =
-      ap (λ (a : ℕ). record { refusal = 0; line = 0; at = a }) (e ∙ ap (λ (m : ℕ). beginsFrom (isKind rules 10) (epoch * m + satellite) 0 lines) is-count)
+      ap (λ (a : ℕ). record { refusal = 0; line = 0; at = a }) (e ∙ ap (λ (m : ℕ). beginsFrom (isKind rules positionKind) (epoch * m + satellite) 0 lines) is-count)
       ∙ rw (has-row true has)
 
   pub row-missing : (ltb epoch (f .epochs) && ltb satellite n) ≡ false → noRow 13 0 ≡ rowAt rules lines epoch satellite
@@ -156,7 +157,7 @@ module _ (rules : Rules) (r : rules ≡ d) (bytes : List ℕ) (t : Tally) where
   unfolding commentAnswer
   comment-there k a h is = is ∙ rw (r, lines-as, lt-ltb k (t .comments) h)
 
-  pub words-there : (k : ℕ) (s l : List ℕ) → k < t .comments → s ≡ textIn l → l ≡ nth k (ofKind rules 8 (linesTo (t .end - 0) bytes)) → s ≡ commentWords d bytes (front.File t) k
+  pub words-there : (k : ℕ) (s l : List ℕ) → k < t .comments → s ≡ textIn l → l ≡ nth k (ofKind rules commentKind (linesTo (t .end - 0) bytes)) → s ≡ commentWords d bytes (front.File t) k
   unfolding commentWords
   words-there k s l h is line = is ∙ rw (line, r, lines-as, lt-ltb k (t .comments) h)
 
