@@ -124,10 +124,6 @@ rowNumbers p =
     ∷ storedMark (p .«orbit_predicted»)
     ∷ []
 
--- how many numbers that is
-abbrev pub rowWidth : ℕ
-rowWidth = 12
-
 -- the numbers of some P and V lines, in file order
 unfoldable pub numbersOfRows : Rules → List (List ℕ) → List ℤ
 numbersOfRows rules lines = flat (map (λ line. rowNumbers (rowIn rules line)) lines)

@@ -6,8 +6,9 @@ ghost use lib.ListN.{length, take};
 ghost use Rattle.lines.specs.Lent.{laid, over, flat};
 ghost use Rattle.lines.specs.Lines.{linesOf};
 ghost use Rattle.record.specs.LineKinds.{commentKind};
+ghost use Rattle.record.specs.Rows.{rowWidth};
 ghost use Rattle.file.specs.Kinds.{ofKind};
-ghost use Rattle.file.specs.Table.{slotNumbers, slotsIn, commentText, rowWidth, rowLines, numbersOfRows};
+ghost use Rattle.file.specs.Table.{slotNumbers, slotsIn, commentText, rowLines, numbersOfRows};
 use crate::rows;
 use header::Rules;
 use record::kind::ACCURACIES_KIND;
@@ -15,7 +16,8 @@ use record::kind::COMMENT_KIND;
 use record::kind::POSITION_KIND;
 use record::kind::SATELLITES_KIND;
 use record::kind::VELOCITY_KIND;
-use stored_row::ROW_WIDTH;
+use record::plain::COMMENT_WIDTH;
+use record::rows::ROW_WIDTH;
 
 // The numbers in the slots of a `+ ` line, or of a `++` line where `accuracies` says so, laid over the front of `out`, at most so many.
 fn lay_slots(line: &[u8], accuracies: bool, left: u64, out: &mut [u64])
@@ -63,7 +65,7 @@ pub fn fill_slots(rules: Rules, bytes: &[u8], accuracies: bool, n: u64, out: &mu
     }
 }
 
-// The text of a comment, 77 bytes, laid over the front of `out`.
+// The text of a comment laid over the front of `out`.
 fn lay_comment(line: &[u8], out: &mut [u8])
     ensures { λ _. ⌜ now (out .exit) ≡ laid (commentText (now (line .entry))) (now (out .entry)) ⌝ }
 {
@@ -90,11 +92,11 @@ pub fn fill_comments(rules: Rules, bytes: &[u8], count: u64, out: &mut [u8])
         let line = &bytes[at..end];
         if file::kind_in(rules, line) == COMMENT_KIND {
             lay_comment(line, &mut out[stored..]);
-            if (left <= 1) | (out.len() - stored <= 77) {
+            if (left <= 1) | (out.len() - stored <= COMMENT_WIDTH) {
                 return;
             }
             left -= 1;
-            stored += 77;
+            stored += COMMENT_WIDTH;
         }
         at = end + 1;
     }

@@ -15,11 +15,13 @@ use Rattle.laws.proofs.Bools.{and-left, and-right}
 use Rattle.lines.specs.Lent.{over, laid, flat}
 use Rattle.lines.specs.Lines.{linesOf}
 use Rattle.record.specs.LineKinds.{commentKind}
+use Rattle.record.specs.Plain.{commentWidth}
+use Rattle.record.specs.Rows.{rowWidth}
 use Rattle.lines.proofs.Each.{each-map}
 use Rattle.lines.proofs.Laying.{laid-fits}
 use Rattle.lines.proofs.Picking.{length-flat}
 use Rattle.file.specs.Kinds.{ofKind}
-use Rattle.file.specs.Table.{countOf, slotNumbers, slotLineKind, slotsIn, commentText, commentsIn, rowWidth, rowLines, numbersOfRows, rowsIn}
+use Rattle.file.specs.Table.{countOf, slotNumbers, slotLineKind, slotsIn, commentText, commentsIn, rowLines, numbersOfRows, rowsIn}
 use Rattle.file_laws.proofs.Counts.{comment-wide}
 use Rattle.header.specs.declared.types.Rules.{Rules}
 use Rattle.scan.specs.declared.Tally.{Tally}
@@ -95,14 +97,14 @@ comments-are : (rules : Rules) (ls : List (List ℕ)) → commentBytes rules ls 
 unfolding commentsIn
 comments-are rules ls = refl
 
-comments-wide : (rules : Rules) (ls : List (List ℕ)) → length (commentsIn rules ls) ≡ length (ofKind rules commentKind ls) * 77
+comments-wide : (rules : Rules) (ls : List (List ℕ)) → length (commentsIn rules ls) ≡ length (ofKind rules commentKind ls) * commentWidth
 unfolding commentsIn
 comments-wide rules ls =
-    length-flat 77 (map commentText (ofKind rules commentKind ls)) (each-map (λ (part : List ℕ). length part ≡ 77) commentText comment-wide (ofKind rules commentKind ls))
-    ∙ ap (λ (k : ℕ). k * 77) (length-map (ofKind rules commentKind ls) commentText)
+    length-flat commentWidth (map commentText (ofKind rules commentKind ls)) (each-map (λ (part : List ℕ). length part ≡ commentWidth) commentText comment-wide (ofKind rules commentKind ls))
+    ∙ ap (λ (k : ℕ). k * commentWidth) (length-map (ofKind rules commentKind ls) commentText)
 
 -- as many whole parts as fit
-comments-within : (k n : ℕ) → k ≤ n / 77 → k * 77 ≤ n
+comments-within : (k n : ℕ) → k ≤ n / commentWidth → k * commentWidth ≤ n
 comments-within k n h = omega arith
 
 module _ (rules : Rules) (bytes : List ℕ) (f : Front) (i x c r : ℕ) where
@@ -163,13 +165,13 @@ module _ (rules : Rules) (bytes : List ℕ) (f : Front) (i x c r : ℕ) where
       unfolding roomFor
       exponents-fit = leb-true n x (and-right (leb n i) (leb n x) (and-left (leb n i && leb n x) _ roomy))
 
-      comments-fit : t .comments ≤ c / 77
+      comments-fit : t .comments ≤ c / commentWidth
       unfolding roomFor
-      comments-fit = leb-true (t .comments) (c / 77) (and-left (leb (t .comments) (c / 77)) _ (and-right (leb n i && leb n x) _ roomy))
+      comments-fit = leb-true (t .comments) (c / commentWidth) (and-left (leb (t .comments) (c / commentWidth)) _ (and-right (leb n i && leb n x) _ roomy))
 
-      rows-fit : t .rows ≤ r / 12
+      rows-fit : t .rows ≤ r / rowWidth
       unfolding roomFor
-      rows-fit = leb-true (t .rows) (r / 12) (and-right (leb (t .comments) (c / 77)) _ (and-right (leb n i && leb n x) _ roomy))
+      rows-fit = leb-true (t .rows) (r / rowWidth) (and-right (leb (t .comments) (c / commentWidth)) _ (and-right (leb n i && leb n x) _ roomy))
 
       slots-all : (accuracies : Bool) (old : List ℕ) → n ≤ length old
           → take (length old) (slotsIn rules accuracies n used) ≡ slotsIn rules accuracies (countOf rules (linesIn bytes f)) (linesIn bytes f)
@@ -198,7 +200,7 @@ module _ (rules : Rules) (bytes : List ℕ) (f : Front) (i x c r : ℕ) where
           all : take (length old / rowWidth) (rowLines rules used) ≡ rowLines rules lines
           all =
               ap (λ (b : List ℕ). take (length old / rowWidth) (rowLines rules (linesOf b))) (front-part (t .end) bytes)
-              ∙ take-all (length old / rowWidth) (rowLines rules lines) (omega (arith, ap (λ (k : ℕ). k / 12) size, counts .2, rows-fit))
+              ∙ take-all (length old / rowWidth) (rowLines rules lines) (omega (arith, ap (λ (k : ℕ). k / rowWidth) size, counts .2, rows-fit))
 
     -- so a list that the flag fills, or leaves, is as it is delivered
     delivers : {A : Type 0} (some all old now : List A) → (room ≡ true → some ≡ all) → now ≡ filled room some old → now ≡ filled (enough rules bytes f i x c r) all old

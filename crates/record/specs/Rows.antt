@@ -141,3 +141,10 @@ rowTaken velocity line = record {
 -- the row of a line as it stands, a short one being padded
 abbrev pub rowOf : Bool → List ℕ → Row
 rowOf velocity line = rowTaken velocity (padded line)
+
+-- the numbers of a stored row: x, y, z, clock, their exponents, and four flags; and those of a P row with its V row
+abbrev pub rowWidth : ℕ
+rowWidth = 12
+
+abbrev pub bothWidth : ℕ
+bothWidth = 2 * rowWidth

@@ -8,6 +8,7 @@ use native.Mathlib.Omega.{arith}
 use borrow.Author.Tests.{eq-eqb, ne-eqb}
 use lib.Dec.{eqb}
 use lib.ListN.{length, getD, take, drop}
+use Rattle.header.specs.Rules.{maxSatellites}
 use Rattle.layout.specs.Line.{padded}
 use Rattle.lines.specs.Lines.{linesOf}
 use Rattle.record.specs.LineKinds.{satellitesKind, commentKind, positionKind, velocityKind}
@@ -43,7 +44,7 @@ more-or-not true n = omega arith
 more-or-not false n = omega arith
 
 pub record Going (rules : Rules) (bytes identifiers : List ℕ) (s : State) (t : Tally) : Type 0 where
-  pub size : length identifiers ≡ 255
+  pub size : length identifiers ≡ maxSatellites
   pub within : t .end ≤ length bytes
   pub lines : t .lines ≤ t .end
   pub comments : t .comments ≤ t .end

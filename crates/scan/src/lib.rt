@@ -6,6 +6,7 @@ ghost use Rattle.file.specs.Kinds.{kindIn};
 ghost use Rattle.scan.specs.declared.Front.the-variants as front;
 ghost use Rattle.scan.specs.Told.{toldFront};
 ghost use Rattle.scan.specs.Run.{counted, scanOf, wholeFront};
+use header::Header;
 use header::Rules;
 use machine::LineRead;
 use machine::State;
@@ -38,7 +39,7 @@ fn kind_told(rules: Rules, line: &[u8]) -> u64
 {
     if line.len() > 0 {
         if line[0] == b'P' {
-            return 10;
+            return POSITION_KIND;
         }
     }
     file::kind_in(rules, line)
@@ -83,7 +84,7 @@ fn refused(number: usize, line: u64, column: usize) -> Front
 pub fn scan_front(rules: Rules, bytes: &[u8]) -> Front
     ensures result { λ r. ⌜ toldFront r ≡ toldFront (scanOf rules (now (bytes .entry))) ⌝ }
 {
-    let mut identifiers = [0u64; 255];
+    let mut identifiers = [0u64; Header::MAX_SATELLITES as usize];
     let mut state = machine::start();
     let mut tally = Tally {
         lines: 0,
