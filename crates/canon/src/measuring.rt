@@ -82,7 +82,12 @@ fn table_spent(rules: Rules, h: Header, comments: &[u8], rows: &[i64], room: usi
     let count = h.comments as usize;
     let cells = (h.satellites * h.epochs) as usize;
     let opened = lists::spend(room, opening_length(h));
-    let said = lists::comments_spent(rules, h.comments, &comments[0..count * COMMENT_WIDTH], opened);
+    let said = lists::comments_spent(
+        rules,
+        h.comments,
+        &comments[0..count * COMMENT_WIDTH],
+        opened,
+    );
     let dated = lists::spend(said.left, 32 * (h.epochs as usize));
     let placed = numbers::rows_spent(h.velocity, cells, &rows[0..cells * width], dated);
     Spent {

@@ -119,7 +119,10 @@ pub fn fill_rows(rules: Rules, bytes: &[u8], out: &mut [i64])
             if out.len() - stored < ROW_WIDTH {
                 return;
             }
-            rows::store_row(record::rows::row_of(line, kind == VELOCITY_KIND), &mut out[stored..]);
+            rows::store_row(
+                record::rows::row_of(line, kind == VELOCITY_KIND),
+                &mut out[stored..],
+            );
             stored += ROW_WIDTH;
         }
         at = end + 1;

@@ -240,8 +240,14 @@ pub(crate) fn after_line(kind: LineKind, rules: Rules, state: State, line: &[u8;
     match kind {
         LineKind::Position => Verdict::Next(after_position(state)),
         LineKind::Velocity => Verdict::Next(satellite_done(VELOCITY_CORRELATION_KIND, state)),
-        LineKind::PositionCorrelation => Verdict::Next(State { also: NO_KIND, ..state }),
-        LineKind::VelocityCorrelation => Verdict::Next(State { also: NO_KIND, ..state }),
+        LineKind::PositionCorrelation => Verdict::Next(State {
+            also: NO_KIND,
+            ..state
+        }),
+        LineKind::VelocityCorrelation => Verdict::Next(State {
+            also: NO_KIND,
+            ..state
+        }),
         LineKind::Epoch => {
             let epoch = record::opening::read_epoch(line);
             let moment = epoch.moment;

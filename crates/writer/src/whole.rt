@@ -57,7 +57,11 @@ fn put_table(
     let count = h.comments as usize;
     let numbers = n * (h.epochs as usize) * canon::cell_width(h.velocity);
     let mut at = put_opening(rules, h, listed, &exponents[0..n], out);
-    at += heads::put_comments(h.comments, &comments[0..count * COMMENT_WIDTH], &mut out[at..]);
+    at += heads::put_comments(
+        h.comments,
+        &comments[0..count * COMMENT_WIDTH],
+        &mut out[at..],
+    );
     at += epochs::put_epochs(h, listed, &rows[0..numbers], &mut out[at..]);
     draw::plain::write_end(&mut out[at..]);
 }
