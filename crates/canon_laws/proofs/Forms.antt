@@ -52,7 +52,7 @@ module _ (rules : Rules) (proper : Proper rules) (t : Table) (v : Parts rules t)
   n = h .satellites
 
   abbrev identifiers : List ℕ
-  identifiers = table.slotIdentifiers t
+  identifiers = table.tableIdentifiers t
 
   abbrev bound : Bounded rules h
   bound = v .header

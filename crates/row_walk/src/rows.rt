@@ -126,7 +126,7 @@ fn satellite_of(passed: u64, satellites: u64) -> u64
 fn row_given(file: &[u8], at: usize, satellites: u64, passed: u64, next: RowWalk) -> RowStep
     ensures { λ r. ⌜ r ≡ rowGiven (now (file .entry)) at satellites passed next ⌝ }
 {
-    let line = file::line_known(file, at);
+    let line = file::line_at(file, at);
     let row = float_row::float_row(record::rows::row_of(line, false));
     let epoch = epoch_of(passed, satellites);
     let satellite = satellite_of(passed, satellites);
