@@ -3,7 +3,7 @@
 -- 000, line thirty three, and line twenty six in example 2. Numbers are whole: mm and ps in P, 10^-4 mm/s and 10^-16 s/s in V.
 use mathlib.Core.Bool.{Bool, true, false, not, _&&_}
 use mathlib.Core.List.{List, [], _∷_, _++_}
-use Prim.Native.Nat.{ℕ, _-_}
+use Prim.Native.Nat.{ℕ, _-_, _*_}
 use lib.Dec.{eqb}
 use lib.ListN.{getD, take, drop}
 use Rattle.field.specs.Read.{exponentOf}

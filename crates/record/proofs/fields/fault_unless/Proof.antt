@@ -15,7 +15,5 @@ fault-unless-spec =
     tie.close
     (tie.spec
     returns
-    (λ c. search needs)
-    (λ c. search needs)
     (λ c κs. search needs)
     returns-2)

@@ -20,8 +20,6 @@ read-identifier-spec =
     (λ c. search needs)
     (λ c. search needs)
     (λ c κs. search needs)
-    (λ c. search needs)
-    (λ c. search needs)
     (λ c κs. search needs)
     returns
     (λ c κs. search needs)
