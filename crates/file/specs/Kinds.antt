@@ -9,7 +9,7 @@ use Rattle.lines.specs.Lines.{select, nth}
 use Rattle.record.specs.LineKinds.{positionKind, velocityKind, toldKind, kindOf}
 use Rattle.header.specs.declared.types.Rules.{Rules}
 
--- its number: 1 for `#d` to 14 for EOF, 0 for none
+-- the number of its kind
 abbrev pub kindIn : Rules → List ℕ → ℕ
 kindIn rules line = toldKind (kindOf rules (padded line))
 

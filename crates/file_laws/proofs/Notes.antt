@@ -53,7 +53,7 @@ pub record SameTable (rules : Rules) (a b : List (List ℕ)) : Type 0 where
   pub rows : rowsIn rules a ≡ rowsIn rules b
 
 module _ (rules : Rules) where
-  -- EP (12) or EV (13)
+  -- EP or EV
   abbrev pub IsNote : List ℕ → Type 0
   IsNote l = within positionCorrelationKind velocityCorrelationKind (kindIn rules l) ≡ true
 

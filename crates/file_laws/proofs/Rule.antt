@@ -27,7 +27,7 @@ use Rattle.file_laws.proofs.Places.{rowNumber, Has, one-row, ownIn}
 use Rattle.file_laws.proofs.Instants.{header, three-parts, header-no-epoch, rows-no-epoch, epochs-before, epochs-nth}
 use Rattle.file_laws.proofs.Instants as instant
 
--- The rows of one kind, P (10) or V (11), in the k-th epoch: n of them, the j-th of the j-th satellite, and in the file it is the one numbered
+-- The rows of one kind, P or V, in the k-th epoch: n of them, the j-th of the j-th satellite, and in the file it is the one numbered
 -- k * n + j.
 pub record InOrder {rules : Rules} {lines : List (List ℕ)} (p : Plain rules lines) (v : Bool) (k : ℕ) (block : List (List ℕ)) : Type 0 where
   pub many : length (ofKind rules (rowNumber v) block) ≡ satellites p

@@ -39,7 +39,7 @@ onward (verdict.Fault number column) p more = p
 onward (verdict.Next s) p more = more s
 onward verdict.Finished p more = p
 
--- the spot of the next P line (10) among the lines that follow a spot; or of the line before it that is refused or ends the file
+-- the spot of the next P line among the lines that follow a spot; or of the line before it that is refused or ends the file
 unfoldable pub toRow : Rules → List ℕ → Spot → List (List ℕ) → Spot
 toRow rules identifiers p [] = p
 toRow rules identifiers p (l ∷ ls) =

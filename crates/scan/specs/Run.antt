@@ -28,7 +28,7 @@ nothingSeen = record { lines = 0; end = 0; comments = 0; rows = 0 }
 abbrev pub oneMore : Bool → ℕ → ℕ
 oneMore passed n = cond passed (n + 1) n
 
--- one line more, with its LF: a comment (8), a row, or another
+-- one line more, with its LF: a comment, a row, or another
 unfoldable pub counted : Rules → Tally → List ℕ → Tally
 counted rules t l = record {
   lines = t .lines + 1;

@@ -27,7 +27,7 @@ use Rattle.scan.specs.Run.{Going, goneOn, stepped}
 use Rattle.scan_laws.proofs.Passing.{placed}
 use Rattle.scan_laws.proofs.Reaching.{identifiers-kept}
 
--- each of the lines does the same with these identifiers as in the run, and where a P line (10) stands the number of satellites is known
+-- each of the lines does the same with these identifiers as in the run, and where a P line stands the number of satellites is known
 unfoldable pub Alike : Rules → ℕ → List ℕ → Going → List (List ℕ) → Type 0
 Alike rules n identifiers g [] = Unit
 Alike rules n identifiers g (l ∷ ls) =
