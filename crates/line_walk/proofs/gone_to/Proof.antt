@@ -5,7 +5,7 @@ use Rattle.line_walk.proofs.gone_to.Statement.{statement}
 use Rattle.line_walk.proofs.gone_to.Tie as tie
 
 returns : tie.Need-returns
-returns c = rw (c .before .at .given .1)
+returns c = rw (c .before .found .given .1)
 
 returns-2 : tie.Need-returns-2
 returns-2 c = rw (c .enum-told .given .1)

@@ -9,10 +9,10 @@ use Rattle.line_walk.proofs.spot_after.Tie as tie
 
 returns : tie.Need-returns
 returns c =
-    let done = c .before in
+    let done = c .before .before .before in
     let a = done .before .before .before .before .args in
     let found = done .read-at .result in
     (c .gone-to .ensures ∙ spot-read d (a .file .now) (a .identifiers .now) (a .spot) found found (done .read-at .ensures .0) refl, done .read-at .ensures .1)
 
 pub spot-after-spec : {M : Type 1} → statement M
-spot-after-spec = tie.close (tie.spec (λ c κs. search needs) (λ c κs. search needs) returns)
+spot-after-spec = tie.close (tie.spec (λ c κs. search needs) (λ c κs. search needs) (λ c. search needs) returns)
