@@ -43,7 +43,7 @@ fn comment_at(rules: Rules, bytes: &[u8], k: u64) -> CommentAnswer
     ensures { λ r. ⌜ r ≡ commentAt rules (linesOf (now (bytes .entry))) k ⌝ }
 {
     let place = file::line_begins(rules, bytes, COMMENT_KIND, k);
-    let line = file::line_of(rules, bytes, 8, k);
+    let line = file::line_of(rules, bytes, COMMENT_KIND, k);
     let indent = laws::fewer(3, line.len());
     let text = text_of(line);
     CommentAnswer {
@@ -90,7 +90,7 @@ pub fn comment(file: &[u8], k: u64) -> &[u8]
         Front::File(tally) => {
             if k < tally.comments {
                 let end = tally.end;
-                return text_of(file::line_of(rules, &file[0..end], 8, k));
+                return text_of(file::line_of(rules, &file[0..end], COMMENT_KIND, k));
             }
             file::nothing_at(file, 0)
         }
