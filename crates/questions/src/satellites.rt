@@ -11,6 +11,7 @@ ghost use Rattle.file.specs.Table.{countOf};
 ghost use Rattle.reader.specs.Reading.{fileOf, identifiersOf};
 ghost use Rattle.questions.specs.Questions.{identifierNamed, indexOf, noSatellite, satelliteIn, satelliteAnswer};
 use crate::types::SatelliteAnswer;
+use header::Header;
 use header::Rules;
 use scan::Front;
 
