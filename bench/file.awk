@@ -13,7 +13,7 @@ function coordinate(size) {
 
 function letter(c, times) { return random(times) ? " " : c }
 
-function name(k) { return sprintf("%s%02d", substr("GREC", int((k - 1) / 99) + 1, 1), (k - 1) % 99 + 1) }
+function identifier(k) { return sprintf("%s%02d", substr("GREC", int((k - 1) / 99) + 1, 1), (k - 1) % 99 + 1) }
 
 # lines of 17 slots, at least five
 function slots(symbol, count, exponents, j, i, k) {
@@ -21,7 +21,7 @@ function slots(symbol, count, exponents, j, i, k) {
         printf "%-3s%3s   ", symbol, (j == 0 && count ? satellites : "")
         for (i = 0; i < 17; i++) {
             k = 17 * j + i
-            printf "%3s", (k < satellites ? (exponents ? 2 + random(9) : name(k + 1)) : 0)
+            printf "%3s", (k < satellites ? (exponents ? 2 + random(9) : identifier(k + 1)) : 0)
         }
         printf "\n"
     }
@@ -45,7 +45,7 @@ BEGIN {
     for (e = 0; e < epochs; e++) {
         printf "*  2013  4  3 %2d %2d  0.00000000\n", int(e * minutes / 60), e * minutes % 60
         for (k = 1; k <= satellites; k++) {
-            printf "P%s%s%s%s%s", name(k), coordinate(26000), coordinate(26000), coordinate(26000), coordinate(800)
+            printf "P%s%s%s%s%s", identifier(k), coordinate(26000), coordinate(26000), coordinate(26000), coordinate(800)
             printf " %2d %2d %2d %3d", random(20), random(20), random(20), random(250)
             printf " %s%s  %s%s\n", letter("E", 40), letter("P", 2), letter("M", 40), letter("P", 2)
         }

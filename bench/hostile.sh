@@ -54,7 +54,7 @@ counted hostile input*
 grep '^file ' said >answers
 
 awk 'FILENAME == "titles" { title[FNR - 1] = $0; next }
-     FILENAME == "answers" { bytes[FNR - 1] = $2; answer[FNR - 1] = sprintf("%7d %6d", $3, $4); next }
+     FILENAME == "answers" { bytes[FNR - 1] = $2; answer[FNR - 1] = sprintf("%8d%6d", $3, $4); next }
      { count[FNR - 1] = $2 }
      # the price of file k, judged (0) or read (1), beside those of the two sizes before it
      function more(k, how) { return (count[2 * k + how] - count[2 * k - 2 + how]) / (bytes[k] - bytes[k - 1]) }
@@ -62,7 +62,7 @@ awk 'FILENAME == "titles" { title[FNR - 1] = $0; next }
      function grown(k, how) { return each(k, how) / each(k - 2, how) }
      function worse(ratio) { if (ratio > worst) worst = ratio }
      function columns(k, how) {
-         printf " %11d %7.2f %7s", count[2 * k + how], each(k, how), k % 3 ? sprintf("%.2f", more(k, how)) : "-"
+         printf " %9d %6.2f %6s", count[2 * k + how], each(k, how), k % 3 ? sprintf("%.2f", more(k, how)) : "-"
          printf " %6s", k % 3 == 2 ? sprintf("%.2f", grown(k, how)) : "-"
          if (k % 3 == 2 && title[k] !~ /\*$/) {
              worse(grown(k, how))
@@ -71,12 +71,12 @@ awk 'FILENAME == "titles" { title[FNR - 1] = $0; next }
      }
      END {
          for (k = 0; k in title; k++) if (!(count[2 * k] && count[2 * k + 1] && bytes[k])) { print "not counted: " title[k]; exit 1 }
-         printf "%-34s %8s %7s %6s %34s %34s\n", "", "", "", "", "judged: instructions", "read: instructions"
-         printf "%-34s %8s %7s %6s", "file", "bytes", "refusal", "line"
-         for (how = 0; how < 2; how++) printf " %11s %7s %7s %6s", "all", "a byte", "more", "16x/1x"
+         printf "%-33s%8s%8s%6s%31s%31s\n", "", "", "", "", "judged: instructions", "read: instructions"
+         printf "%-33s%8s%8s%6s", "file", "bytes", "refusal", "line"
+         for (how = 0; how < 2; how++) printf " %9s %6s %6s %6s", "all", "a byte", "more", "16x/1x"
          printf "\n"
          for (k = 0; k in title; k++) {
-             printf "%-34s %8d %s", k % 3 ? "" : title[k], bytes[k], answer[k]
+             printf "%-33s%8d%s", k % 3 ? "" : title[k], bytes[k], answer[k]
              columns(k, 0)
              columns(k, 1)
              printf "\n"

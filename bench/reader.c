@@ -13,7 +13,7 @@ enum { NO_LF = 1, BYTE, TOO_LONG, KIND, UNUSED, MALFORMED, BOUNDS, DISAGREES, IN
 
 struct file {
     const uint8_t *bytes;
-    size_t length, place;   // the next line begins at this place
+    size_t length, spot;   // the next line begins at this spot
     size_t number;          // the line that was taken last, counted from 1
     const uint8_t *line;    // its 80 columns
     unsigned fault;         // the lowest fault of that line
@@ -30,9 +30,9 @@ static void fault(struct file *f, unsigned number) {
     if (number < f->fault) f->fault = number;
 }
 
-// The 80 columns of the line of `count` characters at `place`: "a short line counts as padded with blanks".
-static void show(struct file *f, size_t place, size_t count) {
-    f->line = f->bytes + place;
+// The 80 columns of the line of `count` characters at `spot`: "a short line counts as padded with blanks".
+static void show(struct file *f, size_t spot, size_t count) {
+    f->line = f->bytes + spot;
     if (count < COLUMNS) {
         memcpy(f->padded, f->line, count);
         memset(f->padded + count, ' ', COLUMNS - count);
@@ -43,7 +43,7 @@ static void show(struct file *f, size_t place, size_t count) {
 // Takes the next line; whether it may be a line at all.
 static bool take(struct file *f) {
     const uint8_t *s = f->bytes;
-    size_t n = f->length, first = f->place, i = first;
+    size_t n = f->length, first = f->spot, i = first;
     bool plain = true;
     f->number++;
     for (; i < n && s[i] != '\n'; i++)
@@ -56,7 +56,7 @@ static bool take(struct file *f) {
         f->fault = TOO_LONG;
     } else {
         f->fault = NO_FAULT;
-        f->place = i + 1;
+        f->spot = i + 1;
         show(f, first, i - first);
     }
     return f->fault == NO_FAULT;
@@ -224,7 +224,7 @@ static void empty_slot(struct file *f, size_t first) {
     if (s[0] != ' ' || s[1] != ' ' || s[2] != '0') fault(f, DISAGREES);
 }
 
-// Whether this identifier stands before place k of the header.
+// Whether this identifier stands before slot k of the header.
 static bool repeats(const struct header *h, size_t k) {
     for (size_t i = 0; i < k; i++)
         if (h->identifiers[i] == h->identifiers[k]) return true;
@@ -461,8 +461,8 @@ static sp3_reading_t refused(size_t number, uint64_t line) { return (sp3_reading
 static sp3_reading_t judged(const uint8_t *bytes, size_t length, bool whole, struct header *h) {
     struct file f = {.bytes = bytes, .length = length};
     if (!records(&f, h)) return refused(f.fault, f.number);
-    if (whole && f.place < length) return refused(AFTER, f.number + 1);
-    return (sp3_reading_t){0, 0, f.place, h->said};
+    if (whole && f.spot < length) return refused(AFTER, f.number + 1);
+    return (sp3_reading_t){0, 0, f.spot, h->said};
 }
 
 sp3_reading_t PLAIN(judge_front)(const uint8_t *stretch, size_t length) {
@@ -479,9 +479,9 @@ sp3_reading_t PLAIN(judge)(const uint8_t *file, size_t length) {
 
 static void next(struct file *f) {
     const uint8_t *s = f->bytes;
-    size_t first = f->place, i = first;
+    size_t first = f->spot, i = first;
     while (s[i] != '\n') i++;
-    f->place = i + 1;
+    f->spot = i + 1;
     show(f, first, i - first);
 }
 
@@ -552,13 +552,13 @@ static size_t file_length(const uint8_t *bytes, size_t length) {
     struct file f = {.bytes = bytes, .length = length};
     do next(&f);
     while (!begins(&f, "EOF"));
-    return f.place;
+    return f.spot;
 }
 
 // All files are counted before a length is stored: where there are more than room, nothing may be written.
 sp3_division_t PLAIN(divide)(const uint8_t *stretch, size_t length, uint64_t *lengths, size_t room) {
     sp3_division_t d = {0, 0, 0, 0};
-    size_t place = 0;
+    size_t spot = 0;
     while (d.rest < length) {
         sp3_reading_t front = PLAIN(judge_front)(stretch + d.rest, length - d.rest);
         if (front.refusal != 0) {
@@ -568,6 +568,6 @@ sp3_division_t PLAIN(divide)(const uint8_t *stretch, size_t length, uint64_t *le
         if (++d.count > room) return (sp3_division_t){0, 0, ROOM, 0};
         d.rest += front.length;
     }
-    for (uint64_t k = 0; k < d.count; k++) place += lengths[k] = file_length(stretch + place, length - place);
+    for (uint64_t k = 0; k < d.count; k++) spot += lengths[k] = file_length(stretch + spot, length - spot);
     return d;
 }

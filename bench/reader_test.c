@@ -70,13 +70,13 @@ static bool file_case(void) {
     return true;
 }
 
-// ROOM, WALK, I, the number of names, LENGTH, and the names
+// ROOM, WALK, I, the number of identifiers, LENGTH, and the identifiers
 static bool stretch_case(void) {
-    size_t n[5], name, kept = 0;
+    size_t n[5], identifier, kept = 0;
     for (size_t i = 0; i < 5; i++)
         if (scanf("%zu", n + i) != 1) return false;
     for (size_t i = 0; i < n[3]; i++)
-        if (scanf("%zu", &name) != 1) exit(2);
+        if (scanf("%zu", &identifier) != 1) exit(2);
     uint8_t *stretch = bytes(n[4]);
     uint64_t *lengths = room(n[0], 8);
     for (size_t i = 0; i < n[0]; i++) lengths[i] = MARK;

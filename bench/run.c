@@ -69,12 +69,12 @@ static void divide_stretch(void) { given->divided = side->divide(stretch, copies
 
 // the library alone: all rows of the file, one by one, as floats
 static void walk_rows(void) {
-    static uint64_t names[SATELLITES];
-    sp3_reading_t begun = sp3_begin(stretch, length, names, SATELLITES);
+    static uint64_t identifiers[SATELLITES];
+    sp3_reading_t begun = sp3_begin(stretch, length, identifiers, SATELLITES);
     sp3_row_walk_t walk = sp3_first_row();
     uint64_t rows = 0;
     for (;;) {
-        sp3_row_step_t step = sp3_next_row(stretch, length, names, begun.header.satellites, walk);
+        sp3_row_step_t step = sp3_next_row(stretch, length, identifiers, begun.header.satellites, walk);
         if (step.refusal != 0 || step.end) break;
         walk = step.next, rows++;
     }
@@ -194,11 +194,11 @@ static bool differ(void (*first)(void), void (*second)(void)) {
 static size_t altered_bytes(size_t count) {
     size_t different = 0;
     for (size_t i = 0; i < count; i++) {
-        size_t place = random_below(i % 2 ? length : 1500);
-        uint8_t before = stretch[place];
-        stretch[place] = i % 8 ? (uint8_t)"0123456789 -.EPMGc/*+\nF"[random_below(23)] : (uint8_t)random_below(256);
+        size_t spot = random_below(i % 2 ? length : 1500);
+        uint8_t before = stretch[spot];
+        stretch[spot] = i % 8 ? (uint8_t)"0123456789 -.EPMGc/*+\nF"[random_below(23)] : (uint8_t)random_below(256);
         different += differ(read_file, divide_stretch);
-        stretch[place] = before;
+        stretch[spot] = before;
     }
     return different;
 }
@@ -208,12 +208,12 @@ static size_t altered_numbers(size_t count) {
     static const int64_t values[] = {0, 1, -1, 2, 99, 100, 999, 1000, 1001, -500000, 999999999999, -999999999999, 1000000000000, INT64_MIN};
     size_t different = differ(read_file, write_table), needed = answers->written.length;
     for (size_t i = 0; i < count; i++) {
-        size_t place = random_below(SP3_ROW_WIDTH * answers->read.header.epochs * answers->read.header.satellites);
-        int64_t before = answers->rows[place];
-        answers[OURS].rows[place] = answers[O2].rows[place] = values[random_below(sizeof values / sizeof *values)];
+        size_t cell = random_below(SP3_ROW_WIDTH * answers->read.header.epochs * answers->read.header.satellites);
+        int64_t before = answers->rows[cell];
+        answers[OURS].rows[cell] = answers[O2].rows[cell] = values[random_below(sizeof values / sizeof *values)];
         room = i % 4 ? BYTES : needed - 1 + random_below(3);
         different += differ(write_table, nothing);
-        answers[OURS].rows[place] = answers[O2].rows[place] = before;
+        answers[OURS].rows[cell] = answers[O2].rows[cell] = before;
     }
     return different;
 }

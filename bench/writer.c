@@ -231,13 +231,13 @@ static void write_start(struct pen *p, const sp3_header_t *h) {
 }
 
 // the lines `+ `, or `++` where exponents are given
-static void write_slots(struct pen *p, const sp3_header_t *h, const char *symbol, const uint64_t *numbers, bool names) {
+static void write_slots(struct pen *p, const sp3_header_t *h, const char *symbol, const uint64_t *numbers, bool identifiers) {
     for (size_t line = 0; line < slot_lines(h->satellites); line++) {
         begin(p, symbol);
-        if (names && line == 0) integer(p, 6, h->satellites);
+        if (identifiers && line == 0) integer(p, 6, h->satellites);
         for (size_t i = 0; i < SLOTS; i++) {
             size_t k = SLOTS * line + i, first = 10 + 3 * i;
-            if (k < h->satellites && names) identifier(p, first, numbers[k]);
+            if (k < h->satellites && identifiers) identifier(p, first, numbers[k]);
             else integer(p, first + 2, k < h->satellites ? numbers[k] : 0);
         }
         end(p);

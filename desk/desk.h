@@ -1,10 +1,13 @@
-// The parts of the desk tool: words.c says things, lent.c lends memory, table.c shows tables, sp3.c has the commands.
+// The parts of the desk tool: words.c says things, hints.c says what a refusal may come from, lent.c lends memory, table.c shows tables, sp3.c has
+// the commands.
 #ifndef DESK_H
 #define DESK_H
 
+#include <stdio.h>
+
 #include "../include/sp3.h"
 
-// ---- What is said: results on standard output, messages on standard error ----
+// ---- What is said: results on standard output, messages on standard error. A refusal is a result of `check`, and a message of the others ----
 
 // The statuses that the tool ends with, each graver than the one before.
 enum { ACCEPTED = 0, REFUSED = 1, UNUSABLE = 2 };
@@ -12,8 +15,11 @@ enum { ACCEPTED = 0, REFUSED = 1, UNUSABLE = 2 };
 // A refusal in words.
 const char *words_of(uint64_t number);
 
-// Says which refusal the subject, a format with its values, was given. Gives REFUSED.
-int refused(uint64_t number, uint64_t line, const char *subject, ...);
+// Says which refusal the subject, a format with its values, was given, with a hint or "". Gives REFUSED.
+int refused(FILE *to, uint64_t number, uint64_t line, const char *hint, const char *subject, ...);
+
+// What is plain of a refusal from the bytes that were refused, in words; "" where nothing is.
+const char *hint_of(const uint8_t *bytes, size_t length, uint64_t number, uint64_t line);
 
 // Says why the subject, a format with its values, is of no use. Gives UNUSABLE.
 int unusable(const char *why, const char *subject, ...);
@@ -58,12 +64,12 @@ void *lend(size_t count, size_t size);
 // The status of a file for which there is not enough memory.
 int out_of_memory(const input_t *file);
 
-// All bytes of a file, or of standard input where the argument is `-`.
+// All bytes of a file of any kind, a pipe too, or of standard input where the argument is `-`.
 int take_input(input_t *input, const char *argument);
 void drop_input(input_t *input);
 
-// A file judged; its header and identifiers. Then the rest of its table.
-int begin_table(table_t *table, const char *argument);
+// A file judged; its header and identifiers; where it is refused, that is said there. Then the rest of its table.
+int begin_table(table_t *table, const char *argument, FILE *refusals);
 int read_table(table_t *table);
 void drop_table(table_t *table);
 

@@ -42,17 +42,10 @@ static int read_all(input_t *input, int source) {
     return ENOMEM;
 }
 
-// Whether a name is that of a pipe, which could keep the tool waiting for ever.
-static bool is_pipe(const char *name) {
-    struct stat about;
-    return stat(name, &about) == 0 && S_ISFIFO(about.st_mode);
-}
-
 int take_input(input_t *input, const char *argument) {
     bool standard = strcmp(argument, "-") == 0;
     *input = (input_t){.name = standard ? "standard input" : argument};
     if (*argument == '\0') return unusable("the name is empty", "FILE ''");
-    if (!standard && is_pipe(argument)) return unusable("a pipe is read from standard input alone, by the name -", "%s", argument);
     int source = standard ? STDIN_FILENO : open(argument, O_RDONLY);
     if (source < 0) return unusable(strerror(errno), "%s", argument);
     int reason = read_all(input, source);
@@ -64,18 +57,24 @@ int take_input(input_t *input, const char *argument) {
 
 void drop_input(input_t *input) { free(input->bytes); }
 
-int begin_table(table_t *table, const char *argument) {
+// Says that a whole file was refused.
+static int refused_file(const input_t *file, sp3_reading_t answer, FILE *to) {
+    const char *hint = hint_of(file->bytes, file->length, answer.refusal, answer.line);
+    return refused(to, answer.refusal, answer.line, hint, "%s", file->name);
+}
+
+int begin_table(table_t *table, const char *argument, FILE *refusals) {
     *table = (table_t){0};
     input_t *file = &table->file;
     int status = take_input(file, argument);
     if (status != ACCEPTED) return status;
     sp3_reading_t judged = sp3_judge(file->bytes, file->length);
-    if (judged.refusal != 0) return refused(judged.refusal, judged.line, "%s", file->name);
+    if (judged.refusal != 0) return refused_file(file, judged, refusals);
     table->header = judged.header;
     table->identifiers = lend(judged.header.satellites, sizeof *table->identifiers);
     if (table->identifiers == NULL) return out_of_memory(file);
     sp3_reading_t begun = sp3_begin(file->bytes, file->length, table->identifiers, judged.header.satellites);
-    return begun.refusal == 0 ? ACCEPTED : refused(begun.refusal, begun.line, "%s", file->name);
+    return begun.refusal == 0 ? ACCEPTED : refused_file(file, begun, refusals);
 }
 
 int read_table(table_t *table) {
@@ -90,7 +89,7 @@ int read_table(table_t *table) {
     if (table->exponents == NULL || table->comments == NULL || table->rows == NULL) return out_of_memory(file);
     sp3_reading_t read = sp3_read(file->bytes, file->length, table->identifiers, header->satellites, table->exponents, header->satellites,
                                   table->comments, table->comment_bytes, table->rows, table->row_numbers);
-    return read.refusal == 0 ? ACCEPTED : refused(read.refusal, read.line, "%s", file->name);
+    return read.refusal == 0 ? ACCEPTED : refused_file(file, read, stderr);
 }
 
 void drop_table(table_t *table) {

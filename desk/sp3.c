@@ -36,7 +36,7 @@ static int count_rows(tally_t *tally, const table_t *table) {
     sp3_row_step_t step = {.next = sp3_first_row()};
     for (;;) {
         step = sp3_next_row(file->bytes, file->length, table->identifiers, table->header.satellites, step.next);
-        if (step.refusal != 0) return refused(step.refusal, step.line, "%s", file->name);
+        if (step.refusal != 0) return refused(stdout, step.refusal, step.line, "", "%s", file->name);
         if (step.end) return ACCEPTED;
         count_row(tally, step.row.place_absent, step.row.clock_absent);
     }
@@ -55,7 +55,7 @@ static void show_checked(const table_t *table, const tally_t *tally) {
 static int check_one(const char *argument) {
     table_t table;
     tally_t tally = {0};
-    int status = begin_table(&table, argument);
+    int status = begin_table(&table, argument, stdout);
     if (status == ACCEPTED) status = count_rows(&tally, &table);
     if (status == ACCEPTED) show_checked(&table, &tally);
     drop_table(&table);
@@ -77,7 +77,7 @@ static int check(char **arguments) {
 // Reads a whole table and has it shown.
 static int with_table(const char *argument, int (*show)(const table_t *table)) {
     table_t table;
-    int status = begin_table(&table, argument);
+    int status = begin_table(&table, argument, stderr);
     if (status == ACCEPTED) status = read_table(&table);
     if (status == ACCEPTED) status = show(&table);
     drop_table(&table);
@@ -113,14 +113,14 @@ static int find_satellite(uint64_t *number, const input_t *file, const char *wor
     if (is_number(number, word)) return ACCEPTED;
     sp3_satellite_answer_t found = sp3_satellite_of(file->bytes, file->length, named(word));
     *number = found.number;
-    return found.refusal == 0 ? ACCEPTED : refused(found.refusal, found.line, "%s: satellite %s", file->name, word);
+    return found.refusal == 0 ? ACCEPTED : refused(stderr, found.refusal, found.line, "", "%s: satellite %s", file->name, word);
 }
 
 // Which row it is, its place and its clock.
 static void show_row(const table_t *table, uint64_t epoch, uint64_t satellite, const sp3_row_t *row) {
-    char instant[TEXT_ROOM], name[TEXT_ROOM];
+    char instant[TEXT_ROOM], text[TEXT_ROOM];
     printf("epoch %" PRIu64 " %s\n", epoch, moment(instant, table->header.start8 + epoch * table->header.interval8));
-    printf("satellite %" PRIu64 " %s\n", satellite, identifier(name, table->identifiers[satellite]));
+    printf("satellite %" PRIu64 " %s\n", satellite, identifier(text, table->identifiers[satellite]));
     if (row->place_absent) puts("place absent");
     else printf("place %.0f %.0f %.0f mm\n", row->x, row->y, row->z);
     if (row->clock_absent) puts("clock absent");
@@ -133,7 +133,8 @@ static int ask_row(const table_t *table, uint64_t epoch, const char *word) {
     int status = find_satellite(&satellite, file, word);
     if (status != ACCEPTED) return status;
     sp3_row_answer_t answer = sp3_row(file->bytes, file->length, epoch, satellite);
-    if (answer.refusal != 0) return refused(answer.refusal, answer.line, "%s: epoch %" PRIu64 ", satellite %s", file->name, epoch, word);
+    if (answer.refusal != 0)
+        return refused(stderr, answer.refusal, answer.line, "", "%s: epoch %" PRIu64 ", satellite %s", file->name, epoch, word);
     show_row(table, epoch, satellite, &answer.row);
     return ACCEPTED;
 }
@@ -145,7 +146,7 @@ static int row(char **arguments) {
     if (!is_number(&number, word) && named(word) == 0)
         return unusable("neither an identifier such as G07 nor a number from 0 to 18446744073709551615", "SAT '%s'", word);
     table_t table;
-    int status = begin_table(&table, arguments[0]);
+    int status = begin_table(&table, arguments[0], stderr);
     if (status == ACCEPTED) status = ask_row(&table, epoch, word);
     drop_table(&table);
     return status;
@@ -153,7 +154,7 @@ static int row(char **arguments) {
 
 static int ask_comment(const input_t *file, uint64_t k) {
     sp3_comment_answer_t answer = sp3_comment(file->bytes, file->length, k);
-    if (answer.refusal != 0) return refused(answer.refusal, answer.line, "%s: comment %" PRIu64, file->name, k);
+    if (answer.refusal != 0) return refused(stderr, answer.refusal, answer.line, "", "%s: comment %" PRIu64, file->name, k);
     fwrite(file->bytes + answer.at, 1, answer.length, stdout);
     putchar('\n');
     return ACCEPTED;
@@ -163,7 +164,7 @@ static int comment(char **arguments) {
     uint64_t k;
     if (take_number(&k, "K", arguments[1]) != ACCEPTED) return UNUSABLE;
     table_t table;
-    int status = begin_table(&table, arguments[0]);
+    int status = begin_table(&table, arguments[0], stderr);
     if (status == ACCEPTED) status = ask_comment(&table.file, k);
     drop_table(&table);
     return status;
@@ -183,12 +184,19 @@ static int divide_input(sp3_division_t *division, uint64_t **lengths, const inpu
     return ACCEPTED;
 }
 
+// Says why the rest of a stretch is no file.
+static int refused_rest(const sp3_division_t *division, const input_t *stretch) {
+    size_t rest = division->rest;
+    const char *hint = hint_of(stretch->bytes + rest, stretch->length - rest, division->refusal, division->line);
+    return refused(stderr, division->refusal, division->line, hint, "%s: from byte %zu", stretch->name, rest);
+}
+
 // A line for each file, then what is left.
 static int show_division(const sp3_division_t *division, const uint64_t *lengths, const input_t *stretch) {
     uint64_t first = 0;
     for (uint64_t k = 0; k < division->count; first += lengths[k++])
         printf("file %" PRIu64 " first byte %" PRIu64 " length %" PRIu64 "\n", k, first, lengths[k]);
-    if (division->refusal != 0) return refused(division->refusal, division->line, "%s: from byte %zu", stretch->name, division->rest);
+    if (division->refusal != 0) return refused_rest(division, stretch);
     printf("nothing is left: files %" PRIu64 ", bytes %zu\n", division->count, stretch->length);
     return ACCEPTED;
 }
@@ -245,7 +253,8 @@ static int usage(FILE *to, int status) {
     fputs("usage: sp3 COMMAND ARGUMENTS\n\n", to);
     for (size_t k = 0; k < COMMANDS; k++) fprintf(to, "  sp3 %-7s %-15s %s\n", commands[k].name, commands[k].arguments, commands[k].meaning);
     fputs("\nFILE may be - for standard input; a name that begins with - comes after --. Epochs, satellites\n"
-          "and comments are counted from 0. Results go to standard output, messages to standard error.\n"
+          "and comments are counted from 0. Results, for check the refusals too, go to standard output,\n"
+          "messages to standard error.\n"
           "Status: 0 accepted, 1 refused, 2 wrong arguments or an input or output that fails.\n",
           to);
     return status;
@@ -282,7 +291,8 @@ static int run(char **words) {
 
 int main(int count, char **words) {
     bool help = false;
-    signal(SIGPIPE, SIG_IGN);
+    // a reader of the results that has seen enough ends the tool without a word, whatever was inherited
+    signal(SIGPIPE, SIG_DFL);
     if (count == 0) return usage(stderr, UNUSABLE);
     int status = take_options(&help, ++words);
     if (status == ACCEPTED && *words != NULL && strcmp(*words, "help") == 0) help = true;

@@ -95,7 +95,7 @@ static void show_rows(const table_t *table) {
     const sp3_header_t *header = &table->header;
     size_t kinds = header->velocity ? 2 : 1, of_epoch = kinds * header->satellites;
     tally_t tally = {0};
-    char instant[TEXT_ROOM], name[TEXT_ROOM];
+    char instant[TEXT_ROOM], text[TEXT_ROOM];
     const char *at = "";
     for (size_t k = 0; k < table->row_count && !ferror(stdout); k++) {
         bool velocity = k % kinds == 1;
@@ -103,7 +103,7 @@ static void show_rows(const table_t *table) {
         sp3_stored_clock_t clock = sp3_clock_of(table->rows, table->row_numbers, k);
         if (!velocity) count_row(&tally, place.absent, clock.absent);
         if (k % of_epoch == 0) at = moment(instant, header->start8 + k / of_epoch * header->interval8);
-        printf("%c   %6zu %s %s", velocity ? 'V' : 'P', k / of_epoch, at, identifier(name, table->identifiers[k % of_epoch / kinds]));
+        printf("%c   %6zu %s %s", velocity ? 'V' : 'P', k / of_epoch, at, identifier(text, table->identifiers[k % of_epoch / kinds]));
         show_numbers(&place, &clock, velocity ? 4 : 0);
         show_exponents(table, k);
         show_flags(table, k);

@@ -34,26 +34,26 @@ static void flush_results(void) {
     if (failed && output_error == 0) output_error = errno;
 }
 
-// The results so far, then the beginning of a message.
-static void begin_message(const char *who, const char *subject, va_list values) {
-    flush_results();
-    fputs(who, stderr);
-    vfprintf(stderr, subject, values);
+// The results so far, then the beginning of what is said.
+static void begin_saying(FILE *to, const char *who, const char *subject, va_list values) {
+    if (to != stdout) flush_results();
+    fputs(who, to);
+    vfprintf(to, subject, values);
 }
 
-int refused(uint64_t number, uint64_t line, const char *subject, ...) {
+int refused(FILE *to, uint64_t number, uint64_t line, const char *hint, const char *subject, ...) {
     va_list values;
     va_start(values, subject);
-    begin_message("", subject, values);
+    begin_saying(to, "", subject, values);
     va_end(values);
-    fprintf(stderr, ": refused %" PRIu64 " line %" PRIu64 ": %s\n", number, line, words_of(number));
+    fprintf(to, ": refused %" PRIu64 " line %" PRIu64 ": %s%s\n", number, line, words_of(number), hint);
     return REFUSED;
 }
 
 int unusable(const char *why, const char *subject, ...) {
     va_list values;
     va_start(values, subject);
-    begin_message("sp3: ", subject, values);
+    begin_saying(stderr, "sp3: ", subject, values);
     va_end(values);
     fprintf(stderr, ": %s\n", why);
     return UNUSABLE;

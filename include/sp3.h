@@ -7,6 +7,9 @@
  * NULL, also where the number is 0, and the slices of one call that are written (no `const`) overlap no other slice of that call. No function
  * allocates, prints, stops the program or asks anything else of its caller: bytes of every kind and length, every table, room of every size.
  *
+ * THREADS. No function keeps a state: an answer follows from what the call is given. So they may be called from several threads at once, each call
+ * with lent memory of its own; a slice that is only looked at (`const`) may be lent to several calls at the same time.
+ *
  * REFUSALS. Each answer has a `refusal`, 0 for accepted, and where a file is judged its `line`, counted from 1 (0 where the refusal names no line).
  * A refusal changes nothing that was lent, and every other part of the answer is then empty: 0, blank, or absent. After success the places past those
  * that are filled are unchanged too. The first faulty line decides, in a line the lowest number:
@@ -109,8 +112,8 @@ typedef struct {
 } sp3_measured_t;
 
 /* Writes the canonical form of a table into the first bytes of `out`. Places of the lists past the header's counts are not looked at.
- * Refused: 13 where the table is not valid (1000 among the exponents of the header, a flag of 2, a list shorter than its count); then 12 where `out` is one
- * byte too short. */
+ * Refused: 13 where the table is not valid (1000 among the exponents of the header, a flag of 2, a list shorter than its count); then 12 where `out`
+ * is one byte too short. */
 sp3_measured_t sp3_write(sp3_header_t header, const uint64_t *identifiers, size_t identifier_count, const uint64_t *exponents,
                          size_t exponent_count, const uint8_t *comments, size_t comment_bytes, const int64_t *rows, size_t row_numbers,
                          uint8_t *out, size_t out_room);
@@ -154,8 +157,8 @@ typedef struct {
     int64_t clock;
 } sp3_stored_clock_t;
 
-/* The exponent of a standard deviation, whose base is in the header: a blank one is unknown, 99 (999 for the clock) is too large. The value is 0 where
- * a mark is set. */
+/* The exponent of a standard deviation, whose base is in the header: a blank one is unknown, 99 (999 for the clock) is too large. The value is 0
+ * where a mark is set. */
 typedef struct {
     size_t refusal;
     bool unknown, too_large;
@@ -184,11 +187,12 @@ typedef struct {
     uint64_t line;
 } sp3_division_t;
 
-/* Divides a stretch of files laid end to end; their lengths go to the first places of `lengths`, also where the rest is refused. An empty stretch is 0
- * files, refusal 0. Refused: 12 alone, all other parts 0, where there are more files than places; the rest itself is never refused with 11 or 12. */
+/* Divides a stretch of files laid end to end; their lengths go to the first places of `lengths`, also where the rest is refused. An empty stretch
+ * is 0 files, refusal 0. Refused: 12 alone, all other parts 0, where there are more files than places; the rest itself is never refused with 11 or
+ * 12. */
 sp3_division_t sp3_divide(const uint8_t *stretch, size_t length, uint64_t *lengths, size_t room);
 
-/* ---- Questions about one whole file: the file's own refusal first, then 13 with line 0 ---- */
+/* ---- Questions about one whole file, which is judged at each call: its own refusal first, then 13 with line 0 ---- */
 
 /* A stretch of the file: its first byte and its length, both 0 beside a refusal. */
 typedef struct {
@@ -224,7 +228,8 @@ typedef struct {
     sp3_row_t row;
 } sp3_row_answer_t;
 
-/* The P row of an epoch and a satellite, in mode V too. Refused: 13 for epoch 96 of a file of 96; both marks are then set. */
+/* The P row of an epoch and a satellite, in mode V too. Every call judges the whole file, as sp3_judge does: the way through all rows is the
+ * walk (sp3_begin, then sp3_next_row), which judges it twice in all. Refused: 13 for epoch 96 of a file of 96; both marks are then set. */
 sp3_row_answer_t sp3_row(const uint8_t *file, size_t length, uint64_t epoch, uint64_t satellite);
 
 /* ---- Dates: plain calendar, days of 86,400 s, 1980-01-06 to 2099-12-31 ---- */
@@ -247,7 +252,8 @@ sp3_moment_answer_t sp3_moment(uint64_t instant8);
 
 /* ---- A file line by line ---- */
 
-/* What must stand next in a file. Kinds of line have the numbers 1 (`#d`) to 14 (`EOF`). Made by the functions below; to be handed on, not altered. */
+/* What must stand next in a file. Kinds of line have the numbers 1 (`#d`) to 14 (`EOF`). Made by the functions below; to be handed on, not altered.
+ */
 typedef struct {
     uint64_t due, also, lines, left, comments;
     bool velocity;
@@ -271,18 +277,19 @@ typedef struct {
 /* Before the first line. */
 sp3_spot_t sp3_first_spot(void);
 
-/* The plain line reader: what the line at a spot does. A `+ ` line without fault leaves its identifiers in `names` (255 places suffice), after those
- * of the lines before it; no other line changes `names`, which is lent to the next line as this one left it. Refused: 1 where no LF is left; 12 at the
- * `+ ` line without fault that brings more identifiers than there are places for, and `names` is then as it was. Never 11 or 13. */
-sp3_line_answer_t sp3_read_line(const uint8_t *file, size_t length, sp3_spot_t spot, uint64_t *names, size_t name_room);
+/* The plain line reader: what the line at a spot does. A `+ ` line without fault leaves its own in `identifiers` (255 places suffice), after those of
+ * the lines before it; no other line changes the list, which is lent to the next line as this one left it. Refused: 1 where no LF is left; 12 at the
+ * `+ ` line without fault that brings more identifiers than there are places for, and the list is then as it was. Never 11 or 13. */
+sp3_line_answer_t sp3_read_line(const uint8_t *file, size_t length, sp3_spot_t spot, uint64_t *identifiers, size_t identifier_room);
 
-/* The line reader where all identifiers of the header are known (sp3_begin): what the line at a spot does. Refused: as sp3_read_line, but never 12. */
-sp3_line_answer_t sp3_next_line(const uint8_t *file, size_t length, const uint64_t *names, size_t name_count, sp3_spot_t spot);
+/* The line reader where all identifiers of the header are known (sp3_begin): what the line at a spot does. Refused: as sp3_read_line, but never
+ * 12. */
+sp3_line_answer_t sp3_next_line(const uint8_t *file, size_t length, const uint64_t *identifiers, size_t identifier_count, sp3_spot_t spot);
 
-/* The walker's steps: the spot so many lines further, each line read as by sp3_read_line. Afterwards `names` (255 places suffice) holds the identifiers
- * of the `+ ` lines that were passed; to go on from there lend it as it is. The spot stays at a line that is refused, with 12 too, and at the one that
- * ends the file. Every step costs a line, also one that stays. Has no refusal. */
-sp3_spot_t sp3_after_lines(const uint8_t *file, size_t length, uint64_t *names, size_t name_room, sp3_spot_t spot, size_t lines);
+/* The walker's steps: the spot so many lines further, each line read as by sp3_read_line. Afterwards `identifiers` (255 places suffice) holds those
+ * of the `+ ` lines that were passed; to go on from there lend it as it is. The spot stays at a line that is refused, with 12 too, and at the one
+ * that ends the file. Every step costs a line, also one that stays. Has no refusal. */
+sp3_spot_t sp3_after_lines(const uint8_t *file, size_t length, uint64_t *identifiers, size_t identifier_room, sp3_spot_t spot, size_t lines);
 
 /* ---- A file row by row, for the adjustment's loop ---- */
 
@@ -292,8 +299,8 @@ typedef struct {
     uint64_t passed;
 } sp3_row_walk_t;
 
-/* The next row: whether the file is at its end, else epoch, satellite and row; and the walk after it. Beside a refusal and at the end both parts of the
- * row are absent and the walk is the one that was given. */
+/* The next row: whether the file is at its end, else epoch, satellite and row; and the walk after it. Beside a refusal and at the end both parts of
+ * the row are absent and the walk is the one that was given. */
 typedef struct {
     size_t refusal;
     uint64_t line;
@@ -311,8 +318,8 @@ sp3_reading_t sp3_begin(const uint8_t *file, size_t length, uint64_t *identifier
 sp3_row_walk_t sp3_first_row(void);
 
 /* The next P row in order, in mode V too; each line on the way is judged. A file that sp3_begin accepted gives all its rows, then the end.
- * Refused: 10 at its line where `names` are another file's. */
-sp3_row_step_t sp3_next_row(const uint8_t *file, size_t length, const uint64_t *names, size_t name_count, sp3_row_walk_t from);
+ * Refused: 10 at its line where `identifiers` are another file's. */
+sp3_row_step_t sp3_next_row(const uint8_t *file, size_t length, const uint64_t *identifiers, size_t identifier_count, sp3_row_walk_t from);
 
 #ifdef __cplusplus
 }

@@ -4,7 +4,8 @@
     python3 samples/make.py          writes them
     python3 samples/make.py check    compares the stored files with what it makes; ends with 1 at a difference
 
-paper.sp3 is the file that 01 prints. The others are made up: circles of 26,560 km at 55 degrees around a turning Earth, in Earth-fixed coordinates.
+paper.sp3 is the file that 01 prints, and late.sp3 the same with its epoch a quarter of an hour late, which is refused with 9 at line 23. The others
+are made up: circles of 26,560 km at 55 degrees around a turning Earth, in Earth-fixed coordinates.
 `tests/desk/run.py` takes the numbers of the files from here, to know what the desk tool must print.
 """
 import datetime
@@ -222,9 +223,14 @@ def season_files():
     return [joined([line.ljust(80) for line in file_lines(model)] if k == 1 else file_lines(model)) for k, model in enumerate(season())]
 
 
+def late_lines():
+    """The paper's file whose only epoch does not stand at the start."""
+    return [line.replace(" 0  0  0.0", " 0 15  0.0") if line.startswith("* ") else line for line in paper_lines()]
+
+
 def samples():
-    return {"paper.sp3": joined(paper_lines()), "day.sp3": joined(file_lines(day())), "velocity.sp3": joined(file_lines(velocity(), True)),
-            "season.sp3": b"".join(season_files())}
+    return {"paper.sp3": joined(paper_lines()), "late.sp3": joined(late_lines()), "day.sp3": joined(file_lines(day())),
+            "velocity.sp3": joined(file_lines(velocity(), True)), "season.sp3": b"".join(season_files())}
 
 
 def main(words):

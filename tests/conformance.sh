@@ -104,6 +104,11 @@ comm -3 "$work/known" "$work/cited" >"$work/apart"
 [ ! -s "$work/apart" ] || fail "a case that no page cites, or (indented) a name that is no case: $(head -n 5 "$work/apart")"
 awk -f "$here/pages.awk" "$work/expected" "$root/docs/CONFORMANCE.md" || fail "docs/CONFORMANCE.md and the cases differ"
 
+# every function of the header stands on docs/NUMBERS.md, with the numbers that it can give
+for function in $(grep -o '^[a-z0-9_]* sp3_[a-z_]*(' "$root/include/sp3.h" | grep -o 'sp3_[a-z_]*('); do
+    grep -q "^|.*\`${function%(}\`" "$root/docs/NUMBERS.md" || fail "docs/NUMBERS.md does not say which numbers ${function%(} gives"
+done
+
 # every line that docs/NUMBERS.md shows is that line of its case
 sed -n '/`[a-z0-9-]*`, line [0-9]*:$/ { N; N; s/.*`\([a-z0-9-]*\)`, line \([0-9]*\):\n\n      /\1 \2 /p }' "$root/docs/NUMBERS.md" >"$work/shown"
 [ -s "$work/shown" ] || fail "docs/NUMBERS.md shows no line"

@@ -1,7 +1,7 @@
 //! A divider of stretches and a walker of SP3-d files, written from the
 //! documents. Where they are silent it follows the definitions: in what the
 //! state of a spot between two lines is (the kind of line due, satellites and
-//! epochs still to come), in what names other than the file's do in a walk over
+//! epochs still to come), in what identifiers other than the file's do in a walk over
 //! rows, and in the column of a refusal.
 //!
 //! It says how a stretch of bytes divides into files, which rows a walk of one
@@ -27,9 +27,9 @@
 //!   program and compares what it prints with the answers, byte for byte.
 //!
 //! A batch is cases one after the other. A case is a line of numbers,
-//! `ROOM WALK I N LENGTH` and N names, and directly after its LF the LENGTH
+//! `ROOM WALK I N LENGTH` and N identifiers, and directly after its LF the LENGTH
 //! bytes of a stretch. ROOM is the room lent for lengths; WALK is 1 where the
-//! bytes are walked as one file, with room for I identifiers; the names (G07 is
+//! bytes are walked as one file, with room for I identifiers; those N (G07 is
 //! 7107) stand for the identifiers of its header in the walk over rows where it
 //! is refused. WALK is 2 where they are read line by line, with room for I
 //! identifiers (the program of crates/ has no such cases). Lent places hold a
@@ -56,7 +56,7 @@
 //! line K AT DUE LEFT EPOCHS     after line K, each that is without fault
 //! finished K AT                 line K ends the file; AT is the byte after it
 //! stopped R line K column C     or line K is refused
-//! names NAME ..                 all places of the room, filled or not
+//! identifiers CODE ..           all places of the room, filled or not
 //! ```
 //!
 //! At `spot` and `then` K is 0, 1, 3, half of the lines, all (`then` before
@@ -129,15 +129,15 @@ fn begin(file: &[u8], room: usize) -> Result<(Table, usize), Refusal> {
     Ok((table, length))
 }
 
-/// What a walk over rows meets, where these names are known, in order: P rows,
+/// What a walk over rows meets, where these identifiers are known, in order: P rows,
 /// then the refused line or EOF. Bytes after EOF are not met.
 struct RowWalk {
     rows: Vec<Row>,
     refusal: Option<Refusal>,
 }
 
-fn walk_rows(bytes: &[u8], names: &[u64]) -> RowWalk {
-    let read = files::follow(bytes, Some(names));
+fn walk_rows(bytes: &[u8], identifiers: &[u64]) -> RowWalk {
+    let read = files::follow(bytes, Some(identifiers));
     let rows = read.table.rows.into_iter().filter(|row| row.letter == 'P').collect();
     RowWalk { rows, refusal: read.refusal }
 }
@@ -254,7 +254,7 @@ impl Walk<'_> {
     }
 
     /// The identifiers that the passed lines brought.
-    fn names(&self) -> &[u64] {
+    fn identifiers(&self) -> &[u64] {
         &self.read.table.identifiers
     }
 
@@ -301,23 +301,23 @@ struct Case {
     stretch: Vec<u8>,
     room: usize,
     way: Way,
-    identifiers: usize,
-    names: Vec<u64>,
+    identifier_room: usize,
+    identifiers: Vec<u64>,
 }
 
 /// The program under test has lists of these lengths.
 const MOST_LENGTHS: usize = 1000;
-const MOST_NAMES: usize = 300;
+const MOST_IDENTIFIERS: usize = 300;
 
 impl Compared for Case {
     const COUNTED: &'static [&'static str] = &["divide", "begin", "refused", "stopped"];
 
     fn show(&self) -> Vec<u8> {
         let way = WAYS.iter().position(|&way| way == self.way).unwrap_or_default();
-        let front = [self.room, way, self.identifiers, self.names.len(), self.stretch.len()];
+        let front = [self.room, way, self.identifier_room, self.identifiers.len(), self.stretch.len()];
         let words: Vec<String> = front.iter().map(usize::to_string).collect();
-        let names: Vec<String> = self.names.iter().map(u64::to_string).collect();
-        let line = [words, names].concat().join(" ") + "\n";
+        let identifiers: Vec<String> = self.identifiers.iter().map(u64::to_string).collect();
+        let line = [words, identifiers].concat().join(" ") + "\n";
         [line.as_bytes(), &self.stretch].concat()
     }
 
@@ -327,7 +327,7 @@ impl Compared for Case {
         match self.way {
             Way::Divided => out,
             Way::Walked => out + &self.show_walked(),
-            Way::Read => out + &show_read(&self.stretch, self.identifiers),
+            Way::Read => out + &show_read(&self.stretch, self.identifier_room),
         }
     }
 }
@@ -341,12 +341,12 @@ fn show_division(division: &Division) -> String {
 
 impl Case {
     fn show_walked(&self) -> String {
-        let begun = begin(&self.stretch, self.identifiers);
-        let names = begun.as_ref().map_or(&self.names, |(table, _)| &table.identifiers);
+        let begun = begin(&self.stretch, self.identifier_room);
+        let identifiers = begun.as_ref().map_or(&self.identifiers, |(table, _)| &table.identifiers);
         show_begun(&begun)
-            + &show_rows(&walk_rows(&self.stretch, names))
+            + &show_rows(&walk_rows(&self.stretch, identifiers))
             + &show_spots(&walk(&self.stretch, MOST_SATELLITES))
-            + &show_short(&walk(&self.stretch, self.identifiers))
+            + &show_short(&walk(&self.stretch, self.identifier_room))
     }
 }
 
@@ -360,15 +360,15 @@ fn show_read(bytes: &[u8], room: usize) -> String {
         None => format!("finished {taken} {}\n", walk.read.place),
         Some(Refusal { number, line }) => format!("stopped {number} line {line} column {column}\n"),
     };
-    let mut names = vec![7777; room];
-    names[..walk.names().len()].copy_from_slice(walk.names());
-    let shown: String = names.iter().map(|name| format!(" {name}")).collect();
-    out + &format!("names{shown}\n")
+    let mut identifiers = vec![7777; room];
+    identifiers[..walk.identifiers().len()].copy_from_slice(walk.identifiers());
+    let shown: String = identifiers.iter().map(|number| format!(" {number}")).collect();
+    out + &format!("identifiers{shown}\n")
 }
 
 /// Identifiers that were left in a list; its other places are as they were.
-fn show_names(names: &[u64]) -> String {
-    let shown = names.iter().map(|&name| format!("name {}\n", files::show_code(name)));
+fn show_identifiers(identifiers: &[u64]) -> String {
+    let shown = identifiers.iter().map(|&number| format!("name {}\n", files::show_code(number)));
     shown.collect::<String>() + "kept\n"
 }
 
@@ -376,9 +376,9 @@ fn show_begun(begun: &Result<(Table, usize), Refusal>) -> String {
     match begun {
         Err(Refusal { number, line }) => format!("begin {number} {line} 0 0 0\nkept\n"),
         Ok((table, length)) => {
-            let names = &table.identifiers;
-            let counts = format!("{} {}", names.len(), table.epochs);
-            format!("begin 0 0 {length} {counts}\n{}", show_names(names))
+            let identifiers = &table.identifiers;
+            let counts = format!("{} {}", identifiers.len(), table.epochs);
+            format!("begin 0 0 {length} {counts}\n{}", show_identifiers(identifiers))
         }
     }
 }
@@ -403,7 +403,7 @@ fn count_lines(bytes: &[u8]) -> usize {
 
 fn show_short(walk: &Walk) -> String {
     let all = count_lines(walk.bytes);
-    walk.after(all).show("short", all) + &show_names(walk.names())
+    walk.after(all).show("short", all) + &show_identifiers(walk.identifiers())
 }
 
 fn show_spots(walk: &Walk) -> String {
@@ -421,15 +421,15 @@ fn show_spots(walk: &Walk) -> String {
 
 fn parse_batch(bytes: &[u8]) -> Vec<Case> {
     let length_of = |numbers: &[usize]| match *numbers {
-        [_, way, _, names, length, ref rest @ ..] if way < 3 && rest.len() == names => Some(length),
+        [_, way, _, identifiers, length, ref rest @ ..] if way < 3 && rest.len() == identifiers => Some(length),
         _ => None,
     };
     files::parse_cases(bytes, length_of, |numbers, stretch| Case {
         stretch,
         room: numbers[0],
         way: WAYS[numbers[1]],
-        identifiers: numbers[2],
-        names: numbers[5..].iter().map(|&name| name as u64).collect(),
+        identifier_room: numbers[2],
+        identifiers: numbers[5..].iter().map(|&number| number as u64).collect(),
     })
 }
 
@@ -588,7 +588,7 @@ const DIVIDED: &[Divided] = &[
     (&[P, File(ManyFile(255), &[Join(299)])], 2, [1, 299, 1, 1215], &[1215]),
 ];
 
-/// A file, room for identifiers, names that stand for them where it is refused;
+/// A file, room for identifiers, identifiers that stand for them where it is refused;
 /// lines of the answer in their order.
 type Walked = (Base, &'static [Edit], usize, &'static [u64], &'static [&'static str]);
 
@@ -711,7 +711,7 @@ const WALKED: &[Walked] = &[
         &[],
         &["row 0 0 at 1000000 1000000 0 absent", "end"],
     ),
-    // Too little room: 12 with line 0, and the names that are given; the walker
+    // Too little room: 12 with line 0, and the identifiers that are given; the walker
     // stays at the `+ ` line that brings too many.
     (
         Night,
@@ -834,7 +834,7 @@ const WALKED: &[Walked] = &[
             "spot 65 1601 14 0 0",
         ],
     ),
-    // Other names than the header's: none, another, of another letter, more; the
+    // Other identifiers than the header's: none, another, of another letter, more; the
     // walker has the file's own.
     (Paper, &[After(b"x")], 1, &[], &["begin 11 26 0 0 0", "refused 10 line 24"]),
     (Paper, &[After(b"x")], 1, &[7108], &["begin 11 26 0 0 0", "refused 10 line 24"]),
@@ -1058,16 +1058,16 @@ const READ: &[ReadFile] = &[
             "line 23 1150 10 1 0",
             "line 24 1211 14 0 0",
             "finished 25 1215",
-            "names 7107",
+            "identifiers 7107",
         ],
     ),
-    // Bytes after EOF are not read; places past the names are kept.
-    (Paper, &[After(b"x")], 3, &["finished 25 1215", "names 7107 7777 7777"]),
+    // Bytes after EOF are not read; places past the identifiers are kept.
+    (Paper, &[After(b"x")], 3, &["finished 25 1215", "identifiers 7107 7777 7777"]),
     (
         Motion,
         &[],
         2,
-        &["line 24 1224 11 2 0", "line 25 1305 11 2 0", "finished 30 1605", "names 7101 7102"],
+        &["line 24 1224 11 2 0", "line 25 1305 11 2 0", "finished 30 1605", "identifiers 7101 7102"],
     ),
     (
         ManyFile(20),
@@ -1077,11 +1077,11 @@ const READ: &[ReadFile] = &[
     ),
     // Room for n - 1, n and n + 1: "lent room is too small" at the `+ ` line that
     // brings more than fit, and the list is as it was.
-    (Paper, &[], 0, &["line 2 122 3 0 1", "stopped 12 line 3 column 0", "names"]),
-    (Paper, &[], 2, &["finished 25 1215", "names 7107 7777"]),
-    (Night, &[], 1, &["line 2 122 3 0 3", "stopped 12 line 3 column 0", "names 7777"]),
-    (Night, &[], 2, &["finished 32 1636", "names 7107 8224"]),
-    (Night, &[], 3, &["finished 32 1636", "names 7107 8224 7777"]),
+    (Paper, &[], 0, &["line 2 122 3 0 1", "stopped 12 line 3 column 0", "identifiers"]),
+    (Paper, &[], 2, &["finished 25 1215", "identifiers 7107 7777"]),
+    (Night, &[], 1, &["line 2 122 3 0 3", "stopped 12 line 3 column 0", "identifiers 7777"]),
+    (Night, &[], 2, &["finished 32 1636", "identifiers 7107 8224"]),
+    (Night, &[], 3, &["finished 32 1636", "identifiers 7107 8224 7777"]),
     // Two `+ ` lines of which the first fits and the second not, or both, or none.
     (
         ManyFile(18),
@@ -1090,7 +1090,7 @@ const READ: &[ReadFile] = &[
         &[
             "line 3 183 3 1 1",
             "stopped 12 line 4 column 0",
-            "names 7101 7102 7103 7104 7105 7106 7107 7108 7109 7110 \
+            "identifiers 7101 7102 7103 7104 7105 7106 7107 7108 7109 7110 \
              7111 7112 7113 7114 7115 7116 7117",
         ],
     ),
@@ -1101,7 +1101,7 @@ const READ: &[ReadFile] = &[
         &[
             "line 4 244 3 0 1",
             "finished 42 2252",
-            "names 7101 7102 7103 7104 7105 7106 7107 7108 7109 7110 \
+            "identifiers 7101 7102 7103 7104 7105 7106 7107 7108 7109 7110 \
              7111 7112 7113 7114 7115 7116 7117 7118",
         ],
     ),
@@ -1112,10 +1112,10 @@ const READ: &[ReadFile] = &[
         &[
             "line 2 122 3 0 1",
             "stopped 12 line 3 column 0",
-            "names 7777 7777 7777 7777 7777 7777 7777 7777 7777 7777 7777 7777 7777 7777 7777 7777",
+            "identifiers 7777 7777 7777 7777 7777 7777 7777 7777 7777 7777 7777 7777 7777 7777 7777 7777",
         ],
     ),
-    (ManyFile(18), &[], 0, &["line 2 122 3 0 1", "stopped 12 line 3 column 0", "names"]),
+    (ManyFile(18), &[], 0, &["line 2 122 3 0 1", "stopped 12 line 3 column 0", "identifiers"]),
     // What a line that doesn't fit would bring is not laid in part.
     (
         ManyFile(40),
@@ -1124,7 +1124,7 @@ const READ: &[ReadFile] = &[
         &[
             "line 3 183 3 23 1",
             "stopped 12 line 4 column 0",
-            "names 7101 7102 7103 7104 7105 7106 7107 7108 7109 7110 \
+            "identifiers 7101 7102 7103 7104 7105 7106 7107 7108 7109 7110 \
              7111 7112 7113 7114 7115 7116 7117 7777 7777 7777",
         ],
     ),
@@ -1132,39 +1132,39 @@ const READ: &[ReadFile] = &[
     (ManyFile(255), &[], 254, &["line 16 976 3 17 1", "stopped 12 line 17 column 0"]),
     (ManyFile(255), &[], 255, &["line 17 1037 4 255 1", "finished 299 17929"]),
     // "12 comes after all other checks": a `+ ` line's own fault comes first.
-    (Paper, &[Byte(3, 80, 0x80)], 0, &["stopped 2 line 3 column 80", "names"]),
-    (Paper, &[Put(3, 81, " ")], 0, &["stopped 3 line 3 column 81", "names"]),
-    (Paper, &[Put(3, 2, "+")], 0, &["stopped 4 line 3 column 0", "names"]),
-    (Paper, &[Put(3, 9, "x")], 0, &["stopped 5 line 3 column 9", "names"]),
-    (Paper, &[Put(3, 10, "G 7")], 0, &["stopped 6 line 3 column 10", "names"]),
-    (Paper, &[Put(3, 11, "00")], 0, &["stopped 7 line 3 column 10", "names"]),
-    (Paper, &[Put(3, 13, "G08")], 0, &["stopped 8 line 3 column 0", "names"]),
-    (Night, &[Put(3, 13, "G07")], 1, &["stopped 8 line 3 column 0", "names 7777"]),
+    (Paper, &[Byte(3, 80, 0x80)], 0, &["stopped 2 line 3 column 80", "identifiers"]),
+    (Paper, &[Put(3, 81, " ")], 0, &["stopped 3 line 3 column 81", "identifiers"]),
+    (Paper, &[Put(3, 2, "+")], 0, &["stopped 4 line 3 column 0", "identifiers"]),
+    (Paper, &[Put(3, 9, "x")], 0, &["stopped 5 line 3 column 9", "identifiers"]),
+    (Paper, &[Put(3, 10, "G 7")], 0, &["stopped 6 line 3 column 10", "identifiers"]),
+    (Paper, &[Put(3, 11, "00")], 0, &["stopped 7 line 3 column 10", "identifiers"]),
+    (Paper, &[Put(3, 13, "G08")], 0, &["stopped 8 line 3 column 0", "identifiers"]),
+    (Night, &[Put(3, 13, "G07")], 1, &["stopped 8 line 3 column 0", "identifiers 7777"]),
     (ManyFile(18), &[Put(4, 10, "G17")], 17, &["line 3 183 3 1 1", "stopped 8 line 4 column 0"]),
     (ManyFile(18), &[Put(4, 10, "G17")], 16, &["line 2 122 3 0 1", "stopped 12 line 3 column 0"]),
     // A line without its LF is 1, whatever it brings.
-    (Paper, &[Keep(3), Join(3)], 0, &["line 2 122 3 0 1", "stopped 1 line 3 column 0", "names"]),
+    (Paper, &[Keep(3), Join(3)], 0, &["line 2 122 3 0 1", "stopped 1 line 3 column 0", "identifiers"]),
     // Refused lines; a `+ ` line that is refused leaves no name.
-    (Nothing, &[], 2, &["stopped 1 line 1 column 0", "names 7777 7777"]),
-    (Paper, &[Keep(24)], 1, &["line 24 1211 14 0 0", "stopped 1 line 25 column 0", "names 7107"]),
-    (Paper, &[Byte(24, 40, 0x80)], 1, &["stopped 2 line 24 column 40", "names 7107"]),
-    (Paper, &[Put(24, 90, "x")], 1, &["stopped 3 line 24 column 81", "names 7107"]),
+    (Nothing, &[], 2, &["stopped 1 line 1 column 0", "identifiers 7777 7777"]),
+    (Paper, &[Keep(24)], 1, &["line 24 1211 14 0 0", "stopped 1 line 25 column 0", "identifiers 7107"]),
+    (Paper, &[Byte(24, 40, 0x80)], 1, &["stopped 2 line 24 column 40", "identifiers 7107"]),
+    (Paper, &[Put(24, 90, "x")], 1, &["stopped 3 line 24 column 81", "identifiers 7107"]),
     (
         Paper,
         &[Put(3, 13, "G08")],
         1,
-        &["line 2 122 3 0 1", "stopped 8 line 3 column 0", "names 7777"],
+        &["line 2 122 3 0 1", "stopped 8 line 3 column 0", "identifiers 7777"],
     ),
     (ManyFile(20), &[Put(4, 13, "G 9")], 20, &["line 3 183 3 3 1", "stopped 6 line 4 column 13"]),
-    (Night, &[Put(29, 18, "30")], 2, &["stopped 9 line 29 column 0", "names 7107 8224"]),
-    (Night, &[Put(3, 14, "00")], 2, &["stopped 7 line 3 column 13", "names 7777 7777"]),
+    (Night, &[Put(29, 18, "30")], 2, &["stopped 9 line 29 column 0", "identifiers 7107 8224"]),
+    (Night, &[Put(3, 14, "00")], 2, &["stopped 7 line 3 column 13", "identifiers 7777 7777"]),
 ];
 
 // ---------------------------------------------------------------------------
 // Generated cases
 // ---------------------------------------------------------------------------
 
-/// Makes a file with the names that it was planned with.
+/// Makes a file with the identifiers that it was planned with.
 type MakePart = fn(&mut Random) -> (Vec<u64>, Vec<u8>);
 
 /// A generated file of moderate length.
@@ -1185,9 +1185,9 @@ fn generate_any_part(random: &mut Random) -> (Vec<u64>, Vec<u8>) {
 
 fn generate_accepted(random: &mut Random, part: MakePart) -> (Vec<u64>, Vec<u8>) {
     loop {
-        let (names, file) = part(random);
+        let (identifiers, file) = part(random);
         if files::judge(&file).is_ok() {
-            return (names, file);
+            return (identifiers, file);
         }
     }
 }
@@ -1239,18 +1239,18 @@ fn spoil(stretch: &mut Vec<u8>, random: &mut Random) {
     }
 }
 
-/// Mostly the names of the header; sometimes others, fewer or more.
-fn spoil_names(names: &mut Vec<u64>, random: &mut Random) {
-    let place = random.below(names.len());
+/// Mostly the identifiers of the header; sometimes others, fewer or more.
+fn spoil_identifiers(identifiers: &mut Vec<u64>, random: &mut Random) {
+    let place = random.below(identifiers.len());
     match random.below(12) {
-        0 => names.truncate(place),
-        1 => names[place] = *random.pick(&[0, 1, 7101, 7107, 8224, 9099, 999_999_999_999]),
-        2 => names.push(*random.pick(&[0, 7101, 7107, 8224])),
-        3 => names.swap(0, place),
-        4 => names[place] += *random.pick(&[1, 100]),
+        0 => identifiers.truncate(place),
+        1 => identifiers[place] = *random.pick(&[0, 1, 7101, 7107, 8224, 9099, 999_999_999_999]),
+        2 => identifiers.push(*random.pick(&[0, 7101, 7107, 8224])),
+        3 => identifiers.swap(0, place),
+        4 => identifiers[place] += *random.pick(&[1, 100]),
         _ => {}
     }
-    names.truncate(MOST_NAMES);
+    identifiers.truncate(MOST_IDENTIFIERS);
 }
 
 fn generate_files(random: &mut Random, part: MakePart) -> (Vec<u64>, Vec<u8>) {
@@ -1273,31 +1273,31 @@ fn choose_room(random: &mut Random, needed: usize, most: usize) -> usize {
     room.min(most)
 }
 
-/// A file alone, or files laid end to end: whether it is one, the names of the
+/// A file alone, or files laid end to end: whether it is one, the identifiers of the
 /// first, and the bytes.
 fn generate_stretch(random: &mut Random, part: MakePart) -> (bool, Vec<u64>, Vec<u8>) {
     let single = once_in(random, 2);
-    let (names, mut stretch) = if single { part(random) } else { generate_files(random, part) };
+    let (identifiers, mut stretch) = if single { part(random) } else { generate_files(random, part) };
     if once_in(random, if single { 6 } else { 3 }) {
         spoil(&mut stretch, random);
     }
-    (single, names, stretch)
+    (single, identifiers, stretch)
 }
 
-/// The stretch with rooms, and names that are the header's or not.
-fn lend(random: &mut Random, single: bool, mut names: Vec<u64>, stretch: Vec<u8>) -> Case {
+/// The stretch with rooms, and identifiers that are the header's or not.
+fn lend(random: &mut Random, single: bool, mut identifiers: Vec<u64>, stretch: Vec<u8>) -> Case {
     let room = choose_room(random, divide(&stretch).lengths.len(), MOST_LENGTHS);
-    let identifiers = choose_room(random, names.len(), MOST_NAMES);
-    spoil_names(&mut names, random);
+    let identifier_room = choose_room(random, identifiers.len(), MOST_IDENTIFIERS);
+    spoil_identifiers(&mut identifiers, random);
     let way = Way::walked(single || once_in(random, 3));
-    Case { stretch, room, way, identifiers, names }
+    Case { stretch, room, way, identifier_room, identifiers }
 }
 
 fn generate_case(random: &mut Random) -> Case {
     loop {
-        let (single, names, stretch) = generate_stretch(random, generate_part);
+        let (single, identifiers, stretch) = generate_stretch(random, generate_part);
         if stretch.len() <= files::MOST_BYTES {
-            return lend(random, single, names, stretch);
+            return lend(random, single, identifiers, stretch);
         }
     }
 }
@@ -1305,12 +1305,12 @@ fn generate_case(random: &mut Random) -> Case {
 /// Stretches of any length; some of those that are not too long are read line
 /// by line.
 fn generate_any_case(random: &mut Random) -> Case {
-    let (single, names, stretch) = generate_stretch(random, generate_any_part);
-    let mut case = lend(random, single, names, stretch);
-    if once_in(random, 12) && !case.names.is_empty() {
+    let (single, identifiers, stretch) = generate_stretch(random, generate_any_part);
+    let mut case = lend(random, single, identifiers, stretch);
+    if once_in(random, 12) && !case.identifiers.is_empty() {
         let far = *random.pick(&[1 << 8, 1 << 16, 1 << 32, u64::MAX]);
-        let place = random.below(case.names.len());
-        case.names[place] = case.names[place].wrapping_add(far);
+        let place = random.below(case.identifiers.len());
+        case.identifiers[place] = case.identifiers[place].wrapping_add(far);
     }
     let read = case.stretch.len() <= 20_000 && once_in(random, 3);
     Case { way: if read { Way::Read } else { case.way }, ..case }
@@ -1326,15 +1326,15 @@ fn hand_cases() -> Vec<Case> {
         stretch: joined(parts),
         room,
         way: Way::walked(place % 5 == 0),
-        identifiers: 2,
-        names: vec![7107, 8224],
+        identifier_room: 2,
+        identifiers: vec![7107, 8224],
     });
-    let walked = WALKED.iter().map(|&(base, edits, identifiers, names, _)| Case {
+    let walked = WALKED.iter().map(|&(base, edits, identifier_room, identifiers, _)| Case {
         stretch: files::hand_made(base, edits),
         room: 1,
         way: Way::Walked,
-        identifiers,
-        names: names.to_vec(),
+        identifier_room,
+        identifiers: identifiers.to_vec(),
     });
     divided.chain(walked).collect()
 }
@@ -1362,9 +1362,9 @@ fn test_divided(tally: &mut Tally) {
 }
 
 fn test_walked(tally: &mut Tally) {
-    for &(base, edits, identifiers, names, wanted) in WALKED {
+    for &(base, edits, identifier_room, identifiers, wanted) in WALKED {
         let stretch = files::hand_made(base, edits);
-        let case = Case { stretch, room: 1, way: Way::Walked, identifiers, names: names.to_vec() };
+        let case = Case { stretch, room: 1, way: Way::Walked, identifier_room, identifiers: identifiers.to_vec() };
         let answer = case.show_walked();
         let missing = files::missing_line(&answer, wanted);
         tally.holds(missing.is_none(), || {
@@ -1395,7 +1395,7 @@ fn test_rooms(tally: &mut Tally) {
             let refusal = short.then_some(Refusal { number: 12, line: 3 + room / 17 });
             let kept = if short { room / 17 * 17 } else { n };
             let found = walk(&file, room);
-            let same = found.read.refusal == refusal && found.names().len() == kept;
+            let same = found.read.refusal == refusal && found.identifiers().len() == kept;
             tally.holds(same, || format!("{n}, room for {room}: {:?}", found.read.refusal));
         }
     }
@@ -1434,8 +1434,8 @@ fn test_joined(tally: &mut Tally) {
 }
 
 /// A walk of an accepted file gives what the row question gives for each epoch
-/// and satellite, in order; with its own names it is refused as the file is, and
-/// so is a walk over lines that learns them; and places go on from one to the
+/// and satellite, in order; with its own identifiers it is refused as the file is, and
+/// so is a walk over lines that learns them; and spots go on from one to the
 /// next.
 fn test_walks(tally: &mut Tally) {
     for number in 1..=1500 {
@@ -1447,7 +1447,7 @@ fn test_walks(tally: &mut Tally) {
         tally.holds(rows.refusal == refused, || format!("rows {number}: {:?}", rows.refusal));
         let stopped = walk.read.refusal;
         tally.holds(stopped == refused, || format!("walk {number}: {stopped:?}"));
-        tally.holds(walk.names() == own, || format!("walk {number}: its names"));
+        tally.holds(walk.identifiers() == own, || format!("walk {number}: its identifiers"));
         if let Ok((table, length)) = front {
             let pairs =
                 |epoch| (0..table.identifiers.len()).map(move |satellite| (epoch, satellite));
@@ -1464,7 +1464,7 @@ fn test_walks(tally: &mut Tally) {
             line.iter().position(|&c| c == b'\n') == Some(line.len() - 1)
         };
         let lines = ends[0] == 0 && ends.windows(2).all(is_line);
-        tally.holds(lines, || format!("walk {number}: its places"));
+        tally.holds(lines, || format!("walk {number}: its spots"));
         tally.holds(walk.after(all) == walk.after(all + 7), || format!("walk {number}: its end"));
     }
 }

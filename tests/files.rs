@@ -607,7 +607,7 @@ pub(crate) fn row(file: &[u8], epoch: usize, satellite: usize) -> Result<Row, Re
 // ---------------------------------------------------------------------------
 
 /// What another implementation is compared on: a file with questions here, a
-/// file or a table to be written in `forms.rs`, a stretch in `stretches.rs`.
+/// file or a table to be written in `forms.rs`, a stretch in `divide.rs`.
 pub(crate) trait Compared {
     /// The words of an answer that have a number of the paper's table after
     /// them.

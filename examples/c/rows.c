@@ -33,10 +33,10 @@ static uint8_t *bytes_of(const char *name, size_t *length) {
     return bytes;
 }
 
-/* A row of the satellite that is stored as `name`: its letter's byte times 100, and its number. */
-static void print_row(const sp3_row_step_t *step, uint64_t name) {
+/* A row of the satellite that is stored as `identifier`: its letter's byte times 100, and its number. */
+static void print_row(const sp3_row_step_t *step, uint64_t identifier) {
     const sp3_row_t *row = &step->row;
-    printf("epoch %" PRIu64 " %c%02u place ", step->epoch, (char)(name / 100), (unsigned)(name % 100));
+    printf("epoch %" PRIu64 " %c%02u place ", step->epoch, (char)(identifier / 100), (unsigned)(identifier % 100));
     if (row->place_absent) printf("absent clock ");
     else printf("%.0f %.0f %.0f clock ", row->x, row->y, row->z);
     if (row->clock_absent) puts("absent");
@@ -51,15 +51,15 @@ static int refused(const char *name, size_t number, uint64_t line) {
 
 /* Judges the file, walks its rows and prints them; gives the status of the program. */
 static int walk(const char *name, const uint8_t *file, size_t length) {
-    uint64_t names[255], counts[2] = {0, 0};
-    sp3_reading_t reading = sp3_begin(file, length, names, 255);
+    uint64_t identifiers[255], counts[2] = {0, 0};
+    sp3_reading_t reading = sp3_begin(file, length, identifiers, 255);
     if (reading.refusal != 0) return refused(name, reading.refusal, reading.line);
     sp3_row_step_t step = {.next = sp3_first_row()};
     for (;;) {
-        step = sp3_next_row(file, length, names, reading.header.satellites, step.next);
+        step = sp3_next_row(file, length, identifiers, reading.header.satellites, step.next);
         if (step.refusal != 0) return refused(name, step.refusal, step.line);
         if (step.end) break;
-        print_row(&step, names[step.satellite]);
+        print_row(&step, identifiers[step.satellite]);
         counts[step.row.place_absent]++;
     }
     printf("rows %" PRIu64 " known %" PRIu64 " absent %" PRIu64 "\n", counts[0] + counts[1], counts[0], counts[1]);

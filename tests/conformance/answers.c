@@ -28,7 +28,7 @@ void *room(size_t count, size_t size)
     return lent;
 }
 
-/* The number of bytes of an open file, whose place is then its first byte. */
+/* The number of bytes of an open file, which then stands at its first byte. */
 static size_t length_of(FILE *file, const char *path)
 {
     if (fseek(file, 0, SEEK_END) != 0)
@@ -56,17 +56,17 @@ stretch_t load(const char *path)
 /* The column of the first faulty line by the line reader, which must find the same refusal at the same line; 0 where it names none. */
 static size_t column_of(stretch_t file, sp3_reading_t judged, const char *path)
 {
-    uint64_t names[MOST_SATELLITES] = {0};
-    sp3_spot_t place = sp3_first_spot();
+    uint64_t identifiers[MOST_SATELLITES] = {0};
+    sp3_spot_t spot = sp3_first_spot();
     for (uint64_t line = 1;; line++) {
-        sp3_line_answer_t answer = sp3_read_line(file.bytes, file.length, place, names, MOST_SATELLITES);
+        sp3_line_answer_t answer = sp3_read_line(file.bytes, file.length, spot, identifiers, MOST_SATELLITES);
         if (answer.finished && judged.refusal == 11 && judged.line == line + 1)
             return 0;
         if (answer.refusal == judged.refusal && judged.line == line)
             return answer.column;
         if (answer.finished || answer.refusal != 0)
             stop("the line reader finds another refusal", path);
-        place = answer.next;
+        spot = answer.next;
     }
 }
 

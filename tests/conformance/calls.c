@@ -9,11 +9,11 @@
 
 /* What the paper's file needs; room for more than its bytes; how far its row stands before its end (61 bytes with its LF, `EOF` 4); where its first
  * `+ ` line begins (two lines of 61 bytes stand before it), and more lines than it has. */
-enum { NAMES = 1, COMMENTS = 4, TEXT = COMMENTS * SP3_COMMENT_WIDTH, NUMBERS = SP3_ROW_WIDTH, LENGTH = 1215, ROOM = 2 * LENGTH, ROW_FROM_END = 65,
-       NAMES_LINE = 122, ALL_LINES = 99 };
+enum { IDENTIFIERS = 1, COMMENTS = 4, TEXT = COMMENTS * SP3_COMMENT_WIDTH, NUMBERS = SP3_ROW_WIDTH, LENGTH = 1215, ROOM = 2 * LENGTH,
+       ROW_FROM_END = 65, IDENTIFIERS_LINE = 122, ALL_LINES = 99 };
 
 /* What is changed in the paper's table before it is written. */
-enum { AS_READ, EXPONENT_1000, NAME_00, THREE_COMMENTS, CLOCK_LARGE, FLAG_2, PAST_2099 };
+enum { AS_READ, EXPONENT_1000, IDENTIFIER_00, THREE_COMMENTS, CLOCK_LARGE, FLAG_2, PAST_2099 };
 
 /* An answer; `line` is -1 where the function tells none. */
 typedef struct {
@@ -34,7 +34,7 @@ static answer_t alone(size_t refusal)
 /* The paper's table, with room for one epoch more. */
 typedef struct {
     sp3_header_t header;
-    uint64_t identifiers[NAMES], exponents[NAMES];
+    uint64_t identifiers[IDENTIFIERS], exponents[IDENTIFIERS];
     uint8_t comments[TEXT];
     int64_t rows[2 * NUMBERS];
 } table_t;
@@ -42,7 +42,7 @@ typedef struct {
 static table_t table_of(stretch_t file)
 {
     table_t t = {0};
-    t.header = sp3_read(file.bytes, file.length, t.identifiers, NAMES, t.exponents, NAMES, t.comments, TEXT, t.rows, NUMBERS).header;
+    t.header = sp3_read(file.bytes, file.length, t.identifiers, IDENTIFIERS, t.exponents, IDENTIFIERS, t.comments, TEXT, t.rows, NUMBERS).header;
     memcpy(t.rows + NUMBERS, t.rows, NUMBERS * sizeof t.rows[0]);
     return t;
 }
@@ -84,7 +84,7 @@ static stretch_t damaged(stretch_t paper)
 static stretch_t unnamed(stretch_t paper)
 {
     stretch_t file = followed_by(paper, "", 0);
-    file.bytes[NAMES_LINE + 10] = ' ';
+    file.bytes[IDENTIFIERS_LINE + 10] = ' ';
     return file;
 }
 
@@ -109,7 +109,7 @@ static answer_t judge_front(stretch_t file, const size_t *with)
 /* with: identifiers */
 static answer_t begin_into(stretch_t file, const size_t *with)
 {
-    uint64_t identifiers[NAMES];
+    uint64_t identifiers[IDENTIFIERS];
     sp3_reading_t r = sp3_begin(file.bytes, file.length, identifiers, with[0]);
     return at_line(r.refusal, r.line);
 }
@@ -119,7 +119,7 @@ static void change(table_t *t, size_t which)
     const uint64_t day8 = 86400ull * 100000000ull;
     switch (which) {
     case EXPONENT_1000: t->exponents[0] = 1000; break;
-    case NAME_00: t->identifiers[0] = 'G' * 100; break;
+    case IDENTIFIER_00: t->identifiers[0] = 'G' * 100; break;
     case THREE_COMMENTS: t->header.comments = COMMENTS - 1; break;
     case CLOCK_LARGE: t->rows[3] = 1000000000000; break;
     case FLAG_2: t->rows[8] = 2; break;
@@ -138,8 +138,8 @@ static answer_t write_into(stretch_t file, const size_t *with)
     static uint8_t out[ROOM];
     table_t t = table_of(file);
     change(&t, with[0]);
-    return alone(sp3_write(t.header, t.identifiers, with[1], t.exponents, NAMES, t.comments, TEXT, t.rows, t.header.epochs * NUMBERS, out, with[2])
-                     .refusal);
+    size_t numbers = t.header.epochs * NUMBERS;
+    return alone(sp3_write(t.header, t.identifiers, with[1], t.exponents, IDENTIFIERS, t.comments, TEXT, t.rows, numbers, out, with[2]).refusal);
 }
 
 /* with: mode, satellites, month and day in 2001 */
@@ -219,25 +219,25 @@ static answer_t divide_into(stretch_t stretch, const size_t *with)
 /* with: the byte at which the line begins */
 static answer_t line_at(stretch_t file, const size_t *with)
 {
-    uint64_t identifiers[NAMES] = {0};
-    sp3_spot_t place = sp3_first_spot();
-    place.at = with[0];
-    return alone(sp3_read_line(file.bytes, file.length, place, identifiers, NAMES).refusal);
+    uint64_t identifiers[IDENTIFIERS] = {0};
+    sp3_spot_t spot = sp3_first_spot();
+    spot.at = with[0];
+    return alone(sp3_read_line(file.bytes, file.length, spot, identifiers, IDENTIFIERS).refusal);
 }
 
 /* with: how many lines the walker may pass before the line is read, identifiers */
 static answer_t line_after(stretch_t file, const size_t *with)
 {
-    uint64_t identifiers[NAMES] = {0};
-    sp3_spot_t place = sp3_after_lines(file.bytes, file.length, identifiers, with[1], sp3_first_spot(), with[0]);
-    return alone(sp3_read_line(file.bytes, file.length, place, identifiers, with[1]).refusal);
+    uint64_t identifiers[IDENTIFIERS] = {0};
+    sp3_spot_t spot = sp3_after_lines(file.bytes, file.length, identifiers, with[1], sp3_first_spot(), with[0]);
+    return alone(sp3_read_line(file.bytes, file.length, spot, identifiers, with[1]).refusal);
 }
 
 /* with: the identifier that the walk takes for the file's */
 static answer_t walk_with(stretch_t file, const size_t *with)
 {
-    uint64_t identifiers[NAMES] = {with[0]};
-    sp3_row_step_t s = sp3_next_row(file.bytes, file.length, identifiers, NAMES, sp3_first_row());
+    uint64_t identifiers[IDENTIFIERS] = {with[0]};
+    sp3_row_step_t s = sp3_next_row(file.bytes, file.length, identifiers, IDENTIFIERS, sp3_first_row());
     return at_line(s.refusal, s.line);
 }
 
@@ -247,26 +247,26 @@ static const struct {
     answer_t (*call)(stretch_t file, const size_t *with);
     size_t with[4];
 } calls[] = {
-    {"read-exact", itself, read_into, {NAMES, TEXT, NUMBERS}},
-    {"read-short-names", itself, read_into, {NAMES - 1, TEXT, NUMBERS}},
-    {"read-short-comments", itself, read_into, {NAMES, TEXT - 1, NUMBERS}},
-    {"read-short-rows", itself, read_into, {NAMES, TEXT, NUMBERS - 1}},
+    {"read-exact", itself, read_into, {IDENTIFIERS, TEXT, NUMBERS}},
+    {"read-short-identifiers", itself, read_into, {IDENTIFIERS - 1, TEXT, NUMBERS}},
+    {"read-short-comments", itself, read_into, {IDENTIFIERS, TEXT - 1, NUMBERS}},
+    {"read-short-rows", itself, read_into, {IDENTIFIERS, TEXT, NUMBERS - 1}},
     {"read-refused-short", damaged, read_into, {0}},
     {"read-after-end-short", with_more, read_into, {0}},
     {"front-after-end", with_more, judge_front, {0}},
-    {"front-short", with_more, read_into, {NAMES, TEXT, NUMBERS - 1, 1}},
-    {"begin-exact", itself, begin_into, {NAMES}},
-    {"begin-short", itself, begin_into, {NAMES - 1}},
-    {"write-exact", itself, write_into, {AS_READ, NAMES, LENGTH}},
-    {"write-short", itself, write_into, {AS_READ, NAMES, LENGTH - 1}},
-    {"write-exponent-1000", itself, write_into, {EXPONENT_1000, NAMES, ROOM}},
-    {"write-name-00", itself, write_into, {NAME_00, NAMES, ROOM}},
-    {"write-three-comments", itself, write_into, {THREE_COMMENTS, NAMES, ROOM}},
-    {"write-list-short", itself, write_into, {AS_READ, NAMES - 1, ROOM}},
-    {"write-clock-large", itself, write_into, {CLOCK_LARGE, NAMES, ROOM}},
-    {"write-flag-2", itself, write_into, {FLAG_2, NAMES, ROOM}},
-    {"write-past-2099", itself, write_into, {PAST_2099, NAMES, ROOM}},
-    {"write-invalid-short", itself, write_into, {EXPONENT_1000, NAMES, 0}},
+    {"front-short", with_more, read_into, {IDENTIFIERS, TEXT, NUMBERS - 1, 1}},
+    {"begin-exact", itself, begin_into, {IDENTIFIERS}},
+    {"begin-short", itself, begin_into, {IDENTIFIERS - 1}},
+    {"write-exact", itself, write_into, {AS_READ, IDENTIFIERS, LENGTH}},
+    {"write-short", itself, write_into, {AS_READ, IDENTIFIERS, LENGTH - 1}},
+    {"write-exponent-1000", itself, write_into, {EXPONENT_1000, IDENTIFIERS, ROOM}},
+    {"write-identifier-00", itself, write_into, {IDENTIFIER_00, IDENTIFIERS, ROOM}},
+    {"write-three-comments", itself, write_into, {THREE_COMMENTS, IDENTIFIERS, ROOM}},
+    {"write-list-short", itself, write_into, {AS_READ, IDENTIFIERS - 1, ROOM}},
+    {"write-clock-large", itself, write_into, {CLOCK_LARGE, IDENTIFIERS, ROOM}},
+    {"write-flag-2", itself, write_into, {FLAG_2, IDENTIFIERS, ROOM}},
+    {"write-past-2099", itself, write_into, {PAST_2099, IDENTIFIERS, ROOM}},
+    {"write-invalid-short", itself, write_into, {EXPONENT_1000, IDENTIFIERS, 0}},
     {"header-mode-q", itself, make_header, {'Q', 1, 8, 8}},
     {"header-256", itself, make_header, {'P', 256, 8, 8}},
     {"header-both", itself, make_header, {'Q', 256, 8, 8}},
@@ -288,11 +288,11 @@ static const struct {
     {"divide-rest", with_more, divide_into, {1}},
     {"divide-refused-first", damaged, divide_into, {0}},
     {"walk-line-at-end", itself, line_at, {LENGTH}},
-    {"walk-names-exact", itself, line_after, {2, NAMES}},
-    {"walk-names-short", itself, line_after, {ALL_LINES, NAMES - 1}},
-    {"walk-names-faulty-short", unnamed, line_after, {ALL_LINES, NAMES - 1}},
-    {"walk-other-row", damaged, line_after, {ALL_LINES, NAMES}},
-    {"walk-other-names", itself, walk_with, {'G' * 100 + 8}},
+    {"walk-identifiers-exact", itself, line_after, {2, IDENTIFIERS}},
+    {"walk-identifiers-short", itself, line_after, {ALL_LINES, IDENTIFIERS - 1}},
+    {"walk-identifiers-faulty-short", unnamed, line_after, {ALL_LINES, IDENTIFIERS - 1}},
+    {"walk-other-row", damaged, line_after, {ALL_LINES, IDENTIFIERS}},
+    {"walk-other-identifiers", itself, walk_with, {'G' * 100 + 8}},
 };
 
 void print_calls(stretch_t paper)

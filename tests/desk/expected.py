@@ -24,8 +24,22 @@ def words():
 WORDS = words()
 
 
-def refused(subject, number, line):
-    return f"{subject}: refused {number} line {line}: {WORDS[number]}\n"
+def hint(content, number, line):
+    """What the bytes that were refused make plain, with a blank before it; nothing where they do not."""
+    if re.match(rb"\x1f[\x8b\x9d]", content):
+        return " (compressed: zcat FILE | sp3 check -)"
+    text = content.split(b"\n")[line - 1]
+    version = re.match(rb"#([abc])", text)
+    if number == 2 and re.fullmatch(rb"[ -~]*\r", text):
+        return " (the line ends in CR LF: tr -d '\\r' < FILE | sp3 check -)"
+    if number == 4 and line == 1 and version:
+        return f" (this is SP3-{version[1].decode()}; only SP3-d is read)"
+    return " (another file follows: sp3 divide FILE)" if number == 11 and text.startswith(b"#") else ""
+
+
+def refused(subject, number, line, content=b""):
+    """What is said of a refusal; of bytes that were refused also what they make plain."""
+    return f"{subject}: refused {number} line {line}: {WORDS[number]}{hint(content, number, line) if content else ''}\n"
 
 
 class Held:
@@ -133,7 +147,7 @@ def divide(lengths, rest=None):
 
 
 class Oracles:
-    """The programs of tests/files.rs, tests/forms.rs and tests/stretches.rs, compiled into a folder."""
+    """The programs of tests/files.rs, tests/forms.rs and tests/divide.rs, compiled into a folder."""
 
     def __init__(self, folder):
         self.folder = folder
@@ -169,7 +183,7 @@ class Oracles:
 
     def division(self, stretch):
         """Refusal, line, the byte where the rest begins, and the lengths."""
-        lines = self.ask("stretches", "answer", batch=b"1000 0 0 0 %d\n" % len(stretch) + stretch).decode().split("\n")
+        lines = self.ask("divide", "answer", batch=b"1000 0 0 0 %d\n" % len(stretch) + stretch).decode().split("\n")
         number, line, count, rest = (int(word) for word in lines[1].split()[1:])
         lengths = [int(text.split()[1]) for text in lines[2 : 2 + count]]
         return number, line, rest, lengths

@@ -3,16 +3,20 @@
 
     run.py FOLDER
 
-FOLDER has `tool/sp3`, the tool; `failing`, the tool with tests/desk/failing.c in it; and the oracles `files`, `forms` and `stretches`. Files are made
+FOLDER has `tool/sp3`, the tool; `failing`, the tool with tests/desk/failing.c in it; and the oracles `files`, `forms` and `divide`. Files are made
 in FOLDER. Prints how many tests passed; at the first difference prints what was expected and what came, and ends with 1.
 """
+import contextlib
 import errno
+import gzip
 import importlib.util
 import os
 import pathlib
 import re
+import signal
 import subprocess
 import sys
+import threading
 
 import expected
 from expected import ROOT, of_model, refused
@@ -58,7 +62,8 @@ usage: sp3 COMMAND ARGUMENTS
   sp3 date    Y M D           tell MJD, GPS week and seconds of week of a date
 
 FILE may be - for standard input; a name that begins with - comes after --. Epochs, satellites
-and comments are counted from 0. Results go to standard output, messages to standard error.
+and comments are counted from 0. Results, for check the refusals too, go to standard output,
+messages to standard error.
 Status: 0 accepted, 1 refused, 2 wrong arguments or an input or output that fails.
 """
 COMMANDS = ("check", "rewrite", "table", "row", "comment", "divide", "date")
@@ -89,7 +94,7 @@ class Desk:
 
     def file(self, name, content):
         """A file of this content in the folder that the tool is run in; its name."""
-        (self.folder / name).write_bytes(content if isinstance(content, bytes) else make.joined(content))
+        (self.folder / name).write_bytes(as_content(content))
         return name
 
     def run(self, words, stdin=b"", tool=None, **how):
@@ -105,6 +110,10 @@ class Desk:
         if came != wanted:
             self.differ(words, wanted, came)
         self.passed += 1
+
+    def expect_refused(self, words, message, **how):
+        """The tool says this of a file that is refused: `check` as a result, any other command as a message."""
+        self.expect(words, 1, *((message, "") if words[0] == "check" else ("", message)), **how)
 
     def differ(self, words, wanted, came):
         print(f"desk: a difference at test {self.passed + 1}: sp3 {' '.join(repr(word) for word in words)}")
@@ -164,14 +173,18 @@ def changed(line, first, text):
     return lines
 
 
+def as_content(content):
+    return content if isinstance(content, bytes) else make.joined(content)
+
+
 def damaged():
     """Files that 01 refuses, each with the number and the line."""
     whole = make.joined(PAPER)
-    names = "".join(f"G{k:02}" for k in range(1, 18))
+    identifiers = "".join(f"G{k:02}" for k in range(1, 18))
     return [(whole[:-1], 1, 25), (whole[:700], 1, whole[:700].count(b"\n") + 1), (changed(19, 4, "\a"), 2, 19),
             (whole.replace(b"\n", b"\r\n"), 2, 1), (changed(19, 4, "X" * 78), 3, 19), (PAPER[:21] + PAPER[22:], 4, 22), (changed(1, 46, "x"), 5, 1),
             (changed(16, 4, "  0.0000001"), 5, 16), (changed(1, 3, "v"), 6, 1), (changed(13, 10, "gps"), 6, 13),
-            (changed(24, 19, "       .500000"), 6, 24), (changed(1, 33, "      0"), 7, 1), (changed(3, 4, "256   " + names), 7, 3),
+            (changed(24, 19, "       .500000"), 6, 24), (changed(1, 33, "      0"), 7, 1), (changed(3, 4, "256   " + identifiers), 7, 3),
             (changed(2, 40, "56386"), 8, 2), (changed(23, 18, "15"), 9, 23), (changed(24, 2, "G08"), 10, 24), (whole + b" ", 11, 26),
             (whole + whole, 11, 26)]
 
@@ -180,15 +193,49 @@ def test_damaged(desk):
     """Each of the refusals 1 to 11, by each command."""
     assert {number for _, number, _ in damaged()} == set(range(1, 12))
     for content, number, line in damaged():
+        content = as_content(content)
         name = desk.file("damaged.sp3", content)
-        message = refused(name, number, line)
         for words in [*about(name), ["row", name, "9", "0"]]:
-            desk.expect(words, 1, "", message)
+            desk.expect_refused(words, refused(name, number, line, content))
         if number != 11:
-            desk.expect(["divide", name], 1, "", refused(f"{name}: from byte 0", number, line))
+            desk.expect(["divide", name], 1, "", refused(f"{name}: from byte 0", number, line, content))
     whole = make.joined(PAPER)
     name = desk.file("rest.sp3", whole + whole[:-1])
     desk.expect(["divide", name], 1, expected.divide([len(whole)], 1), refused(f"{name}: from byte {len(whole)}", 1, 25))
+
+
+def hinted():
+    """Files that are refused for something plain, each with the number, the line and what is said after the words."""
+    whole = make.joined(PAPER)
+    crlf = "the line ends in CR LF: tr -d '\\r' < FILE | sp3 check -"
+    packed, follows = "compressed: zcat FILE | sp3 check -", "another file follows: sp3 divide FILE"
+    return [(gzip.compress(whole, mtime=0), 2, 1, packed), (b"\x1f\x8b", 1, 1, packed), (b"\x1f\x9d\x90\n", 2, 1, packed),
+            (whole.replace(b"\n", b"\r\n"), 2, 1, crlf), (whole.replace(b"ROW\n", b"ROW\r\n"), 2, 19, crlf), (b"\r\n", 2, 1, crlf),
+            *((whole.replace(b"#d", b"#" + letter), 4, 1, f"this is SP3-{letter.decode()}; only SP3-d is read") for letter in (b"a", b"b", b"c")),
+            (whole + whole, 11, 26, follows), (whole + b"#", 11, 26, follows)]
+
+
+def unhinted():
+    """Files that are refused with the same numbers for something else."""
+    whole = make.joined(PAPER)
+    return [(b"\x1f", 1, 1), (b"\x1f\x8c\n", 2, 1), (b"#" + gzip.compress(whole, mtime=0)[:2] + b"\n", 2, 1),
+            *((whole.replace(b"ROW\n", text), 2, 19) for text in (b"\rROW\n", b"\tROW\r\n", b"ROW\r\r\n")), (b"\r", 1, 1),
+            *((whole.replace(b"#d", mark), 4, 1) for mark in (b"#e", b"#D", b"# ", b"##", b"%c")), (b"#\n", 4, 1), (b"\n", 4, 1),
+            (whole.replace(b"\n##", b"\n#c", 1), 4, 2), (whole.replace(b"#dP", b"#cP\x80"), 2, 1), (whole + b"\n#d", 11, 26), (whole + b"+", 11, 26)]
+
+
+def test_hints(desk):
+    """A refusal whose cause is plain says it, after the words; one that is not says nothing more."""
+    for content, number, line, text in [*hinted(), *((*case, None) for case in unhinted())]:
+        message = f"{expected.WORDS[number]}{f' ({text})' if text else ''}\n"
+        assert message == refused("", number, line, content).split(": ", 2)[2]
+        name = desk.file("hinted.sp3", content)
+        for words in about(name):
+            desk.expect_refused(words, f"{name}: refused {number} line {line}: {message}")
+        if number != 11:
+            first = make.joined(PAPER)
+            desk.expect(["divide", "-"], 1, expected.divide([len(first)], 1),
+                        f"standard input: from byte {len(first)}: refused {number} line {line}: {message}", stdin=first + content)
 
 
 def test_edges(desk):
@@ -211,7 +258,9 @@ def test_edges(desk):
 
 
 def test_samples(desk):
-    """The stored samples, by the numbers that they were made from."""
+    """The stored samples, by the numbers that they were made from; one that is refused, which README.md shows."""
+    late = str(ROOT / "samples/late.sp3")
+    desk.expect(["check", late], 1, refused(late, 9, 23))
     day, velocity, files = of_model(make.day()), of_model(make.velocity()), make.season_files()
     names = [str(ROOT / "samples" / name) for name in ("day.sp3", "velocity.sp3", "season.sp3")]
     for name, held, form in ((names[0], day, make.samples()["day.sp3"]), (names[1], velocity, make.joined(make.file_lines(make.velocity())))):
@@ -227,7 +276,7 @@ def test_samples(desk):
         for k in (3, 10, 14, 18):
             desk.expect(["row", names[0], str(epoch), f"G{k + 1:02}"], 0, expected.row(day, epoch, k))
     desk.expect(["divide", names[2]], 0, expected.divide([len(file) for file in files]))
-    desk.expect(["check", names[2]], 1, "", refused(names[2], 11, files[0].count(b"\n") + 1))
+    desk.expect(["check", names[2]], 1, refused(names[2], 11, files[0].count(b"\n") + 1, b"".join(files)))
     for k, (file, model) in enumerate(zip(files, make.season())):
         desk.expect(["check", desk.file("part.sp3", file)], 0, expected.check("part.sp3", of_model(model)))
         desk.expect(["rewrite", "part.sp3"], 0, make.joined(make.file_lines(model)))
@@ -243,14 +292,14 @@ def test_generated(desk):
         number, line, held, answers = desk.oracles.judged(file, asked)
         if number:
             for words in (["check", name], ["table", name], ["rewrite", name], ["comment", name, str(asked[0])]):
-                desk.expect(words, 1, "", refused(name, number, line))
+                desk.expect_refused(words, refused(name, number, line, file))
         else:
             desk.expect(["check", name], 0, expected.check(name, held))
             desk.expect(["table", name], 0, expected.table(held))
             desk.expect(["rewrite", name], 0, desk.oracles.form(file))
             expect_answers(desk, name, held, asked, answers)
         number, line, rest, lengths = desk.oracles.division(file)
-        err = refused(f"{name}: from byte {rest}", number, line) if number else ""
+        err = refused(f"{name}: from byte {rest}", number, line, file[rest:]) if number else ""
         desk.expect(["divide", name], 1 if number else 0, expected.divide(lengths, rest if number else None), err)
 
 
@@ -274,13 +323,13 @@ def expect_answers(desk, name, held, asked, answers):
 
 def large_model():
     """By a rule: 1,042 epochs of 120 satellites, ten megabytes, every seventh place and every eleventh clock absent."""
-    names = [f"{letter}{k:02}" for letter in "GR" for k in range(1, 61)]
+    identifiers = [f"{letter}{k:02}" for letter in "GR" for k in range(1, 61)]
     rows = []
     for epoch in range(1042):
         numbers = [epoch * 120 + k for k in range(120)]
         rows.append([[make.Row(None if n % 7 == 0 else (n * 7_919 - 10**9, n - 50_000, -n * 104_729), None if n % 11 == 0 else 5 * n - 300_000,
                                (n % 98, None if n % 5 == 0 else 99, n % 13, n % 1000), "EPMP" if n % 3 else "  M ")] for n in numbers])
-    return make.Model("P", make.datetime.datetime(2000, 2, 28, 20, 0, 30), 30, names, [k % 100 for k in range(120)], ["BY RULE"] * 5, rows)
+    return make.Model("P", make.datetime.datetime(2000, 2, 28, 20, 0, 30), 30, identifiers, [k % 100 for k in range(120)], ["BY RULE"] * 5, rows)
 
 
 def test_large(desk):
@@ -364,7 +413,7 @@ def test_inputs(desk):
         for words in [*about(name), ["divide", name]]:
             desk.expect(words, 2, "", no_bytes(name))
     # a file that says it has no bytes and has some, with a tab in its first line
-    desk.expect(["check", "/proc/self/status"], 1, "", refused("/proc/self/status", 2, 1))
+    desk.expect(["check", "/proc/self/status"], 1, refused("/proc/self/status", 2, 1))
     for name in ("-odd", "a b.sp3", "100%s%n.sp3", "\u00fc.sp3"):
         (desk.folder / name).write_bytes(whole)
         desk.expect(["check", "--", name], 0, expected.check(name, paper_held(desk)).encode())
@@ -373,6 +422,15 @@ def test_inputs(desk):
 
 def paper_held(desk):
     return desk.oracles.judged(make.joined(PAPER))[2]
+
+
+@contextlib.contextmanager
+def fed(pipe, content):
+    """A named pipe into which somebody writes this once."""
+    writer = threading.Thread(target=pipe.write_bytes, args=(content,))
+    writer.start()
+    yield
+    writer.join()
 
 
 def test_pipes(desk):
@@ -388,8 +446,16 @@ def test_pipes(desk):
     desk.expect(["divide", "-"], 0, expected.divide([1215] * 3), stdin=whole * 3)
     desk.expect(["check", "-", "-"], 2, accepted, no_bytes("standard input"), stdin=whole)
     os.mkfifo(desk.folder / "pipe")
-    for words in [*about("pipe"), ["divide", "pipe"]]:
-        desk.expect(words, 2, "", "sp3: pipe: a pipe is read from standard input alone, by the name -\n")
+    for content, words, out in ((whole, ["check", "pipe"], expected.check("pipe", held)), (day, ["rewrite", "pipe"], day),
+                                (whole, ["table", "pipe"], PAPER_TABLE), (whole, ["row", "pipe", "0", "G07"], expected.row(held, 0, 0)),
+                                (whole, ["comment", "pipe", "0"], "ONE ROW\n"), (whole * 3, ["divide", "pipe"], expected.divide([1215] * 3))):
+        with fed(desk.folder / "pipe", content):
+            desk.expect(words, 0, out)
+    with fed(desk.folder / "pipe", b""):
+        desk.expect(["check", "pipe"], 2, "", no_bytes("pipe"))
+    with fed(desk.folder / "pipe", gzip.compress(whole, mtime=0)):
+        desk.expect(["check", "pipe"], 1, refused("pipe", 2, 1, b"\x1f\x8b"))
+    desk.expect(["check", "/dev/stdin"], 0, expected.check("/dev/stdin", held), stdin=whole)
 
 
 def test_many(desk):
@@ -398,17 +464,17 @@ def test_many(desk):
     good, wrong = expected.check(paper, held), refused(bad, 9, 23)
     missing = f"sp3: missing: {os.strerror(errno.ENOENT)}\n"
     desk.expect(["check", *[paper] * 300], 0, good * 300)
-    desk.expect(["check", bad, paper, bad, paper], 1, good * 2, wrong * 2)
-    desk.expect(["check", paper, "missing", bad, paper], 2, good * 2, missing + wrong)
-    desk.expect(["check", bad, "missing"], 2, "", wrong + missing)
-    desk.expect(["check", "missing", bad], 2, "", missing + wrong)
+    desk.expect(["check", bad, paper, bad, paper], 1, (wrong + good) * 2)
+    desk.expect(["check", paper, "missing", bad, paper], 2, good + wrong + good, missing)
+    desk.expect(["check", bad, "missing"], 2, wrong, missing)
+    desk.expect(["check", "missing", bad], 2, wrong, missing)
     desk.expect(["check", paper, "--", bad, paper, "missing", paper], 2, good + wrong + good + missing + good, stderr=subprocess.STDOUT)
     desk.expect(["divide", "-"], 1, expected.divide([1215], 1) + refused("standard input: from byte 1215", 9, 23),
                 stdin=make.joined(PAPER) + make.joined(changed(23, 18, "15")), stderr=subprocess.STDOUT)
 
 
 def test_outputs(desk):
-    """Outputs that cannot be written: said, with status 2, whatever the files are."""
+    """Outputs that cannot be written: said, with status 2, whatever the files are. A pipe that nobody reads any more ends the tool without a word."""
     day, paper, bad = str(ROOT / "samples/day.sp3"), "paper.sp3", "bad.sp3"
     for words in [*about(paper), *about(day), ["divide", paper], ["date", "2013", "4", "3"], ["--help"], ["check", paper, paper]]:
         with open("/dev/full", "wb") as full:
@@ -416,16 +482,19 @@ def test_outputs(desk):
         desk.expect(words, 2, "", f"sp3: standard output: {os.strerror(errno.EBADF)}\n", stdout=None, preexec_fn=lambda: os.close(1))
         source, sink = os.pipe()
         os.close(source)
-        desk.expect(words, 2, "", f"sp3: standard output: {os.strerror(errno.EPIPE)}\n", stdout=sink)
+        for ignored in (False, True):
+            desk.expect(words, -signal.SIGPIPE, stdout=sink, restore_signals=not ignored)
         os.close(sink)
     with open("/dev/full", "wb") as full:
         missing = f"sp3: missing: {os.strerror(errno.ENOENT)}\n"
-        desk.expect(["check", paper, bad, "missing"], 2, "",
-                    refused(bad, 9, 23) + missing + f"sp3: standard output: {os.strerror(errno.ENOSPC)}\n", stdout=full)
-        desk.expect(["check", bad], 1, "", refused(bad, 9, 23), stdout=full)
-    desk.expect(["check", bad], 1, "", refused(bad, 9, 23), stdout=None, preexec_fn=lambda: os.close(1))
-    for words, status in ((["check", paper], 0), (["check", bad], 1), (["check", "missing"], 2)):
-        out = expected.check(paper, paper_held(desk)) if status == 0 else ""
+        failed = f"sp3: standard output: {os.strerror(errno.ENOSPC)}\n"
+        desk.expect(["check", paper, bad, "missing"], 2, "", missing + failed, stdout=full)
+        desk.expect(["check", bad], 2, "", failed, stdout=full)
+        desk.expect(["table", bad], 1, "", refused(bad, 9, 23), stdout=full)
+    desk.expect(["check", bad], 2, "", f"sp3: standard output: {os.strerror(errno.EBADF)}\n", stdout=None, preexec_fn=lambda: os.close(1))
+    desk.expect(["table", bad], 1, "", refused(bad, 9, 23), stdout=None, preexec_fn=lambda: os.close(1))
+    for words, status, out in ((["check", paper], 0, expected.check(paper, paper_held(desk))), (["check", bad], 1, refused(bad, 9, 23)),
+                               (["table", bad], 1, ""), (["check", "missing"], 2, "")):
         desk.expect(words, status, out, stderr=None, preexec_fn=lambda: os.close(2))
 
 
@@ -459,8 +528,8 @@ def expect_without_memory(desk, words, out, content, tool):
 
 def main():
     desk = Desk(pathlib.Path(sys.argv[1]).resolve())
-    for test in (test_paper, test_dates, test_damaged, test_edges, test_samples, test_generated, test_usage, test_numbers, test_inputs, test_pipes,
-                 test_many, test_outputs, test_failing, test_large):
+    for test in (test_paper, test_dates, test_damaged, test_hints, test_edges, test_samples, test_generated, test_usage, test_numbers, test_inputs,
+                 test_pipes, test_many, test_outputs, test_failing, test_large):
         test(desk)
     print(f"desk: {desk.passed} tests passed")
 

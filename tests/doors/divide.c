@@ -8,11 +8,11 @@
 /* So much room for identifiers is never too small. */
 enum { MOST_SATELLITES = 255 };
 
-/* The identifiers of a header, or others in their place. */
+/* The identifiers of a header, or others instead of them. */
 typedef struct {
     const uint64_t *list;
     size_t count;
-} names_t;
+} identifiers_t;
 
 static void kept_out(const uint64_t *list, size_t from, size_t count) { puts(numbers_kept(list, from, count) ? "kept" : "changed"); }
 
@@ -43,7 +43,7 @@ static void row_out(sp3_row_step_t step) {
 }
 
 /* How a walk over rows ends: the spot stays, there is no row, and lines walked one by one end the same way. */
-static void walk_end_out(bytes_t file, names_t names, sp3_row_step_t step, sp3_row_walk_t from) {
+static void walk_end_out(bytes_t file, identifiers_t identifiers, sp3_row_step_t step, sp3_row_walk_t from) {
     if (step.end) {
         puts("end");
     } else {
@@ -52,7 +52,7 @@ static void walk_end_out(bytes_t file, names_t names, sp3_row_step_t step, sp3_r
     bool stays = same_spot(step.next.spot, from.spot) && step.next.passed == from.passed;
     check(stays && step.epoch == 0 && step.satellite == 0 && is_no_row(step.row), "a row beside the end of a walk");
     check(step.end ? step.refusal == 0 && step.line == 0 : step.refusal != 0, "an end beside a refusal");
-    line_end_t lines = known_lines(file, names.list, names.count);
+    line_end_t lines = known_lines(file, identifiers.list, identifiers.count);
     check(lines.refusal == step.refusal && (step.end || lines.line == step.line), "a walk over rows and over lines");
 }
 
@@ -65,12 +65,12 @@ static void check_row(bytes_t file, sp3_header_t header, sp3_row_step_t step) {
 }
 
 /* The rows of a file in order; a file has no more rows than bytes. */
-static void rows_out(bytes_t file, names_t names, sp3_header_t header) {
+static void rows_out(bytes_t file, identifiers_t identifiers, sp3_header_t header) {
     sp3_row_walk_t from = sp3_first_row();
     for (size_t left = file.length + 1; left > 0; left--) {
-        sp3_row_step_t step = sp3_next_row(file.bytes, file.length, names.list, names.count, from);
+        sp3_row_step_t step = sp3_next_row(file.bytes, file.length, identifiers.list, identifiers.count, from);
         if (step.refusal != 0 || step.end) {
-            walk_end_out(file, names, step, from);
+            walk_end_out(file, identifiers, step, from);
             return;
         }
         row_out(step);
@@ -88,28 +88,28 @@ static size_t line_count(bytes_t bytes) {
 
 /* The spot after so many lines, with a list of the walker's own. */
 static void after_out(bytes_t file, size_t lines) {
-    uint64_t *names = lent_numbers(MOST_SATELLITES, NUMBER_MARK);
-    spot_out("spot", lines, sp3_after_lines(file.bytes, file.length, names, MOST_SATELLITES, sp3_first_spot(), lines));
+    uint64_t *identifiers = lent_numbers(MOST_SATELLITES, NUMBER_MARK);
+    spot_out("spot", lines, sp3_after_lines(file.bytes, file.length, identifiers, MOST_SATELLITES, sp3_first_spot(), lines));
 }
 
 /* The spots after half of the lines and after the others, with the same list; gives it. */
 static const uint64_t *halves_out(bytes_t file, size_t all) {
-    uint64_t *names = lent_numbers(MOST_SATELLITES, NUMBER_MARK);
-    sp3_spot_t half = sp3_after_lines(file.bytes, file.length, names, MOST_SATELLITES, sp3_first_spot(), all / 2);
+    uint64_t *identifiers = lent_numbers(MOST_SATELLITES, NUMBER_MARK);
+    sp3_spot_t half = sp3_after_lines(file.bytes, file.length, identifiers, MOST_SATELLITES, sp3_first_spot(), all / 2);
     spot_out("spot", all / 2, half);
-    spot_out("then", all, sp3_after_lines(file.bytes, file.length, names, MOST_SATELLITES, half, all - all / 2));
-    return names;
+    spot_out("then", all, sp3_after_lines(file.bytes, file.length, identifiers, MOST_SATELLITES, half, all - all / 2));
+    return identifiers;
 }
 
 /* The spots after no line, one, three, half of them, all of them in two steps and in one, and five more. Of an accepted file the walker learns the
  * identifiers that sp3_begin leaves. */
-static void spots_out(bytes_t file, names_t own) {
+static void spots_out(bytes_t file, identifiers_t own) {
     size_t all = line_count(file);
     after_out(file, 0);
     after_out(file, 1);
     after_out(file, 3);
-    const uint64_t *names = halves_out(file, all);
-    check(memcmp(names, own.list, own.count * sizeof *names) == 0, "the identifiers of a walk and of sp3_begin");
+    const uint64_t *identifiers = halves_out(file, all);
+    check(memcmp(identifiers, own.list, own.count * sizeof *identifiers) == 0, "the identifiers of a walk and of sp3_begin");
     after_out(file, all);
     after_out(file, all + 5);
 }
@@ -127,15 +127,15 @@ static void identifiers_out(const uint64_t *list, size_t count, size_t room) {
 
 /* The spot after all lines with room for so many identifiers, and those that they brought. */
 static void short_out(bytes_t file, size_t room) {
-    uint64_t *names = lent_numbers(room, NUMBER_MARK);
+    uint64_t *identifiers = lent_numbers(room, NUMBER_MARK);
     size_t all = line_count(file);
-    sp3_spot_t at = sp3_after_lines(file.bytes, file.length, names, room, sp3_first_spot(), all);
+    sp3_spot_t at = sp3_after_lines(file.bytes, file.length, identifiers, room, sp3_first_spot(), all);
     spot_out("short", all, at);
-    identifiers_out(names, brought(at), room);
+    identifiers_out(identifiers, brought(at), room);
 }
 
-/* A file walked over rows with the identifiers that sp3_begin leaves, or with the given names where it is refused; and over lines. */
-static void walk_out(bytes_t file, size_t room, names_t given) {
+/* A file walked over rows with the identifiers that sp3_begin leaves, or with those given where it is refused; and over lines. */
+static void walk_out(bytes_t file, size_t room, identifiers_t given) {
     uint64_t *identifiers = lent_numbers(room, NUMBER_MARK);
     sp3_reading_t reading = sp3_begin(file.bytes, file.length, identifiers, room);
     sp3_header_t header = reading.header;
@@ -143,22 +143,22 @@ static void walk_out(bytes_t file, size_t room, names_t given) {
            header.epochs);
     check_reading(reading);
     identifiers_out(identifiers, header.satellites, room);
-    names_t own = {shown(identifiers, room * sizeof *identifiers), room};
+    identifiers_t own = {shown(identifiers, room * sizeof *identifiers), room};
     rows_out(file, reading.refusal == 0 ? own : given, header);
-    spots_out(file, (names_t){own.list, header.satellites});
+    spots_out(file, (identifiers_t){own.list, header.satellites});
     short_out(file, room);
 }
 
 void divide_case(bytes_t *batch) {
-    uint64_t room = take_number(batch), way = take_number(batch), identifiers = take_number(batch), count = take_number(batch);
+    uint64_t room = take_number(batch), way = take_number(batch), identifier_room = take_number(batch), count = take_number(batch);
     uint64_t length = take_number(batch);
     if (way > 2) stop("a stretch is divided (0), walked (1) or read by lines (2)");
-    uint64_t *names = lent_numbers(count, 0);
-    for (size_t i = 0; i < count; i++) names[i] = take_number(batch);
-    names_t given = {shown(names, count * sizeof *names), count};
+    uint64_t *identifiers = lent_numbers(count, 0);
+    for (size_t i = 0; i < count; i++) identifiers[i] = take_number(batch);
+    identifiers_t given = {shown(identifiers, count * sizeof *identifiers), count};
     bytes_t bytes = shown_bytes(take_bytes(batch, length));
     printf("case %zu\n", bytes.length);
     divide_out(bytes, room);
-    if (way == 1) walk_out(bytes, identifiers, given);
-    if (way == 2) lines_shown(bytes, identifiers);
+    if (way == 1) walk_out(bytes, identifier_room, given);
+    if (way == 2) lines_shown(bytes, identifier_room);
 }

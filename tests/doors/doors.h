@@ -116,16 +116,16 @@ void dates_case(bytes_t *batch);
 
 /* ---- lines.c ---- */
 
-/* A file read line by line by the plain line reader, with room for so many names. */
+/* A file read line by line by the plain line reader, with room for so many identifiers. */
 void lines_shown(bytes_t file, size_t room);
 
-/* Where the lines end that are read with these names known: the refusal (0 at the EOF line) and the number of that line. */
+/* Where the lines end that are read with these identifiers known: the refusal (0 at the EOF line) and the number of that line. */
 typedef struct {
     size_t refusal;
     uint64_t line;
 } line_end_t;
 
-line_end_t known_lines(bytes_t file, const uint64_t *names, size_t count);
+line_end_t known_lines(bytes_t file, const uint64_t *identifiers, size_t count);
 
 /* A spot after k lines: its byte, the kind of line due there, and the satellites and epochs still to come. */
 void spot_out(const char *word, uint64_t k, sp3_spot_t spot);

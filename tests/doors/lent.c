@@ -52,8 +52,8 @@ const void *shown(const void *bytes, size_t size) {
 
 bytes_t shown_bytes(bytes_t bytes) { return (bytes_t){shown(bytes.bytes, bytes.length), bytes.length, 0}; }
 
-/* What the guard at this place holds. */
-static uint8_t guard_at(size_t place) { return (uint8_t)(0xa5 ^ place * 37); }
+/* What the k-th guard holds. */
+static uint8_t guard_at(size_t k) { return (uint8_t)(0xa5 ^ k * 37); }
 
 /* So many bytes to be written, and guards after them. */
 static void *lent(size_t count, size_t width) {

@@ -1,4 +1,4 @@
-/* A file line by line: the plain line reader, the same where the names are known, and the walker. */
+/* A file line by line: the plain line reader, the same where the identifiers are known, and the walker. */
 #include <inttypes.h>
 #include <stdio.h>
 #include <string.h>
@@ -11,16 +11,16 @@ void spot_out(const char *word, uint64_t k, sp3_spot_t spot) {
 }
 
 /* The number of the kind `+ `. */
-enum { NAMES_DUE = 3 };
+enum { IDENTIFIERS_DUE = 3 };
 
 size_t brought(sp3_spot_t spot) {
-    return spot.state.satellites - (spot.state.due == NAMES_DUE ? spot.state.left : 0);
+    return spot.state.satellites - (spot.state.due == IDENTIFIERS_DUE ? spot.state.left : 0);
 }
 
-static bool same_names(const uint64_t *one, const uint64_t *other, size_t count) { return memcmp(one, other, count * sizeof *one) == 0; }
+static bool same_identifiers(const uint64_t *one, const uint64_t *other, size_t count) { return memcmp(one, other, count * sizeof *one) == 0; }
 
-static sp3_line_answer_t read_at(bytes_t file, sp3_spot_t at, uint64_t *names, size_t room) {
-    return sp3_read_line(file.bytes, file.length, at, names, room);
+static sp3_line_answer_t read_at(bytes_t file, sp3_spot_t at, uint64_t *identifiers, size_t room) {
+    return sp3_read_line(file.bytes, file.length, at, identifiers, room);
 }
 
 /* What line k, at this spot, was found to do; whether it is the last that is read. */
@@ -42,18 +42,18 @@ static bool line_out(uint64_t k, sp3_line_answer_t line, sp3_spot_t at) {
 }
 
 /* Where the byte of a spot is past the last, no line is left. */
-static void check_no_line(bytes_t file, size_t at, uint64_t *names, size_t room) {
+static void check_no_line(bytes_t file, size_t at, uint64_t *identifiers, size_t room) {
     sp3_spot_t spot = sp3_first_spot();
     spot.at = at;
-    sp3_line_answer_t none = {1, 0, false, place};
-    check(same_line(read_at(file, place, names, room), none), "a line read past the end");
-    check(same_line(sp3_next_line(file.bytes, file.length, names, room, place), none), "a line known past the end");
-    check(same_spot(sp3_after_lines(file.bytes, file.length, names, room, place, 3), place), "lines walked past the end");
+    sp3_line_answer_t none = {1, 0, false, spot};
+    check(same_line(read_at(file, spot, identifiers, room), none), "a line read past the end");
+    check(same_line(sp3_next_line(file.bytes, file.length, identifiers, room, spot), none), "a line known past the end");
+    check(same_spot(sp3_after_lines(file.bytes, file.length, identifiers, room, spot, 3), spot), "lines walked past the end");
 }
 
-/* Where the names are known each line does what the line reader found, but needs no room. */
-static void check_known(bytes_t file, const uint64_t *names, size_t count) {
-    const uint64_t *known = shown(names, count * sizeof *known);
+/* Where the identifiers are known each line does what the line reader found, but needs no room. */
+static void check_known(bytes_t file, const uint64_t *identifiers, size_t count) {
+    const uint64_t *known = shown(identifiers, count * sizeof *known);
     uint64_t *again = lent_numbers(count, NUMBER_MARK);
     sp3_spot_t at = sp3_first_spot();
     bool last = false;
@@ -66,98 +66,100 @@ static void check_known(bytes_t file, const uint64_t *names, size_t count) {
     }
 }
 
-/* With room for all names the reader ends where the file at the front is judged to. */
+/* With room for all identifiers the reader ends where the file at the front is judged to. */
 static void check_judged(bytes_t file, uint64_t k, sp3_line_answer_t last) {
     sp3_reading_t front = sp3_judge_front(file.bytes, file.length);
     bool same = last.finished ? front.refusal == 0 && front.length == last.next.at : front.refusal == last.refusal && front.line == k;
     check(same, "a file read by lines and judged");
 }
 
-/* A `+ ` line without fault read once more, with the names before it in a list of so many places: 12 where those after it do not fit. */
-static void check_room(bytes_t file, sp3_spot_t at, sp3_line_answer_t line, const uint64_t *names, size_t room) {
+/* A `+ ` line without fault read once more, with the identifiers before it in a list of so many places: 12 where those after it do not fit. */
+static void check_room(bytes_t file, sp3_spot_t at, sp3_line_answer_t line, const uint64_t *identifiers, size_t room) {
     uint64_t *list = lent_numbers(room, NUMBER_MARK), *before = lent_numbers(room, NUMBER_MARK);
     size_t known = brought(at) < room ? brought(at) : room, needed = brought(line.next);
-    memcpy(list, names, known * sizeof *list);
-    memcpy(before, names, known * sizeof *list);
+    memcpy(list, identifiers, known * sizeof *list);
+    memcpy(before, identifiers, known * sizeof *list);
     sp3_line_answer_t short_of_room = {12, 0, false, at}, found = read_at(file, at, list, room);
     if (room < needed) {
-        check(same_line(found, short_of_room) && same_names(list, before, room), "a line that needs more room");
+        check(same_line(found, short_of_room) && same_identifiers(list, before, room), "a line that needs more room");
     } else {
-        check(same_line(found, line) && same_names(list, names, needed), "a line that has just the room");
+        check(same_line(found, line) && same_identifiers(list, identifiers, needed), "a line that has just the room");
     }
 }
 
-/* A line that is refused where a `+ ` line is due is refused the same with room for the names before it alone: its own fault comes before 12. */
-static void check_fault(bytes_t file, sp3_spot_t at, sp3_line_answer_t line, const uint64_t *names) {
+/* A line that is refused where a `+ ` line is due is refused the same with room for the identifiers before it alone: its own fault comes before 12.
+ */
+static void check_fault(bytes_t file, sp3_spot_t at, sp3_line_answer_t line, const uint64_t *identifiers) {
     size_t room = brought(at);
     uint64_t *list = lent_numbers(room, NUMBER_MARK);
-    memcpy(list, names, room * sizeof *list);
-    check(same_line(read_at(file, at, list, room), line) && same_names(list, names, room), "a line refused without room for its names");
+    memcpy(list, identifiers, room * sizeof *list);
+    bool same = same_line(read_at(file, at, list, room), line) && same_identifiers(list, identifiers, room);
+    check(same, "a line refused without room for its identifiers");
 }
 
-/* A line that was read: one that brings no names leaves them as they were; a `+ ` line needs room for just its own and those before it. */
-static void check_line(bytes_t file, sp3_spot_t at, sp3_line_answer_t line, const uint64_t *before, const uint64_t *names, size_t room) {
-    bool names_due = at.state.due == NAMES_DUE, brings = names_due && line.refusal == 0;
-    check(brings || same_names(before, names, room), "the names after a line that brings none");
-    if (names_due && !brings) check_fault(file, at, line, names);
+/* A line that was read: one that brings no identifiers leaves them as they were; a `+ ` line needs room for just its own and those before it. */
+static void check_line(bytes_t file, sp3_spot_t at, sp3_line_answer_t line, const uint64_t *before, const uint64_t *identifiers, size_t room) {
+    bool identifiers_due = at.state.due == IDENTIFIERS_DUE, brings = identifiers_due && line.refusal == 0;
+    check(brings || same_identifiers(before, identifiers, room), "the identifiers after a line that brings none");
+    if (identifiers_due && !brings) check_fault(file, at, line, identifiers);
     if (!brings) return;
     size_t needed = brought(line.next);
-    check_room(file, at, line, names, needed);
-    check_room(file, at, line, names, needed - 1);
-    check_room(file, at, line, names, 0);
+    check_room(file, at, line, identifiers, needed);
+    check_room(file, at, line, identifiers, needed - 1);
+    check_room(file, at, line, identifiers, 0);
 }
 
-/* So many lines from the first place on, at once and in two parts with one list, lead to this spot and leave these names. */
-static void check_walk(bytes_t file, size_t lines, sp3_spot_t spot, const uint64_t *names, size_t room) {
+/* So many lines from the first spot on, at once and in two parts with one list, lead to this spot and leave these identifiers. */
+static void check_walk(bytes_t file, size_t lines, sp3_spot_t spot, const uint64_t *identifiers, size_t room) {
     uint64_t *once = lent_numbers(room, NUMBER_MARK), *twice = lent_numbers(room, NUMBER_MARK);
     sp3_spot_t first = sp3_first_spot();
     sp3_spot_t at = sp3_after_lines(file.bytes, file.length, once, room, first, lines);
-    check(same_spot(at, place) && same_names(once, names, room), "lines walked and read");
+    check(same_spot(at, spot) && same_identifiers(once, identifiers, room), "lines walked and read");
     sp3_spot_t half = sp3_after_lines(file.bytes, file.length, twice, room, first, lines / 2);
     at = sp3_after_lines(file.bytes, file.length, twice, room, half, lines - lines / 2);
-    check(same_spot(at, place) && same_names(twice, names, room), "lines walked in two parts and read");
+    check(same_spot(at, spot) && same_identifiers(twice, identifiers, room), "lines walked in two parts and read");
 }
 
 /* Whether the walk over so many lines is held to the lines read one by one: the header's, and some of the others. */
 static bool is_walked(uint64_t lines) { return lines <= 25 || lines % 50 == 0; }
 
-static void names_out(const uint64_t *names, size_t count) {
-    fputs("names", stdout);
-    for (size_t i = 0; i < count; i++) value(names[i]);
+static void identifiers_out(const uint64_t *identifiers, size_t count) {
+    fputs("identifiers", stdout);
+    for (size_t i = 0; i < count; i++) value(identifiers[i]);
     putchar('\n');
 }
 
 /* The lines up to the last that is read, each shown and checked; gives its number, and what it does. */
-static uint64_t each_line(bytes_t file, uint64_t *names, size_t room, sp3_line_answer_t *last) {
+static uint64_t each_line(bytes_t file, uint64_t *identifiers, size_t room, sp3_line_answer_t *last) {
     uint64_t *before = lent_numbers(room, NUMBER_MARK);
     sp3_spot_t at = sp3_first_spot();
     for (uint64_t k = 1;; k++) {
-        memcpy(before, names, room * sizeof *before);
-        *last = read_at(file, at, names, room);
+        memcpy(before, identifiers, room * sizeof *before);
+        *last = read_at(file, at, identifiers, room);
         bool ends = line_out(k, *last, at);
-        check_line(file, at, *last, before, names, room);
-        if (ends) check_walk(file, k + 5, at, names, room);
+        check_line(file, at, *last, before, identifiers, room);
+        if (ends) check_walk(file, k + 5, at, identifiers, room);
         if (ends) return k;
-        if (is_walked(k)) check_walk(file, k, last->next, names, room);
+        if (is_walked(k)) check_walk(file, k, last->next, identifiers, room);
         at = last->next;
     }
 }
 
 void lines_shown(bytes_t file, size_t room) {
-    uint64_t *names = lent_numbers(room, NUMBER_MARK);
+    uint64_t *identifiers = lent_numbers(room, NUMBER_MARK);
     sp3_line_answer_t last;
-    uint64_t k = each_line(file, names, room, &last);
-    names_out(names, room);
-    check_known(file, names, room);
+    uint64_t k = each_line(file, identifiers, room, &last);
+    identifiers_out(identifiers, room);
+    check_known(file, identifiers, room);
     if (room >= 255) check_judged(file, k, last);
-    check_no_line(file, file.length, names, room);
-    check_no_line(file, SIZE_MAX, names, room);
+    check_no_line(file, file.length, identifiers, room);
+    check_no_line(file, SIZE_MAX, identifiers, room);
 }
 
-line_end_t known_lines(bytes_t file, const uint64_t *names, size_t count) {
+line_end_t known_lines(bytes_t file, const uint64_t *identifiers, size_t count) {
     sp3_spot_t at = sp3_first_spot();
     for (uint64_t k = 1;; k++) {
-        sp3_line_answer_t line = sp3_next_line(file.bytes, file.length, names, count, at);
+        sp3_line_answer_t line = sp3_next_line(file.bytes, file.length, identifiers, count, at);
         if (line.refusal != 0 || line.finished) return (line_end_t){line.refusal, k};
         at = line.next;
     }

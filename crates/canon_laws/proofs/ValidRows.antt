@@ -33,7 +33,8 @@ use Rattle.layout.proofs.Lines.{padded-length}
 use Rattle.file_laws.proofs.Selected.{satellites, velocities, epochs}
 use Rattle.file_laws.proofs.Rule.{place-at, motion-at}
 use Rattle.file_laws.proofs.Counts.{satellites-bounds}
-use Rattle.file_laws.proofs.Exact.{exactNumbers, row-bounded}
+use Rattle.file_laws.proofs.Exact.{row-bounded}
+use Rattle.file.specs.Exact.{exactNumbers}
 use Rattle.file_laws.proofs.Stored.{placeLine, motionLine, place-stored, place-stored-both, motion-stored}
 
 -- a sign and a magnitude within the bound

@@ -1,5 +1,5 @@
 -- The kind of a line as it stands in a file, a short line being padded, and the lines of a kind.
-use mathlib.Core.Bool.{Bool, _||_}
+use mathlib.Core.Bool.{Bool, _||_, true, false}
 use mathlib.Core.List.{List}
 use Prim.Native.Nat.{ℕ}
 use lib.Dec.{eqb}
@@ -27,3 +27,8 @@ ofKind rules kind lines = select (isKind rules kind) lines
 -- the first of them
 abbrev pub firstOfKind : Rules → ℕ → List (List ℕ) → List ℕ
 firstOfKind rules kind lines = nth 0 (ofKind rules kind lines)
+
+-- the kind of P lines (false) and of V lines (true)
+abbrev pub rowNumber : Bool → ℕ
+rowNumber true = velocityKind
+rowNumber false = positionKind

@@ -1,3 +1,4 @@
 pub mod Kinds
 pub mod Table
 pub mod Plain
+pub mod Exact

@@ -22,7 +22,7 @@ use Rattle.laws.proofs.Bools.{and-right}
 use Rattle.laws.proofs.Bounds.{sides}
 use Rattle.file_laws.proofs.Selected.{satellites, identifiers}
 use Rattle.file_laws.proofs.Slots.{identifiers-many}
-use Rattle.file_laws.proofs.Places.{rowNumber}
+use Rattle.file.specs.Kinds.{rowNumber}
 use Rattle.file_laws.proofs.Rule.{InOrder}
 
 neither : (t u : Bool) → (t || u) ≡ false → (t ≡ false) × (u ≡ false)

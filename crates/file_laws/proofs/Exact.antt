@@ -41,6 +41,7 @@ use Rattle.record.proofs.Taking.{row-taken}
 use Rattle.file_laws.proofs.Sorting.{row-record, row-kind, epoch-kind, comment-kind}
 use Rattle.file_laws.proofs.Clean.{record-clean, item-at, amount-bounds}
 use Rattle.file_laws.proofs.Walk.{isOther, other-apart, Covers, every-line}
+use Rattle.file.specs.Exact.{exactSigned, exactNumbers}
 
 -- a count within the bound is stored as it is
 pub count-exact : (n : ℕ) → n ≤ largest → storedCount n ≡ pos n
@@ -75,26 +76,6 @@ module _ (first last : ℕ) (l : List ℕ) (starts : 1 ≤ first) (ends : last �
           omega arith
       go exponents.Unknown e = omega arith
       go exponents.Malformed e = omega arith
-
--- the twelve numbers of a row as they are
-abbrev pub exactSigned : Signed → ℤ
-exactSigned s = signedInt (s .negative) (s .magnitude)
-
-unfoldable pub exactNumbers : Row → List ℤ
-exactNumbers p =
-    exactSigned (p .x)
-    ∷ exactSigned (p .y)
-    ∷ exactSigned (p .z)
-    ∷ exactSigned (p .clock)
-    ∷ pos (p .«x_exponent»)
-    ∷ pos (p .«y_exponent»)
-    ∷ pos (p .«z_exponent»)
-    ∷ pos (p .«clock_exponent»)
-    ∷ pos (markNumber (p .event))
-    ∷ pos (markNumber (p .predicted))
-    ∷ pos (markNumber (p .maneuver))
-    ∷ pos (markNumber (p .«orbit_predicted»))
-    ∷ []
 
 -- the four magnitudes of a row
 pub record Bounded (p : Row) : Type 0 where
@@ -137,7 +118,7 @@ module _ (rules : Rules) (v : Bool) (identifier : ℕ) (l : List ℕ) (is : isRo
       go true = refl
       go false = refl
 
-  exponents-bounded : (rowOf v l .«x_exponent» ≤ 1000) × (rowOf v l .«y_exponent» ≤ 1000) × (rowOf v l .«z_exponent» ≤ 1000) × (rowOf v l .«clock_exponent» ≤ 1000)
+  pub exponents-bounded : (rowOf v l .«x_exponent» ≤ 1000) × (rowOf v l .«y_exponent» ≤ 1000) × (rowOf v l .«z_exponent» ≤ 1000) × (rowOf v l .«clock_exponent» ≤ 1000)
   unfolding rowTaken
   exponents-bounded = (
     exponent-bounded 62 63 l (omega arith) (omega arith) (omega arith),

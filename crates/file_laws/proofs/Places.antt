@@ -17,12 +17,9 @@ use Rattle.file.specs.Table.{rowLines, markNumber}
 use Rattle.file_laws.proofs.Sorting.{other-selected, picked}
 use Rattle.file_laws.proofs.Parted.{partAt}
 use Rattle.file_laws.proofs.Body.{Block, BySatellite, by-satellite, ByEpoch, blockAt, blockIs, satellite-picked, width, rows-many, rows-nth, block-picked, epochWidth, body-many, body-nth, no-lines}
+use Rattle.file.specs.Kinds.{rowNumber}
 
--- P is kind 10 and V kind 11; a file has V where its mode says so
-abbrev pub rowNumber : Bool → ℕ
-rowNumber true = velocityKind
-rowNumber false = positionKind
-
+-- a file has V where its mode says so
 abbrev pub Has : Bool → Bool → Type 0
 Has velocities true = velocities ≡ true
 Has velocities false = Unit

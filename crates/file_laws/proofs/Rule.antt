@@ -23,7 +23,8 @@ use Rattle.file_laws.proofs.Body.{blockAt, blockIs}
 use Rattle.file_laws.proofs.Selected.{satellites, identifiers, velocities, start8, interval8, epochs, by-epochs, kind-9, kind-10, kind-11, kind-rows}
 use Rattle.file_laws.proofs.Slots.{identifiers-many}
 use Rattle.file_laws.proofs.Places as place
-use Rattle.file_laws.proofs.Places.{rowNumber, Has, one-row, ownIn}
+use Rattle.file_laws.proofs.Places.{Has, one-row, ownIn}
+use Rattle.file.specs.Kinds.{rowNumber}
 use Rattle.file_laws.proofs.Instants.{header, three-parts, header-no-epoch, rows-no-epoch, epochs-before, epochs-nth}
 use Rattle.file_laws.proofs.Instants as instant
 

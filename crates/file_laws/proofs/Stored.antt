@@ -22,7 +22,8 @@ use Rattle.file_laws.proofs.Selected.{satellites, identifiers, velociti
 use Rattle.file_laws.proofs.Slots.{slots-wide}
 use Rattle.file_laws.proofs.Rule.{place-at, motion-at, rows-are-places, row-begins, row-motion}
 use Rattle.file_laws.proofs.Counts.{comment-wide, row-wide, rows-many, rows-many-both}
-use Rattle.file_laws.proofs.Exact.{exactNumbers, row-exact}
+use Rattle.file_laws.proofs.Exact.{row-exact}
+use Rattle.file.specs.Exact.{exactNumbers}
 
 -- parts of one length, one after another: the k-th begins at k times that length
 module _ {A : Type 0} (w : ℕ) (f : List ℕ → List A) (wide : (l : List ℕ) → length (f l) ≡ w) where

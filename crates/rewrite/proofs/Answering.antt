@@ -20,7 +20,7 @@ use Rattle.canon.specs.Canonical.{canonical}
 use Rattle.canon.specs.Measured.{measured, refusedAs}
 use Rattle.writer.specs.Writing.{outAfter}
 use Rattle.canon_laws.specs.Held.{rewritten}
-use Rattle.theorems.proofs.Reading.{header}
+use Rattle.theorems.specs.Files.{header}
 use Rattle.theorems.proofs.Room.{found-numbered}
 use Rattle.theorems.proofs.RewriteRoom.{rewriteReading, few-comments, many-comments}
 use Rattle.theorems.proofs.Rewritten.{lent-valid, lent-form, lent-answer, lent-written}

@@ -14,7 +14,7 @@ use Rattle.scan_laws.proofs.Files.{d-exactly}
 use Rattle.canon_laws.specs.Held.{rewritten}
 use Rattle.canon_laws.proofs.Versions.{d-proper}
 use Rattle.canon_laws.proofs.Rewriting as rewriting
-use Rattle.theorems.proofs.Reading.{header}
+use Rattle.theorems.specs.Files.{header}
 use Rattle.header.specs.declared.types.Header.{Header}
 use Rattle.scan.specs.declared.Front.the-variants as front
 use Rattle.rewrite.specs.Printed.{longest, mostComments, tooLong, refusedText, answered, printed}

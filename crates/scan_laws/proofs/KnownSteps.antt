@@ -32,7 +32,7 @@ use Rattle.scan_laws.proofs.Singles.{agreeing}
 use Rattle.scan_laws.proofs.Head.{opened, dated, counts, start8, faultAtStart, second-due, second-faults, identifiers-due, none-yet, identifiers-all, some-identifier}
 use Rattle.scan_laws.proofs.Accepts.{room, seventeen-fit, tailOf, identifiers-wide}
 use Rattle.scan_laws.proofs.Used.{frontLines, accepted-front}
-use Rattle.scan_laws.proofs.Stepping.{judged, behind}
+use Rattle.scan_laws.specs.Lines.{judged, behind}
 use Rattle.scan_laws.proofs.Known.{Alike, Past, past-alike}
 use Rattle.scan_laws.proofs.KnownIdentifiers.{From, alike-one, plus-alike}
 

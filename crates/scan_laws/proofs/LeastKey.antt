@@ -9,11 +9,7 @@ use native.Mathlib.Omega.{arith}
 use Rattle.layout.specs.Fault.{clean, keyNumber, lower}
 use Rattle.layout.specs.Layout.{Item, faultAt, faultFrom}
 use Rattle.layout.proofs.Keys.{lower-both, lower-second}
-
--- one of some faults
-abbrev pub Among : ℕ → List ℕ → Type 0
-Among key [] = ⊥
-Among key (k ∷ keys) = (key ≡ k) ⊎ Among key keys
+use Rattle.scan_laws.specs.Earned.{Among}
 
 -- The lower of two faults, of which either may be none: one of them, and above neither.
 pub record Lower (a b r : ℕ) : Type 0 where

@@ -32,9 +32,10 @@ use Rattle.machine.specs.State.{isFirst, knownIdentifiers, identifierDue, ident
 use Rattle.machine.specs.Step.{stepOf}
 use Rattle.machine.specs.declared.types.State.{State}
 use Rattle.machine.specs.declared.types.Verdict.the-variants as verdict
-use Rattle.scan_laws.proofs.LeastKey.{Among}
-use Rattle.scan_laws.proofs.Lowest.{itemsAt, checksAt, partsAt, kindAt, Earns, lowest}
-use Rattle.scan_laws.proofs.Lowest.Earns.{by-byte, by-length, by-place, by-part}
+use Rattle.scan_laws.specs.Earned.{Among}
+use Rattle.scan_laws.proofs.Lowest.{lowest}
+use Rattle.scan_laws.specs.Earned.{itemsAt, checksAt, partsAt, kindAt, Earns}
+use Rattle.scan_laws.specs.Earned.Earns.{by-byte, by-length, by-place, by-part}
 
 numbered-unless : (t : Bool) (number column : ℕ) → 4 ≤ number → number ≤ 10 → column < 128 → Numbered (unless t number column)
 numbered-unless true number column p q r h = absurd (omega arith)

@@ -21,7 +21,8 @@ use Rattle.scan.specs.declared.Tally.{Tally}
 use Rattle.scan.specs.declared.Front.{Front}
 use Rattle.scan.specs.declared.Front.the-variants as front
 use Rattle.scan.specs.Run.{nothingSeen, counted, onVerdict, run, scanOf, Going, stepped, steppedOver, atFirst}
-use Rattle.scan_laws.proofs.Stepping.{judged, GoesOn, behind, GoOn, next-line, go-first, go-later, go-more, stepped-on, place-behind, stands-behind}
+use Rattle.scan_laws.proofs.Stepping.{next-line, go-first, go-later, go-more, stepped-on, place-behind, stands-behind}
+use Rattle.scan_laws.specs.Lines.{judged, GoesOn, behind, GoOn}
 
 -- what has been read, some lines further
 abbrev talliedOver : Rules → Tally → List (List ℕ) → Tally

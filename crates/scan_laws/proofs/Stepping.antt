@@ -17,22 +17,7 @@ use Rattle.machine.specs.declared.types.LineRead.the-variants as found
 use Rattle.file.specs.Plain.{Sound}
 use Rattle.scan.specs.Run.{Going, stepped, steppedOver, atFirst}
 use Rattle.scan_laws.proofs.Room.{Ready, ready-first, ready-next, never-short}
-
--- what the machine says of a line
-abbrev pub judged : Rules → Going → List ℕ → Verdict
-judged rules g l = stepOf rules (g .state) (g .identifiers) l
-
--- the line is read without fault, and the file goes on after it
-abbrev pub GoesOn : Rules → Going → List ℕ → Type 0
-GoesOn rules g l = (s : State) × (judged rules g l ≡ verdict.Next s)
-
--- where one is after the first k lines
-abbrev pub behind : Rules → Going → List (List ℕ) → ℕ → Going
-behind rules g ls k = steppedOver rules g (take k ls)
-
--- each of the first k lines goes on
-abbrev pub GoOn : Rules → Going → List (List ℕ) → ℕ → Type 0
-GoOn rules g ls k = (i : ℕ) → i < k → GoesOn rules (behind rules g ls i) (nth i ls)
+use Rattle.scan_laws.specs.Lines.{judged, GoesOn, behind, GoOn, Stands}
 
 -- the line after the first k
 pub next-line : (k : ℕ) (ls : List (List ℕ)) → k < length ls → drop k ls ≡ nth k ls ∷ drop (suc k) ls
@@ -94,18 +79,6 @@ module _ (rules : Rules) where
       let here = go-first k l ls g goes in
       ready-behind k ls (stepped rules g l) (ready-next rules g l (here .0) ready (here .1)) (go-later k l ls g goes) (le-of-suc-le-suc h)
 
--- What the line reader does after k lines of some bytes: it stands behind them, and reads the next.
-pub record Stands (rules : Rules) (bytes : List ℕ) (k : ℕ) (g : Going) : Type 0 where
-  pub place : g .at ≡ bytesIn (take k (linesOf bytes))
-  pub joined : g .at ≡ length (joinLines (take k (linesOf bytes)))
-  pub reads :
-      k < length (linesOf bytes)
-      → lineRead rules bytes (g .at) (g .state) (g .identifiers)
-      ≡ readAs (stepOf rules (g .state) (g .identifiers) (nth k (linesOf bytes))) (g .at + length (nth k (linesOf bytes)) + 1)
-  pub keeps :
-      k < length (linesOf bytes) → lineIdentifiers rules bytes (g .at) (g .state) (g .identifiers) ≡ identifiersKept rules (g .state) (g .identifiers) (nth k (linesOf bytes))
-  pub ends : length (linesOf bytes) ≤ k → lineRead rules bytes (g .at) (g .state) (g .identifiers) ≡ found.NoLine
-
 module _ (rules : Rules) (sound : Sound rules) (bytes : List ℕ) where
   abbrev lines : List (List ℕ)
   lines = linesOf bytes
@@ -130,7 +103,7 @@ module _ (rules : Rules) (sound : Sound rules) (bytes : List ℕ) where
     pub stands-behind : Stands rules bytes k (g k)
     unfolding readFirst identifiersFirst
     stands-behind = record {
-      place = place;
+      spot = place;
       joined = place ∙ bytes-in (take k lines);
       reads = λ more. rw (rest ∙ next-line k lines more) (ap (λ (v : Verdict). readAs v (g k .at + length (nth k lines) + 1)) (does (nth k lines)));
       keeps = λ more. rw (rest ∙ next-line k lines more) refl;

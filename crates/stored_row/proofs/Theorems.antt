@@ -182,10 +182,10 @@ module _ (before more : List ℤ) (p : Row) (k : ℕ) (at : length before ≡ k 
 
 -- so of the row that is stored in the first twelve places
 module _ (p : Row) (old : List ℤ) where
-  pub first-spot : Bounded (p .x) → Bounded (p .y) → Bounded (p .z)
+  pub first-place : Bounded (p .x) → Bounded (p .y) → Bounded (p .z)
       → placeIn (over (rowNumbers p) old) 0
       ≡ cond (placeAbsent (p .x .magnitude) (p .y .magnitude) (p .z .magnitude)) place.Absent (place.At (signed (p .x)) (signed (p .y)) (signed (p .z)))
-  first-spot hx hy hz = place-back [] (drop (length (rowNumbers p)) old) p 0 refl hx hy hz
+  first-place hx hy hz = place-back [] (drop (length (rowNumbers p)) old) p 0 refl hx hy hz
 
   pub first-clock : Bounded (p .clock)
       → clockIn (over (rowNumbers p) old) 0 ≡ cond (clockAbsent (p .clock .negative) (p .clock .magnitude)) clock.Absent (clock.At (signed (p .clock)))

@@ -17,19 +17,13 @@ use Rattle.reader.specs.Reading.{refusedWith, linesTo, acceptedAs, fileOf, judg
 use Rattle.row_walk.specs.Begin.{begunAs, identifiersBegun}
 use Rattle.scan_laws.proofs.Files.{whole-taken}
 use Rattle.questions.proofs.Asking.{identifiers-counted}
-use Rattle.theorems.proofs.Reading.{header}
+use Rattle.theorems.specs.Files.{header}
 use Rattle.theorems.proofs.Room.{found-numbered}
-use Rattle.theorems.proofs.WalkedRows.{Identified}
+use Rattle.theorems.specs.Walked.{Identified}
 use Rattle.reader.specs.declared.types.Reading.{Reading}
 use Rattle.scan.specs.declared.Tally.{Tally}
 use Rattle.scan.specs.declared.Front.the-variants as front
-
--- what `begin` answers where so much room is lent, and the list afterwards
-abbrev pub begun : List ℕ → ℕ → Reading
-begun bytes room = begunAs (judged d bytes (fileOf d bytes)) room
-
-abbrev pub begunList : List ℕ → List ℕ → List ℕ
-begunList bytes old = identifiersBegun (judged d bytes (fileOf d bytes)) bytes old
+use Rattle.theorems.specs.Walked.{begun, begunList}
 
 module _ (bytes : List ℕ) (t : Tally) (accepted : fileOf d bytes ≡ front.File t) where
   lines-are : linesTo (t .end) bytes ≡ linesOf bytes

@@ -18,8 +18,9 @@ use Rattle.reader.specs.Reading.{frontOf}
 use Rattle.scan.specs.declared.Front.the-variants as front
 use Rattle.divide.specs.Dividing.{Divides, none, one, Cuts, cutsOf, sum, division, divisionFrom, noRoom, divideOf, lengthsAfter}
 use Rattle.divide.specs.declared.Division.{Division}
-use Rattle.theorems.proofs.EndToEnd.{files-first, divided, lengths-sum, lengths-some, file-numbered, Left, parts}
+use Rattle.theorems.proofs.EndToEnd.{files-first, divided, lengths-sum, lengths-some, file-numbered, parts}
 use Rattle.theorems.proofs.Judging.{refused-numbers}
+use Rattle.theorems.specs.Divided.{Left, AtFront, TooMany}
 
 -- the lengths of the accepted files at the front
 abbrev found : List ℕ → List ℕ
@@ -75,21 +76,6 @@ module _ {bytes ls : List ℕ} (x : Divides d bytes ls) where
 pub two-files : (a b : List ℕ) → IsFile d a → IsFile d b → (room : ℕ) → 2 ≤ room → divideOf d (a ++ b) room ≡ division 2 (length (a ++ b)) 0 0
 two-files a b f g room h =
     divide-gives (subst (λ (s : List ℕ). Divides d (a ++ s) (length a ∷ length b ∷ [])) (append-nil b) (one a f (one b g none))) room h
-
--- THE FRONT OF A STRETCH: accepted files laid end to end, with the lengths that are written, and a rest; no division of any beginning of the
--- stretch has other files or more of them.
-pub record AtFront (bytes old : List ℕ) (answer : Division) : Type 0 where
-  pub files : List ℕ
-  pub rest : List ℕ
-  pub lengths : List ℕ
-  pub bytes-are : bytes ≡ files ++ rest
-  pub are-files : Divides d files lengths
-  pub room : length lengths ≤ length old
-  pub written : lengthsAfter d bytes old ≡ over lengths old
-  pub count-is : answer .count ≡ length lengths
-  pub rest-begins : answer .rest ≡ length files
-  pub left : Left d rest (answer .refusal) (answer .line)
-  pub all-there : (a b ks : List ℕ) → bytes ≡ a ++ b → Divides d a ks → take (length ks) lengths ≡ ks
 
 beginning : (bytes a b ks : List ℕ) → bytes ≡ a ++ b → Divides d a ks → found bytes ≡ ks ++ found b
 beginning bytes a b ks e x = ap found e ∙ ap (λ (c : Cuts). c .lengths) (files-first d b x)
@@ -150,10 +136,6 @@ never-11 bytes room e = go (refusal-numbers bytes room)
     go : OfRest (divideOf d bytes room .refusal) ⊎ (divideOf d bytes room .refusal ≡ 12) → ⊥
     go (inl of-rest) = not-of-rest (divideOf d bytes room .refusal) (omega arith) of-rest
     go (inr twelve) = omega arith
-
--- more accepted files stand at the front than there is room for
-abbrev pub TooMany : List ℕ → ℕ → Type 0
-TooMany bytes room = (a : List ℕ) × (b : List ℕ) × (ls : List ℕ) × (bytes ≡ a ++ b) × Divides d a ls × (room < length ls)
 
 twelve-short : (bytes : List ℕ) (room : ℕ) → divideOf d bytes room .refusal ≡ 12 → room < length (found bytes)
 twelve-short bytes room e = go (room-or-not (length (found bytes)) room)

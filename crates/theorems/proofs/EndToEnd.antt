@@ -17,6 +17,7 @@ use Rattle.scan_laws.proofs.Local.{scan-local, whole-ends, front-whole}
 use Rattle.scan_laws.proofs.Used.{accepted-front}
 use Rattle.divide.specs.Dividing.{Divides, none, one, Cuts, noCuts, after, cuts, cutsOf, sum}
 use Rattle.divide.proofs.Cutting.{takes-byte, cut-end, cut-file}
+use Rattle.theorems.specs.Divided.{Left}
 
 -- files of these lengths before some cuts
 abbrev pub before : List ℕ → Cuts → Cuts
@@ -65,19 +66,13 @@ module _ (rules : Rules) where
       (sym (ap (drop (length a + sum (take i ls))) (append-assoc a b rest) ∙ drop-append-add a (b ++ rest) (sum (take i ls))))
       (file-numbered rest more i (le-of-suc-le-suc h))
 
-  -- what is left after the files: nothing, with refusal and line 0; or a rest that is refused
-  abbrev pub Left : List ℕ → ℕ → ℕ → Type 0
-  Left rest refusal line =
-      ((rest ≡ []) × (refusal ≡ 0) × (line ≡ 0))
-      ⊎ ((column : ℕ) × (0 < length rest) × (scanOf rules rest ≡ front.Refused refusal line column))
-
   -- files at the front and a rest
   pub record Parts (bytes : List ℕ) (c : Cuts) : Type 0 where
     pub files : List ℕ
     pub rest : List ℕ
     pub bytes-are : bytes ≡ files ++ rest
     pub are-files : Divides rules files (c .lengths)
-    pub left : Left rest (c .refusal) (c .line)
+    pub left : Left rules rest (c .refusal) (c .line)
 
   -- one file more
   more-parts : (bytes : List ℕ) (t : Tally) (c : Cuts) → scanOf rules bytes ≡ front.File t → Parts (drop (t .end) bytes) c → Parts bytes (after (t .end) c)

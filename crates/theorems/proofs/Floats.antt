@@ -28,19 +28,20 @@ use Rattle.questions.specs.Questions.{rowBegins}
 use Rattle.float_row.specs.Floats.{floatUnless, floatRow, absentRow, rowAnswer}
 use Rattle.scan_laws.proofs.Files.{whole-taken}
 use Rattle.file.proofs.Exact.{stored-exact}
-use Rattle.file_laws.proofs.Exact.{exactSigned, Bounded, row-bounded}
+use Rattle.file_laws.proofs.Exact.{Bounded, row-bounded, row-in}
+use Rattle.file_laws.proofs.Rule.{absentIn}
+use Rattle.record.specs.Absence.{placeAbsent}
+use Rattle.file.specs.Exact.{exactSigned}
 use Rattle.theorems.proofs.Room.{found-numbered}
-use Rattle.theorems.proofs.Reading.{header, identifier, rowsOf, rowAt, There, the-row}
+use Rattle.theorems.proofs.Reading.{the-row}
+use Rattle.theorems.specs.Files.{header, identifier, rowLinesOf, rowAt, There}
 use Rattle.record.specs.declared.types.Row.{Row}
 use Rattle.record.specs.declared.types.Signed.{Signed}
 use Rattle.float_row.specs.declared.FloatRow.{FloatRow}
 use Rattle.float_row.specs.declared.RowAnswer.{RowAnswer}
 use Rattle.scan.specs.declared.Front.the-variants as front
-
--- a float is exactly a whole number: its sign and its size
-abbrev pub Exactly : Float → ℤ → Type 0
-Exactly v (pos n) = HasValue v false n 1
-Exactly v (negsuc n) = HasValue v true (suc n) 1
+use Rattle.theorems.specs.Asked.{Exactly, asked, rowFound, rowRefused}
+use Rattle.theorems.specs.Files.{lineAsked, held}
 
 -- twelve digits fit: nothing is lost
 exact : (n : ℤ) → natAbs n ≤ largest → Exactly (ofInt binary64 n) n
@@ -130,19 +131,9 @@ pub clock-nan : (row : Row) → floatRow row .«clock_absent» ≡ true → floa
 unfolding floatRow floatUnless
 clock-nan row e = rw e refl
 
--- the row question: a row of a file, by epoch and satellite
-abbrev pub asked : List ℕ → ℕ → ℕ → RowAnswer
-asked bytes k j = rowAnswer bytes (rowBegins d bytes (fileOf d bytes) k j)
-
-abbrev pub rowFound : FloatRow → RowAnswer
-rowFound row = record { refusal = 0; line = 0; row = row }
-
-abbrev pub rowRefused : ℕ → ℕ → RowAnswer
-rowRefused number line = record { refusal = number; line = line; row = absentRow }
-
 -- In an accepted file the row of epoch k and satellite j is that of P line k * n + j, in mode V too.
 pub row-asked : (bytes : List ℕ) → IsFile d bytes → (k j : ℕ) → There bytes k j
-    → asked bytes k j ≡ rowFound (floatRow (rowOf false (nth (rowAt bytes k j) (rowsOf false bytes))))
+    → asked bytes k j ≡ rowFound (floatRow (rowOf false (nth (rowAt bytes k j) (rowLinesOf false bytes))))
 unfolding rowAnswer rowBegins headerIn
 row-asked bytes (t, e) k j there =
     let some : ltb k (header bytes .epochs) ≡ true = lt-ltb k (header bytes .epochs) (there .epoch) in
@@ -171,29 +162,36 @@ row-refused bytes number line column e k j =
 
 -- So of every row of an accepted file.
 module _ (bytes : List ℕ) (accepted : IsFile d bytes) (k j : ℕ) (there : There bytes k j) where
-  -- what its P line holds
-  abbrev pub held : Row
-  held = rowOf false (nth (rowAt bytes k j) (rowsOf false bytes))
+  named : isRowLine d false (identifier bytes j) (nth (rowAt bytes k j) (rowLinesOf false bytes)) ≡ true
+  named = the-row bytes accepted k j there .names-it
 
-  named : isRowLine d false (identifier bytes j) (nth (rowAt bytes k j) (rowsOf false bytes)) ≡ true
-  named = the-row bytes accepted k j there .identifiers-it
+  -- It is answered, never refused,
+  pub asked-answered : asked bytes k j .refusal ≡ 0
+  asked-answered = ap (λ (a : RowAnswer). a .refusal) (row-asked bytes accepted k j there)
+
+  -- and marked absent where its P line has three zeros.
+  pub absent-line : asked bytes k j .row .«place_absent» ≡ absentIn d (lineAsked false bytes k j)
+  unfolding floatRow
+  absent-line =
+      rw (row-asked bytes accepted k j there)
+      (ap (λ (r : Row). placeAbsent (r .x .magnitude) (r .y .magnitude) (r .z .magnitude)) (sym (row-in d false (identifier bytes j) (lineAsked false bytes k j) named)))
 
   -- Where its place is not marked absent, its three coordinates are exactly those of its P line.
   pub asked-place : asked bytes k j .row .«place_absent» ≡ false
-      → Exactly (asked bytes k j .row .x) (exactSigned (held .x))
-      × Exactly (asked bytes k j .row .y) (exactSigned (held .y))
-      × Exactly (asked bytes k j .row .z) (exactSigned (held .z))
-  asked-place = rw (row-asked bytes accepted k j there) (place-exact (identifier bytes j) (nth (rowAt bytes k j) (rowsOf false bytes)) named)
+      → Exactly (asked bytes k j .row .x) (exactSigned (held false bytes k j .x))
+      × Exactly (asked bytes k j .row .y) (exactSigned (held false bytes k j .y))
+      × Exactly (asked bytes k j .row .z) (exactSigned (held false bytes k j .z))
+  asked-place = rw (row-asked bytes accepted k j there) (place-exact (identifier bytes j) (nth (rowAt bytes k j) (rowLinesOf false bytes)) named)
 
   -- Where its clock is not marked absent, it is exactly that of its P line.
-  pub asked-clock : asked bytes k j .row .«clock_absent» ≡ false → Exactly (asked bytes k j .row .clock) (exactSigned (held .clock))
-  asked-clock = rw (row-asked bytes accepted k j there) (clock-exact (identifier bytes j) (nth (rowAt bytes k j) (rowsOf false bytes)) named)
+  pub asked-clock : asked bytes k j .row .«clock_absent» ≡ false → Exactly (asked bytes k j .row .clock) (exactSigned (held false bytes k j .clock))
+  asked-clock = rw (row-asked bytes accepted k j there) (clock-exact (identifier bytes j) (nth (rowAt bytes k j) (rowLinesOf false bytes)) named)
 
   -- Its place is marked absent exactly when the three fields are zero, whatever the clock.
   pub asked-no-place : (asked bytes k j .row .«place_absent» ≡ true)
-      ↔ ((exactSigned (held .x) ≡ pos 0) × (exactSigned (held .y) ≡ pos 0) × (exactSigned (held .z) ≡ pos 0))
-  asked-no-place = rw (row-asked bytes accepted k j there) (place-absent held)
+      ↔ ((exactSigned (held false bytes k j .x) ≡ pos 0) × (exactSigned (held false bytes k j .y) ≡ pos 0) × (exactSigned (held false bytes k j .z) ≡ pos 0))
+  asked-no-place = rw (row-asked bytes accepted k j there) (place-absent (held false bytes k j))
 
   -- Its clock is marked absent exactly at +999,999,999,999, whatever the place.
-  pub asked-no-clock : (asked bytes k j .row .«clock_absent» ≡ true) ↔ (exactSigned (held .clock) ≡ pos 999_999_999_999)
-  asked-no-clock = rw (row-asked bytes accepted k j there) (clock-absent held)
+  pub asked-no-clock : (asked bytes k j .row .«clock_absent» ≡ true) ↔ (exactSigned (held false bytes k j .clock) ≡ pos 999_999_999_999)
+  asked-no-clock = rw (row-asked bytes accepted k j there) (clock-absent (held false bytes k j))

@@ -20,10 +20,12 @@ use Rattle.scan.specs.Run.{wholeFront, IsFile, Going, atFirst}
 use Rattle.reader.specs.Reading.{linesTo, frontOf, fileOf, linesIn, judged, enough, delivered, filled}
 use Rattle.scan_laws.proofs.Files.{d-sound, d-exactly}
 use Rattle.scan_laws.proofs.Local as local
-use Rattle.scan_laws.proofs.Lowest.{Earns, lowest, none}
+use Rattle.scan_laws.proofs.Lowest.{lowest, none}
+use Rattle.scan_laws.specs.Earned.{Earns}
 use Rattle.scan_laws.proofs.Refused as stop
 use Rattle.scan_laws.proofs.Refused.{EndsAfter, accepted-steps, reads-end, refusal-numbered}
-use Rattle.scan_laws.proofs.Stepping.{GoesOn, GoOn, behind, Stands, stands-behind}
+use Rattle.scan_laws.proofs.Stepping.{stands-behind}
+use Rattle.scan_laws.specs.Lines.{GoesOn, GoOn, behind, Stands}
 use Rattle.scan_laws.proofs.Used.{accepted-front}
 use Rattle.machine.specs.declared.types.State.{State}
 use Rattle.machine.specs.declared.types.Verdict.{Verdict}
@@ -33,22 +35,11 @@ use Rattle.reader.specs.declared.types.Reading.{Reading}
 use Rattle.scan.specs.declared.Tally.{Tally}
 use Rattle.scan.specs.declared.Front.{Front}
 use Rattle.scan.specs.declared.Front.the-variants as front
+use Rattle.theorems.specs.Faults.{after, AllGoOn, Earned, FirstFault}
 
 -- The machine accepts exactly the files of the plain definition.
 pub accepts-exactly : (bytes : List ℕ) → IsFile d bytes ↔ Accepted d bytes
 accepts-exactly bytes = d-exactly bytes
-
--- where one is after the first k lines of some bytes: the place, the state and the identifiers
-abbrev pub after : List ℕ → ℕ → Going
-after bytes k = behind d atFirst (linesOf bytes) k
-
--- each of the first k lines is read without fault and does not end the file
-abbrev pub AllGoOn : List ℕ → ℕ → Type 0
-AllGoOn bytes k = GoOn d atFirst (linesOf bytes) k
-
--- a number of the table "Numbers of the answers" that line k, counted from 0, earns where it stands
-abbrev pub Earned : List ℕ → ℕ → ℕ → Type 0
-Earned bytes k m = Earns d (after bytes k .state) (after bytes k .identifiers) (nth k (linesOf bytes)) m
 
 -- what the machine says of that line
 abbrev said : List ℕ → ℕ → Verdict
@@ -60,15 +51,6 @@ said-lowest bytes k m c e = lowest d (after bytes k .state) (after bytes k .iden
 
 said-none : (bytes : List ℕ) (k : ℕ) → ((m c : ℕ) → said bytes k ≡ verdict.Fault m c → ⊥) → (m : ℕ) → Earned bytes k m → ⊥
 said-none bytes k f = none d (after bytes k .state) (after bytes k .identifiers) (nth k (linesOf bytes)) .1 f
-
--- the line is the first faulty one, and the number the lowest that it earns; or the lines run out, which is 1
-pub record FirstFault (bytes : List ℕ) (number line : ℕ) : Type 0 where
-  pub k : ℕ
-  pub line-is : line ≡ k + 1
-  pub goes : AllGoOn bytes k
-  pub why :
-      ((k ≡ length (linesOf bytes)) × (number ≡ 1))
-      ⊎ ((k < length (linesOf bytes)) × Earned bytes k number × ((m : ℕ) → Earned bytes k m → number ≤ m))
 
 -- a line that goes on earns no number
 pub goes-clean : (bytes : List ℕ) (k i : ℕ) → AllGoOn bytes k → i < k → (m : ℕ) → Earned bytes i m → ⊥

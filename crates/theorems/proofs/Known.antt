@@ -16,7 +16,7 @@ use Rattle.scan.specs.declared.Tally.{Tally}
 use Rattle.scan.specs.declared.Front.the-variants as front
 use Rattle.file_laws.proofs.Counts.{count-is, identifiers-are}
 use Rattle.scan_laws.proofs.Used.{frontLines}
-use Rattle.scan_laws.proofs.Stepping.{behind}
+use Rattle.scan_laws.specs.Lines.{behind}
 use Rattle.scan_laws.proofs.Files.{plain-front}
 use Rattle.scan_laws.proofs.KnownSteps.{known-plain}
 

@@ -1,6 +1,6 @@
 -- What the lent rows hold after a reading that answers 0: each row of the file, found by epoch and satellite.
 -- Assumes nothing.
-use mathlib.Core.Path.{_≡_, refl, sym, ap, _∙_}
+use mathlib.Core.Path.{_≡_, refl, sym, ap, _∙_, subst}
 use mathlib.Core.Bool.{Bool, true, false, cond}
 use mathlib.Core.List.{List, _++_}
 use Prim.Native.Nat.{ℕ, _+_, _*_, _≤_}
@@ -13,19 +13,25 @@ use Rattle.header.specs.Rules.{d}
 use Rattle.lines.specs.Lent.{over}
 use Rattle.lines.specs.Lines.{linesOf, nth}
 use Rattle.record.specs.Absence.{placeAbsent, clockAbsent}
-use Rattle.record.specs.Rows.{rowOf}
+use Rattle.layout.specs.Layout.{valuesOf}
+use Rattle.layout.specs.Line.{padded}
+use Rattle.record.specs.Rows.{rowOf, rowFrom, rowItems}
 use Rattle.file.specs.Plain.{isRowLine}
 use Rattle.file.specs.Table.{rowNumbers, rowsIn}
 use Rattle.scan.specs.Run.{IsFile}
-use Rattle.stored_row.specs.Stored.{placeIn, clockIn}
+use Rattle.stored_row.specs.Stored.{placeIn, clockIn, deviationOf, deviationIn, flagIn}
 use Rattle.reader.specs.Reading.{fileOf, readAnswer, rowsAfter}
-use Rattle.file_laws.proofs.Exact.{exactSigned, exactNumbers, Bounded, row-bounded, row-in, row-exact}
-use Rattle.stored_row.proofs.Theorems.{place-back, clock-back}
-use Rattle.theorems.proofs.Reading.{header, identifier, rowsOf, rowAt, There, the-row, the-motion, row-holds, row-holds-both, motion-holds}
+use Rattle.file_laws.proofs.Exact.{Bounded, row-bounded, row-held, row-in, row-exact, exponents-bounded}
+use Rattle.file.specs.Exact.{exactSigned, exactNumbers}
+use Rattle.stored_row.proofs.Theorems.{place-back, clock-back, exponents-back, flags-back}
+use Rattle.stored_row.specs.declared.types.Flag.the-variants as flag
+use Rattle.theorems.proofs.Reading.{the-row, the-motion, row-holds, row-holds-both, motion-holds}
+use Rattle.theorems.specs.Files.{header, identifier, rowLinesOf, rowAt, There}
 use Rattle.theorems.proofs.Filled.{rows-filled}
 use Rattle.record.specs.declared.types.Row.{Row}
 use Rattle.stored_row.specs.declared.types.Place.the-variants as place
 use Rattle.stored_row.specs.declared.types.ClockRead.the-variants as clock
+use Rattle.theorems.specs.Files.{lineAsked, held, tableRow}
 
 -- a part of twelve that is there ends before the list does
 module _ (numbers : List ℤ) (m : ℕ) (part : List ℤ) (wide : length part ≡ 12) (stored : take 12 (drop m numbers) ≡ part) where
@@ -68,13 +74,25 @@ module _ (numbers : List ℤ) (r : ℕ) (row : Row) (bounded : Bounded row) (sto
       ap (λ (s : List ℤ). clockIn s r) (sym parts)
       ∙ clock-back (take (12 * r) numbers) (drop 12 (drop (12 * r) numbers)) row r before (bounded .clock)
 
--- the row that a P line (false) or V line (true) holds, and its number among the rows of the table: in mode V each V row stands after its P row
-abbrev pub held : Bool → List ℕ → ℕ → ℕ → Row
-held v bytes k j = rowOf v (nth (rowAt bytes k j) (rowsOf v bytes))
+  stored-exponents : (row .«x_exponent» ≤ 1000) × (row .«y_exponent» ≤ 1000) × (row .«z_exponent» ≤ 1000) × (row .«clock_exponent» ≤ 1000)
+      → (deviationIn numbers r 0 ≡ deviationOf 0 (row .«x_exponent»)) × (deviationIn numbers r 1 ≡ deviationOf 1 (row .«y_exponent»))
+      × (deviationIn numbers r 2 ≡ deviationOf 2 (row .«z_exponent»)) × (deviationIn numbers r 3 ≡ deviationOf 3 (row .«clock_exponent»))
+  stored-exponents low =
+      subst
+      (λ (s : List ℤ). (deviationIn s r 0 ≡ deviationOf 0 (row .«x_exponent»)) × (deviationIn s r 1 ≡ deviationOf 1 (row .«y_exponent»))
+      × (deviationIn s r 2 ≡ deviationOf 2 (row .«z_exponent»)) × (deviationIn s r 3 ≡ deviationOf 3 (row .«clock_exponent»)))
+      parts
+      (exponents-back (take (12 * r) numbers) (drop 12 (drop (12 * r) numbers)) row r before
+      (omega (arith, low .0)) (omega (arith, low .1)) (omega (arith, low .2)) (omega (arith, low .3)))
 
-abbrev pub tableRow : Bool → List ℕ → ℕ → ℕ → ℕ
-tableRow true bytes k j = 2 * rowAt bytes k j + 1
-tableRow false bytes k j = cond (header bytes .velocity) (2 * rowAt bytes k j) (rowAt bytes k j)
+  stored-flags : (flagIn numbers r 0 ≡ cond (row .event) flag.Set flag.NotSet) × (flagIn numbers r 1 ≡ cond (row .predicted) flag.Set flag.NotSet)
+      × (flagIn numbers r 2 ≡ cond (row .maneuver) flag.Set flag.NotSet) × (flagIn numbers r 3 ≡ cond (row .«orbit_predicted») flag.Set flag.NotSet)
+  stored-flags =
+      subst
+      (λ (s : List ℤ). (flagIn s r 0 ≡ cond (row .event) flag.Set flag.NotSet) × (flagIn s r 1 ≡ cond (row .predicted) flag.Set flag.NotSet)
+      × (flagIn s r 2 ≡ cond (row .maneuver) flag.Set flag.NotSet) × (flagIn s r 3 ≡ cond (row .«orbit_predicted») flag.Set flag.NotSet))
+      parts
+      (flags-back (take (12 * r) numbers) (drop 12 (drop (12 * r) numbers)) row r before)
 
 -- a whole file, read into these lists with success
 module _ (bytes : List ℕ) (accepted : IsFile d bytes) (identifiers exponents comments : List ℕ) (old : List ℤ)
@@ -88,13 +106,13 @@ module _ (bytes : List ℕ) (accepted : IsFile d bytes) (identifiers exponents c
 
   -- V rows are asked for in mode V alone
   module _ (k j : ℕ) (there : There bytes k j) (v : Bool) (mode : v ≡ true → header bytes .velocity ≡ true) where
-    named : isRowLine d v (identifier bytes j) (nth (rowAt bytes k j) (rowsOf v bytes)) ≡ true
+    named : isRowLine d v (identifier bytes j) (nth (rowAt bytes k j) (rowLinesOf v bytes)) ≡ true
     named = go v mode
       where
         go : (t : Bool) → (t ≡ true → header bytes .velocity ≡ true)
-            → isRowLine d t (identifier bytes j) (nth (rowAt bytes k j) (rowsOf t bytes)) ≡ true
-        go true m = the-motion bytes accepted k j there (m refl) .identifiers-it
-        go false m = the-row bytes accepted k j there .identifiers-it
+            → isRowLine d t (identifier bytes j) (nth (rowAt bytes k j) (rowLinesOf t bytes)) ≡ true
+        go true m = the-motion bytes accepted k j there (m refl) .names-it
+        go false m = the-row bytes accepted k j there .names-it
 
     in-table : take 12 (drop (12 * tableRow v bytes k j) (rowsIn d (linesOf bytes))) ≡ exactNumbers (held v bytes k j)
     in-table = go v mode
@@ -122,11 +140,11 @@ module _ (bytes : List ℕ) (accepted : IsFile d bytes) (identifiers exponents c
     as-stored : take 12 (drop (12 * tableRow v bytes k j) lent) ≡ rowNumbers (held v bytes k j)
     as-stored =
         lent-row
-        ∙ sym (row-exact d v (identifier bytes j) (nth (rowAt bytes k j) (rowsOf v bytes)) named)
-        ∙ ap rowNumbers (row-in d v (identifier bytes j) (nth (rowAt bytes k j) (rowsOf v bytes)) named)
+        ∙ sym (row-exact d v (identifier bytes j) (nth (rowAt bytes k j) (rowLinesOf v bytes)) named)
+        ∙ ap rowNumbers (row-in d v (identifier bytes j) (nth (rowAt bytes k j) (rowLinesOf v bytes)) named)
 
     bounded : Bounded (held v bytes k j)
-    bounded = row-bounded d v (identifier bytes j) (nth (rowAt bytes k j) (rowsOf v bytes)) named
+    bounded = row-bounded d v (identifier bytes j) (nth (rowAt bytes k j) (rowLinesOf v bytes)) named
 
     -- Asked by name, its place or velocity is absent where the three fields of the line are zero, else it is those three, whatever the clock.
     pub lent-place : placeIn lent (tableRow v bytes k j)
@@ -139,3 +157,21 @@ module _ (bytes : List ℕ) (accepted : IsFile d bytes) (identifiers exponents c
         ≡ cond (clockAbsent (held v bytes k j .clock .negative) (held v bytes k j .clock .magnitude)) clock.Absent
         (clock.At (exactSigned (held v bytes k j .clock)))
     lent-clock = stored-clock lent (tableRow v bytes k j) (held v bytes k j) bounded as-stored
+
+    -- Its exponents are those of its columns: a value, unknown where they are blank, too large at 99, for the clock at 999.
+    pub lent-exponents : let row = held v bytes k j in let r = tableRow v bytes k j in
+        (deviationIn lent r 0 ≡ deviationOf 0 (row .«x_exponent»)) × (deviationIn lent r 1 ≡ deviationOf 1 (row .«y_exponent»))
+        × (deviationIn lent r 2 ≡ deviationOf 2 (row .«z_exponent»)) × (deviationIn lent r 3 ≡ deviationOf 3 (row .«clock_exponent»))
+    lent-exponents =
+        stored-exponents lent (tableRow v bytes k j) (held v bytes k j) bounded as-stored
+        (exponents-bounded d v (identifier bytes j) (nth (rowAt bytes k j) (rowLinesOf v bytes)) named)
+
+    -- Its flags are the letters of columns 75, 76, 79 and 80.
+    pub lent-flags : let row = held v bytes k j in let r = tableRow v bytes k j in
+        (flagIn lent r 0 ≡ cond (row .event) flag.Set flag.NotSet) × (flagIn lent r 1 ≡ cond (row .predicted) flag.Set flag.NotSet)
+        × (flagIn lent r 2 ≡ cond (row .maneuver) flag.Set flag.NotSet) × (flagIn lent r 3 ≡ cond (row .«orbit_predicted») flag.Set flag.NotSet)
+    lent-flags = stored-flags lent (tableRow v bytes k j) (held v bytes k j) bounded as-stored
+
+    -- What the row holds is what the columns of its line say, each field by its rule.
+    pub row-columns : held v bytes k j ≡ rowFrom v (valuesOf (rowItems v) (padded (lineAsked v bytes k j)))
+    row-columns = row-held d v (identifier bytes j) (nth (rowAt bytes k j) (rowLinesOf v bytes)) named

@@ -15,7 +15,7 @@ pub mod LineRoom
 pub mod Walks
 pub mod WalkedRows
 pub mod Beginning
+pub mod Answers
 pub mod Exist
-pub mod FrontPage
 pub mod EndToEnd
 pub mod Dividing

@@ -20,7 +20,7 @@ use Rattle.scan_laws.proofs.Numbered.{step-numbered}
 use Rattle.scan_laws.proofs.Room.{ready-first, never-short}
 use Rattle.scan_laws.proofs.Stepping.{ready-behind}
 use Rattle.scan.specs.Run.{atFirst}
-use Rattle.theorems.proofs.Judging.{after, AllGoOn}
+use Rattle.theorems.specs.Faults.{after, AllGoOn}
 use Rattle.header.specs.declared.types.Rules.{Rules}
 use Rattle.machine.specs.declared.types.State.{State}
 use Rattle.machine.specs.declared.types.Verdict.{Verdict}

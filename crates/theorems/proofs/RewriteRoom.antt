@@ -19,8 +19,10 @@ use Rattle.reader.specs.Reading.{refusedWith, acceptedAs}
 use Rattle.scan_laws.proofs.Files.{file-plain, whole-taken}
 use Rattle.file_laws.proofs.Counts.{satellites-bounds}
 use Rattle.theorems.proofs.Accepting.{says-satellites}
-use Rattle.theorems.proofs.Reading.{header, file-bytes, table-rows, table-rows-both}
-use Rattle.theorems.proofs.Room.{Room, Short, rowsNeeded, answer, room-accepted, short-refused}
+use Rattle.theorems.proofs.Reading.{file-bytes, table-rows, table-rows-both}
+use Rattle.theorems.specs.Files.{header}
+use Rattle.theorems.proofs.Room.{room-accepted, short-refused}
+use Rattle.theorems.specs.Room.{Room, Short, rowsNeeded, answer}
 use Rattle.header.specs.declared.types.Header.{Header}
 use Rattle.reader.specs.declared.types.Reading.{Reading}
 

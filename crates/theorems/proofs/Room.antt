@@ -6,6 +6,8 @@ use mathlib.Core.Bool.{Bool, true, false, cond, _&&_, false≢true}
 use mathlib.Core.Logic.{_⊎_, inl, inr, _↔_}
 use mathlib.Core.List.{List}
 use Prim.Native.Nat.{ℕ, _+_, _*_, _/_, _≤_, _<_}
+use native.Mathlib.Nat.{lt-of-not-le}
+use native.Mathlib.Decide.{decLe}
 use native.Mathlib.Omega.{arith}
 use borrow.Author.Tests.{leb-true, le-leb}
 use lib.Dec.{leb}
@@ -13,6 +15,7 @@ use lib.ListN.{length, take, drop}
 use lib.Seq.{take-at, drop-at}
 use Rattle.laws.proofs.Bools.{and-left, and-right, and-both}
 use Rattle.header.specs.Rules.{d}
+use Rattle.record.specs.Plain.{commentWidth}
 use Rattle.file.specs.Plain.{Plain}
 use Rattle.file.specs.Table.{countOf, headerIn, commentsIn, rowLines, rowsIn}
 use Rattle.reader.specs.Reading.{refusedWith, linesTo, acceptedAs, frontOf, fileOf, roomFor, enough, delivered, filled, identifiersOf, exponentsOf}
@@ -28,26 +31,7 @@ use Rattle.reader.specs.declared.types.Reading.{Reading}
 use Rattle.scan.specs.declared.Tally.{Tally}
 use Rattle.scan.specs.declared.Front.{Front}
 use Rattle.scan.specs.declared.Front.the-variants as front
-
--- what is found in some bytes: a whole file (true), or a file at their front (false)
-abbrev pub foundIn : Bool → List ℕ → Front
-foundIn true bytes = fileOf d bytes
-foundIn false bytes = frontOf d bytes
-
--- the numbers of all rows: 12 for each satellite and epoch, twice that in mode V
-abbrev pub rowsNeeded : Header → ℕ
-rowsNeeded h = cond (h .velocity) (24 * (h .satellites * h .epochs)) (12 * (h .satellites * h .epochs))
-
--- room for n identifiers and n exponents, for 77 bytes of each comment and for the numbers of all rows
-pub record Room (h : Header) (i x c r : ℕ) : Type 0 where
-  pub identifiers : h .satellites ≤ i
-  pub exponents : h .satellites ≤ x
-  pub comments : 77 * h .comments ≤ c
-  pub rows : rowsNeeded h ≤ r
-
--- one of them is missing
-abbrev pub Short : Header → ℕ → ℕ → ℕ → ℕ → Type 0
-Short h i x c r = (i < h .satellites) ⊎ ((x < h .satellites) ⊎ ((c < 77 * h .comments) ⊎ (r < rowsNeeded h)))
+use Rattle.theorems.specs.Room.{foundIn, answer, fills, rowsNeeded, Room, Short}
 
 -- A file that was found is one at the front.
 found-front : (whole : Bool) (bytes : List ℕ) (t : Tally) → foundIn whole bytes ≡ front.File t → frontOf d bytes ≡ front.File t
@@ -147,14 +131,17 @@ short-no-room h i x c r (inr (inl s)) room = omega (arith, room .exponents)
 short-no-room h i x c r (inr (inr (inl s))) room = omega (arith, room .comments)
 short-no-room h i x c r (inr (inr (inr s))) room = omega (arith, room .rows)
 
+pub room-or-short : (h : Header) (i x c r : ℕ) → Room h i x c r ⊎ Short h i x c r
+room-or-short h i x c r = go (decLe (h .satellites) i) (decLe (h .satellites) x) (decLe (commentWidth * h .comments) c) (decLe (rowsNeeded h) r)
+  where
+    go : Dec (h .satellites ≤ i) → Dec (h .satellites ≤ x) → Dec (commentWidth * h .comments ≤ c) → Dec (rowsNeeded h ≤ r) → Room h i x c r ⊎ Short h i x c r
+    go (yes a) (yes b) (yes e) (yes f) = inl (record { identifiers = a; exponents = b; comments = e; rows = f })
+    go (no a) b e f = inr (inl (omega arith))
+    go (yes a) (no b) e f = inr (inr (inl (omega arith)))
+    go (yes a) (yes b) (no e) f = inr (inr (inr (inl (omega arith))))
+    go (yes a) (yes b) (yes e) (no f) = inr (inr (inr (inr (lt-of-not-le f))))
+
 module _ (whole : Bool) (bytes : List ℕ) where
-  -- the answer of a reading that was lent so much room, and whether it fills
-  abbrev pub answer : ℕ → ℕ → ℕ → ℕ → Reading
-  answer i x c r = delivered d bytes (foundIn whole bytes) i x c r
-
-  abbrev pub fills : ℕ → ℕ → ℕ → ℕ → Bool
-  fills i x c r = enough d bytes (foundIn whole bytes) i x c r
-
   -- the header of the table of a file that is found to end at a byte
   abbrev pub headerTo : Tally → Header
   headerTo t = headerIn d (linesTo (t .end) bytes)
@@ -162,7 +149,7 @@ module _ (whole : Bool) (bytes : List ℕ) where
   module _ (t : Tally) (found : foundIn whole bytes ≡ front.File t) where
     -- ROOM: a reading fills exactly where there is room for n identifiers and exponents, for 77 bytes of each comment and for 12 numbers of
     -- each row.
-    pub fills-exactly : (i x c r : ℕ) → (fills i x c r ≡ true) ↔ Room (headerTo t) i x c r
+    pub fills-exactly : (i x c r : ℕ) → (fills whole bytes i x c r ≡ true) ↔ Room (headerTo t) i x c r
     unfolding enough
     fills-exactly i x c r = (
       λ e. room-needed bytes t (found-front whole bytes t found) i x c r (rw found at e),
@@ -177,28 +164,28 @@ module _ (whole : Bool) (bytes : List ℕ) where
     lists-long = let e = found-front whole bytes t found in (identifiers-long bytes t e, exponents-long bytes t e, comments-long bytes t e, rows-long bytes t e)
 
     -- With that room the answer is 0,
-    pub room-accepted : (i x c r : ℕ) → Room (headerTo t) i x c r → answer i x c r ≡ acceptedAs d bytes t
+    pub room-accepted : (i x c r : ℕ) → Room (headerTo t) i x c r → answer whole bytes i x c r ≡ acceptedAs d bytes t
     unfolding delivered
     room-accepted i x c r room = rw (found, room-suffices bytes t (found-front whole bytes t found) i x c r room)
 
     -- so it is with no place more than that,
-    pub exact-room : answer (headerTo t .satellites) (headerTo t .satellites) (77 * headerTo t .comments) (rowsNeeded (headerTo t)) ≡ acceptedAs d bytes t
+    pub exact-room : answer whole bytes (headerTo t .satellites) (headerTo t .satellites) (77 * headerTo t .comments) (rowsNeeded (headerTo t)) ≡ acceptedAs d bytes t
     exact-room =
         room-accepted (headerTo t .satellites) (headerTo t .satellites) (77 * headerTo t .comments) (rowsNeeded (headerTo t))
         (record { identifiers = omega arith; exponents = omega arith; comments = omega arith; rows = omega arith })
 
     -- and with one less anywhere it is 12, line 0.
-    pub short-refused : (i x c r : ℕ) → Short (headerTo t) i x c r → answer i x c r ≡ refusedWith 12 0
+    pub short-refused : (i x c r : ℕ) → Short (headerTo t) i x c r → answer whole bytes i x c r ≡ refusedWith 12 0
     unfolding delivered
     short-refused i x c r short = go (roomFor (countOf d (linesTo (t .end) bytes)) t i x c r) refl
       where
-        go : (b : Bool) → roomFor (countOf d (linesTo (t .end) bytes)) t i x c r ≡ b → answer i x c r ≡ refusedWith 12 0
+        go : (b : Bool) → roomFor (countOf d (linesTo (t .end) bytes)) t i x c r ≡ b → answer whole bytes i x c r ≡ refusedWith 12 0
         go true e =
             absurd (short-no-room (headerTo t) i x c r short (room-needed bytes t (found-front whole bytes t found) i x c r e))
         go false e = rw (found, e)
 
   -- The answer decides: a reading fills exactly where it answers 0.
-  pub answer-decides : (i x c r : ℕ) → (answer i x c r .refusal ≡ 0) ↔ (fills i x c r ≡ true)
+  pub answer-decides : (i x c r : ℕ) → (answer whole bytes i x c r .refusal ≡ 0) ↔ (fills whole bytes i x c r ≡ true)
   unfolding delivered enough
   answer-decides i x c r = go (foundIn whole bytes) refl
     where
@@ -213,16 +200,16 @@ module _ (whole : Bool) (bytes : List ℕ) where
           by false = (λ e. absurd (omega arith), λ e. absurd (false≢true e))
 
   -- REFUSALS CHANGE NOTHING: where the answer is not 0, every lent list is as it was.
-  pub refusal-keeps : {A : Type 0} (i x c r : ℕ) (new old : List A) → (answer i x c r .refusal ≡ 0 → ⊥) → filled (fills i x c r) new old ≡ old
-  refusal-keeps {A} i x c r new old refused = go (fills i x c r) refl
+  pub refusal-keeps : {A : Type 0} (i x c r : ℕ) (new old : List A) → (answer whole bytes i x c r .refusal ≡ 0 → ⊥) → filled (fills whole bytes i x c r) new old ≡ old
+  refusal-keeps {A} i x c r new old refused = go (fills whole bytes i x c r) refl
     where
-      go : (b : Bool) → fills i x c r ≡ b → filled b new old ≡ old
+      go : (b : Bool) → fills whole bytes i x c r ≡ b → filled b new old ≡ old
       go true e = absurd (refused (answer-decides i x c r .1 e))
       go false e = refl
 
   -- Where it is 0, the new elements stand from the first place on, and the places past them are as they were.
-  pub success-fills : {A : Type 0} (i x c r : ℕ) (new old : List A) → answer i x c r .refusal ≡ 0
-      → (take (length new) (filled (fills i x c r) new old) ≡ new) × (drop (length new) (filled (fills i x c r) new old) ≡ drop (length new) old)
+  pub success-fills : {A : Type 0} (i x c r : ℕ) (new old : List A) → answer whole bytes i x c r .refusal ≡ 0
+      → (take (length new) (filled (fills whole bytes i x c r) new old) ≡ new) × (drop (length new) (filled (fills whole bytes i x c r) new old) ≡ drop (length new) old)
   success-fills i x c r new old zero =
       let e = answer-decides i x c r .0 zero in (
         ap (λ (b : Bool). take (length new) (filled b new old)) e ∙ take-at new (drop (length new) old) (length new) refl,

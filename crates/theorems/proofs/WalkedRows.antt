@@ -29,13 +29,16 @@ use Rattle.questions.proofs.Asking.{bounded}
 use Rattle.scan_laws.proofs.Files.{d-sound, whole-taken}
 use Rattle.scan_laws.proofs.Local.{whole-ends}
 use Rattle.scan_laws.proofs.Refused.{EndsAfter, accepted-steps}
-use Rattle.scan_laws.proofs.Stepping.{judged, behind-next, next-line, stepped-on}
+use Rattle.scan_laws.proofs.Stepping.{behind-next, next-line, stepped-on}
+use Rattle.scan_laws.specs.Lines.{judged}
 use Rattle.scan_laws.proofs.Used.{frontLines, accepted-front}
-use Rattle.theorems.proofs.Judging.{after}
+use Rattle.theorems.specs.Faults.{after}
 use Rattle.theorems.proofs.Known.{Knows, known-steps}
-use Rattle.theorems.proofs.Reading.{header, rowsOf, rowAt, There, rows-number}
-use Rattle.theorems.proofs.Floats.{asked, row-asked}
-use Rattle.theorems.proofs.Walks.{spotOf}
+use Rattle.theorems.proofs.Reading.{rows-number}
+use Rattle.theorems.specs.Files.{header, rowLinesOf, rowAt, There}
+use Rattle.theorems.proofs.Floats.{row-asked}
+use Rattle.theorems.specs.Asked.{asked}
+use Rattle.theorems.specs.Walked.{spotOf}
 use Rattle.line_walk.specs.Spots.{firstSpot}
 use Rattle.row_walk.specs.Rows.{firstWalk, toRow, epochOf, satelliteOf, shown, stepAt, stepFrom, rowStep}
 use Rattle.row_walk.proofs.Going.{passed}
@@ -52,6 +55,7 @@ use Rattle.line_walk.specs.declared.Spot.{Spot}
 use Rattle.row_walk.specs.declared.types.RowWalk.{RowWalk}
 use Rattle.row_walk.specs.declared.types.RowStep.{RowStep}
 use Rattle.row_walk.specs.declared.types.RowStep.the-variants as step
+use Rattle.theorems.specs.Walked.{onRow, stepsFrom, walkStep, Identified}
 
 -- a line that ends the file is no P line
 past-test : (b : Bool) (v : Verdict) (m c : ℕ) → cond b v (verdict.Fault m c) ≡ verdict.Finished → v ≡ verdict.Finished
@@ -78,13 +82,6 @@ last-no-row s identifiers l e =
     (past-test (eqb (standingFault k d s identifiers (padded l)) 0) _ _ _
     (past-test (leb (length l) (longest d k)) _ _ _ (past-test (every isPrintable l) _ _ _ e)))
 
--- the rows that follow, one after another: a step at a row leads to the next
-abbrev pub onRow : RowStep → (RowWalk → RowStep) → RowStep
-onRow (step.At epoch satellite row next) more = more next
-onRow (step.Absent epoch satellite row next) more = more next
-onRow step.End more = step.End
-onRow (step.Refused number line) more = step.Refused number line
-
 row-leads : (epoch satellite : ℕ) (row : FloatRow) (next : RowWalk) (more : RowWalk → RowStep) → onRow (shown epoch satellite row next) more ≡ more next
 unfolding shown
 row-leads epoch satellite row next more = go (row .«place_absent»)
@@ -94,11 +91,6 @@ row-leads epoch satellite row next more = go (row .«place_absent»)
     go false = refl
 
 module _ (bytes identifiers : List ℕ) where
-  -- the answer of step i of a walk, counted from 0
-  unfoldable pub stepsFrom : RowWalk → ℕ → RowStep
-  stepsFrom w zero = rowStep d bytes identifiers w
-  stepsFrom w (suc i) = onRow (rowStep d bytes identifiers w) (λ next. stepsFrom next i)
-
   module _ (n : ℕ) where
     abbrev behind : Spot → List ℕ → State → Spot
     behind p l s = record { at = p .at + length l + 1; state = s }
@@ -216,8 +208,8 @@ module _ (bytes identifiers : List ℕ) where
     -- the answer of step i: row i of those that follow, or the end after the last
     record Gives (w : RowWalk) (r i : ℕ) (rows : List (List ℕ)) : Type 0 where
       row : i < length rows
-          → (next : RowWalk) × (stepsFrom w i ≡ shown (epochOf (r + i) n) (satelliteOf (r + i) n) (floatRow (rowOf false (nth i rows))) next)
-      end : i ≡ length rows → stepsFrom w i ≡ step.End
+          → (next : RowWalk) × (stepsFrom bytes identifiers w i ≡ shown (epochOf (r + i) n) (satelliteOf (r + i) n) (floatRow (rowOf false (nth i rows))) next)
+      end : i ≡ length rows → stepsFrom bytes identifiers w i ≡ step.End
 
     -- the first of them
     gives-first : (p : Spot) (r : ℕ) (rows : List (List ℕ))
@@ -237,9 +229,9 @@ module _ (bytes identifiers : List ℕ) where
         → Gives (record { spot = next; passed = r + 1 }) (r + 1) i others → Gives (record { spot = p; passed = r }) r (suc i) (l ∷ others)
     unfolding stepsFrom nth
     gives-later i p next r l others first more =
-        let leads : stepsFrom (record { spot = p; passed = r }) (suc i) ≡ stepsFrom (record { spot = next; passed = r + 1 }) i =
-        ap (λ (x : RowStep). onRow x (λ (w : RowWalk). stepsFrom w i)) first
-        ∙ row-leads (epochOf r n) (satelliteOf r n) (floatRow (rowOf false l)) (record { spot = next; passed = r + 1 }) (λ w. stepsFrom w i) in
+        let leads : stepsFrom bytes identifiers (record { spot = p; passed = r }) (suc i) ≡ stepsFrom bytes identifiers (record { spot = next; passed = r + 1 }) i =
+        ap (λ (x : RowStep). onRow x (λ (w : RowWalk). stepsFrom bytes identifiers w i)) first
+        ∙ row-leads (epochOf r n) (satelliteOf r n) (floatRow (rowOf false l)) (record { spot = next; passed = r + 1 }) (λ w. stepsFrom bytes identifiers w i) in
         let sum : r + 1 + i ≡ r + suc i = omega arith in
         record {
           row = λ some. let x = more .row (le-of-suc-le-suc some) in (x .0, leads ∙ rw (← sum) (x .1));
@@ -261,10 +253,6 @@ module _ (bytes identifiers : List ℕ) where
             (more (x .next) (x .others) (r + 1) (x .ahead) (x .here) (omega (arith, ap length (x .rows-are)))))
         by (inr (none, end)) more =
             record { row = λ some. absurd (omega (arith, ap length none)); end = λ all. absurd (omega (arith, ap length none)) }
-
--- a list begins with the identifiers of a file
-abbrev pub Identified : List ℕ → List ℕ → Type 0
-Identified bytes identifiers = take (header bytes .satellites) identifiers ≡ identifiersOf d (linesOf bytes)
 
 -- AN ACCEPTED FILE, and a list that begins with its identifiers.
 module _ (bytes : List ℕ) (t : Tally) (accepted : fileOf d bytes ≡ front.File t) (identifiers : List ℕ) (identified : Identified bytes identifiers) where
@@ -317,10 +305,10 @@ module _ (bytes : List ℕ) (t : Tally) (accepted : fileOf d bytes ≡ front.Fil
       rw (next-line k lines below)
       (inr (on .0, same k some .0 ∙ on .1, same k some .1, subst (λ (p : Spot). Ahead bytes identifiers n p (drop (suc k) lines)) next (ahead m (suc k) (omega arith))))
 
-  rows-many : length (rowsOf false bytes) ≡ header bytes .satellites * header bytes .epochs
+  rows-many : length (rowLinesOf false bytes) ≡ header bytes .satellites * header bytes .epochs
   rows-many = rows-number bytes (t, accepted)
 
-  few : length (rowsOf false bytes) ≤ 25500000
+  few : length (rowLinesOf false bytes) ≤ 25500000
   unfolding headerIn
   few =
       let bounds = bounded bytes t accepted in
@@ -329,32 +317,28 @@ module _ (bytes : List ℕ) (t : Tally) (accepted : fileOf d bytes ≡ front.Fil
       let product : header bytes .satellites * header bytes .epochs ≤ 255 * 100000 = mul-le-mul satellites-few epochs-few in
       omega (arith, rows-many)
 
-  given : (i : ℕ) → Gives bytes identifiers n firstWalk 0 i (rowsOf false bytes)
+  given : (i : ℕ) → Gives bytes identifiers n firstWalk 0 i (rowLinesOf false bytes)
   unfolding steppedOver
   given i =
       let first : 0 + (t .lines - 1) ≡ t .lines - 1 = omega arith in
       gives bytes identifiers n i firstSpot lines 0 (ahead (t .lines - 1) 0 first) refl (omega (arith, few))
 
-  -- the answer of step i of a walk from the first line on
-  abbrev pub walkStep : ℕ → RowStep
-  walkStep i = stepsFrom bytes identifiers firstWalk i
-
   -- THE WALK: step k * n + j gives epoch k and satellite j, and the row that the row question gives for them.
-  pub walk-gives : (k j : ℕ) → There bytes k j → (next : RowWalk) × (walkStep (rowAt bytes k j) ≡ shown k j (asked bytes k j .row) next)
+  pub walk-gives : (k j : ℕ) → There bytes k j → (next : RowWalk) × (walkStep bytes identifiers (rowAt bytes k j) ≡ shown k j (asked bytes k j .row) next)
   unfolding epochOf satelliteOf
   walk-gives k j there =
       let some : 0 < n = omega (arith, there .satellite) in
-      let number : rowAt bytes k j < length (rowsOf false bytes) = row-below k j there in
+      let number : rowAt bytes k j < length (rowLinesOf false bytes) = row-below k j there in
       let x = given (rowAt bytes k j) .row number in
       let not-none : eqb n 0 ≡ false = ne-eqb n 0 (λ e. omega arith) in
       let epoch : rowAt bytes k j / n ≡ k = mul-add-div-right some k j ∙ ap (λ (q : ℕ). k + q) (div-eq-of-lt (there .satellite)) ∙ add-zero k in
       let satellite : rowAt bytes k j % n ≡ j = mul-add-mod-self-right k n j ∙ mod-eq-of-lt (there .satellite) in
       let whole : 0 + rowAt bytes k j ≡ rowAt bytes k j = omega arith in
-      let row : floatRow (rowOf false (nth (rowAt bytes k j) (rowsOf false bytes))) ≡ asked bytes k j .row =
+      let row : floatRow (rowOf false (nth (rowAt bytes k j) (rowLinesOf false bytes))) ≡ asked bytes k j .row =
       sym (ap (λ (a : RowAnswer). a .row) (row-asked bytes (t, accepted) k j there)) in
       (x .0, x .1 ∙ rw (whole, not-none, epoch, satellite, row))
     where
-      row-below : (k j : ℕ) → There bytes k j → rowAt bytes k j < length (rowsOf false bytes)
+      row-below : (k j : ℕ) → There bytes k j → rowAt bytes k j < length (rowLinesOf false bytes)
       row-below k j there =
           let more : suc k * n ≤ header bytes .epochs * n = mul-le-mul-right n (there .epoch) in
           let turn : header bytes .epochs * n ≡ n * header bytes .epochs = mul-comm (header bytes .epochs) n in
@@ -362,17 +346,17 @@ module _ (bytes : List ℕ) (t : Tally) (accepted : fileOf d bytes ≡ front.Fil
           omega (arith, there .satellite, rows-many)
 
   -- After all rows, satellites times epochs of them, comes the end.
-  pub walk-ends : walkStep (header bytes .satellites * header bytes .epochs) ≡ step.End
+  pub walk-ends : walkStep bytes identifiers (header bytes .satellites * header bytes .epochs) ≡ step.End
   walk-ends = given (header bytes .satellites * header bytes .epochs) .end (sym rows-many)
 
   -- ABSENCE IS A CASE: a row comes as absent exactly when its place is marked so, that is when its three fields are zero, whatever its clock.
   module _ (k j : ℕ) (there : There bytes k j) where
     pub walk-absent : asked bytes k j .row .«place_absent» ≡ true
-        → (next : RowWalk) × (walkStep (rowAt bytes k j) ≡ step.Absent k j (asked bytes k j .row) next)
+        → (next : RowWalk) × (walkStep bytes identifiers (rowAt bytes k j) ≡ step.Absent k j (asked bytes k j .row) next)
     unfolding shown
     walk-absent e = let x = walk-gives k j there in (x .0, x .1 ∙ rw e)
 
     pub walk-at : asked bytes k j .row .«place_absent» ≡ false
-        → (next : RowWalk) × (walkStep (rowAt bytes k j) ≡ step.At k j (asked bytes k j .row) next)
+        → (next : RowWalk) × (walkStep bytes identifiers (rowAt bytes k j) ≡ step.At k j (asked bytes k j .row) next)
     unfolding shown
     walk-at e = let x = walk-gives k j there in (x .0, x .1 ∙ rw e)

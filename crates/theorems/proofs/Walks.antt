@@ -22,9 +22,10 @@ use Rattle.line_walk.proofs.Promised.{Begins, Moves}
 use Rattle.scan_laws.proofs.Files.{d-sound}
 use Rattle.scan_laws.proofs.Refused.{EndsAfter, accepted-steps}
 use Rattle.scan_laws.proofs.Room.{Ready, ready-first, ready-next, never-short}
-use Rattle.scan_laws.proofs.Stepping.{judged, behind, GoOn, next-line, go-first, go-later, stepped-on, ready-behind}
+use Rattle.scan_laws.proofs.Stepping.{next-line, go-first, go-later, stepped-on, ready-behind}
+use Rattle.scan_laws.specs.Lines.{judged, behind, GoOn}
 use Rattle.theorems.proofs.LineRoom.{overfull-twelve}
-use Rattle.theorems.proofs.Judging.{after}
+use Rattle.theorems.specs.Faults.{after}
 use Rattle.header.specs.declared.types.Rules.{Rules}
 use Rattle.machine.specs.declared.types.State.{State}
 use Rattle.machine.specs.declared.types.Verdict.{Verdict}
@@ -33,37 +34,7 @@ use Rattle.scan.specs.declared.Tally.{Tally}
 use Rattle.scan.specs.declared.Front.the-variants as front
 use Rattle.line_walk.specs.declared.Spot.{Spot}
 use Rattle.line_walk.specs.declared.Walker.{Walker}
-
--- where one is, without the identifiers
-abbrev pub spotOf : Going → Spot
-spotOf g = record { at = g .at; state = g .state }
-
--- and with them
-abbrev pub goingAt : Spot → List ℕ → Going
-goingAt p identifiers = record { at = p .at; state = p .state; identifiers = identifiers }
-
--- what the line reader makes of a line
-abbrev pub read : Rules → Going → List ℕ → Verdict
-read rules g l = stepWithin rules (g .state) (g .identifiers) l
-
--- a line that goes on leads to the lines after it; one that is refused or ends the file stays
-abbrev pub onFrom : Verdict → Going → (State → Going) → Going
-onFrom (verdict.Fault number column) g more = g
-onFrom (verdict.Next s) g more = more s
-onFrom verdict.Finished g more = g
-
--- one is behind a line
-abbrev past : Rules → Going → List ℕ → State → Going
-past rules g l s = record { at = g .at + length l + 1; state = s; identifiers = identifiersBrought rules (g .state) (g .identifiers) l }
-
--- after some lines, read one after another: one stays where a line is refused, 12 among the refusals, or ends the file
-unfoldable pub overLines : Rules → Going → List (List ℕ) → Going
-overLines rules g [] = g
-overLines rules g (l ∷ ls) = onFrom (read rules g l) g (λ s. overLines rules (past rules g l s) ls)
-
--- where the walker is after k steps
-abbrev pub walkedFrom : Rules → List ℕ → Going → ℕ → Going
-walkedFrom rules bytes g k = goingAt (spotsAfter rules bytes (g .identifiers) (spotOf g) k) (identifiersPast rules bytes (g .identifiers) (spotOf g) k)
+use Rattle.theorems.specs.Walked.{spotOf, goingAt, read, onFrom, past, overLines, walkedFrom}
 
 no-fault : (m c : ℕ) (s : State) → verdict.Fault m c ≡ verdict.Next s → ⊥
 no-fault m c s x = let z : _≡_ {A = ℕ} 0 1 = cc in absurd (omega arith)

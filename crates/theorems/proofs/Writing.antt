@@ -6,6 +6,8 @@ use mathlib.Core.Bool.{Bool, true, false, cond, _&&_}
 use mathlib.Core.List.{List}
 use mathlib.Core.Logic.{_↔_}
 use Prim.Native.Nat.{ℕ, _<_, _≤_}
+use native.Mathlib.Nat.{lt-of-not-le}
+use native.Mathlib.Decide.{decLe}
 use native.Mathlib.Omega.{arith}
 use borrow.Author.Tests.{le-leb, lt-leb, leb-true}
 use lib.Dec.{leb}
@@ -52,6 +54,30 @@ module _ (t : Table) (out : List ℕ) where
       go true true p q e = (p, leb-true (length form) (length out) q)
       go true false p q e = absurd (omega arith)
       go false r p q e = absurd (omega arith)
+
+  -- It answers 13 exactly when the table is not valid, whatever the room,
+  pub thirteen-exactly : (measured d t (length out) .refusal ≡ 13) ↔ (valid d t ≡ false)
+  thirteen-exactly = ((λ e. go (valid d t) refl e), (λ invalid. ap (λ (m : Measured). m .refusal) (not-valid-13 invalid)))
+    where
+      go : (v : Bool) → valid d t ≡ v → measured d t (length out) .refusal ≡ 13 → valid d t ≡ false
+      go false p e = p
+      go true p e = by (decLe (length form) (length out))
+        where
+          by : Dec (length form ≤ length out) → valid d t ≡ false
+          by (yes h) = let z : _≡_ {A = ℕ} 13 0 = sym e ∙ ap (λ (m : Measured). m .refusal) (written-0 p h) in absurd (omega arith)
+          by (no h) = let z : _≡_ {A = ℕ} 13 12 = sym e ∙ ap (λ (m : Measured). m .refusal) (too-small-12 p (lt-of-not-le h)) in absurd (omega arith)
+
+  -- and 12 exactly when it is valid and its form is longer than the output.
+  pub twelve-exactly : (measured d t (length out) .refusal ≡ 12) ↔ ((valid d t ≡ true) × (length out < length form))
+  twelve-exactly = ((λ e. go (valid d t) refl e), (λ both. ap (λ (m : Measured). m .refusal) (too-small-12 (both .0) (both .1))))
+    where
+      go : (v : Bool) → valid d t ≡ v → measured d t (length out) .refusal ≡ 12 → (valid d t ≡ true) × (length out < length form)
+      go false p e = let z : _≡_ {A = ℕ} 12 13 = sym e ∙ ap (λ (m : Measured). m .refusal) (not-valid-13 p) in absurd (omega arith)
+      go true p e = (p, by (decLe (length form) (length out)))
+        where
+          by : Dec (length form ≤ length out) → length out < length form
+          by (yes h) = let z : _≡_ {A = ℕ} 12 0 = sym e ∙ ap (λ (m : Measured). m .refusal) (written-0 p h) in absurd (omega arith)
+          by (no h) = lt-of-not-le h
 
   -- On a refusal no byte of the output changes.
   pub refusal-keeps-out : (measured d t (length out) .refusal ≡ 0 → ⊥) → outAfter d t out ≡ out

@@ -1,1 +1,1 @@
-// The front page of theorems and the proved cases. No code: proofs/ is all of it.
+// The theorems behind the front page, and the proved cases. No code: specs/ and proofs/ are all of it.

@@ -10,17 +10,17 @@ use std::process::ExitCode;
 /// A line for each satellite in header order, and one for all.
 fn report(file: &[u8]) -> Result<String, sp3::Refusal> {
     let rows = sp3::rows(file)?;
-    let names = rows.names().to_vec();
-    let mut counts = vec![[0_u64; 2]; names.len()];
+    let identifiers = rows.identifiers().to_vec();
+    let mut counts = vec![[0_u64; 2]; identifiers.len()];
     for row in rows {
         let row = row?;
         let absent = usize::from(row.row.place.is_none());
         counts[row.satellite as usize][absent] += 1;
     }
     let mut text = String::new();
-    for (&name, [known, absent]) in names.iter().zip(&counts) {
-        let name = sp3::identifier_text(name).unwrap_or_default();
-        text += &format!("{name} known {known} absent {absent}\n");
+    for (&number, [known, absent]) in identifiers.iter().zip(&counts) {
+        let identifier = sp3::identifier_text(number).unwrap_or_default();
+        text += &format!("{identifier} known {known} absent {absent}\n");
     }
     let sum = |which: usize| counts.iter().map(|count| count[which]).sum::<u64>();
     Ok(text + &format!("all known {} absent {}\n", sum(0), sum(1)))

@@ -350,21 +350,21 @@ unsafe extern "C" {
         file: *const u8,
         length: usize,
         spot: Spot,
-        names: *mut u64,
-        name_room: usize,
+        identifiers: *mut u64,
+        identifier_room: usize,
     ) -> LineAnswer;
     pub fn sp3_next_line(
         file: *const u8,
         length: usize,
-        names: *const u64,
-        name_count: usize,
+        identifiers: *const u64,
+        identifier_count: usize,
         spot: Spot,
     ) -> LineAnswer;
     pub fn sp3_after_lines(
         file: *const u8,
         length: usize,
-        names: *mut u64,
-        name_room: usize,
+        identifiers: *mut u64,
+        identifier_room: usize,
         spot: Spot,
         lines: usize,
     ) -> Spot;
@@ -378,8 +378,8 @@ unsafe extern "C" {
     pub fn sp3_next_row(
         file: *const u8,
         length: usize,
-        names: *const u64,
-        name_count: usize,
+        identifiers: *const u64,
+        identifier_count: usize,
         from: RowWalk,
     ) -> RowStep;
 }

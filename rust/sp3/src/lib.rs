@@ -26,6 +26,9 @@
 //!
 //! **Refusals.** [`Refusal`] has the number in the paper's table, 1 to 13, and the line; [`words`] says what each number means.
 //!
+//! **Threads.** No function keeps a state: an answer follows from what the call is given. So they may be called from several threads at once, each
+//! call with lent memory of its own; what is borrowed shared, such as a file's bytes, may be lent to several calls at the same time.
+//!
 //! **Units.** Places in mm, clocks in ps; in V rows 10^-4 mm/s and 10^-16 s/s. A name that ends in `8` is a time in 10^-8 s. Epochs, satellites of
 //! the header, comments and rows are counted from 0, lines and columns from 1.
 #![deny(missing_docs)]
@@ -44,7 +47,7 @@ mod table;
 mod walk;
 mod writing;
 
-pub use ffi::{Bases, Header, HeaderParts, Moment, Spot, RowWalk, Texts};
+pub use ffi::{Bases, Header, HeaderParts, Moment, RowWalk, Spot, Texts};
 pub use lines::{after_lines, first_spot, next_line, read_line, Line};
 pub use questions::{
     comment, comment_answer, date, identifier, identifier_text, moment, row, satellite_of, Date,

@@ -39,24 +39,24 @@ pub fn first_spot() -> Spot {
     ffi::sp3_first_spot()
 }
 
-/// What the line at a spot does. A `+ ` line without fault leaves its identifiers in `names` (255 places suffice), after those of the lines
-/// before it; no other line changes `names`, which is lent to the next line as this one left it.
+/// What the line at a spot does. A `+ ` line without fault leaves its own in `identifiers` (255 places suffice), after those of the lines before
+/// it; no other line changes the list, which is lent to the next line as this one left it.
 ///
-/// Refused: 1 where no LF is left, 12 at the `+ ` line without fault that brings more identifiers than `names` has places for; `names` is then
+/// Refused: 1 where no LF is left, 12 at the `+ ` line without fault that brings more identifiers than the list has places for; the list is then
 /// as it was.
 ///
 /// ```
 /// let file = include_bytes!("../../../samples/paper.sp3");
-/// let mut names = [0; 255];
-/// let mut line = sp3::read_line(file, sp3::first_spot(), &mut names)?;
+/// let mut identifiers = [0; 255];
+/// let mut line = sp3::read_line(file, sp3::first_spot(), &mut identifiers)?;
 /// assert_eq!(line.next.at(), 61);
 /// while !line.finished {
-///     line = sp3::read_line(file, line.next, &mut names)?;
+///     line = sp3::read_line(file, line.next, &mut identifiers)?;
 /// }
 /// assert_eq!(line.next.at(), file.len());
-/// assert_eq!(names[0], 7107);
+/// assert_eq!(identifiers[0], 7107);
 ///
-/// let refusal = sp3::read_line(b"#dP2013", sp3::first_spot(), &mut names).unwrap_err();
+/// let refusal = sp3::read_line(b"#dP2013", sp3::first_spot(), &mut identifiers).unwrap_err();
 /// assert_eq!(refusal.number, 1);
 ///
 /// let satellites = sp3::after_lines(file, &mut [], sp3::first_spot(), 2);
@@ -64,17 +64,23 @@ pub fn first_spot() -> Spot {
 /// assert_eq!(refusal, sp3::LineRefusal { number: 12, column: 0 });
 /// # Ok::<(), sp3::LineRefusal>(())
 /// ```
-pub fn read_line(file: &[u8], spot: Spot, names: &mut [u64]) -> Result<Line, LineRefusal> {
-    // SAFETY: each pointer and its number are of one slice; the names are borrowed for this call alone.
+pub fn read_line(file: &[u8], spot: Spot, identifiers: &mut [u64]) -> Result<Line, LineRefusal> {
+    // SAFETY: each pointer and its number are of one slice; the identifiers are borrowed for this call alone.
     let answer = unsafe {
-        ffi::sp3_read_line(file.as_ptr(), file.len(), spot, names.as_mut_ptr(), names.len())
+        ffi::sp3_read_line(
+            file.as_ptr(),
+            file.len(),
+            spot,
+            identifiers.as_mut_ptr(),
+            identifiers.len(),
+        )
     };
     answer.told()
 }
 
 /// What the line at a spot does, where all identifiers of the header are known (as [`begin`](crate::begin) leaves them).
 ///
-/// Refused: as [`read_line`], but never 12; 10 for a row of a satellite that `names` does not have here.
+/// Refused: as [`read_line`], but never 12; 10 for a row of a satellite that `identifiers` does not have here.
 ///
 /// ```
 /// let file = include_bytes!("../../../samples/paper.sp3");
@@ -83,30 +89,30 @@ pub fn read_line(file: &[u8], spot: Spot, names: &mut [u64]) -> Result<Line, Lin
 /// assert!(sp3::next_line(file, &[7107], row).is_ok());
 /// assert_eq!(sp3::next_line(file, &[7108], row).unwrap_err().number, 10);
 /// ```
-pub fn next_line(file: &[u8], names: &[u64], spot: Spot) -> Result<Line, LineRefusal> {
+pub fn next_line(file: &[u8], identifiers: &[u64], spot: Spot) -> Result<Line, LineRefusal> {
     // SAFETY: each pointer and its number are of one slice.
     let answer = unsafe {
-        ffi::sp3_next_line(file.as_ptr(), file.len(), names.as_ptr(), names.len(), spot)
+        ffi::sp3_next_line(file.as_ptr(), file.len(), identifiers.as_ptr(), identifiers.len(), spot)
     };
     answer.told()
 }
 
-/// The spot so many lines further, each line read as by [`read_line`]. Afterwards `names` (255 places suffice) holds the identifiers of the
+/// The spot so many lines further, each line read as by [`read_line`]. Afterwards `identifiers` (255 places suffice) holds those of the
 /// `+ ` lines that were passed; to go on from there lend it as it is. The spot stays at a line that is refused, with 12 too, and at the EOF
 /// line.
 ///
 /// ```
 /// let file = include_bytes!("../../../samples/paper.sp3");
-/// let mut names = [0; 255];
-/// let end = sp3::after_lines(file, &mut names, sp3::first_spot(), 1000);
+/// let mut identifiers = [0; 255];
+/// let end = sp3::after_lines(file, &mut identifiers, sp3::first_spot(), 1000);
 /// assert_eq!(&file[end.at()..], b"EOF\n");
-/// assert_eq!(names[0], 7107);
+/// assert_eq!(identifiers[0], 7107);
 ///
 /// let satellites = sp3::after_lines(file, &mut [], sp3::first_spot(), 1000);
 /// assert!(file[satellites.at()..].starts_with(b"+    1   G07"));
 /// ```
-pub fn after_lines(file: &[u8], names: &mut [u64], spot: Spot, lines: usize) -> Spot {
-    let (list, room) = (names.as_mut_ptr(), names.len());
-    // SAFETY: each pointer and its number are of one slice; the names are borrowed for this call alone.
+pub fn after_lines(file: &[u8], identifiers: &mut [u64], spot: Spot, lines: usize) -> Spot {
+    let (list, room) = (identifiers.as_mut_ptr(), identifiers.len());
+    // SAFETY: each pointer and its number are of one slice; the identifiers are borrowed for this call alone.
     unsafe { ffi::sp3_after_lines(file.as_ptr(), file.len(), list, room, spot, lines) }
 }

@@ -11,8 +11,8 @@ use std::ops::Range;
 ///
 /// ```
 /// let file = include_bytes!("../../../samples/paper.sp3");
-/// let place = sp3::comment_answer(file, 0)?;
-/// assert_eq!(&file[place], b"ONE ROW");
+/// let stretch = sp3::comment_answer(file, 0)?;
+/// assert_eq!(&file[stretch], b"ONE ROW");
 /// assert_eq!(sp3::comment_answer(file, 4), Err(sp3::Refusal { number: 13, line: 0 }));
 /// # Ok::<(), sp3::Refusal>(())
 /// ```
@@ -35,8 +35,8 @@ pub fn comment_answer(file: &[u8], k: u64) -> Result<Range<usize>, Refusal> {
 /// # Ok::<(), sp3::Refusal>(())
 /// ```
 pub fn comment(file: &[u8], k: u64) -> Result<&[u8], Refusal> {
-    let place = comment_answer(file, k)?;
-    file.get(place).ok_or(NOT_THERE)
+    let stretch = comment_answer(file, k)?;
+    file.get(stretch).ok_or(NOT_THERE)
 }
 
 /// The identifier of a text as the one number by which it is stored: 7107 for `G07`. `None` for a text that names no satellite.
@@ -104,7 +104,8 @@ impl ffi::Row {
     }
 }
 
-/// The P row of an epoch and a satellite of the header, both counted from 0; in mode V too.
+/// The P row of an epoch and a satellite of the header, both counted from 0; in mode V too. Every call judges the whole file, as
+/// [`judge`](crate::judge) does: the way through all rows is the walk, [`rows`](crate::rows) or [`begin`](crate::begin).
 ///
 /// Refused: the file's own refusal first, then 13 with line 0 for epoch 1 of a file that has one.
 ///

@@ -3,8 +3,8 @@
 use crate::refusal::{NOT_THERE, NO_ROOM};
 use crate::stored::{COMMENT_WIDTH, ROW_WIDTH};
 use crate::{
-    clock_of, exponent_of, flag_of, form_length, judge, judge_front, place_of, read, read_front, stored_row,
-    write, Exponent, Header, Refusal, StoredRow,
+    clock_of, exponent_of, flag_of, form_length, judge, judge_front, place_of, read, read_front,
+    stored_row, write, Exponent, Header, Refusal, StoredRow,
 };
 
 /// What a file holds: its header and the four lists, as [`read`] leaves them. All parts may be altered; [`Table::write`] says whether they are

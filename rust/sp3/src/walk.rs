@@ -26,7 +26,7 @@ pub fn first_row() -> RowWalk {
 /// The next P row of a file in order, in mode V too, and the walk after it; `None` at the end of the file. Each line on the way is judged.
 /// [`begin`] gives the same as an iterator.
 ///
-/// Refused: 10 at its line where `names` are another file's.
+/// Refused: 10 at its line where `identifiers` are another file's.
 ///
 /// ```
 /// let file = include_bytes!("../../../samples/paper.sp3");
@@ -40,12 +40,13 @@ pub fn first_row() -> RowWalk {
 /// ```
 pub fn next_row(
     file: &[u8],
-    names: &[u64],
+    identifiers: &[u64],
     from: RowWalk,
 ) -> Result<Option<(RowAt, RowWalk)>, Refusal> {
     // SAFETY: each pointer and its number are of one slice.
-    let answer =
-        unsafe { ffi::sp3_next_row(file.as_ptr(), file.len(), names.as_ptr(), names.len(), from) };
+    let answer = unsafe {
+        ffi::sp3_next_row(file.as_ptr(), file.len(), identifiers.as_ptr(), identifiers.len(), from)
+    };
     accepted(answer.refusal, answer.line)?;
     let (epoch, satellite) = (answer.epoch, answer.satellite);
     let row = RowAt { epoch, satellite, row: answer.row.told() };
@@ -57,7 +58,7 @@ pub fn next_row(
 #[derive(Clone, Debug)]
 pub struct Rows<'a> {
     file: &'a [u8],
-    names: Cow<'a, [u64]>,
+    identifiers: Cow<'a, [u64]>,
     reading: Reading,
     walk: RowWalk,
     ended: bool,
@@ -70,8 +71,8 @@ impl Rows<'_> {
     }
 
     /// The identifiers of its header, by which a row's satellite is named.
-    pub fn names(&self) -> &[u64] {
-        &self.names
+    pub fn identifiers(&self) -> &[u64] {
+        &self.identifiers
     }
 }
 
@@ -82,7 +83,7 @@ impl Iterator for Rows<'_> {
         if self.ended {
             return None;
         }
-        match next_row(self.file, &self.names, self.walk) {
+        match next_row(self.file, &self.identifiers, self.walk) {
             Ok(Some((row, next))) => {
                 self.walk = next;
                 Some(Ok(row))
@@ -121,9 +122,9 @@ impl FusedIterator for Rows<'_> {}
 /// ```
 pub fn begin<'a>(file: &'a [u8], identifiers: &'a mut [u64]) -> Result<Rows<'a>, Refusal> {
     let reading = begin_with(file, identifiers)?;
-    let names: &'a [u64] = identifiers;
-    let count = usize::try_from(reading.header.satellites).unwrap_or(names.len());
-    Ok(walk_over(file, Cow::Borrowed(names.get(..count).unwrap_or(names)), reading))
+    let identifiers: &'a [u64] = identifiers;
+    let count = usize::try_from(reading.header.satellites).unwrap_or(identifiers.len());
+    Ok(walk_over(file, Cow::Borrowed(identifiers.get(..count).unwrap_or(identifiers)), reading))
 }
 
 /// The same with the room for the identifiers lent here.
@@ -133,7 +134,7 @@ pub fn begin<'a>(file: &'a [u8], identifiers: &'a mut [u64]) -> Result<Rows<'a>,
 /// ```
 /// let file = include_bytes!("../../../samples/paper.sp3");
 /// let rows = sp3::rows(file)?;
-/// assert_eq!(rows.names(), [7107]);
+/// assert_eq!(rows.identifiers(), [7107]);
 /// assert_eq!(rows.count(), 1);
 /// assert_eq!(sp3::rows(b"#d").unwrap_err(), sp3::Refusal { number: 1, line: 1 });
 /// # Ok::<(), sp3::Refusal>(())
@@ -155,6 +156,6 @@ fn begin_with(file: &[u8], identifiers: &mut [u64]) -> Result<Reading, Refusal> 
 }
 
 /// The walk before its first row.
-fn walk_over<'a>(file: &'a [u8], names: Cow<'a, [u64]>, reading: Reading) -> Rows<'a> {
-    Rows { file, names, reading, walk: first_row(), ended: false }
+fn walk_over<'a>(file: &'a [u8], identifiers: Cow<'a, [u64]>, reading: Reading) -> Rows<'a> {
+    Rows { file, identifiers, reading, walk: first_row(), ended: false }
 }

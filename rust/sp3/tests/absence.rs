@@ -91,11 +91,11 @@ fn each_flag_alone() {
 #[test]
 fn rows_as_floats() {
     let file = night().bytes();
-    let mut names = [77_777; 3];
-    let rows = sp3::begin(&file, &mut names).unwrap();
-    assert_eq!(rows.names(), [7107, 8224]);
+    let mut identifiers = [77_777; 3];
+    let rows = sp3::begin(&file, &mut identifiers).unwrap();
+    assert_eq!(rows.identifiers(), [7107, 8224]);
     let walked: Vec<_> = rows.map(Result::unwrap).collect();
-    assert_eq!(names, [7107, 8224, 77_777]);
+    assert_eq!(identifiers, [7107, 8224, 77_777]);
     assert_eq!(walked.len(), 6);
     for (k, (walked, stored)) in walked.iter().zip(night_rows()).enumerate() {
         assert_eq!((walked.epoch, walked.satellite), (k as u64 / 2, k as u64 % 2));
@@ -126,7 +126,7 @@ fn a_walk_by_hand() {
 fn a_walk_that_owns_its_names() {
     let file = night().bytes();
     let mut rows = sp3::rows(&file).unwrap();
-    assert_eq!(rows.names(), [7107, 8224]);
+    assert_eq!(rows.identifiers(), [7107, 8224]);
     assert_eq!(rows.reading(), sp3::judge(&file).unwrap());
     assert_eq!(rows.by_ref().count(), 6);
     assert!(rows.next().is_none(), "a walk that has ended stays so");
@@ -236,39 +236,39 @@ fn identifiers_and_their_texts() {
 #[test]
 fn lines_one_after_the_other() {
     let file = night().bytes();
-    let mut names = [77_777; 4];
+    let mut identifiers = [77_777; 4];
     let mut spot = sp3::first_spot();
     for (k, text) in night().0.iter().enumerate() {
         let mut learnt = [77_777; 4];
         assert_eq!(spot, sp3::after_lines(&file, &mut learnt, sp3::first_spot(), k));
-        assert_eq!(learnt, names);
+        assert_eq!(learnt, identifiers);
         assert_eq!(
             sp3::next_line(&file, &[7107, 8224], spot),
-            sp3::read_line(&file, spot, &mut names)
+            sp3::read_line(&file, spot, &mut identifiers)
         );
-        let line = sp3::read_line(&file, spot, &mut names).unwrap();
+        let line = sp3::read_line(&file, spot, &mut identifiers).unwrap();
         assert_eq!(line.next.at(), spot.at() + text.len() + 1);
         assert_eq!(line.finished, text == b"EOF");
         spot = line.next;
     }
     assert_eq!(spot.at(), file.len());
-    assert_eq!(names, [7107, 8224, 77_777, 77_777]);
+    assert_eq!(identifiers, [7107, 8224, 77_777, 77_777]);
 }
 
 /// Where a `+ ` line brings more identifiers than there are places for, the reader refuses it and the walker stays at it.
 #[test]
 fn fewer_names_than_satellites() {
     let file = night().bytes();
-    let mut names = [77_777; 1];
+    let mut identifiers = [77_777; 1];
     let mut spot = sp3::first_spot();
     for _ in 0..2 {
-        spot = sp3::read_line(&file, spot, &mut names).unwrap().next;
+        spot = sp3::read_line(&file, spot, &mut identifiers).unwrap().next;
     }
     let refusal = sp3::LineRefusal { number: 12, column: 0 };
-    assert_eq!(sp3::read_line(&file, spot, &mut names), Err(refusal));
-    assert_eq!(sp3::after_lines(&file, &mut names, sp3::first_spot(), 99), spot);
-    assert_eq!(names, [77_777]);
-    assert!(sp3::next_line(&file, &names, spot).is_ok());
+    assert_eq!(sp3::read_line(&file, spot, &mut identifiers), Err(refusal));
+    assert_eq!(sp3::after_lines(&file, &mut identifiers, sp3::first_spot(), 99), spot);
+    assert_eq!(identifiers, [77_777]);
+    assert!(sp3::next_line(&file, &identifiers, spot).is_ok());
     assert!(sp3::read_line(&file, spot, &mut [0; 2]).is_ok());
 }
 

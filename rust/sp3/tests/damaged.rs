@@ -40,20 +40,20 @@ fn damage(file: &mut Vec<u8>, random: &mut Random) {
 }
 
 /// The walker stays at a spot from so many lines on, with these identifiers.
-fn walker_stays(bytes: &[u8], lines: usize, spot: sp3::Spot, names: &[u64; 255]) {
+fn walker_stays(bytes: &[u8], lines: usize, spot: sp3::Spot, identifiers: &[u64; 255]) {
     let mut learnt = [0; 255];
     assert_eq!(sp3::after_lines(bytes, &mut learnt, sp3::first_spot(), lines), spot);
-    assert_eq!(&learnt, names);
+    assert_eq!(&learnt, identifiers);
 }
 
 /// What the line reader finds: the length of a file at the front, or the first line that is refused. The walker does not pass that line.
 fn by_lines(bytes: &[u8]) -> Result<usize, Refusal> {
-    let mut names = [0; 255];
+    let mut identifiers = [0; 255];
     let mut spot = sp3::first_spot();
     for line in 1.. {
-        let read = sp3::read_line(bytes, spot, &mut names);
+        let read = sp3::read_line(bytes, spot, &mut identifiers);
         if !matches!(read, Ok(sp3::Line { finished: false, .. })) {
-            walker_stays(bytes, line as usize + 3, spot, &names);
+            walker_stays(bytes, line as usize + 3, spot, &identifiers);
         }
         match read {
             Err(refusal) => return Err(Refusal { number: refusal.number, line }),

@@ -105,8 +105,8 @@ fn case_12() {
 /// "Run: 256 satellites (7); 80 and 81 characters; three comments (4); `EOF` without LF (1); z alone zero (present)."
 #[test]
 fn cases_to_be_run() {
-    let names: String = (1..=17).map(|number| format!("G{number:02}")).collect();
-    assert_eq!(judge(&paper().put(3, 4, "256").put(3, 10, names).bytes()), refused(7, 3));
+    let identifiers: String = (1..=17).map(|number| format!("G{number:02}")).collect();
+    assert_eq!(judge(&paper().put(3, 4, "256").put(3, 10, identifiers).bytes()), refused(7, 3));
     assert!(judge(&paper().put(19, 4, [b'-'; 77]).bytes()).is_ok());
     assert_eq!(judge(&paper().put(19, 4, [b'-'; 78]).bytes()), refused(3, 19));
     assert_eq!(judge(&paper().without(20).bytes()), refused(4, 22));

@@ -92,9 +92,9 @@ fn questions_give_the_files_own_refusal_first() {
         assert_eq!(sp3::satellite_of(&file, 0), refused(number, line));
         assert_eq!(sp3::row(&file, 99, 99), refused(number, line));
         assert_eq!(sp3::rows(&file).map(|_| ()), refused(number, line));
-        let mut names = [77_777; 255];
-        assert_eq!(sp3::begin(&file, &mut names).map(|_| ()), refused(number, line));
-        assert_eq!(names, [77_777; 255]);
+        let mut identifiers = [77_777; 255];
+        assert_eq!(sp3::begin(&file, &mut identifiers).map(|_| ()), refused(number, line));
+        assert_eq!(identifiers, [77_777; 255]);
     }
 }
 
@@ -186,9 +186,15 @@ fn number_13_for_a_table_that_is_not_valid_and_the_output_stays() {
         let mut out = vec![199; 2000];
         for room in [0, 2000] {
             let out = &mut out[..room];
-            let (names, comments) = (&table.identifiers, &table.comments);
-            let answer =
-                sp3::write(&table.header, names, &table.exponents, comments, &table.rows, out);
+            let (identifiers, comments) = (&table.identifiers, &table.comments);
+            let answer = sp3::write(
+                &table.header,
+                identifiers,
+                &table.exponents,
+                comments,
+                &table.rows,
+                out,
+            );
             assert_eq!(answer, refused(13, 0), "{table:?}");
         }
         assert_eq!(out, [199; 2000]);
@@ -200,8 +206,8 @@ fn number_13_for_a_table_that_is_not_valid_and_the_output_stays() {
 fn output_of_every_room() {
     let table = Table::read(SAMPLE).unwrap();
     let write = |out: &mut [u8]| {
-        let (names, comments) = (&table.identifiers, &table.comments);
-        sp3::write(&table.header, names, &table.exponents, comments, &table.rows, out)
+        let (identifiers, comments) = (&table.identifiers, &table.comments);
+        sp3::write(&table.header, identifiers, &table.exponents, comments, &table.rows, out)
     };
     for room in 0..SAMPLE.len() {
         let mut out = vec![199; room];

@@ -1,0 +1,455 @@
+-- THE FRONT PAGE: what is proved of the SP3-d reader and writer, in the order of its three demands. Each statement has its sentence above it, and each
+-- proof is one citation. An accepted file is `IsFile d bytes`; it is exactly one with the paper's records in their order (`accepted-files`). Where each
+-- word is defined stands in FrontPage/Words, in reading order in docs/READING.md. Assumes nothing.
+mod Words
+mod Once
+mod Determined
+use Words.*
+pub use Once.*
+pub use Determined.*
+
+-- THE FIRST DEMAND. Bytes of every kind and length, every table, room of every size are answered, since no public function asks anything of its caller. A
+-- refusal has a number, a refused reading its line too, and changes nothing that was lent.
+
+-- A reading that is refused leaves each list as it was, whatever it was to be filled with; whole files and files at the front at once.
+pub reading-keeps : (whole : Bool) (bytes : List ℕ) {A : Type 0} (i x c r : ℕ) (new old : List A) → (answer whole bytes i x c r .refusal ≡ 0 → ⊥)
+    → filled (fills whole bytes i x c r) new old ≡ old
+reading-keeps whole bytes i x c r new old refused = room.refusal-keeps whole bytes i x c r new old refused
+
+-- A writing that is refused changes no byte.
+pub writing-keeps : (t : Table) (out : List ℕ) → (measured d t (length out) .refusal ≡ 0 → ⊥) → outAfter d t out ≡ out
+writing-keeps t out refused = writing.refusal-keeps-out t out refused
+
+-- The beginning of a walk that is refused, by the file's own refusal or by 12, leaves the identifiers as they were.
+pub beginning-keeps : (bytes : List ℕ) (number line column : ℕ) → fileOf d bytes ≡ front.Refused number line column → (old : List ℕ)
+    → (begun bytes (length old) ≡ refusedWith number line) × (begunList bytes old ≡ old)
+beginning-keeps bytes number line column refused old = beginning.begin-refused bytes number line column refused old
+
+pub beginning-short : (bytes : List ℕ) (t : Tally) → fileOf d bytes ≡ front.File t → (old : List ℕ) → length old < header bytes .satellites
+    → (begun bytes (length old) ≡ refusedWith 12 0) × (begunList bytes old ≡ old)
+beginning-short bytes t accepted old short = beginning.begin-short bytes t accepted old short
+
+-- It answers 12 exactly then, and past the identifiers of a file that is begun the list is as it was.
+pub begin-twelve : (bytes : List ℕ) (old : List ℕ) → (begun bytes (length old) .refusal ≡ 12) ↔ (IsFile d bytes × (length old < header bytes .satellites))
+begin-twelve bytes old = answers.begin-twelve bytes old
+
+pub beginning-rest : (bytes : List ℕ) (t : Tally) → fileOf d bytes ≡ front.File t → (old : List ℕ) → header bytes .satellites ≤ length old
+    → drop (header bytes .satellites) (begunList bytes old) ≡ drop (header bytes .satellites) old
+beginning-rest bytes t accepted old enough = beginning.begin-keeps-rest bytes t accepted old enough
+
+-- A division without room writes no length.
+pub dividing-keeps : (bytes old : List ℕ) → divideOf d bytes (length old) .refusal ≡ 12 → lengthsAfter d bytes old ≡ old
+dividing-keeps bytes old twelve = dividing.refusal-keeps bytes old twelve
+
+-- DEMAND 2, READING. Given room, reading gives exactly the table that the format gives to the file, and refuses exactly the files that break its rules.
+
+-- A file is accepted exactly when it has the paper's records in their order, with their counts and conditions.
+pub accepted-files : (bytes : List ℕ) → IsFile d bytes ↔ Accepted d bytes
+accepted-files bytes = judging.accepts-exactly bytes
+
+-- Accepted files exist: one has the paper's own header and one row,
+pub accepted-one : (bytes : List ℕ) × IsFile d bytes × Holds d (linesOf bytes) (oneRow (pos 1))
+accepted-one = exist.accepted-one
+
+-- and the tables of two of them differ.
+pub tables-differ : (a : List ℕ) × (b : List ℕ) × IsFile d a × IsFile d b × (rowsIn d (linesOf a) ≡ rowsIn d (linesOf b) → ⊥)
+tables-differ = exist.tables-differ
+
+-- Judging answers 0 exactly for an accepted file.
+pub judge-accepts : (bytes : List ℕ) → (judged d bytes (fileOf d bytes) .refusal ≡ 0) ↔ IsFile d bytes
+judge-accepts bytes = answers.judge-accepts bytes
+
+-- A file is refused at its first faulty line, with the lowest number of that line;
+pub refused-first : (bytes : List ℕ) (number line column : ℕ) → frontOf d bytes ≡ front.Refused number line column → FirstFault bytes number line
+refused-first bytes number line column e = judging.refused-first bytes number line column e
+
+-- and where a line is the first faulty one it is refused so.
+pub first-refused : (bytes : List ℕ) (number line : ℕ) → FirstFault bytes number line → (column : ℕ) × (frontOf d bytes ≡ front.Refused number line column)
+first-refused bytes number line f = judging.first-refused bytes number line f
+
+-- 11 comes exactly when an accepted file is followed by more, with the line after its last.
+pub eleven-exactly : (bytes : List ℕ) (line : ℕ) → (judged d bytes (fileOf d bytes) ≡ refusedWith 11 line)
+    ↔ ((a : List ℕ) × (b : List ℕ) × (bytes ≡ a ++ b) × IsFile d a × (0 < length b) × (line ≡ length (linesOf a) + 1))
+eleven-exactly bytes line = answers.eleven-exactly bytes line
+
+-- A file that is refused is answered by its own number and line, whatever the room; whole files (true) and files at the front (false) at once.
+pub refused-whatever-room : (whole : Bool) (bytes : List ℕ) (number line column : ℕ) → foundIn whole bytes ≡ front.Refused number line column
+    → (i x c r : ℕ) → answer whole bytes i x c r ≡ refusedWith number line
+refused-whatever-room whole bytes number line column e i x c r = answers.refused-whatever-room whole bytes number line column e i x c r
+
+-- An accepted file with room is answered by 0, its length and its header;
+pub enough-room : (whole : Bool) (bytes : List ℕ) (t : Tally) → foundIn whole bytes ≡ front.File t → (i x c r : ℕ)
+    → Room (headerTo whole bytes t) i x c r → answer whole bytes i x c r ≡ acceptedAs d bytes t
+enough-room whole bytes t found i x c r enough = room.room-accepted whole bytes t found i x c r enough
+
+-- 12 comes exactly when there is a file and room for it is missing anywhere, and 13 never.
+pub reading-twelve : (whole : Bool) (bytes : List ℕ) (i x c r : ℕ)
+    → (answer whole bytes i x c r .refusal ≡ 12) ↔ ((t : Tally) × (foundIn whole bytes ≡ front.File t) × Short (headerTo whole bytes t) i x c r)
+reading-twelve whole bytes i x c r = answers.reading-twelve whole bytes i x c r
+
+pub twelve-line : (whole : Bool) (bytes : List ℕ) (t : Tally) → foundIn whole bytes ≡ front.File t → (i x c r : ℕ)
+    → Short (headerTo whole bytes t) i x c r → answer whole bytes i x c r ≡ refusedWith 12 0
+twelve-line whole bytes t found i x c r short = room.short-refused whole bytes t found i x c r short
+
+pub reading-never-13 : (whole : Bool) (bytes : List ℕ) (i x c r : ℕ) → answer whole bytes i x c r .refusal ≡ 13 → ⊥
+reading-never-13 whole bytes i x c r = answers.reading-never-13 whole bytes i x c r
+
+-- THE TABLE. After a reading that answers 0 the header and the four lent lists are the table of the file: every part that the paper names.
+module _ (bytes : List ℕ) (accepted : IsFile d bytes) (identifiers exponents comments : List ℕ) (rows : List ℤ)
+    (read : readAnswer d bytes (fileOf d bytes) identifiers exponents comments rows .refusal ≡ 0) where
+  pub read-table : Holds d (linesOf bytes) (lentTable true bytes identifiers exponents comments rows)
+  read-table = rewritten.lent-held bytes accepted identifiers exponents comments rows read
+
+  -- The answer is the header of the file's lines and its length,
+  pub read-header : readAnswer d bytes (fileOf d bytes) identifiers exponents comments rows .header ≡ headerIn d (linesOf bytes)
+  read-header = filling.header-told bytes accepted identifiers exponents comments rows read
+
+  pub read-length : readAnswer d bytes (fileOf d bytes) identifiers exponents comments rows .length ≡ length bytes
+  read-length = filling.length-told bytes accepted identifiers exponents comments rows read
+
+  -- and each list has the file's own from its first place on, and past them what it had.
+  pub read-identifiers : identifiersAfter d bytes (fileOf d bytes) identifiers exponents comments rows ≡ over (identifiersOf d (linesOf bytes)) identifiers
+  read-identifiers = filling.identifiers-filled bytes accepted identifiers exponents comments rows read
+
+  pub read-exponents : exponentsAfter d bytes (fileOf d bytes) identifiers exponents comments rows ≡ over (read-as.exponentsOf d (linesOf bytes)) exponents
+  read-exponents = filling.exponents-filled bytes accepted identifiers exponents comments rows read
+
+  pub read-comments : commentsAfter d bytes (fileOf d bytes) identifiers exponents comments rows ≡ over (commentsIn d (linesOf bytes)) comments
+  read-comments = filling.comments-filled bytes accepted identifiers exponents comments rows read
+
+  pub read-rows : rowsAfter d bytes (fileOf d bytes) identifiers exponents comments rows ≡ over (rowsIn d (linesOf bytes)) rows
+  read-rows = filling.rows-filled bytes accepted identifiers exponents comments rows read
+
+-- A file at the front is read as the file alone, whatever follows it: the same answer, the same header and lists.
+pub front-as-alone : (a b : List ℕ) → IsFile d a → (identifiers exponents comments : List ℕ) (rows : List ℤ)
+    → (readAnswer d (a ++ b) (frontOf d (a ++ b)) identifiers exponents comments rows ≡ readAnswer d a (fileOf d a) identifiers exponents comments rows)
+    × (lentTable false (a ++ b) identifiers exponents comments rows ≡ lentTable true a identifiers exponents comments rows)
+front-as-alone a b accepted identifiers exponents comments rows = (
+  rewritten.front-as-alone a b accepted identifiers exponents comments rows,
+  rewritten.front-table a b accepted identifiers exponents comments rows,
+)
+
+-- ITS ROWS, by epoch k and satellite j, P rows (false) and in mode V the V rows (true): what a row holds is what the columns of its line say, each field by
+-- its rule; and asked by name the lent rows give place, clock, exponents and flags of that line.
+module _ (bytes : List ℕ) (accepted : IsFile d bytes) (identifiers exponents comments : List ℕ) (old : List ℤ)
+    (read : readAnswer d bytes (fileOf d bytes) identifiers exponents comments old .refusal ≡ 0) (k j : ℕ) (there : There bytes k j) (v : Bool)
+    (mode : v ≡ true → header bytes .velocity ≡ true) where
+  abbrev rows : List ℤ
+  rows = rowsAfter d bytes (fileOf d bytes) identifiers exponents comments old
+
+  abbrev row : Row
+  row = held v bytes k j
+
+  abbrev r : ℕ
+  r = tableRow v bytes k j
+
+  pub row-columns : row ≡ rowFrom v (valuesOf (rowItems v) (padded (lineAsked v bytes k j)))
+  row-columns = lent.row-columns bytes accepted identifiers exponents comments old read k j there v mode
+
+  -- the place is absent where the three fields are zero, whatever the clock,
+  pub row-place : placeIn rows r
+      ≡ cond (placeAbsent (row .x .magnitude) (row .y .magnitude) (row .z .magnitude)) place.Absent
+      (place.At (exactSigned (row .x)) (exactSigned (row .y)) (exactSigned (row .z)))
+  row-place = lent.lent-place bytes accepted identifiers exponents comments old read k j there v mode
+
+  -- the clock at +999,999,999,999, whatever the place,
+  pub row-clock : clockIn rows r ≡ cond (clockAbsent (row .clock .negative) (row .clock .magnitude)) clock.Absent (clock.At (exactSigned (row .clock)))
+  row-clock = lent.lent-clock bytes accepted identifiers exponents comments old read k j there v mode
+
+  -- the exponents of x, y, z and clock are a value, unknown, or too large,
+  pub row-exponents : (deviationIn rows r 0 ≡ deviationOf 0 (row .«x_exponent»)) × (deviationIn rows r 1 ≡ deviationOf 1 (row .«y_exponent»))
+      × (deviationIn rows r 2 ≡ deviationOf 2 (row .«z_exponent»)) × (deviationIn rows r 3 ≡ deviationOf 3 (row .«clock_exponent»))
+  row-exponents = lent.lent-exponents bytes accepted identifiers exponents comments old read k j there v mode
+
+  -- and the flags are those of columns 75, 76, 79 and 80.
+  pub row-flags : (flagIn rows r 0 ≡ cond (row .event) flag.Set flag.NotSet) × (flagIn rows r 1 ≡ cond (row .predicted) flag.Set flag.NotSet)
+      × (flagIn rows r 2 ≡ cond (row .maneuver) flag.Set flag.NotSet) × (flagIn rows r 3 ≡ cond (row .«orbit_predicted») flag.Set flag.NotSet)
+  row-flags = lent.lent-flags bytes accepted identifiers exponents comments old read k j there v mode
+
+-- A stored row that the lent numbers do not have is 13.
+pub stored-missing : (rows : List ℤ) (k : ℕ) → isThere rows k ≡ false
+    → (placeIn rows k ≡ place.NotThere) × (clockIn rows k ≡ clock.NotThere)
+    × ((which : ℕ) → deviationIn rows k which ≡ deviation.NotThere)
+    × ((which : ℕ) → flagIn rows k which ≡ flag.NotThere)
+stored-missing rows k none = answers.stored-missing rows k none
+
+module _ (bytes : List ℕ) (accepted : IsFile d bytes) where
+  -- EVERY SATELLITE OF THE HEADER STAYS IN EVERY EPOCH, IN HEADER ORDER: the P rows number satellites times epochs,
+  pub rows-number : length (rowLinesOf false bytes) ≡ header bytes .satellites * header bytes .epochs
+  rows-number = reading.rows-number bytes accepted
+
+  -- and row k * n + j is the P line of epoch k that names identifier j.
+  pub the-row : (k j : ℕ) → There bytes k j → RowOf false bytes k j
+  the-row k j there = reading.the-row bytes accepted k j there
+
+  -- In mode V the V rows likewise.
+  pub the-motion : (k j : ℕ) → There bytes k j → header bytes .velocity ≡ true → RowOf true bytes k j
+  the-motion k j there both = reading.the-motion bytes accepted k j there both
+
+  -- A file has at least 61 bytes for each row, 32 for each epoch and 3 for each comment.
+  pub file-bytes : 61 * length (rowLines d (linesOf bytes)) + 32 * header bytes .epochs + 3 * header bytes .comments ≤ length bytes
+  file-bytes = reading.file-bytes bytes accepted
+
+  -- The row question answers for each of them,
+  pub row-answered : (k j : ℕ) → There bytes k j → asked bytes k j .refusal ≡ 0
+  row-answered k j there = floats.asked-answered bytes accepted k j there
+
+  -- 13 exactly for an epoch or satellite that the file does not have.
+  pub row-thirteen : (k j : ℕ) → (asked bytes k j .refusal ≡ 13) ↔ (IsFile d bytes × (There bytes k j → ⊥))
+  row-thirteen k j = answers.row-thirteen bytes k j
+
+  -- ABSENT IS A CASE: the row question marks a place absent exactly when its three fields are zero, whatever the clock,
+  pub absent-exactly : (k j : ℕ) (there : There bytes k j) → (asked bytes k j .row .«place_absent» ≡ true)
+      ↔ ((exactSigned (held false bytes k j .x) ≡ pos 0)
+      × (exactSigned (held false bytes k j .y) ≡ pos 0)
+      × (exactSigned (held false bytes k j .z) ≡ pos 0))
+  absent-exactly k j there = floats.asked-no-place bytes accepted k j there
+
+  -- and a clock exactly at +999,999,999,999, whatever the place;
+  pub no-clock-exactly : (k j : ℕ) (there : There bytes k j)
+      → (asked bytes k j .row .«clock_absent» ≡ true) ↔ (exactSigned (held false bytes k j .clock) ≡ pos 999_999_999_999)
+  no-clock-exactly k j there = floats.asked-no-clock bytes accepted k j there
+
+  -- a place that is there comes as three floats that are exactly the whole numbers of its line.
+  pub place-exact : (k j : ℕ) (there : There bytes k j) → asked bytes k j .row .«place_absent» ≡ false
+      → Exactly (asked bytes k j .row .x) (exactSigned (held false bytes k j .x))
+      × Exactly (asked bytes k j .row .y) (exactSigned (held false bytes k j .y))
+      × Exactly (asked bytes k j .row .z) (exactSigned (held false bytes k j .z))
+  place-exact k j there = floats.asked-place bytes accepted k j there
+
+  -- and a clock that is there as exactly the picoseconds of its line.
+  pub clock-exact : (k j : ℕ) (there : There bytes k j) → asked bytes k j .row .«clock_absent» ≡ false
+      → Exactly (asked bytes k j .row .clock) (exactSigned (held false bytes k j .clock))
+  clock-exact k j there = floats.asked-clock bytes accepted k j there
+
+  -- The lines of the rows that the row question marks absent and the lines of the others are all of them.
+  pub absent-line : (k j : ℕ) → There bytes k j → asked bytes k j .row .«place_absent» ≡ absentIn d (lineAsked false bytes k j)
+  absent-line k j there = floats.absent-line bytes accepted k j there
+
+  pub with-and-without : length (select (absentIn d) (rowLinesOf false bytes)) + length (select (λ (l : List ℕ). not (absentIn d l)) (rowLinesOf false bytes))
+      ≡ header bytes .satellites * header bytes .epochs
+  with-and-without = reading.with-and-without bytes accepted
+
+-- QUESTIONS ABOUT A FILE give the file's own refusal first: the row,
+pub row-refused : (bytes : List ℕ) (number line column : ℕ) → fileOf d bytes ≡ front.Refused number line column
+    → (k j : ℕ) → asked bytes k j ≡ rowRefused number line
+row-refused bytes number line column e k j = floats.row-refused bytes number line column e k j
+
+-- the comment, whose text is then empty,
+pub comment-refused : (bytes : List ℕ) (number line column : ℕ) → fileOf d bytes ≡ front.Refused number line column
+    → (k : ℕ) → (commentAnswer d bytes (fileOf d bytes) k ≡ noComment number line) × (commentWords d bytes (fileOf d bytes) k ≡ [])
+comment-refused bytes number line column e k = answers.comment-refused bytes number line column e k
+
+-- the satellite.
+pub satellite-refused : (bytes : List ℕ) (number line column : ℕ) → fileOf d bytes ≡ front.Refused number line column
+    → (name : ℕ) → satelliteAnswer d bytes (fileOf d bytes) name ≡ noSatellite number line
+satellite-refused bytes number line column e name = answers.satellite-refused bytes number line column e name
+
+module _ (bytes : List ℕ) (accepted : IsFile d bytes) where
+  -- A comment of an accepted file is columns 4 on of its line without trailing blanks; one that is not there is 13 and empty.
+  pub comment-text : (k : ℕ) → k < header bytes .comments → commentWords d bytes (fileOf d bytes) k ≡ textIn (commentLine d (linesOf bytes) k)
+  comment-text k h = answers.comment-text bytes accepted k h
+
+  pub comment-not-there : (k : ℕ) → header bytes .comments ≤ k
+      → (commentAnswer d bytes (fileOf d bytes) k ≡ noComment 13 0) × (commentWords d bytes (fileOf d bytes) k ≡ [])
+  comment-not-there k h = answers.comment-not-there bytes accepted k h
+
+  -- A satellite that is found is in the header and has that identifier; 13 comes exactly where none has it.
+  pub satellite-found : (name : ℕ) → satelliteAnswer d bytes (fileOf d bytes) name .refusal ≡ 0
+      → (satelliteAnswer d bytes (fileOf d bytes) name .number < length (identifiersOf d (linesOf bytes)))
+      × (identifier bytes (satelliteAnswer d bytes (fileOf d bytes) name .number) ≡ name)
+  satellite-found name zero = answers.satellite-found bytes accepted name zero
+
+  pub satellite-thirteen : (name : ℕ) → (satelliteAnswer d bytes (fileOf d bytes) name ≡ noSatellite 13 0)
+      ↔ ((j : ℕ) → j < length (identifiersOf d (linesOf bytes)) → identifier bytes j ≡ name → ⊥)
+  satellite-thirteen name = answers.satellite-thirteen bytes accepted name
+
+-- A comment's text is handed back as that stretch of the lent file: for every file and every number it is the part that `comment_answer` names, those
+-- bytes at that address. So any two outcomes are one machine value, a pointer and a count.
+pub comment-part : (κs : _) (a : _) (r : _) (s : _) → CommentPost κs a r s
+    → let answer = commentAnswer d (now (a .0)) (fileOf d (now (a .0))) (a .1 .0) in PartAt (a .0) (answer .at) (answer .length) r
+comment-part κs a r s promised = asking.comment-part κs a r s promised
+
+pub comment-one : (κs : _) (a : _) (r r′ : _) (s s′ : _) → CommentPost κs a r s → CommentPost κs a r′ s′ → slice-vals r ≡ slice-vals r′
+comment-one κs a r r′ s s′ p q = places.same-value r r′ (comment-determined κs a r r′ s s′ p q)
+
+-- Files that differ only after column 2 of EP and EV lines have the same table.
+pub same-table : (a b : List ℕ) → OnlyAfterTwo a b → SameTable d (linesOf a) (linesOf b)
+same-table a b same = correlations.same-table a b same
+
+-- LINE BY LINE: after k lines of an accepted file the place is the length of those lines, the state is the machine's after them, and there the line
+-- reader reads the next, for every k.
+pub stepping : (bytes : List ℕ) (t : Tally) → frontOf d bytes ≡ front.File t → (k : ℕ) → k < t .lines → Stands d bytes k (after bytes k)
+stepping bytes t accepted k h = judging.stepping-file bytes t accepted k h
+
+-- THE LINE READER'S ROOM: lent a list for the identifiers, it answers 12 exactly at a `+ ` line without fault that brings more of them than fit behind those
+-- known; the list is then as it was, and at any other line its room makes no difference. The judge's own list is never short.
+pub line-twelve : (bytes : List ℕ) (at : ℕ) (s : State) (identifiers : List ℕ) → (lineRead d bytes at s identifiers ≡ found.Fault 12 0) ↔ Overfull d bytes at s identifiers
+line-twelve bytes at s identifiers = lent-list.twelve-exactly d bytes at s identifiers
+
+pub line-twelve-keeps : (bytes : List ℕ) (at : ℕ) (s : State) (identifiers : List ℕ) → Overfull d bytes at s identifiers → lineIdentifiers d bytes at s identifiers ≡ identifiers
+line-twelve-keeps bytes at s identifiers o = lent-list.twelve-keeps d bytes at s identifiers o
+
+pub line-room : (bytes : List ℕ) (at : ℕ) (s : State) (identifiers : List ℕ) → (Overfull d bytes at s identifiers → ⊥) → lineRead d bytes at s identifiers ≡ lineKnown d bytes at s identifiers
+line-room bytes at s identifiers none = lent-list.room-enough d bytes at s identifiers none
+
+pub judge-room : (bytes : List ℕ) (k : ℕ) → AllGoOn bytes k → k ≤ length (linesOf bytes)
+    → let g = after bytes k in Overfull d bytes (g .at) (g .state) (g .identifiers) → ⊥
+judge-room bytes k goes h o = lent-list.judge-room bytes k goes h o
+
+-- THE WALKER: after k steps from any place, with any list lent, the place, the state and the identifiers are those of the first k lines from there, for
+-- every k and any bytes; a line that is refused or ends the file is not passed.
+pub walker-lines : (bytes : List ℕ) (k : ℕ) (g : Going) → walkedFrom d bytes g k ≡ overLines d g (take k (linesOf (drop (g .at) bytes)))
+walker-lines bytes k g = walks.walks d bytes k g
+
+-- From the first line, with as many places as the judge has, they are those of the judge's run as long as its lines go on; of a file, after each of its
+-- lines.
+pub walker-steps : (bytes : List ℕ) (k : ℕ) → AllGoOn bytes k → k ≤ length (linesOf bytes) → walkedFrom d bytes atFirst k ≡ after bytes k
+walker-steps bytes k goes h = walks.walker-steps bytes k goes h
+
+pub walker-file : (bytes : List ℕ) (t : Tally) → frontOf d bytes ≡ front.File t → (k : ℕ) → k < t .lines → walkedFrom d bytes atFirst k ≡ after bytes k
+walker-file bytes t accepted k h = walks.file-steps bytes t accepted k h
+
+-- With a list that is too short it stays at the `+ ` line that brings more identifiers than fit.
+pub walker-short : (bytes : List ℕ) (g : Going) → Overfull d bytes (g .at) (g .state) (g .identifiers) → (k : ℕ) → walkedFrom d bytes g k ≡ g
+walker-short bytes g o k = walks.short-stays d bytes g o k
+
+-- By the promises of `new` and `moved`: k moves after a new walker at the first line it is where the judge's run is,
+pub walker-walks : (file : RefT (List ℕ)) (from : Walker) → Begins file firstSpot from → (k : ℕ) (w : Walker) (identifiers : List ℕ) → After from noIdentifiers k w identifiers
+    → AllGoOn (now file) k → k ≤ length (linesOf (now file)) → goingAt (w .spot) identifiers ≡ after (now file) k
+walker-walks file from begins k w identifiers steps goes h = walks.walker-walks file from begins k w identifiers steps goes h
+
+-- and the clauses of their contracts say just that of every outcome: that a walker begins so, and that it moves so.
+module _ {M : Type 1} (𝓤 : URA M) (H : Heap 𝓤) (A : Atoms 𝓤) (mem : Memory → SProp 𝓤) (run : Routine → Fun 𝓤) where
+  pub walker-begins : (κs : Lfts 1) (a : Args new.signature κs) (w : Res new.signature κs) (s : AtExit new.ended κs)
+      → ent 𝓤 (new.clauses 𝓤 H A mem run κs a .ensures tt w s) (fact 𝓤 (Begins (a .0) (a .1 .0) w))
+  walker-begins κs a w s = promised.new-begins 𝓤 H A mem run κs a w s
+
+  pub walker-moves : (κs : Lfts 2) (a : Args moved.signature κs) (v : Res moved.signature κs) (s : AtExit moved.ended κs)
+      → ent 𝓤 (moved.clauses 𝓤 H A mem run κs a .ensures tt v s) (fact 𝓤 (Moves (a .0) (now (a .1 .0)) v (now (s .1 .0))))
+  walker-moves κs a v s = promised.moved-moves 𝓤 H A mem run κs a v s
+
+-- THE ADJUSTMENT'S LOOP: step k * n + j of a walk over the rows gives epoch k, satellite j and the row that the row question gives, as absent exactly
+-- when it is marked so,
+module _ (bytes : List ℕ) (t : Tally) (accepted : fileOf d bytes ≡ front.File t) (identifiers : List ℕ) (identified : Identified bytes identifiers) where
+  pub walk-absent : (k j : ℕ) → There bytes k j → asked bytes k j .row .«place_absent» ≡ true
+      → (next : RowWalk) × (walkStep bytes identifiers (rowAt bytes k j) ≡ step.Absent k j (asked bytes k j .row) next)
+  walk-absent k j there absent = walked.walk-absent bytes t accepted identifiers identified k j there absent
+
+  pub walk-at : (k j : ℕ) → There bytes k j → asked bytes k j .row .«place_absent» ≡ false
+      → (next : RowWalk) × (walkStep bytes identifiers (rowAt bytes k j) ≡ step.At k j (asked bytes k j .row) next)
+  walk-at k j there present = walked.walk-at bytes t accepted identifiers identified k j there present
+
+  -- and after all of them the end.
+  pub walk-ends : walkStep bytes identifiers (header bytes .satellites * header bytes .epochs) ≡ step.End
+  walk-ends = walked.walk-ends bytes t accepted identifiers identified
+
+-- DEMAND 2, WRITING. Each valid table has one canonical form; writing makes it, reading it returns the table, writing what was read from canonical
+-- bytes returns those bytes.
+
+-- Tables that a file has have one canonical form, whatever stands past their counts.
+pub one-form : (lines : List (List ℕ)) (t u : Table) → Holds d lines t → Holds d lines u → canonical d t ≡ canonical d u
+one-form lines t u p q = rewriting.one-form d lines t u p q
+
+-- A table is valid exactly when some accepted file has it.
+pub valid-exactly : (t : Table) → (valid d t ≡ true) ↔ ((bytes : List ℕ) × IsFile d bytes × Holds d (linesOf bytes) t)
+valid-exactly t = rewritten.valid-exactly t
+
+-- Writing answers 0 exactly when the table is valid and its form has room, and then the form stands in the output.
+pub writes-exactly : (t : Table) (out : List ℕ) → (measured d t (length out) .refusal ≡ 0) ↔ ((valid d t ≡ true) × (length (canonical d t) ≤ length out))
+writes-exactly t out = writing.writes-exactly t out
+
+-- 13 exactly when the table is not valid, whatever the room; 12 exactly when it is and its form is longer than the output.
+pub writing-thirteen : (t : Table) (out : List ℕ) → (measured d t (length out) .refusal ≡ 13) ↔ (valid d t ≡ false)
+writing-thirteen t out = writing.thirteen-exactly t out
+
+pub writing-twelve : (t : Table) (out : List ℕ) → (measured d t (length out) .refusal ≡ 12) ↔ ((valid d t ≡ true) × (length out < length (canonical d t)))
+writing-twelve t out = writing.twelve-exactly t out
+
+pub written-form : (t : Table) (out : List ℕ) → measured d t (length out) .refusal ≡ 0
+    → take (measured d t (length out) .length) (outAfter d t out) ≡ canonical d t
+written-form t out success = writing.written-form t out success
+
+-- Past the form no byte changes.
+pub written-rest : (t : Table) (out : List ℕ) → measured d t (length out) .refusal ≡ 0
+    → drop (measured d t (length out) .length) (outAfter d t out) ≡ drop (measured d t (length out) .length) out
+written-rest t out success = writing.rest-kept t out success
+
+-- What was written is one accepted file that has exactly the table;
+pub written-accepted : (t : Table) (out : List ℕ) (success : measured d t (length out) .refusal ≡ 0) → IsFile d (writtenBytes t out)
+written-accepted t out success = rewritten.written-accepted t out success
+
+pub written-holds : (t : Table) (out : List ℕ) (success : measured d t (length out) .refusal ≡ 0) → Holds d (linesOf (writtenBytes t out)) t
+written-holds t out success = rewritten.written-holds t out success
+
+module _ (bytes : List ℕ) (accepted : IsFile d bytes) (identifiers exponents comments : List ℕ) (rows : List ℤ)
+    (read : readAnswer d bytes (fileOf d bytes) identifiers exponents comments rows .refusal ≡ 0) where
+  -- what was read is written as the form of the file, answered by 0 and its length,
+  pub read-written : (out : List ℕ) → length (formOf d bytes) ≤ length out
+      → (measured d (lentTable true bytes identifiers exponents comments rows) (length out) ≡ record { refusal = 0; length = length (formOf d bytes) })
+      × (outAfter d (lentTable true bytes identifiers exponents comments rows) out ≡ over (formOf d bytes) out)
+  read-written out enough = (
+    rewritten.lent-answer bytes accepted identifiers exponents comments rows read out enough,
+    rewritten.lent-written bytes accepted identifiers exponents comments rows read out enough,
+  )
+
+  -- and canonical bytes, read and written, come back: 0, their length, and those bytes.
+  pub canonical-again : (t : Table) → valid d t ≡ true → bytes ≡ canonical d t → (out : List ℕ) → length bytes ≤ length out
+      → (measured d (lentTable true bytes identifiers exponents comments rows) (length out) ≡ record { refusal = 0; length = length bytes })
+      × (outAfter d (lentTable true bytes identifiers exponents comments rows) out ≡ over bytes out)
+  canonical-again t ok is out enough = rewritten.canonical-again bytes accepted identifiers exponents comments rows read t ok is out enough
+
+-- The program `rewrite` lends room for 255 satellites, 800 comments and 1,074 rows. Rows are never short in a file of at most 65,536 bytes, and reading it
+-- answers 12 exactly where it has more than 800 comments.
+pub rewrite-rows : (bytes : List ℕ) → IsFile d bytes → length bytes ≤ 65_536 → rowsNeeded (header bytes) ≤ 12_888
+rewrite-rows bytes accepted short = rewriteRoom.rows-fit bytes accepted short
+
+pub rewrite-12 : (bytes : List ℕ) → IsFile d bytes → length bytes ≤ 65_536 → (rewriteRoom.rewriteReading bytes .refusal ≡ 12) ↔ (800 < header bytes .comments)
+rewrite-12 bytes accepted short = rewriteRoom.twelve-exactly bytes accepted short
+
+-- DEMAND 3. No accepted file is the beginning of a longer accepted file, so a stretch divides into files in at most one way; that division is given
+-- exactly when there is one, else the accepted files at the front and the refusal after them.
+
+-- An accepted file followed by anything is read from the front as it is read whole, and its length is told.
+pub then-anything : (a b : List ℕ) (t : Tally) → fileOf d a ≡ front.File t → (frontOf d (a ++ b) ≡ front.File t) × (t .end ≡ length a)
+then-anything a b t accepted = judging.file-then-anything a b t accepted
+
+pub not-longer : (a b : List ℕ) → IsFile d a → IsFile d (a ++ b) → b ≡ []
+not-longer a b f g = judging.not-longer a b f g
+
+pub one-way : {bytes ls ks : List ℕ} → Divides d bytes ls → Divides d bytes ks → ls ≡ ks
+one-way x y = dividing.one-way x y
+
+-- With room the answer is a division and its lengths are written exactly when it is one.
+pub divides-exactly : (bytes old ls : List ℕ) → length ls ≤ length old
+    → Divides d bytes ls ↔ ((divideOf d bytes (length old) ≡ division (length ls) (length bytes) 0 0) × (lengthsAfter d bytes old ≡ over ls old))
+divides-exactly bytes old ls enough = dividing.divides-exactly bytes old ls enough
+
+-- Wherever the answer is not 12 it tells the accepted files at the front, as many as there are, with their lengths written;
+pub files-at-front : (bytes old : List ℕ) → (divideOf d bytes (length old) .refusal ≡ 12 → ⊥) → AtFront bytes old (divideOf d bytes (length old))
+files-at-front bytes old enough = dividing.front-found bytes old enough
+
+-- what is left after them, if anything is, is refused with the number and line of the answer.
+pub rest-refused : {bytes old : List ℕ} {answer : Division} (f : AtFront bytes old answer) → (answer .refusal ≡ 0 → ⊥)
+    → (column : ℕ) × (0 < length (f .rest)) × (frontOf d (f .rest) ≡ front.Refused (answer .refusal) (answer .line) column)
+rest-refused f some = dividing.rest-refused f some
+
+-- 12 comes exactly where more accepted files stand at the front than there is room for, and 11 never.
+pub no-room : (bytes : List ℕ) (room : ℕ) → (divideOf d bytes room .refusal ≡ 12) ↔ TooMany bytes room
+no-room bytes room = dividing.twelve-exactly bytes room
+
+-- With 12 every other part of the answer is 0.
+pub twelve-alone : (bytes : List ℕ) (room : ℕ) → divideOf d bytes room .refusal ≡ 12 → divideOf d bytes room ≡ division 0 0 12 0
+twelve-alone bytes room e = dividing.twelve-alone bytes room e
+
+pub never-11 : (bytes : List ℕ) (room : ℕ) → divideOf d bytes room .refusal ≡ 11 → ⊥
+never-11 bytes room e = dividing.never-11 bytes room e
+
+-- The file of number i begins at the sum of the first i lengths, and is an accepted file of the length of number i.
+pub file-at-sum : (bytes old : List ℕ) (i : ℕ) → i < divideOf d bytes (length old) .count
+    → IsFile d (take (getD (lengthsAfter d bytes old) i 0) (drop (sum (take i (lengthsAfter d bytes old))) bytes))
+file-at-sum bytes old i h = dividing.file-at-sum bytes old i h
+
+-- THE PAPER'S TWELVE CASES, one table.
+pub twelve-cases : (length cases.cases ≡ 12) × (map (λ (c : Case). c .found) cases.cases ≡ map (λ (c : Case). c .paper) cases.cases)
+twelve-cases = cases.twelve-cases

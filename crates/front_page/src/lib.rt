@@ -1,0 +1,1 @@
+// The front page of what is proved. No code: proofs/FrontPage is all of it.

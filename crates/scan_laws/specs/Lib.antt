@@ -1,0 +1,2 @@
+pub mod Earned
+pub mod Lines

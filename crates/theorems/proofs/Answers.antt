@@ -1,0 +1,309 @@
+-- Each number of the answers exactly when: judging, reading, the questions, the beginning of a walk and dividing; the file's own refusal first.
+-- Assumes nothing.
+use mathlib.Core.Path.{_≡_, refl, sym, ap, _∙_, subst}
+use mathlib.Core.Bool.{Bool, true, false, cond, _&&_, false≢true}
+use mathlib.Core.Logic.{_⊎_, inl, inr, _↔_}
+use mathlib.Core.List.{List, [], _∷_, _++_}
+use Prim.Native.Nat.{ℕ, zero, suc, _+_, _/_, _≤_, _<_}
+use native.Mathlib.Decide.{decLe, decLt}
+use native.Mathlib.Omega.{arith}
+use borrow.Author.Tests.{lt-ltb, le-ltb, ltb-true, ltb-false, eqb-true, eq-eqb, ne-eqb}
+use lib.Dec.{eqb, ltb}
+use lib.IntN.{ℤ}
+use lib.ListN.{length, getD, take, drop, length-append, length-drop, take-append-drop}
+use Rattle.header.specs.Rules.{d}
+use Rattle.lines.specs.Lines.{linesOf}
+use Rattle.file.specs.Kinds.{ofKind}
+use Rattle.scan.specs.Run.{wholeFront, IsFile}
+use Rattle.reader.specs.Reading.{refusedWith, linesTo, acceptedAs, frontOf, fileOf, judged, delivered, roomFor, identifiersOf}
+use Rattle.questions.specs.Questions.{textIn, noComment, commentLine, commentAnswer, commentWords, indexOf, noSatellite, satelliteIn, satelliteAnswer}
+use Rattle.stored_row.specs.Stored.{isThere, placeIn, clockIn, deviationIn, flagIn}
+use Rattle.scan_laws.proofs.Files.{file-plain, whole-taken}
+use Rattle.scan_laws.proofs.Local.{whole-ends}
+use Rattle.scan_laws.proofs.Used.{accepted-front}
+use Rattle.file_laws.proofs.Different.{one-of-each}
+use Rattle.file_laws.proofs.Selected.{kind-8}
+use Rattle.theorems.specs.Files.{header, identifier, There}
+use Rattle.theorems.specs.Room.{foundIn, answer, Room, Short}
+use Rattle.theorems.specs.Asked.{asked, rowFound, rowRefused}
+use Rattle.theorems.specs.Walked.{begun}
+use Rattle.theorems.proofs.Accepting.{says-comments, says-satellites}
+use Rattle.theorems.proofs.Judging.{refused-numbers, whole-refused, file-then-anything, front-whole}
+use Rattle.theorems.proofs.Room.{headerTo, found-numbered, short-refused, room-accepted, room-or-short}
+use Rattle.theorems.proofs.Floats.{row-asked, row-not-there, row-refused}
+use Rattle.theorems.proofs.Beginning.{begin-accepts, begin-short, begin-refused}
+use Rattle.header.specs.declared.types.Header.{Header}
+use Rattle.reader.specs.declared.types.Reading.{Reading}
+use Rattle.questions.specs.declared.types.CommentAnswer.{CommentAnswer}
+use Rattle.questions.specs.declared.types.SatelliteAnswer.{SatelliteAnswer}
+use Rattle.float_row.specs.declared.RowAnswer.{RowAnswer}
+use Rattle.stored_row.specs.declared.types.Place.the-variants as place
+use Rattle.stored_row.specs.declared.types.ClockRead.the-variants as clock
+use Rattle.stored_row.specs.declared.types.Deviation.the-variants as deviation
+use Rattle.stored_row.specs.declared.types.Flag.the-variants as flag
+use Rattle.scan.specs.declared.Tally.{Tally}
+use Rattle.scan.specs.declared.Front.{Front}
+use Rattle.scan.specs.declared.Front.the-variants as front
+
+-- a file that is found refused has a number from 1 to 11
+pub found-numbers : (bytes : List ℕ) (number line column : ℕ) → fileOf d bytes ≡ front.Refused number line column → (1 ≤ number) × (number ≤ 11)
+found-numbers bytes number line column e = go (whole-refused bytes number line column e)
+  where
+    go : (frontOf d bytes ≡ front.Refused number line column)
+        ⊎ ((t : Tally) × (frontOf d bytes ≡ front.File t) × (t .end < length bytes) × (number ≡ 11) × (line ≡ t .lines + 1))
+        → (1 ≤ number) × (number ≤ 11)
+    go (inl refused) = let n = refused-numbers bytes number line column refused in (n .0, omega (arith, n .1))
+    go (inr (t, f, h, eleven, l)) = (omega arith, omega arith)
+
+-- whole or at the front
+found-few : (whole : Bool) (bytes : List ℕ) (number line column : ℕ) → foundIn whole bytes ≡ front.Refused number line column → number ≤ 11
+found-few true bytes number line column e = found-numbers bytes number line column e .1
+found-few false bytes number line column e = omega (arith, refused-numbers bytes number line column e .1)
+
+-- JUDGING answers 0 exactly for an accepted file.
+pub judge-accepts : (bytes : List ℕ) → (judged d bytes (fileOf d bytes) .refusal ≡ 0) ↔ IsFile d bytes
+unfolding judged
+judge-accepts bytes = go (fileOf d bytes) refl
+  where
+    go : (f : Front) → fileOf d bytes ≡ f → (judged d bytes f .refusal ≡ 0) ↔ IsFile d bytes
+    go (front.File t) e = (λ z. (t, e), λ i. refl)
+    go (front.Refused number line column) e =
+        let some = found-numbers bytes number line column e in (
+          λ z. absurd (omega (arith, some .0)),
+          λ i. absurd (no-both (sym (i .1) ∙ e)),
+        )
+      where
+        no-both : {t : Tally} → front.File t ≡ front.Refused number line column → ⊥
+        no-both both = let z : _≡_ {A = ℕ} 0 1 = cc in omega arith
+
+-- 11 exactly when an accepted file is followed by more, with the line after its last.
+pub eleven-exactly : (bytes : List ℕ) (line : ℕ) → (judged d bytes (fileOf d bytes) ≡ refusedWith 11 line)
+    ↔ ((a : List ℕ) × (b : List ℕ) × (bytes ≡ a ++ b) × IsFile d a × (0 < length b) × (line ≡ length (linesOf a) + 1))
+unfolding judged wholeFront
+eleven-exactly bytes line = (there (fileOf d bytes) refl, back)
+  where
+    There′ : Type 0
+    There′ = (a : List ℕ) × (b : List ℕ) × (bytes ≡ a ++ b) × IsFile d a × (0 < length b) × (line ≡ length (linesOf a) + 1)
+
+    there : (f : Front) → fileOf d bytes ≡ f → judged d bytes f ≡ refusedWith 11 line → There′
+    there (front.File t) e is = let z : _≡_ {A = ℕ} 0 11 = ap (λ (r : Reading). r .refusal) is in absurd (omega arith)
+    there (front.Refused number l column) e is = by (whole-refused bytes number l column e)
+      where
+        eleven : number ≡ 11
+        eleven = ap (λ (r : Reading). r .refusal) is
+
+        same : l ≡ line
+        same = ap (λ (r : Reading). r .line) is
+
+        by : (frontOf d bytes ≡ front.Refused number l column)
+            ⊎ ((t : Tally) × (frontOf d bytes ≡ front.File t) × (t .end < length bytes) × (number ≡ 11) × (l ≡ t .lines + 1))
+            → There′
+        by (inl refused) = absurd (omega (arith, refused-numbers bytes number l column refused .1, eleven))
+        by (inr (t, f, h, n, m)) = (
+          take (t .end) bytes,
+          drop (t .end) bytes,
+          sym (take-append-drop (t .end) bytes),
+          (t, front-whole bytes t f),
+          omega (arith, length-drop (t .end) bytes),
+          sym same ∙ m ∙ ap (λ (n : ℕ). n + 1) (accepted-front d bytes t f .lines),
+        )
+
+    back : There′ → judged d bytes (fileOf d bytes) ≡ refusedWith 11 line
+    back (a, b, is, (t, f), some, l) =
+        let found = file-then-anything a b t f in
+        let after : ltb (t .end) (length (a ++ b)) ≡ true = lt-ltb (t .end) (length (a ++ b)) (omega (arith, found .1, length-append a b)) in
+        let lines : t .lines ≡ length (linesOf a) =
+        accepted-front d a t (whole-ends d a t f .0) .lines ∙ ap (λ (s : List ℕ). length (linesOf s)) (whole-taken a t f) in
+        rw (is, found .0, after, l, sym lines)
+
+-- A file that is refused is answered by its own number and line, whatever the room.
+pub refused-whatever-room : (whole : Bool) (bytes : List ℕ) (number line column : ℕ) → foundIn whole bytes ≡ front.Refused number line column
+    → (i x c r : ℕ) → answer whole bytes i x c r ≡ refusedWith number line
+unfolding delivered
+refused-whatever-room whole bytes number line column e i x c r = rw e
+
+-- READING answers 12, with line 0, exactly when there is a file and some room for it is missing;
+pub reading-twelve : (whole : Bool) (bytes : List ℕ) (i x c r : ℕ)
+    → (answer whole bytes i x c r .refusal ≡ 12) ↔ ((t : Tally) × (foundIn whole bytes ≡ front.File t) × Short (headerTo whole bytes t) i x c r)
+reading-twelve whole bytes i x c r = (there (foundIn whole bytes) refl, back)
+  where
+    there : (f : Front) → foundIn whole bytes ≡ f → answer whole bytes i x c r .refusal ≡ 12
+        → (t : Tally) × (foundIn whole bytes ≡ front.File t) × Short (headerTo whole bytes t) i x c r
+    there (front.File t) e twelve = by (room-or-short (headerTo whole bytes t) i x c r)
+      where
+        by : Room (headerTo whole bytes t) i x c r ⊎ Short (headerTo whole bytes t) i x c r
+            → (t : Tally) × (foundIn whole bytes ≡ front.File t) × Short (headerTo whole bytes t) i x c r
+        by (inl room) =
+            let z : _≡_ {A = ℕ} 12 0 = sym twelve ∙ ap (λ (a : Reading). a .refusal) (room-accepted whole bytes t e i x c r room) in
+            absurd (omega arith)
+        by (inr short) = (t, e, short)
+    there (front.Refused number line column) e twelve =
+        let n : 12 ≡ number = sym twelve ∙ ap (λ (a : Reading). a .refusal) (refused-whatever-room whole bytes number line column e i x c r) in
+        absurd (omega (arith, found-few whole bytes number line column e))
+
+    back : ((t : Tally) × (foundIn whole bytes ≡ front.File t) × Short (headerTo whole bytes t) i x c r) → answer whole bytes i x c r .refusal ≡ 12
+    back (t, e, short) = ap (λ (a : Reading). a .refusal) (short-refused whole bytes t e i x c r short)
+
+-- and 13 never.
+pub reading-never-13 : (whole : Bool) (bytes : List ℕ) (i x c r : ℕ) → answer whole bytes i x c r .refusal ≡ 13 → ⊥
+reading-never-13 whole bytes i x c r = go (foundIn whole bytes) refl
+  where
+    go : (f : Front) → foundIn whole bytes ≡ f → answer whole bytes i x c r .refusal ≡ 13 → ⊥
+    go (front.File t) e thirteen = by (room-or-short (headerTo whole bytes t) i x c r)
+      where
+        by : Room (headerTo whole bytes t) i x c r ⊎ Short (headerTo whole bytes t) i x c r → ⊥
+        by (inl room) =
+            let z : _≡_ {A = ℕ} 13 0 = sym thirteen ∙ ap (λ (a : Reading). a .refusal) (room-accepted whole bytes t e i x c r room) in
+            omega arith
+        by (inr short) =
+            let z : _≡_ {A = ℕ} 13 12 = sym thirteen ∙ ap (λ (a : Reading). a .refusal) (short-refused whole bytes t e i x c r short) in
+            omega arith
+    go (front.Refused number line column) e thirteen =
+        let n : 13 ≡ number = sym thirteen ∙ ap (λ (a : Reading). a .refusal) (refused-whatever-room whole bytes number line column e i x c r) in
+        omega (arith, found-few whole bytes number line column e)
+
+-- a refused file is not an accepted one
+not-both : (bytes : List ℕ) (number line column : ℕ) → fileOf d bytes ≡ front.Refused number line column → IsFile d bytes → ⊥
+not-both bytes number line column refused (t, accepted) = go (sym accepted ∙ refused)
+  where
+    go : front.File t ≡ front.Refused number line column → ⊥
+    go both = let z : _≡_ {A = ℕ} 0 1 = cc in omega arith
+
+-- THE ROW QUESTION answers 13 exactly for an epoch or satellite that an accepted file does not have.
+pub row-thirteen : (bytes : List ℕ) (k j : ℕ) → (asked bytes k j .refusal ≡ 13) ↔ (IsFile d bytes × (There bytes k j → ⊥))
+row-thirteen bytes k j = (there (fileOf d bytes) refl, λ b. ap (λ (a : RowAnswer). a .refusal) (row-not-there bytes (b .0) k j (b .1)))
+  where
+    there : (f : Front) → fileOf d bytes ≡ f → asked bytes k j .refusal ≡ 13 → IsFile d bytes × (There bytes k j → ⊥)
+    there (front.File t) e thirteen = (
+      (t, e),
+      λ here.
+          let z : _≡_ {A = ℕ} 13 0 = sym thirteen ∙ ap (λ (a : RowAnswer). a .refusal) (row-asked bytes (t, e) k j here) in
+          omega arith,
+    )
+    there (front.Refused number line column) e thirteen =
+        let n : 13 ≡ number = sym thirteen ∙ ap (λ (a : RowAnswer). a .refusal) (row-refused bytes number line column e k j) in
+        absurd (omega (arith, found-numbers bytes number line column e .1))
+
+-- THE COMMENT QUESTION: the file's own refusal first,
+pub comment-refused : (bytes : List ℕ) (number line column : ℕ) → fileOf d bytes ≡ front.Refused number line column
+    → (k : ℕ) → (commentAnswer d bytes (fileOf d bytes) k ≡ noComment number line) × (commentWords d bytes (fileOf d bytes) k ≡ [])
+unfolding commentAnswer commentWords
+comment-refused bytes number line column e k = (rw e, rw e)
+
+module _ (bytes : List ℕ) (accepted : IsFile d bytes) where
+  comments-are : accepted .0 .comments ≡ header bytes .comments
+  comments-are =
+      let t = accepted .0 in
+      let p = file-plain bytes accepted in
+      accepted-front d bytes t (whole-ends d bytes t (accepted .1) .0) .comments
+      ∙ ap (λ (s : List ℕ). length (comments-in s)) (whole-taken bytes t (accepted .1))
+      ∙ ap length (kind-8 p)
+      ∙ sym (says-comments p)
+    where
+      comments-in : List ℕ → List (List ℕ)
+      comments-in s = ofKind d 8 (linesOf s)
+
+  -- then the text of the comment, columns 4 on without trailing blanks,
+  pub comment-text : (k : ℕ) → k < header bytes .comments → commentWords d bytes (fileOf d bytes) k ≡ textIn (commentLine d (linesOf bytes) k)
+  unfolding commentWords
+  comment-text k h =
+      let t = accepted .0 in
+      rw (accepted .1, lt-ltb k (t .comments) (omega (arith, comments-are)), whole-taken bytes t (accepted .1))
+
+  -- and 13 with nothing where there is none.
+  pub comment-not-there : (k : ℕ) → header bytes .comments ≤ k
+      → (commentAnswer d bytes (fileOf d bytes) k ≡ noComment 13 0) × (commentWords d bytes (fileOf d bytes) k ≡ [])
+  unfolding commentAnswer commentWords
+  comment-not-there k h =
+      let t = accepted .0 in
+      let none : ltb k (t .comments) ≡ false = le-ltb k (t .comments) (omega (arith, comments-are)) in
+      (rw (accepted .1, none), rw (accepted .1, none))
+
+-- THE SATELLITE QUESTION: the file's own refusal first,
+pub satellite-refused : (bytes : List ℕ) (number line column : ℕ) → fileOf d bytes ≡ front.Refused number line column
+    → (name : ℕ) → satelliteAnswer d bytes (fileOf d bytes) name ≡ noSatellite number line
+unfolding satelliteAnswer
+satellite-refused bytes number line column e name = rw e
+
+-- the first of some numbers that is this one
+index-within : (name : ℕ) (list : List ℕ) → indexOf name list < length list → getD list (indexOf name list) 0 ≡ name
+unfolding indexOf
+index-within name [] h = absurd (omega arith)
+index-within name (x ∷ xs) h = go (eqb name x) refl (λ below. index-within name xs below)
+  where
+    go : (t : Bool) → eqb name x ≡ t → (indexOf name xs < length xs → getD xs (indexOf name xs) 0 ≡ name)
+        → getD (x ∷ xs) (cond t 0 (suc (indexOf name xs))) 0 ≡ name
+    go true e later = sym (eqb-true name x e)
+    go false e later = let below : suc (indexOf name xs) < suc (length xs) = rw e at h in later (omega arith)
+
+index-none : (name : ℕ) (list : List ℕ) → length list ≤ indexOf name list → (j : ℕ) → j < length list → getD list j 0 ≡ name → ⊥
+unfolding indexOf
+index-none name [] h j below e = omega arith
+index-none name (x ∷ xs) h zero below e =
+    let here : eqb name x ≡ true = eq-eqb name x (sym e) in
+    let z : suc (length xs) ≤ 0 = rw here at h in
+    omega arith
+index-none name (x ∷ xs) h (suc j) below e = go (eqb name x) refl (λ late. index-none name xs late j (omega arith) e)
+  where
+    go : (t : Bool) → eqb name x ≡ t → (length xs ≤ indexOf name xs → ⊥) → ⊥
+    go true f later = let z : suc (length xs) ≤ 0 = rw f at h in omega arith
+    go false f later = let z : suc (length xs) ≤ suc (indexOf name xs) = rw f at h in later (omega arith)
+
+module _ (bytes : List ℕ) (accepted : IsFile d bytes) (name : ℕ) where
+  abbrev list : List ℕ
+  list = identifiersOf d (linesOf bytes)
+
+  answered : satelliteAnswer d bytes (fileOf d bytes) name ≡ satelliteIn name list
+  unfolding satelliteAnswer
+  answered = rw (accepted .1, whole-taken bytes (accepted .0) (accepted .1))
+
+  -- then the number of the satellite that has this identifier: what is answered with 0 is in the header and has it,
+  pub satellite-found : satelliteAnswer d bytes (fileOf d bytes) name .refusal ≡ 0
+      → (satelliteAnswer d bytes (fileOf d bytes) name .number < length list) × (identifier bytes (satelliteAnswer d bytes (fileOf d bytes) name .number) ≡ name)
+  satellite-found zero-answer = rw answered (go (ltb (indexOf name list) (length list)) refl (rw answered at zero-answer))
+    where
+      go : (t : Bool) → ltb (indexOf name list) (length list) ≡ t
+          → cond t (record { refusal = 0; line = 0; number = indexOf name list }) (noSatellite 13 0) .refusal ≡ 0
+          → (satelliteIn name list .number < length list) × (getD list (satelliteIn name list .number) 0 ≡ name)
+      go true e z = rw e (ltb-true (indexOf name list) (length list) e, index-within name list (ltb-true (indexOf name list) (length list) e))
+      go false e z = absurd (omega arith)
+
+  -- and 13 exactly where none has.
+  pub satellite-thirteen : (satelliteAnswer d bytes (fileOf d bytes) name ≡ noSatellite 13 0) ↔ ((j : ℕ) → j < length list → identifier bytes j ≡ name → ⊥)
+  satellite-thirteen = rw answered (go (ltb (indexOf name list) (length list)) refl)
+    where
+      go : (t : Bool) → ltb (indexOf name list) (length list) ≡ t
+          → (satelliteIn name list ≡ noSatellite 13 0) ↔ ((j : ℕ) → j < length list → getD list j 0 ≡ name → ⊥)
+      go true e =
+          let within = ltb-true (indexOf name list) (length list) e in (
+            (λ is. let z : _≡_ {A = ℕ} 0 13 = ap (λ (a : SatelliteAnswer). a .refusal) (rw e at is) in absurd (omega arith)),
+            (λ none. absurd (none (indexOf name list) within (index-within name list within))),
+          )
+      go false e = (
+        (λ is. index-none name list (ltb-false (indexOf name list) (length list) e)),
+        (λ none. rw e),
+      )
+
+-- THE BEGINNING OF A WALK answers 12 exactly where an accepted file has more identifiers than there is room for.
+pub begin-twelve : (bytes : List ℕ) (old : List ℕ) → (begun bytes (length old) .refusal ≡ 12) ↔ (IsFile d bytes × (length old < header bytes .satellites))
+begin-twelve bytes old = (there (fileOf d bytes) refl, λ b. ap (λ (a : Reading). a .refusal) (begin-short bytes (b .0 .0) (b .0 .1) old (b .1) .0))
+  where
+    there : (f : Front) → fileOf d bytes ≡ f → begun bytes (length old) .refusal ≡ 12 → IsFile d bytes × (length old < header bytes .satellites)
+    there (front.File t) e twelve = ((t, e), by (decLe (header bytes .satellites) (length old)))
+      where
+        by : Dec (header bytes .satellites ≤ length old) → length old < header bytes .satellites
+        by (yes h) =
+            let z : _≡_ {A = ℕ} 12 0 = sym twelve ∙ ap (λ (a : Reading). a .refusal) (begin-accepts bytes t e old h) in
+            absurd (omega arith)
+        by (no h) = omega arith
+    there (front.Refused number line column) e twelve =
+        let n : 12 ≡ number = sym twelve ∙ ap (λ (a : Reading). a .refusal) (begin-refused bytes number line column e old .0) in
+        absurd (omega (arith, found-numbers bytes number line column e .1))
+
+-- A STORED ROW that the lent numbers do not have is 13: place, clock, exponents and flags.
+pub stored-missing : (rows : List ℤ) (k : ℕ) → isThere rows k ≡ false
+    → (placeIn rows k ≡ place.NotThere) × (clockIn rows k ≡ clock.NotThere)
+    × ((which : ℕ) → deviationIn rows k which ≡ deviation.NotThere)
+    × ((which : ℕ) → flagIn rows k which ≡ flag.NotThere)
+unfolding placeIn clockIn deviationIn flagIn
+stored-missing rows k e = (rw e, rw e, λ which. rw e, λ which. rw e)

@@ -1,0 +1,40 @@
+-- Room for a reading. 01: "A reading needs room for n identifiers and exponents, for n times epochs rows (twice that in mode V) and 77 bytes for each
+-- comment". Reading a whole file (true) and reading the file at the front of some bytes (false) are said at once.
+use mathlib.Core.Bool.{Bool, true, false, cond}
+use mathlib.Core.Logic.{_⊎_}
+use mathlib.Core.List.{List}
+use Prim.Native.Nat.{ℕ, _*_, _≤_, _<_}
+use Rattle.header.specs.Rules.{d}
+use Rattle.record.specs.Plain.{commentWidth}
+use Rattle.record.specs.Rows.{rowWidth}
+use Rattle.reader.specs.Reading.{frontOf, fileOf, delivered, enough}
+use Rattle.header.specs.declared.types.Header.{Header}
+use Rattle.reader.specs.declared.types.Reading.{Reading}
+use Rattle.scan.specs.declared.Front.{Front}
+
+-- what is found in some bytes
+abbrev pub foundIn : Bool → List ℕ → Front
+foundIn true bytes = fileOf d bytes
+foundIn false bytes = frontOf d bytes
+
+-- what a reading answers where so many identifiers, exponents, bytes of comments and numbers of rows are lent, and whether it fills them
+abbrev pub answer : Bool → List ℕ → ℕ → ℕ → ℕ → ℕ → Reading
+answer whole bytes i x c r = delivered d bytes (foundIn whole bytes) i x c r
+
+abbrev pub fills : Bool → List ℕ → ℕ → ℕ → ℕ → ℕ → Bool
+fills whole bytes i x c r = enough d bytes (foundIn whole bytes) i x c r
+
+-- the numbers of all rows
+abbrev pub rowsNeeded : Header → ℕ
+rowsNeeded h = cond (h .velocity) (2 * rowWidth * (h .satellites * h .epochs)) (rowWidth * (h .satellites * h .epochs))
+
+-- there is room for a table with this header
+pub record Room (h : Header) (i x c r : ℕ) : Type 0 where
+  pub identifiers : h .satellites ≤ i
+  pub exponents : h .satellites ≤ x
+  pub comments : commentWidth * h .comments ≤ c
+  pub rows : rowsNeeded h ≤ r
+
+-- some of it is missing
+abbrev pub Short : Header → ℕ → ℕ → ℕ → ℕ → Type 0
+Short h i x c r = (i < h .satellites) ⊎ ((x < h .satellites) ⊎ ((c < commentWidth * h .comments) ⊎ (r < rowsNeeded h)))
