@@ -13,4 +13,3 @@ use Rattle.file.specs.Exact.{exactSigned}
 pub stored-exact : (negative : Bool) (m : ℕ) → m ≤ largest → storedInt negative m ≡ signedInt negative m
 unfolding storedInt
 stored-exact negative m h = rw (le-leb m largest h)
-

@@ -1,7 +1,7 @@
-// What must stand next in a file and what its lines have said so far. Kinds of line are told by their numbers, 1 for `#d` to 14 for EOF.
+// What must stand next in a file and what its lines have said so far. Kinds of line are told by their numbers (`record::kind`).
 #[repr(C)]
 pub struct State {
-    // The kind of line that must come, and the kind that may stand here before it (0 where none may).
+    // The kind of line that must come, and the kind that may stand here before it (none: `NO_KIND`).
     pub due: u64,
     pub also: u64,
     // How many lines must still come of a kind whose number is known, the one due too: `+ ` lines after the first, `++`, `%c`, `%f` and

@@ -11,8 +11,9 @@ use borrow.Author.Tests.{leb-true, leb-false, le-leb, lt-leb, eq-eqb, ne-eqb}
 use lib.Dec.{eqb, leb}
 use lib.IntN.{ℤ}
 use lib.ListN.{length, length-append}
-use Rattle.header.specs.Rules.{d}
+use Rattle.header.specs.Rules.{d, maxSatellites}
 use Rattle.layout.specs.Line.{Lays}
+use Rattle.record.specs.Plain.{commentWidth}
 use Rattle.reader.specs.Reading.{refusedWith, fileOf, delivered}
 use Rattle.canon.specs.Table.{Table}
 use Rattle.canon.specs.Canonical.{canonical}
@@ -56,7 +57,7 @@ Outcome text out done now =
 
 -- Of a file of at most 65,536 bytes, with the lists and the output of the program.
 module _ (bytes identifiers exponents comments : List ℕ) (rows : List ℤ) (out : List ℕ) (short : length bytes ≤ longest) (room : length out ≡ longest)
-    (named : length identifiers ≡ 255) (weighed : length exponents ≡ 255) (noted : length comments ≡ 61_600) (placed : length rows ≡ 12_888) where
+    (named : length identifiers ≡ maxSatellites) (weighed : length exponents ≡ maxSatellites) (noted : length comments ≡ mostComments * commentWidth) (placed : length rows ≡ 12_888) where
   abbrev read : Reading
   read = reading bytes identifiers exponents comments rows
 

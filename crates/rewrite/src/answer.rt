@@ -9,21 +9,29 @@ ghost use Prim.Native.Nat.{_≤_};
 ghost use Rattle.io.specs.Counts.{Counts};
 use crate::rewriting;
 use crate::text;
+use header::Header;
+use record::plain::COMMENT_WIDTH;
+use record::rows::ROW_WIDTH;
 
 // The most bytes of input, and of output.
 const LONGEST: usize = 65_536;
 
-// The canonical form of a file of at most 65,536 bytes, or its refusal as a line. Room is lent for 255 satellites, 800 comments of 77 bytes and 1,074
-// rows of 12 numbers: a row has at least 61 bytes, so there are no more.
+// The most comments and rows that room is lent for.
+const MOST_COMMENTS: usize = 800;
+
+const MOST_ROWS: usize = 1_074;
+
+// The canonical form of a file of at most 65,536 bytes, or its refusal as a line. Room is lent for all its satellites, for 800 comments and for 1,074 rows:
+// a row has at least 61 bytes, so there are no more.
 fn answer_short(file: &[u8], out: &mut [u8]) -> usize
     requires { ⌜ length (now file) ≤ longest ⌝ }
     requires { ⌜ length (now out) ≡ longest ⌝ }
     ensures { λ r. ⌜ Lays (answered (now (file .entry)) (fileOf d (now (file .entry)))) (now (out .entry)) r (now (out .exit)) ⌝ }
 {
-    let mut identifiers = [0u64; 255];
-    let mut exponents = [0u64; 255];
-    let mut comments = [0u8; 61_600];
-    let mut rows = [0i64; 12_888];
+    let mut identifiers = [0u64; Header::MAX_SATELLITES as usize];
+    let mut exponents = [0u64; Header::MAX_SATELLITES as usize];
+    let mut comments = [0u8; MOST_COMMENTS * COMMENT_WIDTH];
+    let mut rows = [0i64; MOST_ROWS * ROW_WIDTH];
     let done = rewriting::read_and_write(
         file,
         &mut identifiers,

@@ -15,9 +15,10 @@ use lib.ListN.{length, take, drop}
 use lib.Seq.{take-at, drop-at}
 use Rattle.laws.proofs.Bools.{and-left, and-right, and-both}
 use Rattle.header.specs.Rules.{d}
+use Rattle.record.specs.Plain.{commentWidth}
 use Rattle.file.specs.Plain.{Plain}
 use Rattle.file.specs.Table.{countOf, headerIn, commentsIn, rowLines, rowsIn}
-use Rattle.reader.specs.Reading.{refusedWith, linesTo, acceptedAs, frontOf, fileOf, roomFor, enough, delivered, filled, identifiersOf, exponentsOf, commentWidth}
+use Rattle.reader.specs.Reading.{refusedWith, linesTo, acceptedAs, frontOf, fileOf, roomFor, enough, delivered, filled, identifiersOf, exponentsOf}
 use Rattle.scan_laws.proofs.Files.{front-plain}
 use Rattle.scan_laws.proofs.Local.{whole-ends}
 use Rattle.scan_laws.proofs.Used.{accepted-front}

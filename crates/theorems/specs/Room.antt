@@ -5,8 +5,9 @@ use mathlib.Core.Logic.{_⊎_}
 use mathlib.Core.List.{List}
 use Prim.Native.Nat.{ℕ, _*_, _≤_, _<_}
 use Rattle.header.specs.Rules.{d}
-use Rattle.file.specs.Table.{rowWidth}
-use Rattle.reader.specs.Reading.{frontOf, fileOf, delivered, enough, commentWidth}
+use Rattle.record.specs.Plain.{commentWidth}
+use Rattle.record.specs.Rows.{rowWidth}
+use Rattle.reader.specs.Reading.{frontOf, fileOf, delivered, enough}
 use Rattle.header.specs.declared.types.Header.{Header}
 use Rattle.reader.specs.declared.types.Reading.{Reading}
 use Rattle.scan.specs.declared.Front.{Front}
