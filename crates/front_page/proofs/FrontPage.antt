@@ -130,7 +130,7 @@ front-as-alone a b accepted identifiers exponents comments rows = (
 )
 
 -- ITS ROWS, by epoch k and satellite j, P rows (false) and in mode V the V rows (true): what a row holds is what the columns of its line say, each field by
--- its rule; and asked by name the lent rows give place, clock, exponents and flags of that line.
+-- its rule; and asked by wanted the lent rows give place, clock, exponents and flags of that line.
 module _ (bytes : List ℕ) (accepted : IsFile d bytes) (identifiers exponents comments : List ℕ) (old : List ℤ)
     (read : readAnswer d bytes (fileOf d bytes) identifiers exponents comments old .refusal ≡ 0) (k j : ℕ) (there : There bytes k j) (v : Bool)
     (mode : v ≡ true → header bytes .velocity ≡ true) where
@@ -166,7 +166,7 @@ module _ (bytes : List ℕ) (accepted : IsFile d bytes) (identifiers exponents c
       × (flagIn rows r 2 ≡ cond (row .maneuver) flag.Set flag.NotSet) × (flagIn rows r 3 ≡ cond (row .«orbit_predicted») flag.Set flag.NotSet)
   row-flags = lent.lent-flags bytes accepted identifiers exponents comments old read k j there v mode
 
--- Asked by name a row is 13 exactly where the lent numbers do not have it, an exponent or a flag also where it is none of the four.
+-- Asked by wanted a row is 13 exactly where the lent numbers do not have it, an exponent or a flag also where it is none of the four.
 pub stored-thirteen : (rows : List ℤ) (k : ℕ)
     → ((placeIn rows k ≡ place.NotThere) ↔ (isThere rows k ≡ false)) × ((clockIn rows k ≡ clock.NotThere) ↔ (isThere rows k ≡ false))
 stored-thirteen rows k = answers.stored-thirteen rows k
@@ -241,8 +241,8 @@ comment-refused bytes number line column e k = answers.comment-refused bytes num
 
 -- the satellite.
 pub satellite-refused : (bytes : List ℕ) (number line column : ℕ) → fileOf d bytes ≡ front.Refused number line column
-    → (name : ℕ) → satelliteAnswer d bytes (fileOf d bytes) name ≡ noSatellite number line
-satellite-refused bytes number line column e name = answers.satellite-refused bytes number line column e name
+    → (wanted : ℕ) → satelliteAnswer d bytes (fileOf d bytes) wanted ≡ noSatellite number line
+satellite-refused bytes number line column e wanted = answers.satellite-refused bytes number line column e wanted
 
 -- What is asked by number and is not there is 13: a row exactly where an accepted file has no such epoch or satellite, a comment exactly where it has no
 -- comment of that number. 12 is never the answer of a question.
@@ -267,14 +267,14 @@ module _ (bytes : List ℕ) (accepted : IsFile d bytes) where
   comment-not-there k h = answers.comment-not-there bytes accepted k h
 
   -- A satellite that is found is in the header and has that identifier; 13 comes exactly where none has it.
-  pub satellite-found : (name : ℕ) → satelliteAnswer d bytes (fileOf d bytes) name .refusal ≡ 0
-      → (satelliteAnswer d bytes (fileOf d bytes) name .number < length (identifiersOf d (linesOf bytes)))
-      × (identifier bytes (satelliteAnswer d bytes (fileOf d bytes) name .number) ≡ name)
-  satellite-found name zero = answers.satellite-found bytes accepted name zero
+  pub satellite-found : (wanted : ℕ) → satelliteAnswer d bytes (fileOf d bytes) wanted .refusal ≡ 0
+      → (satelliteAnswer d bytes (fileOf d bytes) wanted .number < length (identifiersOf d (linesOf bytes)))
+      × (identifier bytes (satelliteAnswer d bytes (fileOf d bytes) wanted .number) ≡ wanted)
+  satellite-found wanted zero = answers.satellite-found bytes accepted wanted zero
 
-  pub satellite-thirteen : (name : ℕ) → (satelliteAnswer d bytes (fileOf d bytes) name ≡ noSatellite 13 0)
-      ↔ ((j : ℕ) → j < length (identifiersOf d (linesOf bytes)) → identifier bytes j ≡ name → ⊥)
-  satellite-thirteen name = answers.satellite-thirteen bytes accepted name
+  pub satellite-thirteen : (wanted : ℕ) → (satelliteAnswer d bytes (fileOf d bytes) wanted ≡ noSatellite 13 0)
+      ↔ ((j : ℕ) → j < length (identifiersOf d (linesOf bytes)) → identifier bytes j ≡ wanted → ⊥)
+  satellite-thirteen wanted = answers.satellite-thirteen bytes accepted wanted
 
 -- A comment's text is handed back as that stretch of the lent file: for every file and every number it is the part that `comment_answer` names, those
 -- bytes at that address. So any two outcomes are one machine value, a pointer and a count.

@@ -280,66 +280,66 @@ questions-never-12 bytes k j = (row (fileOf d bytes) refl, comment (fileOf d byt
 
 -- THE SATELLITE QUESTION: the file's own refusal first,
 pub satellite-refused : (bytes : List ℕ) (number line column : ℕ) → fileOf d bytes ≡ front.Refused number line column
-    → (name : ℕ) → satelliteAnswer d bytes (fileOf d bytes) name ≡ noSatellite number line
+    → (wanted : ℕ) → satelliteAnswer d bytes (fileOf d bytes) wanted ≡ noSatellite number line
 unfolding satelliteAnswer
-satellite-refused bytes number line column e name = rw e
+satellite-refused bytes number line column e wanted = rw e
 
 -- the first of some numbers that is this one
-index-within : (name : ℕ) (list : List ℕ) → indexOf name list < length list → getD list (indexOf name list) 0 ≡ name
+index-within : (wanted : ℕ) (list : List ℕ) → indexOf wanted list < length list → getD list (indexOf wanted list) 0 ≡ wanted
 unfolding indexOf
-index-within name [] h = absurd (omega arith)
-index-within name (x ∷ xs) h = go (eqb name x) refl (λ below. index-within name xs below)
+index-within wanted [] h = absurd (omega arith)
+index-within wanted (x ∷ xs) h = go (eqb wanted x) refl (λ below. index-within wanted xs below)
   where
-    go : (t : Bool) → eqb name x ≡ t → (indexOf name xs < length xs → getD xs (indexOf name xs) 0 ≡ name)
-        → getD (x ∷ xs) (cond t 0 (suc (indexOf name xs))) 0 ≡ name
-    go true e later = sym (eqb-true name x e)
-    go false e later = let below : suc (indexOf name xs) < suc (length xs) = rw e at h in later (omega arith)
+    go : (t : Bool) → eqb wanted x ≡ t → (indexOf wanted xs < length xs → getD xs (indexOf wanted xs) 0 ≡ wanted)
+        → getD (x ∷ xs) (cond t 0 (suc (indexOf wanted xs))) 0 ≡ wanted
+    go true e later = sym (eqb-true wanted x e)
+    go false e later = let below : suc (indexOf wanted xs) < suc (length xs) = rw e at h in later (omega arith)
 
-index-none : (name : ℕ) (list : List ℕ) → length list ≤ indexOf name list → (j : ℕ) → j < length list → getD list j 0 ≡ name → ⊥
+index-none : (wanted : ℕ) (list : List ℕ) → length list ≤ indexOf wanted list → (j : ℕ) → j < length list → getD list j 0 ≡ wanted → ⊥
 unfolding indexOf
-index-none name [] h j below e = omega arith
-index-none name (x ∷ xs) h zero below e =
-    let here : eqb name x ≡ true = eq-eqb name x (sym e) in
+index-none wanted [] h j below e = omega arith
+index-none wanted (x ∷ xs) h zero below e =
+    let here : eqb wanted x ≡ true = eq-eqb wanted x (sym e) in
     let z : suc (length xs) ≤ 0 = rw here at h in
     omega arith
-index-none name (x ∷ xs) h (suc j) below e = go (eqb name x) refl (λ late. index-none name xs late j (omega arith) e)
+index-none wanted (x ∷ xs) h (suc j) below e = go (eqb wanted x) refl (λ late. index-none wanted xs late j (omega arith) e)
   where
-    go : (t : Bool) → eqb name x ≡ t → (length xs ≤ indexOf name xs → ⊥) → ⊥
+    go : (t : Bool) → eqb wanted x ≡ t → (length xs ≤ indexOf wanted xs → ⊥) → ⊥
     go true f later = let z : suc (length xs) ≤ 0 = rw f at h in omega arith
-    go false f later = let z : suc (length xs) ≤ suc (indexOf name xs) = rw f at h in later (omega arith)
+    go false f later = let z : suc (length xs) ≤ suc (indexOf wanted xs) = rw f at h in later (omega arith)
 
-module _ (bytes : List ℕ) (accepted : IsFile d bytes) (name : ℕ) where
+module _ (bytes : List ℕ) (accepted : IsFile d bytes) (wanted : ℕ) where
   abbrev list : List ℕ
   list = identifiersOf d (linesOf bytes)
 
-  answered : satelliteAnswer d bytes (fileOf d bytes) name ≡ satelliteIn name list
+  answered : satelliteAnswer d bytes (fileOf d bytes) wanted ≡ satelliteIn wanted list
   unfolding satelliteAnswer
   answered = rw (accepted .1, whole-taken bytes (accepted .0) (accepted .1))
 
   -- then the number of the satellite that has this identifier: what is answered with 0 is in the header and has it,
-  pub satellite-found : satelliteAnswer d bytes (fileOf d bytes) name .refusal ≡ 0
-      → (satelliteAnswer d bytes (fileOf d bytes) name .number < length list) × (identifier bytes (satelliteAnswer d bytes (fileOf d bytes) name .number) ≡ name)
-  satellite-found zero-answer = rw answered (go (ltb (indexOf name list) (length list)) refl (rw answered at zero-answer))
+  pub satellite-found : satelliteAnswer d bytes (fileOf d bytes) wanted .refusal ≡ 0
+      → (satelliteAnswer d bytes (fileOf d bytes) wanted .number < length list) × (identifier bytes (satelliteAnswer d bytes (fileOf d bytes) wanted .number) ≡ wanted)
+  satellite-found zero-answer = rw answered (go (ltb (indexOf wanted list) (length list)) refl (rw answered at zero-answer))
     where
-      go : (t : Bool) → ltb (indexOf name list) (length list) ≡ t
-          → cond t (record { refusal = 0; line = 0; number = indexOf name list }) (noSatellite 13 0) .refusal ≡ 0
-          → (satelliteIn name list .number < length list) × (getD list (satelliteIn name list .number) 0 ≡ name)
-      go true e z = rw e (ltb-true (indexOf name list) (length list) e, index-within name list (ltb-true (indexOf name list) (length list) e))
+      go : (t : Bool) → ltb (indexOf wanted list) (length list) ≡ t
+          → cond t (record { refusal = 0; line = 0; number = indexOf wanted list }) (noSatellite 13 0) .refusal ≡ 0
+          → (satelliteIn wanted list .number < length list) × (getD list (satelliteIn wanted list .number) 0 ≡ wanted)
+      go true e z = rw e (ltb-true (indexOf wanted list) (length list) e, index-within wanted list (ltb-true (indexOf wanted list) (length list) e))
       go false e z = absurd (omega arith)
 
   -- and 13 exactly where none has.
-  pub satellite-thirteen : (satelliteAnswer d bytes (fileOf d bytes) name ≡ noSatellite 13 0) ↔ ((j : ℕ) → j < length list → identifier bytes j ≡ name → ⊥)
-  satellite-thirteen = rw answered (go (ltb (indexOf name list) (length list)) refl)
+  pub satellite-thirteen : (satelliteAnswer d bytes (fileOf d bytes) wanted ≡ noSatellite 13 0) ↔ ((j : ℕ) → j < length list → identifier bytes j ≡ wanted → ⊥)
+  satellite-thirteen = rw answered (go (ltb (indexOf wanted list) (length list)) refl)
     where
-      go : (t : Bool) → ltb (indexOf name list) (length list) ≡ t
-          → (satelliteIn name list ≡ noSatellite 13 0) ↔ ((j : ℕ) → j < length list → getD list j 0 ≡ name → ⊥)
+      go : (t : Bool) → ltb (indexOf wanted list) (length list) ≡ t
+          → (satelliteIn wanted list ≡ noSatellite 13 0) ↔ ((j : ℕ) → j < length list → getD list j 0 ≡ wanted → ⊥)
       go true e =
-          let within = ltb-true (indexOf name list) (length list) e in (
+          let within = ltb-true (indexOf wanted list) (length list) e in (
             (λ is. let z : _≡_ {A = ℕ} 0 13 = ap (λ (a : SatelliteAnswer). a .refusal) (rw e at is) in absurd (omega arith)),
-            (λ none. absurd (none (indexOf name list) within (index-within name list within))),
+            (λ none. absurd (none (indexOf wanted list) within (index-within wanted list within))),
           )
       go false e = (
-        (λ is. index-none name list (ltb-false (indexOf name list) (length list) e)),
+        (λ is. index-none wanted list (ltb-false (indexOf wanted list) (length list) e)),
         (λ none. rw e),
       )
 
