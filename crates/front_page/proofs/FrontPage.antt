@@ -418,10 +418,10 @@ module _ (bytes : List ℕ) (accepted : IsFile d bytes) (identifiers exponents c
 
 -- The program `rewrite` lends room for 255 satellites, 800 comments and 1,074 rows. Rows are never short in a file of at most 65,536 bytes, and reading it
 -- answers 12 exactly where it has more than 800 comments.
-pub rewrite-rows : (bytes : List ℕ) → IsFile d bytes → length bytes ≤ 65_536 → rowsNeeded (header bytes) ≤ 12_888
+pub rewrite-rows : (bytes : List ℕ) → IsFile d bytes → length bytes ≤ mostBytes → rowsNeeded (header bytes) ≤ mostRows * rowWidth
 rewrite-rows bytes accepted short = rewriteRoom.rows-fit bytes accepted short
 
-pub rewrite-12 : (bytes : List ℕ) → IsFile d bytes → length bytes ≤ 65_536 → (rewriteRoom.rewriteReading bytes .refusal ≡ 12) ↔ (800 < header bytes .comments)
+pub rewrite-12 : (bytes : List ℕ) → IsFile d bytes → length bytes ≤ mostBytes → (rewriteRoom.rewriteReading bytes .refusal ≡ 12) ↔ (mostComments < header bytes .comments)
 rewrite-12 bytes accepted short = rewriteRoom.twelve-exactly bytes accepted short
 
 -- DEMAND 3. No accepted file is the beginning of a longer accepted file, so a stretch divides into files in at most one way; that division is given

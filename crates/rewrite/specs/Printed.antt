@@ -14,13 +14,7 @@ use Rattle.reader.specs.Reading.{fileOf}
 use Rattle.canon_laws.specs.Held.{rewritten}
 use Rattle.scan.specs.declared.Front.{Front}
 use Rattle.scan.specs.declared.Front.the-variants as front
-
--- the most bytes of input, and of output; the most comments
-abbrev pub mostBytes : ℕ
-mostBytes = 65_536
-
-abbrev pub mostComments : ℕ
-mostComments = 800
+pub use Rattle.theorems.specs.Room.{mostBytes, mostComments}
 
 -- `too long` and LF
 abbrev pub tooLong : List ℕ

@@ -46,6 +46,7 @@ use Rattle.stored_row.specs.declared.types.Flag.the-variants as flag
 use Rattle.scan.specs.declared.Tally.{Tally}
 use Rattle.scan.specs.declared.Front.{Front}
 use Rattle.scan.specs.declared.Front.the-variants as front
+use Rattle.record.specs.LineKinds.{commentKind}
 
 -- a file that is found refused has a number from 1 to 11
 pub found-numbers : (bytes : List ℕ) (number line column : ℕ) → fileOf d bytes ≡ front.Refused number line column → (1 ≤ number) × (number ≤ 11)
@@ -203,7 +204,7 @@ module _ (bytes : List ℕ) (accepted : IsFile d bytes) where
       ∙ sym (says-comments p)
     where
       comments-in : List ℕ → List (List ℕ)
-      comments-in s = ofKind d 8 (linesOf s)
+      comments-in s = ofKind d commentKind (linesOf s)
 
   -- then the text of the comment, columns 4 on without trailing blanks,
   pub comment-text : (k : ℕ) → k < header bytes .comments → commentWords d bytes (fileOf d bytes) k ≡ textIn (commentLine d (linesOf bytes) k)

@@ -36,6 +36,7 @@ use Rattle.float_row.specs.declared.RowAnswer.{RowAnswer}
 use Rattle.scan.specs.declared.Front.the-variants as front
 use Rattle.theorems.specs.Asked.{asked, rowFound, rowRefused}
 use Rattle.theorems.specs.Files.{lineAsked, held}
+use Rattle.record.specs.LineKinds.{positionKind}
 
 -- In an accepted file the row of epoch k and satellite j is that of P line k * n + j, in mode V too.
 pub row-asked : (bytes : List ℕ) → IsFile d bytes → (k j : ℕ) → There bytes k j
@@ -44,7 +45,7 @@ unfolding rowAnswer rowBegins headerIn
 row-asked bytes (t, e) k j there =
     let some : ltb k (header bytes .epochs) ≡ true = lt-ltb k (header bytes .epochs) (there .epoch) in
     let one : ltb j (header bytes .satellites) ≡ true = lt-ltb j (header bytes .satellites) (there .satellite) in
-    rw (e, whole-taken bytes t e, some, one, line-at-place (isKind d 10) (rowAt bytes k j) bytes)
+    rw (e, whole-taken bytes t e, some, one, line-at-place (isKind d positionKind) (rowAt bytes k j) bytes)
 
 -- An epoch or a satellite that the file does not have: 13, line 0, and both absent.
 pub row-not-there : (bytes : List ℕ) → IsFile d bytes → (k j : ℕ) → (There bytes k j → ⊥) → asked bytes k j ≡ rowRefused 13 0

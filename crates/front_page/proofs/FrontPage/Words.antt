@@ -57,7 +57,7 @@ pub use Rattle.theorems.specs.Files.{header, rowAt, There, RowOf, held, identif
 pub use Rattle.theorems.proofs.Floats as floats
 pub use Rattle.theorems.specs.Asked.{asked, rowFound, rowRefused}
 pub use Rattle.theorems.proofs.Room as room
-pub use Rattle.theorems.specs.Room.{foundIn, Room, Short, rowsNeeded, answer, fills}
+pub use Rattle.theorems.specs.Room.{foundIn, Room, Short, rowsNeeded, answer, fills, mostBytes, mostComments, mostRows}
 pub use Rattle.theorems.proofs.RewriteRoom as rewriteRoom
 pub use Rattle.theorems.proofs.Writing as writing
 pub use Rattle.theorems.proofs.Rewritten as rewritten
@@ -87,7 +87,7 @@ pub use Rattle.row_walk.specs.declared.types.RowWalk.{RowWalk}
 pub use Rattle.row_walk.specs.declared.types.RowStep.the-variants as step
 pub use Rattle.layout.specs.Layout.{valuesOf}
 pub use Rattle.layout.specs.Line.{padded}
-pub use Rattle.record.specs.Rows.{rowItems, rowFrom}
+pub use Rattle.record.specs.Rows.{rowItems, rowFrom, rowWidth}
 pub use Rattle.record.specs.Absence.{placeAbsent, clockAbsent}
 pub use Rattle.reader.specs.Reading as read-as
 pub use Rattle.stored_row.specs.Stored.{isThere, placeIn, clockIn, deviationOf, deviationIn, flagIn}
