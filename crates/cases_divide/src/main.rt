@@ -1,7 +1,7 @@
 // Reads a batch of cases from standard input, each a stretch of bytes with room for the lengths of its files, and prints how it divides; where the
-// case says so, the bytes as one file too: its identifiers, its rows in order as a walk gives them, and the places after some lines.
-// What it must print is made by tests/stretches.rs, out of the documents, and out of the definitions where the documents are silent: what the state of a
-// place is, and what other identifiers than the file's do. The batches too. It shares no code with this.
+// case says so, the bytes as one file too: its identifiers, its rows in order as a walk gives them, and the spots after some lines.
+// What it must print is made by tests/divide.rs, out of the documents, and out of the definitions where the documents are silent: what the state of a
+// spot is, and what other identifiers than the file's do. The batches too. It shares no code with this.
 mod divided;
 mod input;
 mod lent;

@@ -11,7 +11,7 @@ use libc::STDIN_FILENO;
 // The most columns that are shown: two more than a field has.
 const MOST: usize = 20;
 
-// The place of the next LF from `at` on, or the end.
+// Where the next LF stands from `at` on, or the end.
 fn line_end(bytes: &[u8], at: usize) -> usize
     requires { ⌜ at ≤ length (now bytes) ⌝ }
     ensures { λ r. ⌜ (at ≤ r) × (r ≤ length (now (bytes .entry))) ⌝ }

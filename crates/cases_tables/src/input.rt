@@ -5,7 +5,7 @@ use crate::cases;
 use crate::cases::Case;
 use libc::STDIN_FILENO;
 
-// The place of the next LF from `at` on, or the end.
+// Where the next LF stands from `at` on, or the end.
 fn line_end(bytes: &[u8], at: usize) -> usize
     requires { ⌜ at ≤ length (now bytes) ⌝ }
     ensures { λ r. ⌜ (at ≤ r) × (r ≤ length (now (bytes .entry))) ⌝ }

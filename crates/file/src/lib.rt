@@ -60,7 +60,7 @@ pub fn line_begins(rules: Rules, bytes: &[u8], kind: u64, k: u64) -> usize
     }
 }
 
-// No bytes, at a place of some bytes, or at their end where they are fewer.
+// No bytes, at a byte of some, or at their end where they are fewer.
 pub fn nothing_at(bytes: &[u8], at: usize) -> &[u8]
     ensures result { λ r. ⌜ now r ≡ [] ⌝ }
     ensures lies { λ r. ⌜ ptr r ≡ byteOf (bytes .entry) (min at (length (now (bytes .entry)))) ⌝ }
@@ -69,7 +69,7 @@ pub fn nothing_at(bytes: &[u8], at: usize) -> &[u8]
     &bytes[here..here]
 }
 
-// The line of some bytes that begins at a place, without its LF; nothing where there is no line. It lies there, or at the end of the bytes.
+// The line of some bytes that begins at a byte, without its LF; nothing where there is no line. It lies there, or at the end of the bytes.
 pub fn line_at(bytes: &[u8], at: usize) -> &[u8]
     ensures result { λ r. ⌜ now r ≡ nth 0 (linesOf (drop at (now (bytes .entry)))) ⌝ }
     ensures lies { λ r. ⌜ ptr r ≡ byteOf (bytes .entry) (min at (length (now (bytes .entry)))) ⌝ }

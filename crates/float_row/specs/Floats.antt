@@ -44,11 +44,11 @@ floatRow p = record {
 abbrev pub absentRow : FloatRow
 absentRow = record { x = nan; y = nan; z = nan; clock = nan; «place_absent» = true; «clock_absent» = true }
 
--- the line that begins at a place of some bytes
+-- the line that begins at a byte
 abbrev pub lineFrom : ℕ → List ℕ → List ℕ
 lineFrom at bytes = nth 0 (linesOf (drop at bytes))
 
--- the row of the P line at a place, or the refusal
+-- the row of the P line that begins at a byte, or the refusal
 unfoldable pub rowAnswer : List ℕ → RowBegins → RowAnswer
 rowAnswer bytes place =
     cond (eqb (place .refusal) 0)

@@ -74,6 +74,6 @@ recordFault kind.PositionCorrelation rules s identifiers line = faultOf (correla
 recordFault kind.VelocityCorrelation rules s identifiers line = faultOf (correlationItems true) line
 recordFault kind.EndOfFile rules s identifiers line = faultOf endItems line
 
--- the fault of a line of 80 columns at its place: 4 where its kind may not stand here
+-- the fault of a line of 80 columns where it stands: 4 where its kind may not stand here
 unfoldable pub standingFault : LineKind → Rules → State → List ℕ → List ℕ → ℕ
 standingFault kind rules s identifiers line = cond (stands s kind) (recordFault kind rules s identifiers line) (keyed 4 0)

@@ -67,7 +67,7 @@ ifRoom roomy verdict.Finished = verdict.Finished
 unfoldable pub stepWithin : Rules → State → List ℕ → List ℕ → Verdict
 stepWithin rules s identifiers line = ifRoom (findsRoom rules s identifiers line) (stepOf rules s identifiers line)
 
--- what is found: a verdict at the place after the line
+-- what is found: a verdict at the byte after the line
 abbrev pub readAs : Verdict → ℕ → LineRead
 readAs (verdict.Fault number column) at = found.Fault number column
 readAs (verdict.Next s) at = found.Next at s
@@ -82,7 +82,7 @@ unfoldable pub identifiersFirst : Rules → State → List ℕ → List (List �
 identifiersFirst rules s identifiers [] = identifiers
 identifiersFirst rules s identifiers (l ∷ ls) = identifiersKept rules s identifiers l
 
--- the line of some bytes that begins at a place, where the identifiers are known
+-- the line of some bytes that begins at a byte, where the identifiers are known
 abbrev pub lineKnown : Rules → List ℕ → ℕ → State → List ℕ → LineRead
 lineKnown rules bytes at s identifiers = readFirst (stepOf rules s identifiers) at (linesOf (drop at bytes))
 
@@ -93,7 +93,7 @@ lineRead rules bytes at s identifiers = readFirst (stepWithin rules s identifier
 abbrev pub lineIdentifiers : Rules → List ℕ → ℕ → State → List ℕ → List ℕ
 lineIdentifiers rules bytes at s identifiers = identifiersFirst rules s identifiers (linesOf (drop at bytes))
 
--- the line at a place brings more identifiers than fit: a `+ ` line is due there and has no fault, and the list has no room for those it brings
+-- the line at a byte brings more identifiers than fit: a `+ ` line is due there and has no fault, and the list has no room for those it brings
 pub record Overfull (rules : Rules) (bytes : List ℕ) (at : ℕ) (s : State) (identifiers : List ℕ) : Type 0 where
   pub line : List ℕ
   pub after : List (List ℕ)

@@ -1,4 +1,4 @@
-// The fault of a line of 80 columns at its place.
+// The fault of a line of 80 columns where it stands.
 ghost use mathlib.Core.Path.{_≡_};
 ghost use Prim.Native.Nat.{_+_, _≤_};
 ghost use lib.Dec.{eqb};
@@ -215,7 +215,7 @@ pub fn kind_number(kind: LineKind) -> u64
     }
 }
 
-// The fault of a line at its place: 4 where its kind may not stand here.
+// The fault of a line where it stands: 4 where its kind may not stand here.
 pub(crate) fn standing_fault(
     kind: LineKind,
     rules: Rules,

@@ -1,4 +1,4 @@
-// What a line does at its place: the plain line reader.
+// What a line does where it stands: the plain line reader.
 ghost use mathlib.Core.Path.{_≡_};
 ghost use Rattle.laws.specs.Texts.{every, isPrintable};
 ghost use Rattle.layout.specs.Line.{padded};
@@ -149,7 +149,7 @@ pub fn keep_identifiers(rules: Rules, state: State, identifiers: &mut [u64], lin
     )
 }
 
-// What the line at a place does, where the header's identifiers so far are `identifiers`, and where the next begins. No LF from the place on: no line.
+// What the line at a byte does, where the header's identifiers so far are `identifiers`, and where the next begins. No LF from there on: no line.
 pub fn line_known(
     rules: Rules,
     bytes: &[u8],

@@ -28,7 +28,7 @@ pub enum Verdict {
     Finished,
 }
 
-// What the line reader finds at a place: no complete line, a fault, the place and the state after the line, or the place after the file.
+// What the line reader finds at a byte: no complete line, a fault, the byte and the state after the line, or the byte after the file.
 pub enum LineRead {
     NoLine,
     Fault { number: usize, column: usize },

@@ -62,7 +62,7 @@ wholeFront size (front.Refused number line column) = front.Refused number line c
 abbrev pub IsFile : Rules → List ℕ → Type 0
 IsFile rules bytes = (t : Tally) × (wholeFront (length bytes) (scanOf rules bytes) ≡ front.File t)
 
--- Stepping: the place, the state and the identifiers after so many lines. A line that is refused, or that ends the file, leaves them as they
+-- Stepping: the byte, the state and the identifiers after so many lines. A line that is refused, or that ends the file, leaves them as they
 -- were.
 pub record Going : Type 0 where
   pub at : ℕ

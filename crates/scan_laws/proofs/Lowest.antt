@@ -35,7 +35,7 @@ use Rattle.machine.specs.declared.types.Verdict.the-variants as verdict
 use Rattle.scan_laws.proofs.LeastKey.{lowestOf, Lowest, lowest-is, items-lowest, number-monotone}
 use Rattle.scan_laws.specs.Earned.{Among}
 use Rattle.scan_laws.specs.Earned.{itemsAt, checksAt, partsAt, kindAt, LookedAt, Earns}
-use Rattle.scan_laws.specs.Earned.Earns.{by-byte, by-length, by-place, by-part}
+use Rattle.scan_laws.specs.Earned.Earns.{by-byte, by-length, by-kind, by-part}
 
 -- the fault of a record is the lowest of its parts'
 record-lowest : (k : LineKind) (rules : Rules) (s : State) (identifiers line : List ℕ)
@@ -128,7 +128,7 @@ module _ (rules : Rules) (s : State) (identifiers line : List ℕ) where
       least : (m : ℕ) → Earns rules s identifiers line m → 2 ≤ m
       least m (by-byte p e) = omega arith
       least m (by-length p e) = omega arith
-      least m (by-place p e) = omega arith
+      least m (by-kind p e) = omega arith
       least m (by-part l k a h e) = absurd (both (l .plain) b)
 
   -- a line that is too long
@@ -139,18 +139,18 @@ module _ (rules : Rules) (s : State) (identifiers line : List ℕ) where
       least : (m : ℕ) → Earns rules s identifiers line m → 3 ≤ m
       least m (by-byte p e) = absurd (both b p)
       least m (by-length p e) = omega arith
-      least m (by-place p e) = omega arith
+      least m (by-kind p e) = omega arith
       least m (by-part l k a h e) = absurd (both (l .short) n)
 
   -- a line that may not stand here
   decides-four : every isPrintable line ≡ true → Short ≡ true → stands s (kindAt rules line) ≡ false → Decides rules s identifiers line (stepOf rules s identifiers line)
   unfolding stepOf printedLine judgedLine onKey standingFault
-  decides-four b n p = refused 4 0 (rw (b, n, p) refl) (by-place p refl) least
+  decides-four b n p = refused 4 0 (rw (b, n, p) refl) (by-kind p refl) least
     where
       least : (m : ℕ) → Earns rules s identifiers line m → 4 ≤ m
       least m (by-byte q e) = absurd (both b q)
       least m (by-length q e) = absurd (both n q)
-      least m (by-place q e) = omega arith
+      least m (by-kind q e) = omega arith
       least m (by-part l k a h e) = absurd (both (l .placed) p)
 
   -- a line whose record is looked at
@@ -174,7 +174,7 @@ module _ (rules : Rules) (s : State) (identifiers line : List ℕ) where
     least : (r : ℕ) → Lowest clean parts r → (m : ℕ) → Earns rules s identifiers line m → (0 < r) × (keyNumber r ≤ m)
     least r low m (by-byte p e) = absurd (both (l .plain) p)
     least r low m (by-length p e) = absurd (both (l .short) p)
-    least r low m (by-place p e) = absurd (both (l .placed) p)
+    least r low m (by-kind p e) = absurd (both (l .placed) p)
     least r low m (by-part _ k a h e) =
         let below = low .each k a h in
         (below .0, omega (arith, number-monotone r k (below .1), e))

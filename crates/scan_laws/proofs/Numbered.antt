@@ -35,7 +35,7 @@ use Rattle.machine.specs.declared.types.Verdict.the-variants as verdict
 use Rattle.scan_laws.specs.Earned.{Among}
 use Rattle.scan_laws.proofs.Lowest.{lowest}
 use Rattle.scan_laws.specs.Earned.{itemsAt, checksAt, partsAt, kindAt, Earns}
-use Rattle.scan_laws.specs.Earned.Earns.{by-byte, by-length, by-place, by-part}
+use Rattle.scan_laws.specs.Earned.Earns.{by-byte, by-length, by-kind, by-part}
 
 numbered-unless : (t : Bool) (number column : ℕ) → 4 ≤ number → number ≤ 10 → column < 128 → Numbered (unless t number column)
 numbered-unless true number column p q r h = absurd (omega arith)
@@ -167,7 +167,7 @@ module _ (rules : Rules) (s : State) (identifiers line : List ℕ) where
   pub earned-numbered : (m : ℕ) → Earns rules s identifiers line m → (2 ≤ m) × (m ≤ 10)
   earned-numbered m (by-byte p e) = (omega arith, omega arith)
   earned-numbered m (by-length p e) = (omega arith, omega arith)
-  earned-numbered m (by-place p e) = (omega arith, omega arith)
+  earned-numbered m (by-kind p e) = (omega arith, omega arith)
   earned-numbered m (by-part l key a h e) =
       let k = kindAt rules line in
       let numbers = among-each (partsAt k rules s identifiers (padded line)) key (parts-numbered rules s identifiers (padded line) k) a h in
@@ -190,5 +190,5 @@ module _ (rules : Rules) (s : State) (identifiers line : List ℕ) where
       go : Earns rules s identifiers line m → m ≤ keyNumber key
       go (by-byte p e′) = omega (arith, some)
       go (by-length p e′) = omega (arith, some)
-      go (by-place p e′) = omega (arith, some)
+      go (by-kind p e′) = omega (arith, some)
       go (by-part l k b g e′) = lowest rules s identifiers line m c e .1 (keyNumber key) (by-part l key a h refl)

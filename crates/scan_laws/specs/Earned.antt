@@ -31,7 +31,7 @@ abbrev pub Among : ℕ → List ℕ → Type 0
 Among key [] = ⊥
 Among key (k ∷ keys) = (key ≡ k) ⊎ Among key keys
 
--- What a line earns. Its columns, as the record of its kind lists them at this place:
+-- What a line earns. Its columns, as the record of its kind lists them here:
 abbrev pub itemsAt : LineKind → Rules → State → List ℕ → List Item
 itemsAt kind.Other rules s line = []
 itemsAt kind.First rules s line = firstItems rules
@@ -82,10 +82,10 @@ pub record LookedAt (rules : Rules) (s : State) (line : List ℕ) : Type 0 where
   pub short : leb (length line) (longest rules (kindAt rules line)) ≡ true
   pub placed : stands s (kindAt rules line) ≡ true
 
--- The numbers that a line earns: 2 by a byte outside 32 to 126, 3 by its length, 4 by its place, and where its record is looked at the number
--- of any of its parts.
+-- The numbers that a line earns: 2 by a byte outside 32 to 126, 3 by its length, 4 by its kind, which may not stand here, and where its record is looked
+-- at the number of any of its parts.
 pub data Earns (rules : Rules) (s : State) (identifiers line : List ℕ) (m : ℕ) : Type 0 where
   by-byte : every isPrintable line ≡ false → m ≡ 2 → Earns rules s identifiers line m
   by-length : leb (length line) (longest rules (kindAt rules line)) ≡ false → m ≡ 3 → Earns rules s identifiers line m
-  by-place : stands s (kindAt rules line) ≡ false → m ≡ 4 → Earns rules s identifiers line m
+  by-kind : stands s (kindAt rules line) ≡ false → m ≡ 4 → Earns rules s identifiers line m
   by-part : LookedAt rules s line → (key : ℕ) → Among key (partsAt (kindAt rules line) rules s identifiers (padded line)) → 0 < key → keyNumber key ≡ m → Earns rules s identifiers line m
