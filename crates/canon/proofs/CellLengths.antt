@@ -11,7 +11,7 @@ use lib.ListN.{length, take, drop, length-append}
 use lib.Seq.{drop-drop}
 use Rattle.lines.specs.Lent.{flat}
 use Rattle.record.specs.Opening.{epochLine}
-use Rattle.record.specs.Rows.{rowLine}
+use Rattle.record.specs.Rows.{rowLine, rowWidth}
 use Rattle.canon.specs.Table.{cellWidth}
 use Rattle.canon.specs.Valid.{rowValid, cellValid, rowsValid}
 use Rattle.canon.specs.Canonical.{rowShown, cellLines, cellsLines, epochShown, epochsLines}
@@ -29,15 +29,15 @@ cell-length : (velocity : Bool) (identifier : ℕ) (cell : List ℤ) → cellVal
     → length (flat (cellLines velocity identifier cell)) ≡ cellLength velocity cell
 unfolding flat cellLines cellValid cellLength
 cell-length true identifier cell e =
-    let p = rowLine false (rowShown identifier (take 12 cell)) in
-    let v = rowLine true (rowShown identifier (drop 12 cell)) in
-    let both = both-true (rowValid false (take 12 cell)) (rowValid true (drop 12 cell)) e in
+    let p = rowLine false (rowShown identifier (take rowWidth cell)) in
+    let v = rowLine true (rowShown identifier (drop rowWidth cell)) in
+    let both = both-true (rowValid false (take rowWidth cell)) (rowValid true (drop rowWidth cell)) e in
     omega (
       arith,
       length-append p (v ++ []),
       length-append v [],
-      row-length false identifier (take 12 cell) (both .0),
-      row-length true identifier (drop 12 cell) (both .1),
+      row-length false identifier (take rowWidth cell) (both .0),
+      row-length true identifier (drop rowWidth cell) (both .1),
     )
 cell-length false identifier cell e = omega (arith, length-append (rowLine false (rowShown identifier cell)) [], row-length false identifier cell e)
 

@@ -11,7 +11,8 @@ use Rattle.laws.specs.Tests.{within}
 use Rattle.calendar.specs.Clock.{dayUnits}
 use Rattle.header.specs.Rules.{maxEpochs}
 use Rattle.header.specs.Header.{maxInterval}
-use Rattle.canon.specs.Table.{commentWidth, cellWidth, cellsIn}
+use Rattle.record.specs.Plain.{commentWidth}
+use Rattle.canon.specs.Table.{cellWidth, cellsIn}
 use Rattle.canon.specs.Valid.{isInstant, lastEpoch, timesValid, countsValid, wordsValid, headerValid, listsLong}
 use Rattle.header.specs.declared.types.Header.{Header}
 use Rattle.header.specs.declared.types.Rules.{Rules}
@@ -55,8 +56,8 @@ begun h e =
     record { started = omega (arith, at .1); some = count .0; few = count .1; short = step .1 }
 
 -- the last epoch is within what a number holds
-pub last-within : (h : Header) → Begun h → (h .epochs - 1) * h .interval8 ≤ 100_000 * maxInterval
-last-within h b = let fewer : h .epochs - 1 ≤ 100_000 = omega (arith, b .few) in mul-le-mul fewer (b .short)
+pub last-within : (h : Header) → Begun h → (h .epochs - 1) * h .interval8 ≤ maxEpochs * maxInterval
+last-within h b = let fewer : h .epochs - 1 ≤ maxEpochs = omega (arith, b .few) in mul-le-mul fewer (b .short)
 
 -- so many cells of some numbers are no more than the numbers
 pub cells-fit : (cells n : ℕ) (velocity : Bool) → cells * cellWidth velocity ≤ n → cells ≤ n

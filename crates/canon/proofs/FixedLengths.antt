@@ -14,7 +14,7 @@ use Rattle.layout.specs.Layout.{Item, Values, columns, column}
 use Rattle.header.specs.Rules.{maxEpochs}
 use Rattle.record.specs.Opening.{textItems, textValues, firstItems, firstValues, firstLine, secondItems, secondValues, secondLine, epochItems, epochValues, epochLine}
 use Rattle.record.specs.Descriptors.{descriptorItems, descriptorValues, descriptorLine, characterItems, baseItems, baseValues, baseLine, floatItems, integerItems, fixedLine}
-use Rattle.record.specs.Plain.{commentItems, commentLine, endItems}
+use Rattle.record.specs.Plain.{commentItems, commentLine, endItems, commentWidth}
 use Rattle.canon.specs.Canonical.{momentOf, firstShown, secondShown, epochShown}
 use Rattle.canon.specs.Measured.{firstLength, commentLength}
 use Rattle.header.specs.declared.types.Rules.{Rules}
@@ -79,9 +79,9 @@ first-length rules h few used coordinates orbit agency =
     ∙ texts-end (endFrom 0 (take 14 (firstItems rules)) values) (h .epochs) (h .texts) few used coordinates orbit agency
 
 -- a comment ends with its text
-pub comment-length : (bytes : List ℕ) → length bytes ≡ 77 → length (commentLine bytes) ≡ commentLength bytes
+pub comment-length : (bytes : List ℕ) → length bytes ≡ commentWidth → length (commentLine bytes) ≡ commentLength bytes
 unfolding commentLine commentLength
-comment-length bytes long = line-length commentItems (words bytes ∷ []) comment-tiled ∙ rw (text-whole 77 bytes long)
+comment-length bytes long = line-length commentItems (words bytes ∷ []) comment-tiled ∙ rw (text-whole commentWidth bytes long)
 
 -- the `%` lines and EOF end with a placeholder or a symbol
 pub descriptor-length : (d : Descriptor) → length (descriptorLine d) ≡ 61

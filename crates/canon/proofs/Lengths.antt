@@ -14,9 +14,9 @@ use Rattle.laws.specs.Texts.{every}
 use Rattle.layout.specs.Kind.{printable}
 use Rattle.lines.specs.Lent.{flat}
 use Rattle.header.specs.Rules.{slotLines}
-use Rattle.record.specs.Plain.{commentLine, endItems}
+use Rattle.record.specs.Plain.{commentLine, endItems, commentWidth}
 use Rattle.record.specs.Descriptors.{fixedLine}
-use Rattle.canon.specs.Table.{Table, commentWidth, cellsIn, tableIdentifiers, exponentsOf, commentsOf, rowsOf}
+use Rattle.canon.specs.Table.{Table, cellsIn, tableIdentifiers, exponentsOf, commentsOf, rowsOf}
 use Rattle.canon.specs.Valid.{textFits, valid}
 use Rattle.canon.specs.Canonical.{slotLinesOf, descriptorShown, basesShown, descriptorLines, linesBefore, commentLines, epochsLines, canonicalLines, canonical}
 use Rattle.canon.specs.Measured.{firstLength, openingLength, commentsLength, rowsLength, formLength}

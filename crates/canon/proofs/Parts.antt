@@ -11,9 +11,10 @@ use lib.Seq.{length-take-le}
 use Rattle.laws.specs.Texts.{every}
 use Rattle.laws.proofs.Bools.{and-left, and-right}
 use Rattle.layout.specs.Kind.{isIdentifier}
+use Rattle.record.specs.Plain.{commentWidth}
 use Rattle.header.specs.declared.types.Rules.{Rules}
-use Rattle.machine.specs.Checks.{repeats, typeAgrees}
-use Rattle.canon.specs.Table.{Table, commentWidth, cellWidth, cellsIn, tableIdentifiers, exponentsOf, commentsOf, rowsOf}
+use Rattle.record.specs.Agrees.{repeats, typeAgrees}
+use Rattle.canon.specs.Table.{Table, cellWidth, cellsIn, tableIdentifiers, exponentsOf, commentsOf, rowsOf}
 use Rattle.canon.specs.Valid.{headerValid, identifiersValid, exponentsValid, commentsValid, rowsValid, countsHold, valid}
 use Rattle.canon.proofs.Counting.{Long, long}
 use Rattle.canon.proofs.HeaderBounds.{Bounded, bounded}

@@ -15,8 +15,8 @@ use Rattle.header.specs.Rules.{slotLines}
 use Rattle.record.specs.Opening.{firstLine, secondLine, epochLine}
 use Rattle.record.specs.SlotLines.{satellitesLine, moreLine}
 use Rattle.record.specs.Descriptors.{descriptorLine, characterItems, baseLine, floatItems, integerItems, fixedLine}
-use Rattle.record.specs.Plain.{commentLine, endItems}
-use Rattle.record.specs.Rows.{rowLine}
+use Rattle.record.specs.Plain.{commentLine, endItems, commentWidth}
+use Rattle.record.specs.Rows.{rowLine, rowWidth}
 use Rattle.header.specs.declared.types.Rules.{Rules}
 use Rattle.header.specs.declared.types.Header.{Header}
 use Rattle.header.specs.declared.types.Moment.{Moment}
@@ -29,7 +29,7 @@ use Rattle.record.specs.declared.types.Descriptor.{Descriptor}
 use Rattle.record.specs.declared.types.BaseLine.{BaseLine}
 use Rattle.record.specs.declared.types.Signed.{Signed}
 use Rattle.record.specs.declared.types.Row.{Row}
-use Rattle.canon.specs.Table.{Table, commentWidth, cellWidth, tableIdentifiers, exponentsOf, commentsOf, rowsOf}
+use Rattle.canon.specs.Table.{Table, cellWidth, tableIdentifiers, exponentsOf, commentsOf, rowsOf}
 use Rattle.canon.specs.Valid.{entry}
 
 -- the date and time of an instant in 10^-8 s since MJD 0
@@ -144,7 +144,7 @@ rowShown identifier row = record {
 
 -- the lines of one satellite in one epoch: P, in mode V then V
 unfoldable pub cellLines : Bool → ℕ → List ℤ → List (List ℕ)
-cellLines true identifier cell = rowLine false (rowShown identifier (take 12 cell)) ∷ rowLine true (rowShown identifier (drop 12 cell)) ∷ []
+cellLines true identifier cell = rowLine false (rowShown identifier (take rowWidth cell)) ∷ rowLine true (rowShown identifier (drop rowWidth cell)) ∷ []
 cellLines false identifier cell = rowLine false (rowShown identifier cell) ∷ []
 
 -- those of each satellite, in header order

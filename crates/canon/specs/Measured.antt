@@ -9,10 +9,12 @@ use lib.ListN.{length, take, drop}
 use Rattle.layout.specs.Kind.{unknown}
 use Rattle.layout.specs.Line.{trimmed}
 use Rattle.header.specs.Rules.{slotLines}
+use Rattle.record.specs.Plain.{commentWidth}
+use Rattle.record.specs.Rows.{rowWidth}
 use Rattle.header.specs.declared.types.Rules.{Rules}
 use Rattle.header.specs.declared.types.Header.{Header}
 use Rattle.header.specs.declared.types.Texts.{Texts}
-use Rattle.canon.specs.Table.{Table, commentWidth, cellWidth, cellsIn, commentsOf, rowsOf}
+use Rattle.canon.specs.Table.{Table, cellWidth, cellsIn, commentsOf, rowsOf}
 use Rattle.canon.specs.Valid.{entry, valid}
 use Rattle.canon.specs.Canonical.{canonical}
 use Rattle.canon.specs.declared.types.Measured.{Measured}
@@ -57,7 +59,7 @@ rowLength row =
 
 -- the lines of one satellite in one epoch, and of so many
 unfoldable pub cellLength : Bool → List ℤ → ℕ
-cellLength true cell = rowLength (take 12 cell) + rowLength (drop 12 cell)
+cellLength true cell = rowLength (take rowWidth cell) + rowLength (drop rowWidth cell)
 cellLength false cell = rowLength cell
 
 unfoldable pub rowsLength : Bool → ℕ → List ℤ → ℕ

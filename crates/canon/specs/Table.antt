@@ -6,6 +6,8 @@ use mathlib.Core.List.{List}
 use Prim.Native.Nat.{ℕ, _*_}
 use lib.IntN.{ℤ}
 use lib.ListN.{take}
+use Rattle.record.specs.Plain.{commentWidth}
+use Rattle.record.specs.Rows.{rowWidth, bothWidth}
 use Rattle.header.specs.declared.types.Header.{Header}
 
 pub record Table : Type 0 where
@@ -19,14 +21,10 @@ abbrev pub tableOf : Header → List ℕ → List ℕ → List ℕ → List ℤ 
 tableOf h identifiers exponents comments rows =
     record { header = h; identifiers = identifiers; exponents = exponents; comments = comments; rows = rows }
 
--- the bytes of a stored comment
-abbrev pub commentWidth : ℕ
-commentWidth = 77
-
 -- the numbers of one satellite in one epoch: a P row of twelve, in mode V a V row after it
 abbrev pub cellWidth : Bool → ℕ
-cellWidth true = 24
-cellWidth false = 12
+cellWidth true = bothWidth
+cellWidth false = rowWidth
 
 -- how many of them there are
 abbrev pub cellsIn : Header → ℕ

@@ -17,11 +17,13 @@ use Rattle.header.specs.Rules.{maxEpochs}
 use Rattle.header.specs.Header.{maxInterval, maxPlaceBase, maxClockBase}
 use Rattle.header.specs.Letters.{fileTypes, timeSystems}
 use Rattle.record.specs.Absence.{largestExponent}
-use Rattle.machine.specs.Checks.{repeats, typeAgrees}
+use Rattle.record.specs.Agrees.{repeats, typeAgrees}
+use Rattle.record.specs.Plain.{commentWidth}
+use Rattle.record.specs.Rows.{rowWidth}
 use Rattle.header.specs.declared.types.Rules.{Rules}
 use Rattle.header.specs.declared.types.Header.{Header}
 use Rattle.header.specs.declared.types.Texts.{Texts}
-use Rattle.canon.specs.Table.{Table, commentWidth, cellWidth, cellsIn, tableIdentifiers, exponentsOf, commentsOf, rowsOf}
+use Rattle.canon.specs.Table.{Table, cellWidth, cellsIn, tableIdentifiers, exponentsOf, commentsOf, rowsOf}
 
 -- an instant in 10^-8 s since MJD 0 on a day from 1980-01-06 to 2099-12-31
 unfoldable pub isInstant : ℕ → Bool
@@ -117,7 +119,7 @@ rowValid velocity row =
 
 -- the rows of one satellite in one epoch
 unfoldable pub cellValid : Bool → List ℤ → Bool
-cellValid true cell = rowValid false (take 12 cell) && rowValid true (drop 12 cell)
+cellValid true cell = rowValid false (take rowWidth cell) && rowValid true (drop rowWidth cell)
 cellValid false cell = rowValid false cell
 
 -- and of so many

@@ -11,6 +11,9 @@ use header::Header;
 use header::Rules;
 use header::Texts;
 use laws::within;
+use record::plain::COMMENT_WIDTH;
+use record::rows::BOTH_WIDTH;
+use record::rows::ROW_WIDTH;
 
 // One day in 10^-8 s.
 const DAY: u64 = 8_640_000_000_000;
@@ -73,11 +76,11 @@ pub(crate) fn header_valid(rules: Rules, h: Header) -> bool
     times_valid(h) & (counts_valid(rules, h) & words_valid(h))
 }
 
-// The numbers of one satellite in one epoch: 12, in mode V 24.
+// The numbers of one satellite in one epoch: of a row, in mode V of both.
 pub fn cell_width(velocity: bool) -> usize
     ensures result { λ r. ⌜ r ≡ cellWidth velocity ⌝ }
 {
-    if velocity { 24 } else { 12 }
+    if velocity { BOTH_WIDTH } else { ROW_WIDTH }
 }
 
 // Whether so many numbers have a row for each satellite and epoch.
@@ -96,5 +99,5 @@ pub(crate) fn lists_long(h: Header, i: usize, x: usize, c: usize, r: usize) -> b
     ensures { λ s. ⌜ s ≡ listsLong h i x c r ⌝ }
 {
     ((h.satellites <= i as u64) & (h.satellites <= x as u64))
-        & ((h.comments <= (c / 77) as u64) & rows_long(h, r))
+        & ((h.comments <= (c / COMMENT_WIDTH) as u64) & rows_long(h, r))
 }

@@ -6,12 +6,13 @@ ghost use lib.Dec.{eqb};
 ghost use lib.ListN.{length};
 ghost use Rattle.laws.specs.Texts.{every};
 ghost use Rattle.layout.specs.Kind.{isIdentifier};
-ghost use Rattle.canon.specs.Table.{commentWidth};
+ghost use Rattle.record.specs.Plain.{commentWidth};
 ghost use Rattle.canon.specs.Valid.{identifiersValid, exponentsValid, commentColumns, commentValid, commentsValid};
 ghost use Rattle.canon.specs.Measured.{commentLength, commentsLength};
 use crate::types::Spent;
 use header::Rules;
 use laws::within;
+use record::plain::COMMENT_WIDTH;
 
 // Whether a number is an identifier: 7107 is G07, 7100 is none.
 fn is_identifier(code: u64) -> bool
@@ -74,7 +75,7 @@ fn comment_columns(rules: Rules) -> usize
     if rules.comment_columns < 80 {
         return (rules.comment_columns - 3) as usize;
     }
-    77
+    COMMENT_WIDTH
 }
 
 // The bytes of a comment's line whose text has so many without its trailing blanks.
@@ -88,7 +89,7 @@ fn comment_length(text: usize) -> usize
     text + 4
 }
 
-// A comment of 77 bytes judged and measured.
+// A stored comment judged and measured.
 fn comment_spent(rules: Rules, text: &[u8], left: usize) -> Spent
     requires { ⌜ length (now text) ≡ commentWidth ⌝ }
     ensures { λ r. ⌜ (r .valid ≡ commentValid rules (now (text .entry))) × (r .left ≡ left - commentLength (now (text .entry))) ⌝ }
@@ -100,7 +101,7 @@ fn comment_spent(rules: Rules, text: &[u8], left: usize) -> Spent
     }
 }
 
-// So many comments of 77 bytes judged and measured.
+// So many of them judged and measured.
 pub(crate) fn comments_spent(rules: Rules, count: u64, bytes: &[u8], room: usize) -> Spent
     requires { ⌜ length (now bytes) ≡ count * commentWidth ⌝ }
     ensures { λ r. ⌜ (r .valid ≡ commentsValid rules count (now (bytes .entry))) × (r .left ≡ room - commentsLength count (now (bytes .entry))) ⌝ }
@@ -110,7 +111,7 @@ pub(crate) fn comments_spent(rules: Rules, count: u64, bytes: &[u8], room: usize
     let mut at: usize = 0;
     let mut more = count;
     while 0 < more {
-        let next = at + 77;
+        let next = at + COMMENT_WIDTH;
         let one = comment_spent(rules, &bytes[at..next], left);
         valid = valid & one.valid;
         left = one.left;

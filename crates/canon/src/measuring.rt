@@ -4,7 +4,8 @@ ghost use mathlib.Core.Bool.{_&&_};
 ghost use Prim.Native.Nat.{_+_, _-_, _*_, _≤_};
 ghost use lib.ListN.{length, take};
 ghost use Rattle.header.specs.Rules.{maxEpochs};
-ghost use Rattle.canon.specs.Table.{commentWidth, cellWidth, cellsIn, tableOf};
+ghost use Rattle.record.specs.Plain.{commentWidth};
+ghost use Rattle.canon.specs.Table.{cellWidth, cellsIn, tableOf};
 ghost use Rattle.canon.specs.Valid.{headerValid, listsLong, commentsValid, rowsValid};
 ghost use Rattle.canon.specs.Measured.{textEnd, firstLength, openingLength, commentsLength, rowsLength, refusedAs, measured};
 use crate::bounds;
@@ -15,6 +16,7 @@ use crate::types::Spent;
 use header::Header;
 use header::Rules;
 use header::Texts;
+use record::plain::COMMENT_WIDTH;
 
 // A refusal beside no length.
 fn refuse(number: usize) -> Measured
@@ -80,7 +82,12 @@ fn table_spent(rules: Rules, h: Header, comments: &[u8], rows: &[i64], room: usi
     let count = h.comments as usize;
     let cells = (h.satellites * h.epochs) as usize;
     let opened = lists::spend(room, opening_length(h));
-    let said = lists::comments_spent(rules, h.comments, &comments[0..count * 77], opened);
+    let said = lists::comments_spent(
+        rules,
+        h.comments,
+        &comments[0..count * COMMENT_WIDTH],
+        opened,
+    );
     let dated = lists::spend(said.left, 32 * (h.epochs as usize));
     let placed = numbers::rows_spent(h.velocity, cells, &rows[0..cells * width], dated);
     Spent {

@@ -7,6 +7,7 @@ ghost use lib.IntN.{natAbs};
 ghost use lib.ListN.{length};
 ghost use Rattle.field.specs.Sign.{isNegative};
 ghost use Rattle.layout.specs.Kind.{unknown};
+ghost use Rattle.record.specs.Rows.{rowWidth};
 ghost use Rattle.canon.specs.Table.{cellWidth};
 ghost use Rattle.canon.specs.Valid.{entry, amountValid, exponentValid, mostFlag, flagValid, fourValid, rowValid, cellValid, rowsValid};
 ghost use Rattle.canon.specs.Measured.{exponentsEnd, rowLength, cellLength, rowsLength};
@@ -15,6 +16,8 @@ use crate::lists;
 use crate::types::Spent;
 use field::sign::is_negative;
 use field::sign::magnitude_of;
+use record::rows::BOTH_WIDTH;
+use record::rows::ROW_WIDTH;
 
 // Whether a number is one of x, y, z or clock.
 fn amount_valid(row: &[i64], i: usize) -> bool
@@ -50,7 +53,7 @@ fn flag_valid(row: &[i64], i: usize, most: u64) -> bool
 
 // Whether the first four numbers of a row are x, y, z and clock.
 fn amounts_valid(row: &[i64]) -> bool
-    requires { ⌜ length (now row) ≡ 12 ⌝ }
+    requires { ⌜ length (now row) ≡ rowWidth ⌝ }
     ensures { λ r. ⌜ r ≡ fourValid amountValid amountValid 0 (now (row .entry)) ⌝ }
 {
     (amount_valid(row, 0) & amount_valid(row, 1)) & (amount_valid(row, 2) & amount_valid(row, 3))
@@ -58,7 +61,7 @@ fn amounts_valid(row: &[i64]) -> bool
 
 // Whether the next four are their exponents.
 fn deviations_valid(row: &[i64]) -> bool
-    requires { ⌜ length (now row) ≡ 12 ⌝ }
+    requires { ⌜ length (now row) ≡ rowWidth ⌝ }
     ensures { λ r. ⌜ r ≡ fourValid (exponentValid false) (exponentValid true) 4 (now (row .entry)) ⌝ }
 {
     (exponent_valid(row, 4, 99) & exponent_valid(row, 5, 99))
@@ -67,7 +70,7 @@ fn deviations_valid(row: &[i64]) -> bool
 
 // Whether the last four are flags.
 fn flags_valid(row: &[i64], velocity: bool) -> bool
-    requires { ⌜ length (now row) ≡ 12 ⌝ }
+    requires { ⌜ length (now row) ≡ rowWidth ⌝ }
     ensures { λ r. ⌜ r ≡ fourValid (flagValid velocity) (flagValid velocity) 8 (now (row .entry)) ⌝ }
 {
     let most = most_flag(velocity);
@@ -77,7 +80,7 @@ fn flags_valid(row: &[i64], velocity: bool) -> bool
 
 // Whether twelve numbers are a P row, or a V row where `velocity` says so.
 fn row_valid(row: &[i64], velocity: bool) -> bool
-    requires { ⌜ length (now row) ≡ 12 ⌝ }
+    requires { ⌜ length (now row) ≡ rowWidth ⌝ }
     ensures { λ r. ⌜ r ≡ rowValid velocity (now (row .entry)) ⌝ }
 {
     amounts_valid(row) & (deviations_valid(row) & flags_valid(row, velocity))
@@ -97,7 +100,7 @@ fn end_at(row: &[i64], i: usize, none: u64, column: usize, earlier: usize) -> us
 
 // The last column of a row that has no flag.
 fn exponents_end(row: &[i64]) -> usize
-    requires { ⌜ length (now row) ≡ 12 ⌝ }
+    requires { ⌜ length (now row) ≡ rowWidth ⌝ }
     ensures { λ r. ⌜ r ≡ exponentsEnd (now (row .entry)) ⌝ }
 {
     let x = end_at(row, 4, 1000, 63, 60);
@@ -108,7 +111,7 @@ fn exponents_end(row: &[i64]) -> usize
 
 // The bytes of a row's line, with its LF.
 fn row_length(row: &[i64]) -> usize
-    requires { ⌜ length (now row) ≡ 12 ⌝ }
+    requires { ⌜ length (now row) ≡ rowWidth ⌝ }
     ensures { λ r. ⌜ r ≡ rowLength (now (row .entry)) ⌝ }
     ensures { λ r. ⌜ r ≤ 81 ⌝ }
 {
@@ -121,7 +124,7 @@ fn row_length(row: &[i64]) -> usize
 
 // A row judged and measured.
 fn row_spent(row: &[i64], velocity: bool, left: usize) -> Spent
-    requires { ⌜ length (now row) ≡ 12 ⌝ }
+    requires { ⌜ length (now row) ≡ rowWidth ⌝ }
     ensures { λ r. ⌜ (r .valid ≡ rowValid velocity (now (row .entry))) × (r .left ≡ left - rowLength (now (row .entry))) ⌝ }
 {
     Spent {
@@ -138,8 +141,8 @@ fn cell_spent(cell: &[i64], velocity: bool, left: usize) -> Spent
     if !velocity {
         return row_spent(cell, false, left);
     }
-    let place = row_spent(&cell[0..12], false, left);
-    let motion = row_spent(&cell[12..24], true, place.left);
+    let place = row_spent(&cell[0..ROW_WIDTH], false, left);
+    let motion = row_spent(&cell[ROW_WIDTH..BOTH_WIDTH], true, place.left);
     Spent {
         valid: place.valid & motion.valid,
         left: motion.left,

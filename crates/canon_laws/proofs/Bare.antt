@@ -19,8 +19,7 @@ use Rattle.layout.specs.Line.{padded, trimmed, lineOf, ended}
 use Rattle.layout.proofs.Lines.{line-found, padded-trimmed}
 use Rattle.layout.proofs.Layouts.{shown-wide, reads-back}
 use Rattle.layout.proofs.ReadBack.{line-back, written}
-use Rattle.record.specs.LineKinds.{toldKind, kindOf}
-use Rattle.machine.specs.Faults.{longest}
+use Rattle.record.specs.LineKinds.{toldKind, kindOf, longest}
 use Rattle.file.specs.Plain.{isLine, isRecord}
 use Rattle.header.specs.declared.types.Rules.{Rules}
 use Rattle.record.specs.declared.types.LineKind.{LineKind}

@@ -16,9 +16,9 @@ use Rattle.layout.specs.Kind.{isIdentifier}
 use Rattle.layout.specs.Line.{lineOf}
 use Rattle.lines.specs.Lent.{flat}
 use Rattle.lines.specs.Lines.{select}
-use Rattle.record.specs.LineKinds.{toldKind}
+use Rattle.record.specs.LineKinds.{positionKind, velocityKind, toldKind}
 use Rattle.record.specs.Opening.{epochLine}
-use Rattle.record.specs.Rows.{rowLine}
+use Rattle.record.specs.Rows.{rowLine, rowWidth}
 use Rattle.header.specs.declared.types.Rules.{Rules}
 use Rattle.record.specs.declared.types.LineKind.{LineKind}
 use Rattle.record.specs.declared.types.LineKind.the-variants as kind
@@ -94,7 +94,7 @@ module _ (rules : Rules) where
   }
 
   -- A row of a satellite: a line with nothing noted after it.
-  row-holds : (velocity : Bool) (note : LineKind) (identifier : ℕ) (row : List ℤ) → isIdentifier identifier ≡ true → rowValid velocity row ≡ true → length row ≡ 12
+  row-holds : (velocity : Bool) (note : LineKind) (identifier : ℕ) (row : List ℤ) → isIdentifier identifier ≡ true → rowValid velocity row ≡ true → length row ≡ rowWidth
       → Carries rules (λ (ls : List (List ℕ)). Noted rules velocity note identifier ls) row (rowLine velocity (rowShown identifier row) ∷ [])
   unfolding everyLine numbersOfRows select flat
   row-holds velocity note identifier row named valid wide =
@@ -102,11 +102,11 @@ module _ (rules : Rules) where
       let kept : isRow rules (rowText velocity identifier row) ≡ true = ap (λ (k : ℕ). eqb k 10 || eqb k 11) (row-kind rules velocity identifier (rowText velocity identifier row) is) ∙ told velocity in
       record {
         are = record { row = rowText velocity identifier row; notes = []; lines-are = refl; is-row = is; are-notes = refl };
-        stored = rw kept (append-nil (rowNumbers (rowIn rules (rowText velocity identifier row))) ∙ row-numbers velocity identifier row valid named rules (omega arith) ∙ take-all 12 row (omega arith));
+        stored = rw kept (append-nil (rowNumbers (rowIn rules (rowText velocity identifier row))) ∙ row-numbers velocity identifier row valid named rules (omega arith) ∙ take-all rowWidth row (omega arith));
         ends = (row-ends velocity identifier row valid named, tt);
       }
     where
-      told : (v : Bool) → (eqb (toldKind (rowKind v)) 10 || eqb (toldKind (rowKind v)) 11) ≡ true
+      told : (v : Bool) → (eqb (toldKind (rowKind v)) positionKind || eqb (toldKind (rowKind v)) velocityKind) ≡ true
       told true = refl
       told false = refl
 
@@ -117,9 +117,9 @@ module _ (rules : Rules) where
   cell-holds true identifier cell named valid wide =
       holds-both
       (λ ls ms p q. record { position = ls; rest = ms; lines-are = refl; is-position = p; is-rest = q })
-      (take-append-drop 12 cell)
-      (row-holds false kind.PositionCorrelation identifier (take 12 cell) named (and-left (rowValid false (take 12 cell)) _ valid) (length-take-le 12 cell (omega arith)))
-      (row-holds true kind.VelocityCorrelation identifier (drop 12 cell) named (and-right (rowValid false (take 12 cell)) _ valid) (omega (arith, length-drop 12 cell)))
+      (take-append-drop rowWidth cell)
+      (row-holds false kind.PositionCorrelation identifier (take rowWidth cell) named (and-left (rowValid false (take rowWidth cell)) _ valid) (length-take-le rowWidth cell (omega arith)))
+      (row-holds true kind.VelocityCorrelation identifier (drop rowWidth cell) named (and-right (rowValid false (take rowWidth cell)) _ valid) (omega (arith, length-drop rowWidth cell)))
   cell-holds false identifier cell named valid wide =
       holds-as
       (λ ls p. record { position = ls; rest = []; lines-are = sym (append-nil ls); is-position = p; is-rest = refl })

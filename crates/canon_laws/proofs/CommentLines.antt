@@ -18,11 +18,10 @@ use Rattle.layout.specs.Kind.Held.{words}
 use Rattle.layout.specs.Layout.{canShow, faultOf, wordsAt}
 use Rattle.layout.specs.Line.{padded, lineOf, consTrimmed, trimmed}
 use Rattle.header.specs.declared.types.Rules.{Rules}
-use Rattle.record.specs.LineKinds.{toldKind, kindOf}
-use Rattle.record.specs.Plain.{commentItems, commentLine}
+use Rattle.record.specs.LineKinds.{toldKind, kindOf, longest, commentKind}
+use Rattle.record.specs.Plain.{commentItems, commentLine, commentWidth}
 use Rattle.record.specs.declared.types.LineKind.the-variants as kind
 use Rattle.record.proofs.Tiled.{comment-tiled}
-use Rattle.machine.specs.Faults.{longest}
 use Rattle.file.specs.Kinds.{isKind}
 use Rattle.file.specs.Table.{commentText}
 use Rattle.file.specs.Plain.{isLine, isCommentLine, everyLine}
@@ -36,7 +35,7 @@ symbol-length : (t : List ℕ) (n : ℕ) → length t ≤ n - 3 → 2 ≤ n → 
 symbol-length [] n h two = two
 symbol-length (c ∷ cs) n h two = omega arith
 
-module _ (rules : Rules) (proper : Proper rules) (text : List ℕ) (wide : length text ≡ 77) (v : commentValid rules text ≡ true) where
+module _ (rules : Rules) (proper : Proper rules) (text : List ℕ) (wide : length text ≡ commentWidth) (v : commentValid rules text ≡ true) where
   plain : printable text ≡ true
   unfolding commentValid
   plain = and-left (printable text) _ v
@@ -46,10 +45,10 @@ module _ (rules : Rules) (proper : Proper rules) (text : List ℕ) (wide : lengt
   narrow = leb-true (length (trimmed text)) (commentColumns rules) (and-right (printable text) _ v)
 
   comment-can : canShow commentItems (words text ∷ []) ≡ true
-  comment-can = rw (eq-eqb (length text) 77 wide, plain)
+  comment-can = rw (eq-eqb (length text) commentWidth wide, plain)
 
-  text-shown : shownText 77 text ≡ text
-  text-shown = take-at text (blanks 77) 77 wide
+  text-shown : shownText commentWidth text ≡ text
+  text-shown = take-at text (blanks commentWidth) commentWidth wide
 
   short : length (lineOf (commentLine text)) ≤ longest rules kind.Comment
   unfolding commentLine
@@ -70,7 +69,7 @@ module _ (rules : Rules) (proper : Proper rules) (text : List ℕ) (wide : lengt
   comment-is =
       let l = lineOf (commentLine text) in
       let vs = words text ∷ [] in
-      let of-kind : isKind rules 8 l ≡ true = eq-eqb _ _ (ap (λ (s : List ℕ). toldKind (kindOf rules s)) (bare-padded commentItems vs comment-tiled comment-can)) in
+      let of-kind : isKind rules commentKind l ≡ true = eq-eqb _ _ (ap (λ (s : List ℕ). toldKind (kindOf rules s)) (bare-padded commentItems vs comment-tiled comment-can)) in
       and-both (isLine rules kind.Comment l) (eqb (faultOf commentItems (padded l)) 0)
       (and-both (every isPrintable l) _ (bare-printable commentItems vs comment-tiled comment-can)
       (and-both (leb (length l) (longest rules kind.Comment)) _ (le-leb (length l) (longest rules kind.Comment) short) of-kind))
@@ -81,41 +80,41 @@ module _ (rules : Rules) (proper : Proper rules) where
   abbrev bare : ℕ → List ℕ → List (List ℕ)
   bare k bytes = map lineOf (commentLines k bytes)
 
-  first-valid : (k : ℕ) (bytes : List ℕ) → commentsValid rules (suc k) bytes ≡ true → commentValid rules (take 77 bytes) ≡ true
+  first-valid : (k : ℕ) (bytes : List ℕ) → commentsValid rules (suc k) bytes ≡ true → commentValid rules (take commentWidth bytes) ≡ true
   unfolding commentsValid
-  first-valid k bytes v = and-left (commentValid rules (take 77 bytes)) _ v
+  first-valid k bytes v = and-left (commentValid rules (take commentWidth bytes)) _ v
 
-  later-valid : (k : ℕ) (bytes : List ℕ) → commentsValid rules (suc k) bytes ≡ true → commentsValid rules k (drop 77 bytes) ≡ true
+  later-valid : (k : ℕ) (bytes : List ℕ) → commentsValid rules (suc k) bytes ≡ true → commentsValid rules k (drop commentWidth bytes) ≡ true
   unfolding commentsValid
-  later-valid k bytes v = and-right (commentValid rules (take 77 bytes)) _ v
+  later-valid k bytes v = and-right (commentValid rules (take commentWidth bytes)) _ v
 
-  pub comments-are : (k : ℕ) (bytes : List ℕ) → length bytes ≡ k * 77 → commentsValid rules k bytes ≡ true → everyLine (isCommentLine rules) (bare k bytes) ≡ true
+  pub comments-are : (k : ℕ) (bytes : List ℕ) → length bytes ≡ k * commentWidth → commentsValid rules k bytes ≡ true → everyLine (isCommentLine rules) (bare k bytes) ≡ true
   unfolding everyLine commentLines
   comments-are zero bytes wide v = refl
   comments-are (suc k) bytes wide v =
-      and-both (isCommentLine rules (lineOf (commentLine (take 77 bytes)))) _
-      (comment-is rules proper (take 77 bytes) (length-take-le 77 bytes (omega arith)) (first-valid k bytes v))
-      (comments-are k (drop 77 bytes) (omega (arith, length-drop 77 bytes)) (later-valid k bytes v))
+      and-both (isCommentLine rules (lineOf (commentLine (take commentWidth bytes)))) _
+      (comment-is rules proper (take commentWidth bytes) (length-take-le commentWidth bytes (omega arith)) (first-valid k bytes v))
+      (comments-are k (drop commentWidth bytes) (omega (arith, length-drop commentWidth bytes)) (later-valid k bytes v))
 
-  pub comments-end : (k : ℕ) (bytes : List ℕ) → length bytes ≡ k * 77 → commentsValid rules k bytes ≡ true → Each EndsLine (commentLines k bytes)
+  pub comments-end : (k : ℕ) (bytes : List ℕ) → length bytes ≡ k * commentWidth → commentsValid rules k bytes ≡ true → Each EndsLine (commentLines k bytes)
   unfolding commentLines
   comments-end zero bytes wide v = tt
   comments-end (suc k) bytes wide v = (
-    comment-ends rules proper (take 77 bytes) (length-take-le 77 bytes (omega arith)) (first-valid k bytes v),
-    comments-end k (drop 77 bytes) (omega (arith, length-drop 77 bytes)) (later-valid k bytes v),
+    comment-ends rules proper (take commentWidth bytes) (length-take-le commentWidth bytes (omega arith)) (first-valid k bytes v),
+    comments-end k (drop commentWidth bytes) (omega (arith, length-drop commentWidth bytes)) (later-valid k bytes v),
   )
 
-  pub comments-back : (k : ℕ) (bytes : List ℕ) → length bytes ≡ k * 77 → commentsValid rules k bytes ≡ true → flat (map commentText (bare k bytes)) ≡ bytes
+  pub comments-back : (k : ℕ) (bytes : List ℕ) → length bytes ≡ k * commentWidth → commentsValid rules k bytes ≡ true → flat (map commentText (bare k bytes)) ≡ bytes
   unfolding flat commentLines
   comments-back zero [] wide v = refl
   comments-back zero (b ∷ bytes) wide v = absurd (omega arith)
   comments-back (suc k) bytes wide v =
       ap₂ (λ (a c : List ℕ). a ++ c)
-      (comment-text rules proper (take 77 bytes) (length-take-le 77 bytes (omega arith)) (first-valid k bytes v))
-      (comments-back k (drop 77 bytes) (omega (arith, length-drop 77 bytes)) (later-valid k bytes v))
-      ∙ take-append-drop 77 bytes
+      (comment-text rules proper (take commentWidth bytes) (length-take-le commentWidth bytes (omega arith)) (first-valid k bytes v))
+      (comments-back k (drop commentWidth bytes) (omega (arith, length-drop commentWidth bytes)) (later-valid k bytes v))
+      ∙ take-append-drop commentWidth bytes
 
   pub comments-many : (k : ℕ) (bytes : List ℕ) → length (bare k bytes) ≡ k
   unfolding commentLines
   comments-many zero bytes = refl
-  comments-many (suc k) bytes = ap suc (comments-many k (drop 77 bytes))
+  comments-many (suc k) bytes = ap suc (comments-many k (drop commentWidth bytes))

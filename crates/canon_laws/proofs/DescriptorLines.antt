@@ -19,7 +19,7 @@ use Rattle.record.specs.declared.types.Descriptor.{Descriptor}
 use Rattle.record.specs.declared.types.BaseLine.{BaseLine}
 use Rattle.record.specs.declared.types.LineKind.the-variants as kind
 use Rattle.record.proofs.Tiled.{descriptor-tiled, character-tiled, base-tiled, float-tiled, integer-tiled, end-tiled}
-use Rattle.machine.specs.Checks.{typeAgrees}
+use Rattle.record.specs.Agrees.{typeAgrees}
 use Rattle.file.specs.Plain.{isRecord, isDescriptorLine, isCharactersLine, isBasesLine, isFloatsLine, isIntegersLine, isLastLine}
 use Rattle.canon.specs.Canonical.{descriptorShown, basesShown, descriptorLines}
 use Rattle.canon_laws.proofs.Bare.{EndsLine, bare-ended, bare-record, bare-back}

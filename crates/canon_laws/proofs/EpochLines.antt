@@ -13,7 +13,7 @@ use Rattle.layout.specs.Layout.{columns, canShow}
 use Rattle.layout.specs.Line.{padded, lineOf}
 use Rattle.record.specs.LineKinds.{kindOf}
 use Rattle.record.specs.Opening.{epochItems, epochValues, epochOf, epochLine}
-use Rattle.machine.specs.Checks.{instantIn}
+use Rattle.record.specs.Agrees.{instantIn}
 use Rattle.header.specs.declared.types.Rules.{Rules}
 use Rattle.record.specs.declared.types.Epoch.{Epoch}
 use Rattle.record.specs.declared.types.LineKind.the-variants as kind

@@ -25,7 +25,7 @@ use Rattle.record.specs.declared.types.Second.{Second}
 use Rattle.record.specs.declared.types.LineKind.the-variants as kind
 use Rattle.record.proofs.RoundTrips.{first-back, second-back}
 use Rattle.record.proofs.Tiled.{first-tiled, second-tiled}
-use Rattle.machine.specs.Checks.{secondAgrees}
+use Rattle.record.specs.Agrees.{secondAgrees}
 use Rattle.file.specs.Plain.{isRecord, isFirstLine, isSecondLine}
 use Rattle.canon.specs.Valid.{isInstant}
 use Rattle.canon.specs.Canonical.{momentOf, firstShown, secondShown}

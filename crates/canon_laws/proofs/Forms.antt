@@ -19,7 +19,7 @@ use Rattle.record.specs.Plain.{endItems}
 use Rattle.record.specs.declared.types.First.{First}
 use Rattle.record.specs.declared.types.Second.{Second}
 use Rattle.record.specs.declared.types.Satellites.{Satellites}
-use Rattle.machine.specs.Checks.{instantIn, repeats}
+use Rattle.record.specs.Agrees.{instantIn, repeats}
 use Rattle.file.specs.Plain.{Plain, Epochs, areSlots, slotIdentifiers, isSecondLine, isDescriptorLine}
 use Rattle.canon.specs.Table as table
 use Rattle.canon.specs.Table.{Table}

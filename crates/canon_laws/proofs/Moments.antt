@@ -14,7 +14,7 @@ use Rattle.field.specs.Show.{fitsWhole, fitsDecimal}
 use Rattle.layout.specs.Layout.{Item, Values, canShow}
 use Rattle.header.specs.Header.{isMoment, instantOf}
 use Rattle.record.specs.Times.{timeItems, momentValues}
-use Rattle.machine.specs.Checks.{instantIn}
+use Rattle.record.specs.Agrees.{instantIn}
 use Rattle.header.specs.declared.types.Moment.{Moment}
 use Rattle.canon.specs.Valid.{isInstant}
 use Rattle.canon.specs.Canonical.{momentOf}

@@ -14,7 +14,7 @@ use native.Mathlib.Omega.{arith}
 use Rattle.lines.specs.Lent.{flat}
 use Rattle.lines.specs.Lines.{linesOf}
 use Rattle.record.specs.Descriptors.{fixedLine}
-use Rattle.record.specs.Plain.{endItems}
+use Rattle.record.specs.Plain.{endItems, commentWidth}
 use Rattle.header.specs.declared.types.Rules.{Rules}
 use Rattle.header.specs.declared.types.Header.{Header}
 use Rattle.file.specs.Table.{countOf, headerIn, slotsIn, commentsIn, rowsIn}
@@ -58,7 +58,7 @@ module _ (rules : Rules) where
         exponents-are =
             sym (take-all (h .satellites) (slotsIn rules true (countOf rules lines) lines)
             (omega (arith, n, plain.count-is p, ap (λ (m : ℕ). length (slotsIn rules true m lines)) (plain.count-is p), plain.exponents-room p)));
-        comments-are = sym (take-all (h .comments * 77) (commentsIn rules lines) (omega (arith, k, plain.comments-room p)));
+        comments-are = sym (take-all (h .comments * commentWidth) (commentsIn rules lines) (omega (arith, k, plain.comments-room p)));
         rows-are = sym (take-all (cellsIn h * cellWidth (h .velocity)) (rowsIn rules lines) (omega (arith, cells, rows-long rules lines p)));
       }
 

@@ -19,9 +19,8 @@ use Rattle.layout.specs.Kind.Kind.{unused}
 use Rattle.layout.specs.Layout.{Item, Values, columns, canShow, showLine}
 use Rattle.layout.specs.Line.{padded, lineOf}
 use Rattle.record.specs.Absence.{largestExponent}
-use Rattle.record.specs.LineKinds.{kindOf}
-use Rattle.record.specs.Rows.{bodyItems, flagItems, bodyValues, flagValues, rowItems, rowValues, rowFault, rowLine, rowTaken, rowOf, cut}
-use Rattle.machine.specs.Faults.{longest}
+use Rattle.record.specs.LineKinds.{kindOf, longest}
+use Rattle.record.specs.Rows.{bodyItems, flagItems, bodyValues, flagValues, rowItems, rowValues, rowFault, rowLine, rowTaken, rowOf, cut, rowWidth}
 use Rattle.header.specs.declared.types.Rules.{Rules}
 use Rattle.record.specs.declared.types.Row.{Row}
 use Rattle.file.specs.Plain.{rowKind, isRecord, isRowLine}
@@ -197,7 +196,7 @@ module _ (velocity : Bool) (identifier : ℕ) (row : List ℤ) (valid : rowValid
       )
 
   -- what is stored of it are its numbers
-  pub row-stored : 12 ≤ length row → rowNumbers (rowShown identifier row) ≡ take 12 row
+  pub row-stored : rowWidth ≤ length row → rowNumbers (rowShown identifier row) ≡ take rowWidth row
   unfolding rowShown rowNumbers listed
   row-stored wide =
       let a = amounts in
@@ -217,7 +216,7 @@ module _ (velocity : Bool) (identifier : ℕ) (row : List ℤ) (valid : rowValid
         flag-stored velocity (entry row 10) (f .third),
         flag-stored velocity (entry row 11) (f .fourth),
       )
-      (by-entries 12 0 row wide)
+      (by-entries rowWidth 0 row wide)
 
   -- its line is read as the row
   module _ (named : isIdentifier identifier ≡ true) where
@@ -258,5 +257,5 @@ module _ (velocity : Bool) (identifier : ℕ) (row : List ℤ) (valid : rowValid
           (eq-eqb (identifierCode (cut 2 4 (padded (rowText velocity identifier row)))) identifier (ap (λ (p : Row). p .satellite) row-of))
 
       -- and what is stored of it are the numbers of the row
-      pub row-numbers : 12 ≤ length row → rowNumbers (rowIn rules (rowText velocity identifier row)) ≡ take 12 row
+      pub row-numbers : rowWidth ≤ length row → rowNumbers (rowIn rules (rowText velocity identifier row)) ≡ take rowWidth row
       row-numbers wide = ap rowNumbers (row-in rules velocity identifier (rowText velocity identifier row) row-is ∙ row-of) ∙ row-stored wide

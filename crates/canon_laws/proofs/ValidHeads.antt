@@ -22,7 +22,8 @@ use Rattle.lines.specs.Lines.{nth}
 use Rattle.record.specs.Opening.{firstItems, firstOf, secondItems, secondOf, epochItems, epochOf}
 use Rattle.record.specs.Descriptors.{descriptorItems, descriptorOf, baseItems, baseOf}
 use Rattle.record.specs.Times.{dateFault}
-use Rattle.machine.specs.Checks.{instantIn, weekAgrees, secondAgrees, typeAgrees}
+use Rattle.record.specs.Agrees.{instantIn, weekAgrees, secondAgrees, typeAgrees}
+use Rattle.record.specs.LineKinds.{epochKind}
 use Rattle.header.specs.declared.types.Rules.{Rules}
 use Rattle.header.specs.declared.types.Header.{Header}
 use Rattle.header.specs.declared.types.Moment.{Moment}
@@ -104,7 +105,7 @@ module _ {rules : Rules} {lines : List (List ℕ)} (p : Plain rules lines) where
 
   last-valid : isInstant (start8 p + (epochs p - 1) * interval8 p) ≡ true
   last-valid =
-      epoch-valid rules (start8 p + (epochs p - 1) * interval8 p) (nth (epochs p - 1) (ofKind rules 9 lines))
+      epoch-valid rules (start8 p + (epochs p - 1) * interval8 p) (nth (epochs p - 1) (ofKind rules epochKind lines))
       (instant-at p (epochs p - 1) (omega (arith, epochs-bounds p .0)))
 
   interval-within : within 1 maxInterval (interval8 p) ≡ true

@@ -22,10 +22,10 @@ use Rattle.layout.specs.Layout.{Item, columns, widthOf, faultAt, heldAt, faultF
 use Rattle.layout.specs.Line.{padded, consTrimmed, trimmed}
 use Rattle.lines.specs.Lent.{flat}
 use Rattle.record.specs.SlotLines.{slotKind, satellitesOf, moreOf}
-use Rattle.record.specs.Plain.{commentItems}
+use Rattle.record.specs.Plain.{commentItems, commentWidth}
 use Rattle.record.specs.Descriptors.{descriptorOf}
-use Rattle.machine.specs.Checks.{typeAgrees}
-use Rattle.machine.specs.Faults.{longest}
+use Rattle.record.specs.Agrees.{typeAgrees}
+use Rattle.record.specs.LineKinds.{longest}
 use Rattle.header.specs.declared.types.Rules.{Rules}
 use Rattle.record.specs.declared.types.LineKind.the-variants as kind
 use Rattle.file.specs.Plain.{isLine, isRecord, everyLine, slotsOfKind, areSlots, isCommentLine, Plain}
@@ -172,13 +172,13 @@ module _ (rules : Rules) (l : List ℕ) (is : isCommentLine rules l ≡ true) wh
       ∙ ap (every isBlank) (drop-append-add l (blanks 80) past)
       ∙ every-drop isBlank past (blanks 80) (every-replicate isBlank 80 32 refl) in
       cut-from n (commentText l)
-      (taken-blank 77 n (drop 3 (padded l)) (ap (every isBlank) (drop-drop n 3 (padded l)) ∙ taken-blank 80 (3 + n) (l ++ blanks 80) behind))
+      (taken-blank commentWidth n (drop 3 (padded l)) (ap (every isBlank) (drop-drop n 3 (padded l)) ∙ taken-blank 80 (3 + n) (l ++ blanks 80) behind))
 
   comment-valid : commentValid rules (commentText l) ≡ true
   unfolding commentValid
   comment-valid =
       and-both (printable (commentText l)) _
-      (and-right (eqb (length (commentText l)) 77) _ (record-holds rules kind.Comment commentItems l is 2 (omega arith) refl))
+      (and-right (eqb (length (commentText l)) commentWidth) _ (record-holds rules kind.Comment commentItems l is 2 (omega arith) refl))
       (le-leb (length (trimmed (commentText l))) (commentColumns rules) comment-short)
 
 lines-valid : (rules : Rules) (ls : List (List ℕ)) → everyLine (isCommentLine rules) ls ≡ true → commentsValid rules (length ls) (flat (map commentText ls)) ≡ true
@@ -186,7 +186,7 @@ unfolding everyLine flat commentsValid
 lines-valid rules [] are = refl
 lines-valid rules (l ∷ ls) are =
     let more = flat (map commentText ls) in
-    rw (take-at (commentText l) more 77 (comment-wide l), drop-at (commentText l) more 77 (comment-wide l), comment-valid rules l (and-left (isCommentLine rules l) _ are))
+    rw (take-at (commentText l) more commentWidth (comment-wide l), drop-at (commentText l) more commentWidth (comment-wide l), comment-valid rules l (and-left (isCommentLine rules l) _ are))
     (lines-valid rules ls (and-right (isCommentLine rules l) _ are))
 
 module _ {rules : Rules} {lines : List (List ℕ)} (p : Plain rules lines) where

@@ -18,7 +18,7 @@ use Rattle.field.specs.Sign.{largest, signedInt}
 use Rattle.layout.specs.Kind.{unknown, exponentHeld}
 use Rattle.layout.specs.Line.{padded}
 use Rattle.record.specs.Absence.{largestExponent}
-use Rattle.record.specs.Rows.{rowTaken, rowOf, cut, exponentIn}
+use Rattle.record.specs.Rows.{rowTaken, rowOf, cut, exponentIn, rowWidth, bothWidth}
 use Rattle.header.specs.declared.types.Rules.{Rules}
 use Rattle.field.specs.declared.Exponent.{Exponent}
 use Rattle.field.specs.declared.Exponent.the-variants as exponents
@@ -133,20 +133,20 @@ module _ {rules : Rules} {lines : List (List ℕ)} (p : Plain rules lines) (i : 
   cell-at : (velocity : Bool) → velocities p ≡ velocity → cellValid velocity (take (cellWidth velocity) (drop (i * cellWidth velocity) (rowsIn rules lines))) ≡ true
   unfolding cellValid exactNumbers
   cell-at false alone =
-      let place : i * 12 ≡ 12 * (k * satellites p + j) = omega (arith, div-add-mod' i (satellites p)) in
-      ap (λ (n : ℕ). rowValid false (take 12 (drop n (rowsIn rules lines)))) place
+      let place : i * rowWidth ≡ rowWidth * (k * satellites p + j) = omega (arith, div-add-mod' i (satellites p)) in
+      ap (λ (n : ℕ). rowValid false (take rowWidth (drop n (rowsIn rules lines)))) place
       ∙ ap (rowValid false) (place-stored p k j hk hj alone)
       ∙ row-valid rules false _ _ (place-at p k j hk hj)
   cell-at true both =
       let rows = rowsIn rules lines in
       let at = k * satellites p + j in
-      let place : i * 24 ≡ 12 * (2 * at) = omega (arith, div-add-mod' i (satellites p)) in
-      let after : 12 * (2 * at) + 12 ≡ 12 * (2 * at + 1) = omega arith in
-      let cell : take 24 (drop (i * 24) rows) ≡ exactNumbers (rowOf false (placeLine p k j hk hj)) ++ exactNumbers (rowOf true (motionLine p k j hk hj)) =
-      ap (λ (n : ℕ). take 24 (drop n rows)) place
-      ∙ take-add 12 12 (drop (12 * (2 * at)) rows)
+      let place : i * bothWidth ≡ rowWidth * (2 * at) = omega (arith, div-add-mod' i (satellites p)) in
+      let after : rowWidth * (2 * at) + rowWidth ≡ rowWidth * (2 * at + 1) = omega arith in
+      let cell : take bothWidth (drop (i * bothWidth) rows) ≡ exactNumbers (rowOf false (placeLine p k j hk hj)) ++ exactNumbers (rowOf true (motionLine p k j hk hj)) =
+      ap (λ (n : ℕ). take bothWidth (drop n rows)) place
+      ∙ take-add rowWidth rowWidth (drop (rowWidth * (2 * at)) rows)
       ∙ ap₂ (λ (a b : List ℤ). a ++ b) (place-stored-both p k j hk hj both)
-      (ap (take 12) (drop-drop 12 (12 * (2 * at)) rows ∙ ap (λ (n : ℕ). drop n rows) after) ∙ motion-stored p k j hk hj both) in
+      (ap (take rowWidth) (drop-drop rowWidth (rowWidth * (2 * at)) rows ∙ ap (λ (n : ℕ). drop n rows) after) ∙ motion-stored p k j hk hj both) in
       ap (cellValid true) cell
       ∙ and-both (rowValid false (exactNumbers (rowOf false (placeLine p k j hk hj)))) _
       (row-valid rules false _ _ (place-at p k j hk hj))

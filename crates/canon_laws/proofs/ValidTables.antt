@@ -14,11 +14,12 @@ use lib.ListN.{length, take, length-take}
 use Rattle.layout.specs.Line.{padded}
 use Rattle.record.specs.Opening.{firstOf}
 use Rattle.record.specs.Descriptors.{descriptorOf, baseOf}
+use Rattle.record.specs.Plain.{commentWidth}
 use Rattle.header.specs.declared.types.Rules.{Rules}
 use Rattle.header.specs.declared.types.Header.{Header}
 use Rattle.file.specs.Plain.{Plain}
 use Rattle.file.specs.Table.{headerFrom, slotsIn, rowsIn}
-use Rattle.canon.specs.Table.{Table, commentWidth, cellWidth, cellsIn, tableIdentifiers, exponentsOf, commentsOf, rowsOf}
+use Rattle.canon.specs.Table.{Table, cellWidth, cellsIn, tableIdentifiers, exponentsOf, commentsOf, rowsOf}
 use Rattle.canon.specs.Valid.{headerValid, listsLong, identifiersValid, exponentsValid, commentsValid, rowsValid, countsHold, valid}
 use Rattle.file_laws.proofs.Selected.{satellites, identifiers, velocities, interval8, epochs}
 use Rattle.file_laws.proofs.Slots.{identifiers-many}

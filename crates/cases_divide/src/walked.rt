@@ -4,7 +4,9 @@ use crate::input::at_most;
 use crate::lent;
 use crate::print;
 use float_row::FloatRow;
+use header::Header;
 use line_walk::Spot;
+use record::kind::SATELLITES_KIND;
 use row_walk::RowStep;
 
 // The epoch and the satellite of a row.
@@ -150,13 +152,13 @@ fn stands(word: &[u8], k: usize, at: Spot) {
 
 // The spot after the first k lines.
 fn after(file: &[u8], k: usize) -> Spot {
-    let mut identifiers = [0; 255];
+    let mut identifiers = [0; Header::MAX_SATELLITES as usize];
     line_walk::after_lines(file, line_walk::first_spot(), k, &mut identifiers)
 }
 
 // The spot after n lines, half of them first.
 fn in_two(file: &[u8], n: usize) {
-    let mut identifiers = [0; 255];
+    let mut identifiers = [0; Header::MAX_SATELLITES as usize];
     let half = line_walk::after_lines(file, line_walk::first_spot(), n / 2, &mut identifiers);
     stands(b"spot", n / 2, half);
     stands(
@@ -180,7 +182,7 @@ fn spots(file: &[u8]) {
 // How many identifiers the lines before a spot have brought: where `+ ` lines are still due, those of the satellites that have had their slot.
 fn brought(at: Spot) -> u64 {
     let state = at.state;
-    if state.due != 3 {
+    if state.due != SATELLITES_KIND {
         return state.satellites;
     }
     if state.satellites < state.left {

@@ -7,6 +7,21 @@ use header::Rules;
 use record::LineKind;
 use record::descriptors;
 use record::kind;
+use record::kind::ACCURACIES_KIND;
+use record::kind::CHARACTERS_KIND;
+use record::kind::COMMENT_KIND;
+use record::kind::END_KIND;
+use record::kind::EPOCH_KIND;
+use record::kind::FIRST_KIND;
+use record::kind::FLOATS_KIND;
+use record::kind::INTEGERS_KIND;
+use record::kind::NO_KIND;
+use record::kind::POSITION_CORRELATION_KIND;
+use record::kind::POSITION_KIND;
+use record::kind::SATELLITES_KIND;
+use record::kind::SECOND_KIND;
+use record::kind::VELOCITY_CORRELATION_KIND;
+use record::kind::VELOCITY_KIND;
 use record::opening;
 use record::plain;
 use record::rows;
@@ -117,21 +132,21 @@ fn kind_number(k: LineKind) -> u64
     ensures { λ r. ⌜ r ≡ toldKind k ⌝ }
 {
     match k {
-        LineKind::Other => 0,
-        LineKind::First => 1,
-        LineKind::Second => 2,
-        LineKind::Satellites => 3,
-        LineKind::Accuracies => 4,
-        LineKind::Characters => 5,
-        LineKind::Floats => 6,
-        LineKind::Integers => 7,
-        LineKind::Comment => 8,
-        LineKind::Epoch => 9,
-        LineKind::Position => 10,
-        LineKind::Velocity => 11,
-        LineKind::PositionCorrelation => 12,
-        LineKind::VelocityCorrelation => 13,
-        LineKind::EndOfFile => 14,
+        LineKind::Other => NO_KIND,
+        LineKind::First => FIRST_KIND,
+        LineKind::Second => SECOND_KIND,
+        LineKind::Satellites => SATELLITES_KIND,
+        LineKind::Accuracies => ACCURACIES_KIND,
+        LineKind::Characters => CHARACTERS_KIND,
+        LineKind::Floats => FLOATS_KIND,
+        LineKind::Integers => INTEGERS_KIND,
+        LineKind::Comment => COMMENT_KIND,
+        LineKind::Epoch => EPOCH_KIND,
+        LineKind::Position => POSITION_KIND,
+        LineKind::Velocity => VELOCITY_KIND,
+        LineKind::PositionCorrelation => POSITION_CORRELATION_KIND,
+        LineKind::VelocityCorrelation => VELOCITY_CORRELATION_KIND,
+        LineKind::EndOfFile => END_KIND,
     }
 }
 

@@ -4,6 +4,8 @@ ghost use lib.ListN.{length};
 use crate::print;
 use header::Header;
 use header::Texts;
+use record::plain::COMMENT_WIDTH;
+use record::rows::ROW_WIDTH;
 use stored_row::ClockRead;
 use stored_row::Deviation;
 use stored_row::Flag;
@@ -93,11 +95,11 @@ fn comment(text: &[u8]) {
     print::text(b"|\n");
 }
 
-// The k-th comment, where there is one: 77 bytes.
+// The k-th comment, where there is one.
 fn comment_in(bytes: &[u8], k: usize) {
-    if k < bytes.len() / 77 {
-        let from = k * 77;
-        let to = from + 77;
+    if k < bytes.len() / COMMENT_WIDTH {
+        let from = k * COMMENT_WIDTH;
+        let to = from + COMMENT_WIDTH;
         comment(&bytes[from..to]);
     }
 }
@@ -203,7 +205,7 @@ fn all_rows(velocity: bool, epochs: u64, identifiers: &[u64], rows: &[i64]) -> u
 {
     let n = identifiers.len();
     let mut k = 0;
-    while k < rows.len() / stored_row::ROW_WIDTH {
+    while k < rows.len() / ROW_WIDTH {
         if (places_before(velocity, k) / n) as u64 >= epochs {
             return k;
         }

@@ -15,7 +15,7 @@ use Rattle.lines.proofs.Ends.{neither}
 use Rattle.lines.proofs.Picking.{select-first, select-other, nth-here, place-here, place-other, placed}
 use Rattle.lines.proofs.Split.{OneLine, first}
 use Rattle.header.specs.declared.types.Rules.{Rules}
-use Rattle.record.specs.LineKinds.{toldKind}
+use Rattle.record.specs.LineKinds.{endKind, toldKind}
 use Rattle.record.specs.declared.types.LineKind.{LineKind}
 use Rattle.record.specs.declared.types.LineKind.the-variants as kind
 use Rattle.machine.specs.Next.{nextOf}
@@ -37,12 +37,12 @@ line-length (b ∷ l) rest h = let parts = neither (isLf b) (hasLf l) h in rw (p
 
 module _ (rules : Rules) where
   abbrev isLast : List ℕ → Bool
-  isLast l = isKind rules 14 l
+  isLast l = isKind rules endKind l
 
   -- a line of kind EOF ends the file, and from one of any other kind the file goes on
   pub ends-or-on : (k : LineKind) (s : State) (line : List ℕ)
-      → ((toldKind k ≡ 14) × (nextOf k rules s line ≡ verdict.Finished))
-      ⊎ ((s′ : State) × (eqb (toldKind k) 14 ≡ false) × (nextOf k rules s line ≡ verdict.Next s′))
+      → ((toldKind k ≡ endKind) × (nextOf k rules s line ≡ verdict.Finished))
+      ⊎ ((s′ : State) × (eqb (toldKind k) endKind ≡ false) × (nextOf k rules s line ≡ verdict.Next s′))
   ends-or-on kind.Other s line = inr (_, refl, refl)
   ends-or-on kind.First s line = inr (_, refl, refl)
   ends-or-on kind.Second s line = inr (_, refl, refl)
@@ -71,19 +71,19 @@ module _ (rules : Rules) where
       let g = good rules s identifiers l (counted rules t l) t′ _ e in
       go (ends-or-on (kindHere rules l) s (padded l)) (g .goes) (last-line ls)
     where
-      go : ((toldKind (kindHere rules l) ≡ 14) × (nextOf (kindHere rules l) rules s (padded l) ≡ verdict.Finished))
-          ⊎ ((s′ : State) × (eqb (toldKind (kindHere rules l)) 14 ≡ false) × (nextOf (kindHere rules l) rules s (padded l) ≡ verdict.Next s′))
+      go : ((toldKind (kindHere rules l) ≡ endKind) × (nextOf (kindHere rules l) rules s (padded l) ≡ verdict.Finished))
+          ⊎ ((s′ : State) × (eqb (toldKind (kindHere rules l)) endKind ≡ false) × (nextOf (kindHere rules l) rules s (padded l) ≡ verdict.Next s′))
           → after rules (kindHere rules l) s identifiers t l ls ≡ front.File t′
           → ((s₁ : State) (n₁ : List ℕ) (t₁ t₂ : Tally) → run rules s₁ n₁ t₁ ls ≡ front.File t₂ → Last ls (t₁ .end) (t₂ .end))
           → Last (l ∷ ls) (t .end) (t′ .end)
       go (inl (is, ends)) goes more =
           let file : front.File (counted rules t l) ≡ front.File t′ = rw ends at goes in
           let tally : counted rules t l ≡ t′ = cc in
-          let chosen = select-first isLast l ls refl (eq-eqb (toldKind (kindHere rules l)) 14 is) in
+          let chosen = select-first isLast l ls refl (eq-eqb (toldKind (kindHere rules l)) endKind is) in
           let line : nth 0 (select isLast (l ∷ ls)) ≡ l = ap (nth 0) chosen ∙ nth-here 0 l (select isLast ls) refl in
           record {
             some = omega (arith, ap length chosen);
-            behind = omega (arith, place-here isLast l ls refl 0 (t .end) (eq-eqb (toldKind (kindHere rules l)) 14 is) refl, ap length line, ap (λ (x : Tally). x .end) tally);
+            behind = omega (arith, place-here isLast l ls refl 0 (t .end) (eq-eqb (toldKind (kindHere rules l)) endKind is) refl, ap length line, ap (λ (x : Tally). x .end) tally);
           }
       go (inr (s′, other, on)) goes more =
           let later = more s′ (identifiersBrought rules s identifiers l) (counted rules t l) t′ (rw on at goes) in

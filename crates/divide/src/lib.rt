@@ -7,6 +7,7 @@ ghost use Rattle.header.specs.Rules.{d};
 ghost use Rattle.scan.specs.Run.{scanOf};
 ghost use Rattle.divide.specs.Dividing.{FileHere, endOf, cutsOf, division, divideOf, lengthsAfter};
 use header::Rules;
+use record::kind::END_KIND;
 use scan::Front;
 
 // What a stretch divides into: the number of accepted files at its front, the byte where the rest begins, and the refusal and line there, counted
@@ -63,7 +64,7 @@ fn file_length(rules: Rules, bytes: &[u8]) -> usize
     requires { ⌜ FileHere rules (now bytes) ⌝ }
     ensures { λ r. ⌜ r ≡ endOf (scanOf rules (now (bytes .entry))) ⌝ }
 {
-    let last = file::line_begins(rules, bytes, 14, 0);
+    let last = file::line_begins(rules, bytes, END_KIND, 0);
     lines::line_end(bytes, last) + 1
 }
 

@@ -6,19 +6,19 @@ use lib.Dec.{eqb}
 use lib.ListN.{length}
 use Rattle.layout.specs.Line.{padded}
 use Rattle.lines.specs.Lines.{select, nth}
-use Rattle.record.specs.LineKinds.{toldKind, kindOf}
+use Rattle.record.specs.LineKinds.{positionKind, velocityKind, toldKind, kindOf}
 use Rattle.header.specs.declared.types.Rules.{Rules}
 
--- its number: 1 for `#d` to 14 for EOF, 0 for none
+-- the number of its kind
 abbrev pub kindIn : Rules → List ℕ → ℕ
 kindIn rules line = toldKind (kindOf rules (padded line))
 
 abbrev pub isKind : Rules → ℕ → List ℕ → Bool
 isKind rules kind line = eqb (kindIn rules line) kind
 
--- P (10) and V (11)
+-- P and V
 abbrev pub isRow : Rules → List ℕ → Bool
-isRow rules line = isKind rules 10 line || isKind rules 11 line
+isRow rules line = isKind rules positionKind line || isKind rules velocityKind line
 
 -- the lines of a kind, in their order
 abbrev pub ofKind : Rules → ℕ → List (List ℕ) → List (List ℕ)
@@ -30,5 +30,5 @@ firstOfKind rules kind lines = nth 0 (ofKind rules kind lines)
 
 -- the kind of P lines (false) and of V lines (true)
 abbrev pub rowNumber : Bool → ℕ
-rowNumber true = 11
-rowNumber false = 10
+rowNumber true = velocityKind
+rowNumber false = positionKind

@@ -13,14 +13,13 @@ use Rattle.layout.specs.Layout.{faultOf}
 use Rattle.layout.specs.Line.{padded}
 use Rattle.lines.specs.Lent.{flat}
 use Rattle.lines.specs.Lines.{joinLines}
-use Rattle.record.specs.LineKinds.{toldKind}
+use Rattle.record.specs.LineKinds.{toldKind, longest}
 use Rattle.record.specs.Opening.{firstOf, secondOf, epochOf}
 use Rattle.record.specs.SlotLines.{satellitesOf, moreOf}
 use Rattle.record.specs.Descriptors.{descriptorOf, characterItems, baseOf, floatItems, integerItems}
 use Rattle.record.specs.Plain.{commentItems, endItems}
 use Rattle.record.specs.Rows.{rowFault, cut}
-use Rattle.machine.specs.Checks.{instantIn, secondAgrees, repeats, typeAgrees}
-use Rattle.machine.specs.Faults.{longest}
+use Rattle.record.specs.Agrees.{instantIn, secondAgrees, repeats, typeAgrees}
 use Rattle.header.specs.declared.types.Rules.{Rules}
 use Rattle.record.specs.declared.types.LineKind.{LineKind}
 use Rattle.record.specs.declared.types.LineKind.the-variants as kind
@@ -150,22 +149,32 @@ Epochs rules velocity identifiers interval8 (suc n) at8 lines =
 abbrev pub isLastLine : Rules → List ℕ → Bool
 isLastLine rules l = isRecord rules kind.EndOfFile (faultOf endItems (padded l)) l
 
--- the lines of an accepted file
+-- the lines of an accepted file, each with its number of 01, "Records in order"
 pub record Plain (rules : Rules) (lines : List (List ℕ)) : Type 0 where
+  -- 1: `#d`
   pub first : List ℕ
+  -- 2: `##`
   pub second : List ℕ
+  -- 3: the first `+ ` line, and the further ones
   pub count : List ℕ
   pub slots : List (List ℕ)
+  -- 4: the `++` lines
   pub accuracies : List (List ℕ)
+  -- 5: the first `%c`, and the second
   pub descriptor : List ℕ
   pub characters : List ℕ
+  -- 6: the first `%f`, and the second; the two `%i`
   pub bases : List ℕ
   pub floats : List ℕ
   pub integers : List ℕ
   pub integers′ : List ℕ
+  -- 7: the comments
   pub comments : List (List ℕ)
+  -- 8 and 9: the epochs, each with its rows
   pub epochs : List (List ℕ)
+  -- 10: EOF
   pub last : List ℕ
+  -- 1 to 10 in this order
   pub lines-are :
       lines
       ≡ first
@@ -174,22 +183,30 @@ pub record Plain (rules : Rules) (lines : List (List ℕ)) : Type 0 where
       ∷ (slots
       ++ (accuracies
       ++ (descriptor ∷ characters ∷ bases ∷ floats ∷ integers ∷ integers′ ∷ (comments ++ (epochs ++ (last ∷ []))))))
+  -- 1
   pub is-first : isFirstLine rules first ≡ true
+  -- 2: it agrees with the start
   pub is-second : isSecondLine rules (instantIn (firstOf rules (padded first) .start)) second ≡ true
+  -- 3: as many lines as n asks for, the identifiers all different
   pub is-count : isCountLine rules count ≡ true
   pub are-slots : areSlots rules false (satellitesOf rules (padded count) .count - 17) slots ≡ true
   pub slots-many : suc (length slots) ≡ slotLines (satellitesOf rules (padded count) .count)
   pub all-different : repeats [] (slotIdentifiers (satellitesOf rules (padded count) .count) (count ∷ slots)) ≡ false
+  -- 4: as many lines again
   pub are-accuracies : areSlots rules true (satellitesOf rules (padded count) .count) accuracies ≡ true
   pub accuracies-many : length accuracies ≡ slotLines (satellitesOf rules (padded count) .count)
+  -- 5: the file type agrees with the identifiers
   pub is-descriptor : isDescriptorLine rules (slotIdentifiers (satellitesOf rules (padded count) .count) (count ∷ slots)) descriptor ≡ true
   pub is-characters : isCharactersLine rules characters ≡ true
+  -- 6
   pub is-bases : isBasesLine rules bases ≡ true
   pub is-floats : isFloatsLine rules floats ≡ true
   pub is-integers : isIntegersLine rules integers ≡ true
   pub is-integers′ : isIntegersLine rules integers′ ≡ true
+  -- 7: as many as the version asks for and allows
   pub are-comments : everyLine (isCommentLine rules) comments ≡ true
   pub comments-many : within (rules .«fewest_comments») (rules .«most_comments») (length comments) ≡ true
+  -- 8 and 9: as many epochs as line 1 says, from the start on, each an interval after the one before
   pub are-epochs :
       Epochs
       rules
@@ -199,6 +216,7 @@ pub record Plain (rules : Rules) (lines : List (List ℕ)) : Type 0 where
       (firstOf rules (padded first) .epochs)
       (instantIn (firstOf rules (padded first) .start))
       epochs
+  -- 10
   pub is-last : isLastLine rules last ≡ true
 
 -- the bytes of an accepted file

@@ -4,19 +4,21 @@
 use mathlib.Core.Bool.{Bool, true, false, cond}
 use mathlib.Core.List.{List, [], _∷_, map}
 use Prim.Native.Nat.{ℕ}
-use lib.Dec.{eqb, leb}
+use lib.Dec.{leb}
 use lib.IntN.{ℤ, pos}
 use lib.ListN.{length, take}
 use Rattle.field.specs.Sign.{largest, signedInt}
+use Rattle.header.specs.Header.{headerMade}
 use Rattle.layout.specs.Line.{padded}
 use Rattle.lines.specs.Lent.{flat}
 use Rattle.lines.specs.Lines.{select}
+use Rattle.record.specs.LineKinds.{firstKind, secondKind, satellitesKind, accuraciesKind, charactersKind, floatsKind, commentKind, velocityKind}
 use Rattle.record.specs.Opening.{firstOf, secondOf}
 use Rattle.record.specs.SlotLines.{satellitesOf, moreOf}
 use Rattle.record.specs.Descriptors.{descriptorOf, baseOf}
 use Rattle.record.specs.Plain.{commentOf}
 use Rattle.record.specs.Rows.{rowOf}
-use Rattle.machine.specs.Checks.{instantIn}
+use Rattle.record.specs.Agrees.{instantIn}
 use Rattle.header.specs.declared.types.Rules.{Rules}
 use Rattle.header.specs.declared.types.Header.{Header}
 use Rattle.record.specs.declared.types.First.{First}
@@ -28,50 +30,40 @@ use Rattle.file.specs.Kinds.{isKind, isRow, ofKind, firstOfKind}
 
 -- the header of its first `#d`, `##`, `+ `, `%c` and `%f` lines, and the number of its comments
 abbrev pub headerFrom : First → ℕ → ℕ → Descriptor → BaseLine → ℕ → Header
-headerFrom f interval8 n d b comments = record {
-  velocity = eqb (f .mode) 86;
-  start8 = instantIn (f .start);
-  epochs = f .epochs;
-  interval8 = interval8;
-  texts = f .texts;
-  satellites = n;
-  comments = comments;
-  «file_type» = d .«file_type»;
-  «time_system» = d .«time_system»;
-  bases = b .bases;
-}
+headerFrom f interval8 n d b comments =
+    headerMade (f .mode) (instantIn (f .start)) (f .epochs) interval8 (f .texts) n comments (d .«file_type») (d .«time_system») (b .bases)
 
 -- the first line of a kind, padded to 80 columns
 abbrev pub paddedFirst : Rules → ℕ → List (List ℕ) → List ℕ
 paddedFirst rules kind lines = padded (firstOfKind rules kind lines)
 
 abbrev pub firstIn : Rules → List (List ℕ) → First
-firstIn rules lines = firstOf rules (paddedFirst rules 1 lines)
+firstIn rules lines = firstOf rules (paddedFirst rules firstKind lines)
 
 abbrev pub countOf : Rules → List (List ℕ) → ℕ
-countOf rules lines = satellitesOf rules (paddedFirst rules 3 lines) .count
+countOf rules lines = satellitesOf rules (paddedFirst rules satellitesKind lines) .count
 
 abbrev pub headerWith : Rules → List (List ℕ) → ℕ → Header
 headerWith rules lines comments =
     headerFrom
     (firstIn rules lines)
-    (secondOf (paddedFirst rules 2 lines) .interval8)
+    (secondOf (paddedFirst rules secondKind lines) .interval8)
     (countOf rules lines)
-    (descriptorOf (paddedFirst rules 5 lines))
-    (baseOf (paddedFirst rules 6 lines))
+    (descriptorOf (paddedFirst rules charactersKind lines))
+    (baseOf (paddedFirst rules floatsKind lines))
     comments
 
 unfoldable pub headerIn : Rules → List (List ℕ) → Header
-headerIn rules lines = headerWith rules lines (length (ofKind rules 8 lines))
+headerIn rules lines = headerWith rules lines (length (ofKind rules commentKind lines))
 
 -- the numbers in the seventeen slots of a `+ ` or `++` line: identifiers, or accuracy exponents
 abbrev pub slotNumbers : Bool → List ℕ → List ℕ
 slotNumbers accuracies line = moreOf accuracies 17 (padded line) .values
 
--- `+ ` lines (3), or `++` lines (4)
+-- `+ ` lines, or `++` lines
 abbrev pub slotLineKind : Bool → ℕ
-slotLineKind true = 4
-slotLineKind false = 3
+slotLineKind true = accuraciesKind
+slotLineKind false = satellitesKind
 
 -- the identifiers of n satellites, or their exponents
 unfoldable pub slotsIn : Rules → Bool → ℕ → List (List ℕ) → List ℕ
@@ -83,11 +75,11 @@ commentText line = commentOf (padded line)
 
 -- the comments, 77 bytes each
 unfoldable pub commentsIn : Rules → List (List ℕ) → List ℕ
-commentsIn rules lines = flat (map commentText (ofKind rules 8 lines))
+commentsIn rules lines = flat (map commentText (ofKind rules commentKind lines))
 
 -- the row of a P or V line
 abbrev pub rowIn : Rules → List ℕ → Row
-rowIn rules line = rowOf (isKind rules 11 line) line
+rowIn rules line = rowOf (isKind rules velocityKind line) line
 
 -- a number as it is stored; every magnitude of an accepted row is within the bound
 unfoldable pub storedInt : Bool → ℕ → ℤ
@@ -122,10 +114,6 @@ rowNumbers p =
     ∷ storedMark (p .maneuver)
     ∷ storedMark (p .«orbit_predicted»)
     ∷ []
-
--- how many numbers that is
-abbrev pub rowWidth : ℕ
-rowWidth = 12
 
 -- the numbers of some P and V lines, in file order
 unfoldable pub numbersOfRows : Rules → List (List ℕ) → List ℤ

@@ -11,7 +11,7 @@ use lib.Dec.{leb}
 use lib.ListN.{length, getD, length-append}
 use Rattle.lines.specs.Lent.{flat}
 use Rattle.lines.specs.Lines.{nth}
-use Rattle.record.specs.LineKinds.{toldKind}
+use Rattle.record.specs.LineKinds.{noKind, epochKind, positionKind, velocityKind, positionCorrelationKind, velocityCorrelationKind, toldKind}
 use Rattle.header.specs.declared.types.Rules.{Rules}
 use Rattle.record.specs.declared.types.LineKind.{LineKind}
 use Rattle.record.specs.declared.types.LineKind.the-variants as kind
@@ -106,7 +106,7 @@ module _ (rules : Rules) (velocity : Bool) where
   motionOf false identifier ls r = []
 
   -- A choice of kinds without EP and EV.
-  module _ (pick : ℕ → Bool) (no-ep : pick 12 ≡ false) (no-ev : pick 13 ≡ false) where
+  module _ (pick : ℕ → Bool) (no-ep : pick positionCorrelationKind ≡ false) (no-ev : pick velocityCorrelationKind ≡ false) where
     noted-picked : (v : Bool) (note : LineKind) (identifier : ℕ) (ls : List (List ℕ)) (s : Noted rules v note identifier ls) → pick (toldKind note) ≡ false
         → picked rules pick ls ≡ cond (pick (toldKind (rowKind v))) (s .row ∷ []) []
     noted-picked v note identifier ls s h =
@@ -122,9 +122,9 @@ module _ (rules : Rules) (velocity : Bool) where
 
     -- of a satellite's lines: P, then V
     pub satellite-picked : (identifier : ℕ) (own : List (List ℕ)) (s : Satellite rules velocity identifier own)
-        → picked rules pick own ≡ cond (pick 10) (s .is-position .row ∷ []) [] ++ cond (pick 11) (motionOf velocity identifier (s .rest) (s .is-rest)) []
+        → picked rules pick own ≡ cond (pick positionKind) (s .is-position .row ∷ []) [] ++ cond (pick velocityKind) (motionOf velocity identifier (s .rest) (s .is-rest)) []
     satellite-picked identifier own s =
-        let here = cond (pick 10) (s .is-position .row ∷ []) [] in
+        let here = cond (pick positionKind) (s .is-position .row ∷ []) [] in
         ap (picked rules pick) (s .lines-are)
         ∙ select-append (λ (l : List ℕ). pick (kindIn rules l)) (s .position) (s .rest)
         ∙ ap (λ (t : List (List ℕ)). t ++ picked rules pick (s .rest)) (noted-picked false kind.PositionCorrelation identifier (s .position) (s .is-position) no-ep)
@@ -134,20 +134,20 @@ module _ (rules : Rules) (velocity : Bool) where
         none true = refl
         none false = refl
 
-        go : (v : Bool) (r : Rest rules v identifier (s .rest)) → picked rules pick (s .rest) ≡ cond (pick 11) (motionOf v identifier (s .rest) r) []
+        go : (v : Bool) (r : Rest rules v identifier (s .rest)) → picked rules pick (s .rest) ≡ cond (pick velocityKind) (motionOf v identifier (s .rest) r) []
         go true r = noted-picked true kind.VelocityCorrelation identifier (s .rest) r no-ev
-        go false r = ap (picked rules pick) r ∙ picked-of rules pick 0 [] tt ∙ sym (none (pick 0)) ∙ none (pick 11)
+        go false r = ap (picked rules pick) r ∙ picked-of rules pick noKind [] tt ∙ sym (none (pick noKind)) ∙ none (pick velocityKind)
 
     -- how many that is
     abbrev pub width : ℕ
-    width = cond (pick 10) 1 0 + cond (pick 11) (cond velocity 1 0) 0
+    width = cond (pick positionKind) 1 0 + cond (pick velocityKind) (cond velocity 1 0) 0
 
     satellite-many : (identifier : ℕ) (own : List (List ℕ)) → Satellite rules velocity identifier own → length (picked rules pick own) ≡ width
     satellite-many identifier own s =
         ap length (satellite-picked identifier own s)
-        ∙ length-append (cond (pick 10) (s .is-position .row ∷ []) []) _
-        ∙ ap (λ (n : ℕ). n + length (cond (pick 11) (motionOf velocity identifier (s .rest) (s .is-rest)) [])) (first (pick 10))
-        ∙ ap (λ (n : ℕ). cond (pick 10) 1 0 + n) (second (pick 11) velocity (s .is-rest))
+        ∙ length-append (cond (pick positionKind) (s .is-position .row ∷ []) []) _
+        ∙ ap (λ (n : ℕ). n + length (cond (pick velocityKind) (motionOf velocity identifier (s .rest) (s .is-rest)) [])) (first (pick positionKind))
+        ∙ ap (λ (n : ℕ). cond (pick positionKind) 1 0 + n) (second (pick velocityKind) velocity (s .is-rest))
       where
         first : (t : Bool) → length (cond t (s .is-position .row ∷ []) []) ≡ cond t 1 0
         first true = refl
@@ -171,23 +171,23 @@ module _ (rules : Rules) (velocity : Bool) where
 
     -- of an epoch's lines: its own, then those of its rows
     pub block-picked : (identifiers : List ℕ) (at8 : ℕ) (block : List (List ℕ)) (b : Block rules velocity identifiers at8 block)
-        → picked rules pick block ≡ cond (pick 9) (b .epoch ∷ []) [] ++ picked rules pick (b .rows)
+        → picked rules pick block ≡ cond (pick epochKind) (b .epoch ∷ []) [] ++ picked rules pick (b .rows)
     block-picked identifiers at8 block b =
         ap (picked rules pick) (b .block-is)
-        ∙ picked-part rules pick 9 (b .epoch ∷ []) (b .rows) (epoch-kind rules at8 (b .epoch) (b .is-epoch), tt)
+        ∙ picked-part rules pick epochKind (b .epoch ∷ []) (b .rows) (epoch-kind rules at8 (b .epoch) (b .is-epoch), tt)
 
     -- and of all epochs together E times as many as of one, the k-th epoch's at the k-th place
     abbrev pub epochWidth : List ℕ → ℕ
-    epochWidth identifiers = cond (pick 9) 1 0 + length identifiers * width
+    epochWidth identifiers = cond (pick epochKind) 1 0 + length identifiers * width
 
     module _ {identifiers : List ℕ} {interval8 epochs at8 : ℕ} {lines : List (List ℕ)} (d : ByEpoch rules velocity identifiers interval8 epochs at8 lines) where
       block-many : (k : ℕ) → k < epochs → length (picked rules pick (blockAt d k)) ≡ epochWidth identifiers
       block-many k h =
           let b = blockIs d k h in
           ap length (block-picked identifiers (at8 + k * interval8) (blockAt d k) b)
-          ∙ length-append (cond (pick 9) (b .epoch ∷ []) []) (picked rules pick (b .rows))
-          ∙ ap (λ (n : ℕ). n + length (picked rules pick (b .rows))) (first (pick 9) (b .epoch))
-          ∙ ap (λ (n : ℕ). cond (pick 9) 1 0 + n) (rows-many identifiers (b .rows) (by-satellite identifiers (b .rows) (b .are-rows)))
+          ∙ length-append (cond (pick epochKind) (b .epoch ∷ []) []) (picked rules pick (b .rows))
+          ∙ ap (λ (n : ℕ). n + length (picked rules pick (b .rows))) (first (pick epochKind) (b .epoch))
+          ∙ ap (λ (n : ℕ). cond (pick epochKind) 1 0 + n) (rows-many identifiers (b .rows) (by-satellite identifiers (b .rows) (b .are-rows)))
         where
           first : (t : Bool) (l : List ℕ) → length (cond t (l ∷ []) []) ≡ cond t 1 0
           first true l = refl
@@ -197,10 +197,10 @@ module _ (rules : Rules) (velocity : Bool) where
       body-many = all-many (d .divided) (λ (l : List ℕ). pick (kindIn rules l)) (epochWidth identifiers) block-many
 
       -- none where neither the epochs' own lines nor P nor V are chosen
-      pub body-none : pick 9 ≡ false → pick 10 ≡ false → pick 11 ≡ false → picked rules pick lines ≡ []
+      pub body-none : pick epochKind ≡ false → pick positionKind ≡ false → pick velocityKind ≡ false → picked rules pick lines ≡ []
       body-none e9 e10 e11 =
-          let narrow : cond (pick 10) 1 0 + cond (pick 11) (cond velocity 1 0) 0 ≡ 0 = rw (e10, e11) in
-          let none : cond (pick 9) 1 0 + length identifiers * width ≡ 0 = rw (e9, narrow) (omega (arith, mul-zero (length identifiers))) in
+          let narrow : cond (pick positionKind) 1 0 + cond (pick velocityKind) (cond velocity 1 0) 0 ≡ 0 = rw (e10, e11) in
+          let none : cond (pick epochKind) 1 0 + length identifiers * width ≡ 0 = rw (e9, narrow) (omega (arith, mul-zero (length identifiers))) in
           no-lines (picked rules pick lines) (body-many ∙ ap (λ (w : ℕ). epochs * w) none ∙ mul-zero epochs)
 
       pub body-nth : (k i : ℕ) → k < epochs → i < epochWidth identifiers

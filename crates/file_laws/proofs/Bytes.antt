@@ -15,7 +15,7 @@ use Rattle.layout.specs.Kind.Kind.{clock, decimal}
 use Rattle.layout.specs.Layout.{columns, faultAt, faultOf}
 use Rattle.layout.specs.Line.{padded}
 use Rattle.lines.specs.Lines.{bytesIn, select}
-use Rattle.record.specs.LineKinds.{toldKind}
+use Rattle.record.specs.LineKinds.{commentKind, epochKind, toldKind}
 use Rattle.record.specs.Opening.{epochItems, epochOf}
 use Rattle.record.specs.Plain.{commentItems}
 use Rattle.record.specs.Rows.{rowItems, rowFault}
@@ -93,7 +93,7 @@ module _ (rules : Rules) where
 
   -- what is counted of such lines is at most their bytes
   pub counted : (ls : List (List ℕ)) → Each Long ls
-      → 61 * length (rowLines rules ls) + 32 * length (ofKind rules 9 ls) + 3 * length (ofKind rules 8 ls) ≤ bytesIn ls
+      → 61 * length (rowLines rules ls) + 32 * length (ofKind rules epochKind ls) + 3 * length (ofKind rules commentKind ls) ≤ bytesIn ls
   unfolding select bytesIn
   counted [] p = omega arith
   counted (l ∷ ls) p =
@@ -106,12 +106,12 @@ module _ (rules : Rules) where
       (counted ls (p .1))
     where
       Rest′ : Type 0
-      Rest′ = 61 * length (rowLines rules ls) + 32 * length (ofKind rules 9 ls) + 3 * length (ofKind rules 8 ls) ≤ bytesIn ls
+      Rest′ = 61 * length (rowLines rules ls) + 32 * length (ofKind rules epochKind ls) + 3 * length (ofKind rules commentKind ls) ≤ bytesIn ls
 
       go : (r e c : Bool) → (e ≡ true → r ≡ false) → (c ≡ true → r ≡ false) → (c ≡ true → e ≡ false) → cond r 61 (cond e 32 (cond c 3 0)) ≤ suc (length l) → Rest′
           → 61 * length (cond r (l ∷ rowLines rules ls) (rowLines rules ls))
-          + 32 * length (cond e (l ∷ ofKind rules 9 ls) (ofKind rules 9 ls))
-          + 3 * length (cond c (l ∷ ofKind rules 8 ls) (ofKind rules 8 ls))
+          + 32 * length (cond e (l ∷ ofKind rules epochKind ls) (ofKind rules epochKind ls))
+          + 3 * length (cond c (l ∷ ofKind rules commentKind ls) (ofKind rules commentKind ls))
           ≤ suc (length l) + bytesIn ls
       go true true c x y z h more = absurd (false≢true (sym (x refl)))
       go true false true x y z h more = absurd (false≢true (sym (y refl)))

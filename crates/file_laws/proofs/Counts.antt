@@ -20,9 +20,11 @@ use Rattle.lines.specs.Lines.{select, nth}
 use Rattle.field.specs.Read.{wholeOf}
 use Rattle.record.specs.Descriptors.{descriptorOf, baseOf}
 use Rattle.record.specs.Opening.{firstItems, firstOf}
-use Rattle.record.specs.Rows.{cut}
+use Rattle.record.specs.Rows.{cut, rowWidth}
 use Rattle.record.specs.SlotLines.{countItem, satelliteItems, satellitesOf}
 use Rattle.record.specs.Times.{dateFault}
+use Rattle.record.specs.LineKinds.{positionKind}
+use Rattle.record.specs.Plain.{commentWidth}
 use Rattle.header.specs.declared.types.Rules.{Rules}
 use Rattle.record.specs.declared.types.LineKind.the-variants as kind
 use Rattle.file.specs.Kinds.{ofKind}
@@ -41,10 +43,10 @@ use Rattle.file_laws.proofs.Rule.{places-many, rows-are-places, absentI
 use Rattle.file_laws.proofs.Clean.{record-clean, item-at, whole-bounds}
 
 -- a comment has 77 bytes, a row 12 numbers
-pub comment-wide : (l : List ℕ) → length (commentText l) ≡ 77
-comment-wide l = length-take-le 77 (drop 3 (padded l)) (omega (arith, length-drop 3 (padded l), padded-length l))
+pub comment-wide : (l : List ℕ) → length (commentText l) ≡ commentWidth
+comment-wide l = length-take-le commentWidth (drop 3 (padded l)) (omega (arith, length-drop 3 (padded l), padded-length l))
 
-pub row-wide : (rules : Rules) (l : List ℕ) → length (rowNumbers (rowIn rules l)) ≡ 12
+pub row-wide : (rules : Rules) (l : List ℕ) → length (rowNumbers (rowIn rules l)) ≡ rowWidth
 unfolding rowNumbers
 row-wide rules l = refl
 
@@ -100,20 +102,20 @@ module _ {rules : Rules} {lines : List (List ℕ)} (p : Plain rules lines) where
   exponents-room = accuracies-many p
 
   -- 77 bytes for each comment
-  pub comments-room : length (commentsIn rules lines) ≡ 77 * length (p .comments)
+  pub comments-room : length (commentsIn rules lines) ≡ commentWidth * length (p .comments)
   unfolding commentsIn
   comments-room =
       ap (λ (ls : List (List ℕ)). length (flat (map commentText ls))) (kind-8 p)
-      ∙ length-flat 77 (map commentText (p .comments)) (each-map (λ (part : List ℕ). length part ≡ 77) commentText comment-wide (p .comments))
+      ∙ length-flat commentWidth (map commentText (p .comments)) (each-map (λ (part : List ℕ). length part ≡ commentWidth) commentText comment-wide (p .comments))
       ∙ omega (arith, length-map (p .comments) commentText)
 
   -- 12 numbers for each row
-  rows-room : length (rowsIn rules lines) ≡ 12 * length (rowLines rules lines)
+  rows-room : length (rowsIn rules lines) ≡ rowWidth * length (rowLines rules lines)
   unfolding numbersOfRows
   rows-room =
       let rows = rowLines rules lines in
-      length-flat 12 (map (λ (l : List ℕ). rowNumbers (rowIn rules l)) rows)
-      (each-map (λ (part : List ℤ). length part ≡ 12) (λ (l : List ℕ). rowNumbers (rowIn rules l)) (row-wide rules) rows)
+      length-flat rowWidth (map (λ (l : List ℕ). rowNumbers (rowIn rules l)) rows)
+      (each-map (λ (part : List ℤ). length part ≡ rowWidth) (λ (l : List ℕ). rowNumbers (rowIn rules l)) (row-wide rules) rows)
       ∙ omega (arith, length-map rows (λ (l : List ℕ). rowNumbers (rowIn rules l)))
 
   -- without velocities a row for each satellite and epoch, with velocities two
@@ -128,13 +130,13 @@ module _ {rules : Rules} {lines : List (List ℕ)} (p : Plain rules lines) where
       ∙ ap (λ (n : ℕ). n * 2) (mul-comm (epochs p) (satellites p))
       ∙ mul-comm (satellites p * epochs p) 2
 
-  pub places-room : velocities p ≡ false → length (rowsIn rules lines) ≡ 12 * (satellites p * epochs p)
-  places-room alone = rows-room ∙ ap (λ (n : ℕ). 12 * n) (rows-many alone)
+  pub places-room : velocities p ≡ false → length (rowsIn rules lines) ≡ rowWidth * (satellites p * epochs p)
+  places-room alone = rows-room ∙ ap (λ (n : ℕ). rowWidth * n) (rows-many alone)
 
-  pub motions-room : velocities p ≡ true → length (rowsIn rules lines) ≡ 12 * (2 * (satellites p * epochs p))
-  motions-room both = rows-room ∙ ap (λ (n : ℕ). 12 * n) (rows-many-both both)
+  pub motions-room : velocities p ≡ true → length (rowsIn rules lines) ≡ rowWidth * (2 * (satellites p * epochs p))
+  motions-room both = rows-room ∙ ap (λ (n : ℕ). rowWidth * n) (rows-many-both both)
 
   -- the places that are known and those that are absent are together one for each satellite and epoch
-  pub places-known-and-absent : length (select (absentIn rules) (ofKind rules 10 lines)) + length (select (λ (l : List ℕ). not (absentIn rules l)) (ofKind rules 10 lines))
+  pub places-known-and-absent : length (select (absentIn rules) (ofKind rules positionKind lines)) + length (select (λ (l : List ℕ). not (absentIn rules l)) (ofKind rules positionKind lines))
       ≡ satellites p * epochs p
-  places-known-and-absent = both-selected (absentIn rules) (ofKind rules 10 lines) ∙ places-many p
+  places-known-and-absent = both-selected (absentIn rules) (ofKind rules positionKind lines) ∙ places-many p

@@ -13,7 +13,7 @@ use lib.ListN.{length, getD}
 use Rattle.layout.specs.Kind.{identifierCode, isOneOf}
 use Rattle.layout.specs.Line.{padded}
 use Rattle.lines.specs.Lines.{nth}
-use Rattle.machine.specs.Checks.{repeats}
+use Rattle.record.specs.Agrees.{repeats}
 use Rattle.record.specs.Rows.{rowFault, cut}
 use Rattle.header.specs.declared.types.Rules.{Rules}
 use Rattle.file.specs.Kinds.{ofKind}

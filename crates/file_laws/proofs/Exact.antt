@@ -21,7 +21,7 @@ use Rattle.layout.specs.Layout.{columns, valuesOf}
 use Rattle.layout.specs.Line.{padded}
 use Rattle.lines.specs.Lent.{flat}
 use Rattle.lines.specs.Lines.{select}
-use Rattle.record.specs.LineKinds.{toldKind}
+use Rattle.record.specs.LineKinds.{commentKind, epochKind, positionKind, velocityKind, toldKind}
 use Rattle.record.specs.Rows.{rowItems, rowFrom, rowFault, rowTaken, rowOf, cut, exponentIn}
 use Rattle.header.specs.declared.types.Rules.{Rules}
 use Rattle.field.specs.declared.Exponent.{Exponent}
@@ -112,9 +112,9 @@ module _ (rules : Rules) (v : Bool) (identifier : ℕ) (l : List ℕ) (is : isRo
 
   -- the table takes it as the kind of row that it is
   pub row-in : rowIn rules l ≡ rowOf v l
-  row-in = ap (λ (t : Bool). rowOf t l) (ap (λ (k : ℕ). eqb k 11) (row-kind rules v identifier l is) ∙ go v)
+  row-in = ap (λ (t : Bool). rowOf t l) (ap (λ (k : ℕ). eqb k velocityKind) (row-kind rules v identifier l is) ∙ go v)
     where
-      go : (t : Bool) → eqb (toldKind (rowKind t)) 11 ≡ t
+      go : (t : Bool) → eqb (toldKind (rowKind t)) velocityKind ≡ t
       go true = refl
       go false = refl
 
@@ -167,21 +167,21 @@ module _ (rules : Rules) where
   Kept l = isRow rules l ≡ true → rowNumbers (rowIn rules l) ≡ exactNumbers (rowIn rules l)
 
   -- a line of another kind is no row
-  no-row : (k : ℕ) (l : List ℕ) → kindIn rules l ≡ k → (eqb k 10 || eqb k 11) ≡ false → Kept l
+  no-row : (k : ℕ) (l : List ℕ) → kindIn rules l ≡ k → (eqb k positionKind || eqb k velocityKind) ≡ false → Kept l
   unfolding Kept
-  no-row k l e none is = absurd (false≢true (sym none ∙ ap (λ (n : ℕ). eqb n 10 || eqb n 11) (sym e) ∙ is))
+  no-row k l e none is = absurd (false≢true (sym none ∙ ap (λ (n : ℕ). eqb n positionKind || eqb n velocityKind) (sym e) ∙ is))
 
   kept : Covers rules Kept
   unfolding Kept
   kept = record {
     row = λ v identifier l e is. row-exact rules v identifier l e ∙ ap exactNumbers (sym (row-in rules v identifier l e));
-    epoch = λ at8 l e. no-row 9 l (epoch-kind rules at8 l e) refl;
-    comment = λ l e. no-row 8 l (comment-kind rules l e) refl;
+    epoch = λ at8 l e. no-row epochKind l (epoch-kind rules at8 l e) refl;
+    comment = λ l e. no-row commentKind l (comment-kind rules l e) refl;
     other = λ l e. no-row (kindIn rules l) l refl (apart (kindIn rules l) e);
   }
     where
-      apart : (k : ℕ) → isOther k ≡ true → (eqb k 10 || eqb k 11) ≡ false
-      apart k e = rw (other-apart k 10 e refl, other-apart k 11 e refl)
+      apart : (k : ℕ) → isOther k ≡ true → (eqb k positionKind || eqb k velocityKind) ≡ false
+      apart k e = rw (other-apart k positionKind e refl, other-apart k velocityKind e refl)
 
 -- the stored rows of an accepted file are its rows
 pub rows-exact : {rules : Rules} {lines : List (List ℕ)} → Plain rules lines

@@ -10,6 +10,7 @@ use lib.Dec.{eqb}
 use lib.ListN.{length, length-append}
 use Rattle.laws.specs.Tests.{within}
 use Rattle.lines.specs.Lines.{nth}
+use Rattle.record.specs.LineKinds.{firstKind, secondKind, satellitesKind, accuraciesKind, charactersKind, floatsKind, integersKind, commentKind, epochKind}
 use Rattle.header.specs.declared.types.Rules.{Rules}
 use Rattle.file.specs.Kinds.{kindIn, isKind, ofKind}
 use Rattle.file.specs.Plain.{Plain}
@@ -21,16 +22,16 @@ use Rattle.file_laws.proofs.Sorting.{Of}
 use Rattle.file_laws.proofs.Selected.{first-kind, second-kind, identifiers-kind, accuracies-kind, characters-kind, floats-kind, integers-kind, comments-kind, kind-9}
 
 abbrev isEpochKind : ℕ → Bool
-isEpochKind n = eqb n 9
+isEpochKind n = eqb n epochKind
 
 module _ (rules : Rules) (velocity : Bool) (identifiers : List ℕ) where
   -- in an epoch its first line alone
-  pub rows-no-epoch : (at8 : ℕ) (block : List (List ℕ)) (b : Block rules velocity identifiers at8 block) → ofKind rules 9 (b .rows) ≡ []
+  pub rows-no-epoch : (at8 : ℕ) (block : List (List ℕ)) (b : Block rules velocity identifiers at8 block) → ofKind rules epochKind (b .rows) ≡ []
   rows-no-epoch at8 block b =
-      no-lines (ofKind rules 9 (b .rows))
+      no-lines (ofKind rules epochKind (b .rows))
       (rows-many rules velocity isEpochKind refl refl identifiers (b .rows) (by-satellite rules velocity identifiers (b .rows) (b .are-rows)) ∙ mul-zero (length identifiers))
 
-  pub epoch-alone : (at8 : ℕ) (block : List (List ℕ)) (b : Block rules velocity identifiers at8 block) → ofKind rules 9 block ≡ b .epoch ∷ []
+  pub epoch-alone : (at8 : ℕ) (block : List (List ℕ)) (b : Block rules velocity identifiers at8 block) → ofKind rules epochKind block ≡ b .epoch ∷ []
   epoch-alone at8 block b =
       block-picked rules velocity isEpochKind refl refl identifiers at8 block b
       ∙ ap (λ (ls : List (List ℕ)). b .epoch ∷ ls) (rows-no-epoch at8 block b)
@@ -40,23 +41,23 @@ module _ {rules : Rules} {velocity : Bool} {identifiers : List ℕ} {interval8 e
   one-wide : 1 + length identifiers * 0 ≡ 1
   one-wide = omega (arith, mul-zero (length identifiers))
 
-  pub epochs-many : length (ofKind rules 9 lines) ≡ epochs
+  pub epochs-many : length (ofKind rules epochKind lines) ≡ epochs
   epochs-many =
       body-many rules velocity isEpochKind refl refl d
       ∙ ap (λ (w : ℕ). epochs * w) one-wide
       ∙ mul-one epochs
 
-  pub epochs-before : (k : ℕ) → k ≤ epochs → length (ofKind rules 9 (before (d .divided) k)) ≡ k
+  pub epochs-before : (k : ℕ) → k ≤ epochs → length (ofKind rules epochKind (before (d .divided) k)) ≡ k
   epochs-before k h =
       body-before rules velocity isEpochKind refl refl d k h
       ∙ ap (λ (w : ℕ). k * w) one-wide
       ∙ mul-one k
 
-  pub epochs-nth : (k : ℕ) (h : k < epochs) → nth k (ofKind rules 9 lines) ≡ blockIs d k h .epoch
+  pub epochs-nth : (k : ℕ) (h : k < epochs) → nth k (ofKind rules epochKind lines) ≡ blockIs d k h .epoch
   unfolding nth
   epochs-nth k h =
       let place : k ≡ k * (1 + length identifiers * 0) + 0 = sym (ap (λ (w : ℕ). k * w + 0) one-wide ∙ omega arith) in
-      ap (λ (m : ℕ). nth m (ofKind rules 9 lines)) place
+      ap (λ (m : ℕ). nth m (ofKind rules epochKind lines)) place
       ∙ body-nth rules velocity isEpochKind refl refl d k 0 h (omega (arith, one-wide))
       ∙ ap (nth 0) (epoch-alone rules velocity identifiers (at8 + k * interval8) (blockAt d k) (blockIs d k h))
 
@@ -89,40 +90,40 @@ module _ {rules : Rules} {lines : List (List ℕ)} (p : Plain rules lines) where
   three-parts = p .lines-are ∙ sym (header-with (p .epochs ++ (p .last ∷ [])))
 
   -- their kinds are 1 to 8
-  pub header-kinds : Each (λ (l : List ℕ). within 1 8 (kindIn rules l) ≡ true) header
+  pub header-kinds : Each (λ (l : List ℕ). within firstKind commentKind (kindIn rules l) ≡ true) header
   header-kinds =
       let middle = p .descriptor ∷ p .characters ∷ p .bases ∷ p .floats ∷ p .integers ∷ p .integers′ ∷ [] in
-      let five = told 5 (p .descriptor ∷ p .characters ∷ []) refl (characters-kind p) in
-      let six = told 6 (p .bases ∷ p .floats ∷ []) refl (floats-kind p) in
-      let seven = told 7 (p .integers ∷ p .integers′ ∷ []) refl (integers-kind p) in
-      let three = told 3 (p .count ∷ p .slots) refl (identifiers-kind p) in (
-        told 1 (p .first ∷ []) refl (first-kind p) .0,
+      let five = told charactersKind (p .descriptor ∷ p .characters ∷ []) refl (characters-kind p) in
+      let six = told floatsKind (p .bases ∷ p .floats ∷ []) refl (floats-kind p) in
+      let seven = told integersKind (p .integers ∷ p .integers′ ∷ []) refl (integers-kind p) in
+      let three = told satellitesKind (p .count ∷ p .slots) refl (identifiers-kind p) in (
+        told firstKind (p .first ∷ []) refl (first-kind p) .0,
         (
-          told 2 (p .second ∷ []) refl (second-kind p) .0,
+          told secondKind (p .second ∷ []) refl (second-kind p) .0,
           (
             three .0,
             each-append Told (p .slots) (p .accuracies ++ (middle ++ p .comments)) (three .1)
-                (each-append Told (p .accuracies) (middle ++ p .comments) (told 4 (p .accuracies) refl (accuracies-kind p))
-                (each-append Told middle (p .comments) (five .0, (five .1 .0, (six .0, (six .1 .0, (seven .0, (seven .1 .0, tt)))))) (told 8 (p .comments) refl (comments-kind p)))),
+                (each-append Told (p .accuracies) (middle ++ p .comments) (told accuraciesKind (p .accuracies) refl (accuracies-kind p))
+                (each-append Told middle (p .comments) (five .0, (five .1 .0, (six .0, (six .1 .0, (seven .0, (seven .1 .0, tt)))))) (told commentKind (p .comments) refl (comments-kind p)))),
           ),
         ),
       )
     where
       Told : List ℕ → Type 0
-      Told l = within 1 8 (kindIn rules l) ≡ true
+      Told l = within firstKind commentKind (kindIn rules l) ≡ true
 
-      told : (k : ℕ) (ls : List (List ℕ)) → within 1 8 k ≡ true → Of rules k ls → Each Told ls
-      told k ls t h = each-weaken (λ (l : List ℕ). kindIn rules l ≡ k) Told (λ l e. ap (within 1 8) e ∙ t) ls h
+      told : (k : ℕ) (ls : List (List ℕ)) → within firstKind commentKind k ≡ true → Of rules k ls → Each Told ls
+      told k ls t h = each-weaken (λ (l : List ℕ). kindIn rules l ≡ k) Told (λ l e. ap (within firstKind commentKind) e ∙ t) ls h
 
   -- no epoch line is among them
-  pub header-no-epoch : ofKind rules 9 header ≡ []
+  pub header-no-epoch : ofKind rules epochKind header ≡ []
   header-no-epoch =
       let rest = p .epochs ++ (p .last ∷ []) in
-      let all : length (ofKind rules 9 lines) ≡ length (ofKind rules 9 header) + length (ofKind rules 9 rest) =
-      ap (λ (ls : List (List ℕ)). length (ofKind rules 9 ls)) three-parts
-      ∙ ap length (select-append (isKind rules 9) header rest)
-      ∙ length-append (ofKind rules 9 header) (ofKind rules 9 rest) in
-      let more : length (ofKind rules 9 rest) ≡ length (ofKind rules 9 (p .epochs)) + length (ofKind rules 9 (p .last ∷ [])) =
-      ap length (select-append (isKind rules 9) (p .epochs) (p .last ∷ []))
-      ∙ length-append (ofKind rules 9 (p .epochs)) (ofKind rules 9 (p .last ∷ [])) in
-      no-lines (ofKind rules 9 header) (omega (arith, all, more, ap length (kind-9 p)))
+      let all : length (ofKind rules epochKind lines) ≡ length (ofKind rules epochKind header) + length (ofKind rules epochKind rest) =
+      ap (λ (ls : List (List ℕ)). length (ofKind rules epochKind ls)) three-parts
+      ∙ ap length (select-append (isKind rules epochKind) header rest)
+      ∙ length-append (ofKind rules epochKind header) (ofKind rules epochKind rest) in
+      let more : length (ofKind rules epochKind rest) ≡ length (ofKind rules epochKind (p .epochs)) + length (ofKind rules epochKind (p .last ∷ [])) =
+      ap length (select-append (isKind rules epochKind) (p .epochs) (p .last ∷ []))
+      ∙ length-append (ofKind rules epochKind (p .epochs)) (ofKind rules epochKind (p .last ∷ [])) in
+      no-lines (ofKind rules epochKind header) (omega (arith, all, more, ap length (kind-9 p)))

@@ -12,7 +12,7 @@ use lib.ListN.{length, take, getD}
 use Rattle.laws.specs.Tests.{within}
 use Rattle.layout.specs.Line.{padded}
 use Rattle.lines.specs.Lines.{select}
-use Rattle.record.specs.LineKinds.{toldKind, kindOf, kindBy, hashKind, plusKind, starKind, slashKind, percentKind}
+use Rattle.record.specs.LineKinds.{firstKind, secondKind, satellitesKind, accuraciesKind, charactersKind, floatsKind, commentKind, positionKind, velocityKind, positionCorrelationKind, velocityCorrelationKind, toldKind, kindOf, kindBy, hashKind, plusKind, starKind, slashKind, percentKind}
 use Rattle.header.specs.declared.types.Rules.{Rules}
 use Rattle.record.specs.declared.types.LineKind.{LineKind}
 use Rattle.record.specs.declared.types.LineKind.the-variants as kind
@@ -53,9 +53,9 @@ pub record SameTable (rules : Rules) (a b : List (List ℕ)) : Type 0 where
   pub rows : rowsIn rules a ≡ rowsIn rules b
 
 module _ (rules : Rules) where
-  -- EP (12) or EV (13)
+  -- EP or EV
   abbrev pub IsNote : List ℕ → Type 0
-  IsNote l = within 12 13 (kindIn rules l) ≡ true
+  IsNote l = within positionCorrelationKind velocityCorrelationKind (kindIn rules l) ≡ true
 
   -- two lines of one kind
   abbrev pub BothLines : LineKind → List ℕ → List ℕ → Type 0
@@ -78,14 +78,14 @@ module _ (rules : Rules) where
   AlikeLine l m = (l ≡ m) ⊎ (IsNote l × IsNote m)
 
   -- A choice of kinds without EP and EV selects the same lines of both.
-  module _ (pick : ℕ → Bool) (no-ep : pick 12 ≡ false) (no-ev : pick 13 ≡ false) where
-    skipped : (k : ℕ) → within 12 13 k ≡ true → pick k ≡ false
-    skipped k e = go (eqb k 12) refl
+  module _ (pick : ℕ → Bool) (no-ep : pick positionCorrelationKind ≡ false) (no-ev : pick velocityCorrelationKind ≡ false) where
+    skipped : (k : ℕ) → within positionCorrelationKind velocityCorrelationKind k ≡ true → pick k ≡ false
+    skipped k e = go (eqb k positionCorrelationKind) refl
       where
-        go : (t : Bool) → eqb k 12 ≡ t → pick k ≡ false
-        go true is = ap pick (eqb-true k 12 is) ∙ no-ep
+        go : (t : Bool) → eqb k positionCorrelationKind ≡ t → pick k ≡ false
+        go true is = ap pick (eqb-true k positionCorrelationKind is) ∙ no-ep
         go false is =
-            let last : k ≡ 13 = omega (arith, within-true 12 13 k e, eqb-false k 12 is) in
+            let last : k ≡ velocityCorrelationKind = omega (arith, within-true positionCorrelationKind velocityCorrelationKind k e, eqb-false k positionCorrelationKind is) in
             ap pick last ∙ no-ev
 
     same-picked : (a b : List (List ℕ)) → Beside AlikeLine a b → picked rules pick a ≡ picked rules pick b
@@ -101,22 +101,22 @@ module _ (rules : Rules) where
         go (inr both) more = rw (skipped (kindIn rules l) (both .0), skipped (kindIn rules m) (both .1)) more
 
   module _ (a b : List (List ℕ)) (s : Beside AlikeLine a b) where
-    same-kind : (k : ℕ) → eqb 12 k ≡ false → eqb 13 k ≡ false → ofKind rules k a ≡ ofKind rules k b
+    same-kind : (k : ℕ) → eqb positionCorrelationKind k ≡ false → eqb velocityCorrelationKind k ≡ false → ofKind rules k a ≡ ofKind rules k b
     same-kind k ep ev = same-picked (λ (n : ℕ). eqb n k) ep ev a b s
 
     same-slots : (accuracies : Bool) (n : ℕ) → slotsIn rules accuracies n a ≡ slotsIn rules accuracies n b
     unfolding slotsIn
-    same-slots true n = rw (same-kind 4 refl refl)
-    same-slots false n = rw (same-kind 3 refl refl)
+    same-slots true n = rw (same-kind accuraciesKind refl refl)
+    same-slots false n = rw (same-kind satellitesKind refl refl)
 
     alike-table : SameTable rules a b
     unfolding headerIn commentsIn
     alike-table = record {
       header =
-          rw (same-kind 1 refl refl, same-kind 2 refl refl, same-kind 3 refl refl, same-kind 5 refl refl, same-kind 6 refl refl, same-kind 8 refl refl);
+          rw (same-kind firstKind refl refl, same-kind secondKind refl refl, same-kind satellitesKind refl refl, same-kind charactersKind refl refl, same-kind floatsKind refl refl, same-kind commentKind refl refl);
       slots = same-slots;
-      comments = rw (same-kind 8 refl refl);
-      rows = ap (numbersOfRows rules) (same-picked (λ (n : ℕ). eqb n 10 || eqb n 11) refl refl a b s);
+      comments = rw (same-kind commentKind refl refl);
+      rows = ap (numbersOfRows rules) (same-picked (λ (n : ℕ). eqb n positionKind || eqb n velocityKind) refl refl a b s);
     }
 
   -- ONE TABLE: lines that are the same but for EP and EV
@@ -126,13 +126,13 @@ module _ (rules : Rules) where
       alike : (l m : List ℕ) → SameLine l m → AlikeLine l m
       alike l m (inl e) = inl e
       alike l m (inr (inl both)) =
-          inr (ap (within 12 13) (line-kind rules kind.PositionCorrelation l (both .0)), ap (within 12 13) (line-kind rules kind.PositionCorrelation m (both .1)))
+          inr (ap (within positionCorrelationKind velocityCorrelationKind) (line-kind rules kind.PositionCorrelation l (both .0)), ap (within positionCorrelationKind velocityCorrelationKind) (line-kind rules kind.PositionCorrelation m (both .1)))
       alike l m (inr (inr both)) =
-          inr (ap (within 12 13) (line-kind rules kind.VelocityCorrelation l (both .0)), ap (within 12 13) (line-kind rules kind.VelocityCorrelation m (both .1)))
+          inr (ap (within positionCorrelationKind velocityCorrelationKind) (line-kind rules kind.VelocityCorrelation l (both .0)), ap (within positionCorrelationKind velocityCorrelationKind) (line-kind rules kind.VelocityCorrelation m (both .1)))
 
 -- A line is EP or EV by its first two columns, so what differs only after them is such a line too.
 module _ (rules : Rules) where
-  third-free : (letter first second third third′ : ℕ) → within 12 13 (toldKind (kindBy letter first second third)) ≡ true
+  third-free : (letter first second third third′ : ℕ) → within positionCorrelationKind velocityCorrelationKind (toldKind (kindBy letter first second third)) ≡ true
       → kindBy letter first second third′ ≡ kindBy letter first second third
   third-free letter first second third third′ h =
       go (eqb first 80) (eqb first 86) (eqb first 42) (eqb first 69) (eqb second 80) (eqb second 86)
@@ -147,7 +147,7 @@ module _ (rules : Rules) where
           (cond b kind.Velocity
           (cond c star (cond e (cond p kind.PositionCorrelation (cond v kind.VelocityCorrelation (cond t kind.EndOfFile kind.Other))) others)))
 
-      go : (a b c e p v t u : Bool) (star others : LineKind) → within 12 13 (toldKind (By a b c e p v t star others)) ≡ true
+      go : (a b c e p v t u : Bool) (star others : LineKind) → within positionCorrelationKind velocityCorrelationKind (toldKind (By a b c e p v t star others)) ≡ true
           → By a b c e p v u star others ≡ By a b c e p v t star others
       go true b c e p v t u star others g = refl
       go false true c e p v t u star others g = refl
@@ -158,7 +158,7 @@ module _ (rules : Rules) where
       go false false false true false false true u star others g = absurd (false≢true g)
       go false false false true false false false u star others g = absurd (false≢true g)
 
-  same-columns : (l m : List ℕ) → take 2 (padded m) ≡ take 2 (padded l) → within 12 13 (kindIn rules l) ≡ true → kindIn rules m ≡ kindIn rules l
+  same-columns : (l m : List ℕ) → take 2 (padded m) ≡ take 2 (padded l) → within positionCorrelationKind velocityCorrelationKind (kindIn rules l) ≡ true → kindIn rules m ≡ kindIn rules l
   unfolding kindOf
   same-columns l m e h =
       let one : getD (padded m) 0 0 ≡ getD (padded l) 0 0 = at l m e 0 (omega arith) in
@@ -178,7 +178,7 @@ module _ (rules : Rules) where
     where
       alike : (l m : List ℕ) → (l ≡ m) ⊎ (IsNote rules l × (take 2 (padded m) ≡ take 2 (padded l))) → AlikeLine rules l m
       alike l m (inl e) = inl e
-      alike l m (inr note) = inr (note .0, ap (within 12 13) (same-columns l m (note .1) (note .0)) ∙ note .0)
+      alike l m (inr note) = inr (note .0, ap (within positionCorrelationKind velocityCorrelationKind) (same-columns l m (note .1) (note .0)) ∙ note .0)
 
   -- EP (false) or EV (true)
   abbrev pub noteKind : Bool → LineKind
@@ -190,7 +190,7 @@ module _ (rules : Rules) where
       → SameLine rules l m
   note-changed true l m is text short same =
       let told = line-kind rules kind.VelocityCorrelation l is in
-      inr (inr (is, and-both (every isPrintable m) _ text (and-both (leb (length m) 80) _ (le-leb (length m) 80 short) (eq-eqb (kindIn rules m) 13 (same-columns l m same (ap (within 12 13) told) ∙ told)))))
+      inr (inr (is, and-both (every isPrintable m) _ text (and-both (leb (length m) 80) _ (le-leb (length m) 80 short) (eq-eqb (kindIn rules m) velocityCorrelationKind (same-columns l m same (ap (within positionCorrelationKind velocityCorrelationKind) told) ∙ told)))))
   note-changed false l m is text short same =
       let told = line-kind rules kind.PositionCorrelation l is in
-      inr (inl (is, and-both (every isPrintable m) _ text (and-both (leb (length m) 80) _ (le-leb (length m) 80 short) (eq-eqb (kindIn rules m) 12 (same-columns l m same (ap (within 12 13) told) ∙ told)))))
+      inr (inl (is, and-both (every isPrintable m) _ text (and-both (leb (length m) 80) _ (le-leb (length m) 80 short) (eq-eqb (kindIn rules m) positionCorrelationKind (same-columns l m same (ap (within positionCorrelationKind velocityCorrelationKind) told) ∙ told)))))

@@ -9,6 +9,7 @@ use native.Mathlib.Omega.{arith}
 use lib.Dec.{eqb}
 use lib.ListN.{length, getD}
 use Rattle.lines.specs.Lines.{nth}
+use Rattle.record.specs.LineKinds.{epochKind, positionKind, velocityKind, positionCorrelationKind, velocityCorrelationKind}
 use Rattle.header.specs.declared.types.Rules.{Rules}
 use Rattle.file.specs.Kinds.{isKind, ofKind}
 use Rattle.file.specs.Plain.{isRowLine, Satellite}
@@ -33,12 +34,12 @@ pub one-row : (rules : Rules) (velocity v : Bool) → Has velocity v → (identi
 one-row rules velocity false h identifier own s = record {
   row = s .is-position .row;
   is-row = s .is-position .is-row;
-  alone = satellite-picked rules velocity (λ (n : ℕ). eqb n 10) refl refl identifier own s;
+  alone = satellite-picked rules velocity (λ (n : ℕ). eqb n positionKind) refl refl identifier own s;
 }
 one-row rules true true h identifier own s = record {
   row = s .is-rest .row;
   is-row = s .is-rest .is-row;
-  alone = satellite-picked rules true (λ (n : ℕ). eqb n 11) refl refl identifier own s;
+  alone = satellite-picked rules true (λ (n : ℕ). eqb n velocityKind) refl refl identifier own s;
 }
 one-row rules false true h identifier own s = absurd (false≢true h)
 
@@ -50,8 +51,8 @@ hasBoth velocity both false = tt
 two-rows : (rules : Rules) (velocity : Bool) (both : velocity ≡ true) (v : Bool) (identifier : ℕ) (own : List (List ℕ)) (s : Satellite rules velocity identifier own)
     → nth (markNumber v) (rowLines rules own) ≡ one-row rules velocity v (hasBoth velocity both v) identifier own s .row
 unfolding one-row nth hasBoth
-two-rows rules true both true identifier own s = ap (nth 1) (satellite-picked rules true (λ (n : ℕ). eqb n 10 || eqb n 11) refl refl identifier own s)
-two-rows rules true both false identifier own s = ap (nth 0) (satellite-picked rules true (λ (n : ℕ). eqb n 10 || eqb n 11) refl refl identifier own s)
+two-rows rules true both true identifier own s = ap (nth 1) (satellite-picked rules true (λ (n : ℕ). eqb n positionKind || eqb n velocityKind) refl refl identifier own s)
+two-rows rules true both false identifier own s = ap (nth 0) (satellite-picked rules true (λ (n : ℕ). eqb n positionKind || eqb n velocityKind) refl refl identifier own s)
 two-rows rules false both v identifier own s = absurd (false≢true both)
 
 -- the lines of the satellites of one epoch
@@ -62,7 +63,7 @@ ownIn {rules} {velocity} {identifiers} b = by-satellite rules velocity identifie
 -- A choice of kinds without epoch lines, EP and EV, of which each satellite has w lines in an epoch.
 module _ {rules : Rules} {velocity : Bool} {identifiers : List ℕ} {interval8 epochs at8 : ℕ} {lines : List (List ℕ)}
     (d : ByEpoch rules velocity identifiers interval8 epochs at8 lines)
-    (pick : ℕ → Bool) (no-epoch : pick 9 ≡ false) (no-ep : pick 12 ≡ false) (no-ev : pick 13 ≡ false)
+    (pick : ℕ → Bool) (no-epoch : pick epochKind ≡ false) (no-ep : pick positionCorrelationKind ≡ false) (no-ev : pick velocityCorrelationKind ≡ false)
     (w : ℕ) (wide : width rules velocity pick no-ep no-ev ≡ w) where
   in-rows : (k : ℕ) (h : k < epochs) → picked rules pick (blockAt d k) ≡ picked rules pick (blockIs d k h .rows)
   in-rows k h =
@@ -105,15 +106,15 @@ module _ {rules : Rules} {velocity : Bool} {identifiers : List ℕ} {interval8 e
       ∙ body-nth rules velocity pick no-ep no-ev d k (j * w + i) hk (omega (arith, by-width))
 
 -- P, or V where there are velocities: one line of each satellite in an epoch.
-no-epochs : (v : Bool) → eqb 9 (rowNumber v) ≡ false
+no-epochs : (v : Bool) → eqb epochKind (rowNumber v) ≡ false
 no-epochs true = refl
 no-epochs false = refl
 
-no-notes : (v : Bool) → (eqb 12 (rowNumber v) ≡ false) × (eqb 13 (rowNumber v) ≡ false)
+no-notes : (v : Bool) → (eqb positionCorrelationKind (rowNumber v) ≡ false) × (eqb velocityCorrelationKind (rowNumber v) ≡ false)
 no-notes true = (refl, refl)
 no-notes false = (refl, refl)
 
-one-wide : (velocity v : Bool) → Has velocity v → cond (eqb 10 (rowNumber v)) 1 0 + cond (eqb 11 (rowNumber v)) (cond velocity 1 0) 0 ≡ 1
+one-wide : (velocity v : Bool) → Has velocity v → cond (eqb positionKind (rowNumber v)) 1 0 + cond (eqb velocityKind (rowNumber v)) (cond velocity 1 0) 0 ≡ 1
 one-wide velocity false h = refl
 one-wide true true h = refl
 one-wide false true h = absurd (false≢true h)
@@ -158,12 +159,12 @@ module _ {rules : Rules} {velocity : Bool} {identifiers : List ℕ} {interval8 e
 
   -- With velocities the rows are P and V in turn.
   module _ (both : velocity ≡ true) where
-    two-wide : cond (eqb 10 10 || eqb 10 11) 1 0 + cond (eqb 11 10 || eqb 11 11) (cond velocity 1 0) 0 ≡ 2
+    two-wide : cond (eqb positionKind positionKind || eqb positionKind velocityKind) 1 0 + cond (eqb velocityKind positionKind || eqb velocityKind velocityKind) (cond velocity 1 0) 0 ≡ 2
     two-wide = rw both
 
     pub rows-many-both : length (rowLines rules lines) ≡ epochs * length identifiers * 2
     rows-many-both =
-        file-many d (λ (n : ℕ). eqb n 10 || eqb n 11) refl refl refl 2 two-wide
+        file-many d (λ (n : ℕ). eqb n positionKind || eqb n velocityKind) refl refl refl 2 two-wide
 
     pub rows-nth-both : (v : Bool) (k j : ℕ) → k < epochs → j < length identifiers
         → nth (2 * (k * length identifiers + j) + markNumber v) (rowLines rules lines) ≡ nth (k * length identifiers + j) (ofKind rules (rowNumber v) lines)
@@ -177,7 +178,7 @@ module _ {rules : Rules} {velocity : Bool} {identifiers : List ℕ} {interval8 e
         ∙ sym (kind-nth v (hasBoth velocity both v) k j hk hj)
       where
         pick : ℕ → Bool
-        pick n = eqb n 10 || eqb n 11
+        pick n = eqb n positionKind || eqb n velocityKind
 
         below-two : (t : Bool) → markNumber t < 2
         below-two true = omega arith
@@ -185,11 +186,11 @@ module _ {rules : Rules} {velocity : Bool} {identifiers : List ℕ} {interval8 e
 
   -- Without velocities there is no V line, and the rows are the P lines.
   module _ (none : velocity ≡ false) where
-    pub no-motion : ofKind rules 11 lines ≡ []
+    pub no-motion : ofKind rules velocityKind lines ≡ []
     no-motion =
-        let zero-wide : cond (eqb 10 11) 1 0 + cond (eqb 11 11) (cond velocity 1 0) 0 ≡ 0 = rw none in
-        no-lines (ofKind rules 11 lines)
-        (file-many d (λ (n : ℕ). eqb n 11) refl refl refl 0 zero-wide ∙ mul-zero (epochs * length identifiers))
+        let zero-wide : cond (eqb positionKind velocityKind) 1 0 + cond (eqb velocityKind velocityKind) (cond velocity 1 0) 0 ≡ 0 = rw none in
+        no-lines (ofKind rules velocityKind lines)
+        (file-many d (λ (n : ℕ). eqb n velocityKind) refl refl refl 0 zero-wide ∙ mul-zero (epochs * length identifiers))
 
-    pub rows-are-places : rowLines rules lines ≡ ofKind rules 10 lines
-    rows-are-places = other-selected (isKind rules 10) (isKind rules 11) lines no-motion
+    pub rows-are-places : rowLines rules lines ≡ ofKind rules positionKind lines
+    rows-are-places = other-selected (isKind rules positionKind) (isKind rules velocityKind) lines no-motion

@@ -11,6 +11,7 @@ use native.Mathlib.Omega.{arith}
 use lib.ListN.{length, getD}
 use Rattle.lines.specs.Lines.{select, nth}
 use Rattle.record.specs.Absence.{placeAbsent}
+use Rattle.record.specs.LineKinds.{epochKind, positionKind, velocityKind}
 use Rattle.header.specs.declared.types.Rules.{Rules}
 use Rattle.file.specs.Kinds.{isKind, ofKind}
 use Rattle.file.specs.Plain.{isEpochLine, isRowLine, Plain}
@@ -27,7 +28,7 @@ use Rattle.file.specs.Kinds.{rowNumber}
 use Rattle.file_laws.proofs.Instants.{header, three-parts, header-no-epoch, rows-no-epoch, epochs-before, epochs-nth}
 use Rattle.file_laws.proofs.Instants as instant
 
--- The rows of one kind, P (10) or V (11), in the k-th epoch: n of them, the j-th of the j-th satellite, and in the file it is the one numbered
+-- The rows of one kind, P or V, in the k-th epoch: n of them, the j-th of the j-th satellite, and in the file it is the one numbered
 -- k * n + j.
 pub record InOrder {rules : Rules} {lines : List (List ℕ)} (p : Plain rules lines) (v : Bool) (k : ℕ) (block : List (List ℕ)) : Type 0 where
   pub many : length (ofKind rules (rowNumber v) block) ≡ satellites p
@@ -44,8 +45,8 @@ pub record EpochAt {rules : Rules} {lines : List (List ℕ)} (p : Plain rules li
   pub later : List (List ℕ)
   pub lines-are : lines ≡ earlier ++ ((epoch ∷ rows) ++ later)
   pub is-epoch : isEpochLine rules (start8 p + k * interval8 p) epoch ≡ true
-  pub earlier-epochs : length (ofKind rules 9 earlier) ≡ k
-  pub no-other-epoch : ofKind rules 9 rows ≡ []
+  pub earlier-epochs : length (ofKind rules epochKind earlier) ≡ k
+  pub no-other-epoch : ofKind rules epochKind rows ≡ []
   pub places : InOrder p false k (epoch ∷ rows)
   pub motions : velocities p ≡ true → InOrder p true k (epoch ∷ rows)
 
@@ -65,14 +66,14 @@ module _ {rules : Rules} {lines : List (List ℕ)} (p : Plain rules lines) where
       ∙ ap (λ (n : ℕ). epochs p * n) (identifiers-many p)
       ∙ mul-comm (epochs p) (satellites p)
 
-  pub places-many : length (ofKind rules 10 lines) ≡ satellites p * epochs p
+  pub places-many : length (ofKind rules positionKind lines) ≡ satellites p * epochs p
   places-many = rows-many false tt
 
-  pub motions-many : velocities p ≡ true → length (ofKind rules 11 lines) ≡ satellites p * epochs p
+  pub motions-many : velocities p ≡ true → length (ofKind rules velocityKind lines) ≡ satellites p * epochs p
   motions-many both = rows-many true both
 
   -- there are E epoch lines
-  pub epochs-many : length (ofKind rules 9 lines) ≡ epochs p
+  pub epochs-many : length (ofKind rules epochKind lines) ≡ epochs p
   epochs-many = ap length (kind-9 p) ∙ instant.epochs-many (by-epochs p)
 
   in-order : (v : Bool) → Has (velocities p) v → (k : ℕ) → k < epochs p → InOrder p v k (blockAt (by-epochs p) k)
@@ -106,8 +107,8 @@ module _ {rules : Rules} {lines : List (List ℕ)} (p : Plain rules lines) where
             ∙ ap (λ (ls : List (List ℕ)). (header p ++ before (d .divided) k) ++ (ls ++ (after (d .divided) k ++ (p .last ∷ [])))) (b .block-is);
         is-epoch = b .is-epoch;
         earlier-epochs =
-            ap length (select-append (isKind rules 9) (header p) (before (d .divided) k))
-            ∙ ap (λ (ls : List (List ℕ)). length (ls ++ ofKind rules 9 (before (d .divided) k))) (header-no-epoch p)
+            ap length (select-append (isKind rules epochKind) (header p) (before (d .divided) k))
+            ∙ ap (λ (ls : List (List ℕ)). length (ls ++ ofKind rules epochKind (before (d .divided) k))) (header-no-epoch p)
             ∙ epochs-before d k (omega arith);
         no-other-epoch = rows-no-epoch rules (velocities p) (identifiers p) (start8 p + k * interval8 p) (blockAt d k) b;
         places = subst (InOrder p false k) (b .block-is) (in-order false tt k h);
@@ -121,20 +122,20 @@ module _ {rules : Rules} {lines : List (List ℕ)} (p : Plain rules lines) where
 
   -- the line numbered k * n + j among the P lines is the P line of satellite j, and it stands in epoch k
   pub place-at : (k j : ℕ) → k < epochs p → j < satellites p
-      → isRowLine rules false (getD (identifiers p) j 0) (nth (k * satellites p + j) (ofKind rules 10 lines)) ≡ true
+      → isRowLine rules false (getD (identifiers p) j 0) (nth (k * satellites p + j) (ofKind rules positionKind lines)) ≡ true
   place-at k j hk hj =
       let order = in-order false tt k hk in
       ap (isRowLine rules false (getD (identifiers p) j 0)) (order .numbered j hj) ∙ order .each j hj
 
   -- the same of the V lines
   pub motion-at : velocities p ≡ true → (k j : ℕ) → k < epochs p → j < satellites p
-      → isRowLine rules true (getD (identifiers p) j 0) (nth (k * satellites p + j) (ofKind rules 11 lines)) ≡ true
+      → isRowLine rules true (getD (identifiers p) j 0) (nth (k * satellites p + j) (ofKind rules velocityKind lines)) ≡ true
   motion-at both k j hk hj =
       let order = in-order true both k hk in
       ap (isRowLine rules true (getD (identifiers p) j 0)) (order .numbered j hj) ∙ order .each j hj
 
   -- the k-th epoch line stands k intervals after the start
-  pub instant-at : (k : ℕ) → k < epochs p → isEpochLine rules (start8 p + k * interval8 p) (nth k (ofKind rules 9 lines)) ≡ true
+  pub instant-at : (k : ℕ) → k < epochs p → isEpochLine rules (start8 p + k * interval8 p) (nth k (ofKind rules epochKind lines)) ≡ true
   instant-at k h =
       ap (isEpochLine rules (start8 p + k * interval8 p))
       (ap (nth k) (kind-9 p) ∙ epochs-nth (by-epochs p) k h)
@@ -142,10 +143,10 @@ module _ {rules : Rules} {lines : List (List ℕ)} (p : Plain rules lines) where
 
   -- without velocities there is no V line, and the rows of the table are the P lines
   module _ (alone : velocities p ≡ false) where
-    pub no-motions : ofKind rules 11 lines ≡ []
+    pub no-motions : ofKind rules velocityKind lines ≡ []
     no-motions = kind-11 p ∙ place.no-motion (by-epochs p) alone
 
-    pub rows-are-places : rowLines rules lines ≡ ofKind rules 10 lines
+    pub rows-are-places : rowLines rules lines ≡ ofKind rules positionKind lines
     rows-are-places =
         kind-rows p
         ∙ place.rows-are-places (by-epochs p) alone
@@ -160,12 +161,12 @@ module _ {rules : Rules} {lines : List (List ℕ)} (p : Plain rules lines) where
         ∙ place.rows-nth-both (by-epochs p) both v k j hk (omega arith)
         ∙ ap₂ (λ (m : ℕ) (ls : List (List ℕ)). nth (k * m + j) ls) named (sym (of-kind v))
 
-    pub row-begins : nth (2 * (k * satellites p + j)) (rowLines rules lines) ≡ nth (k * satellites p + j) (ofKind rules 10 lines)
+    pub row-begins : nth (2 * (k * satellites p + j)) (rowLines rules lines) ≡ nth (k * satellites p + j) (ofKind rules positionKind lines)
     row-begins =
         let same : 2 * (k * satellites p + j) ≡ 2 * (k * satellites p + j) + 0 = omega arith in
         ap (λ (m : ℕ). nth m (rowLines rules lines)) same ∙ in-turn false
 
-    pub row-motion : nth (2 * (k * satellites p + j) + 1) (rowLines rules lines) ≡ nth (k * satellites p + j) (ofKind rules 11 lines)
+    pub row-motion : nth (2 * (k * satellites p + j) + 1) (rowLines rules lines) ≡ nth (k * satellites p + j) (ofKind rules velocityKind lines)
     row-motion = in-turn true
 
 -- Known and absent are all: a row's place is there or it is absent, and the two numbers add up to that of the rows.

@@ -9,11 +9,12 @@ use lib.Dec.{eqb}
 use Rattle.laws.specs.Tests.{within}
 use Rattle.layout.specs.Layout.{faultOf}
 use Rattle.layout.specs.Line.{padded}
-use Rattle.machine.specs.Checks.{instantIn, secondAgrees, typeAgrees}
+use Rattle.record.specs.Agrees.{instantIn, secondAgrees, typeAgrees}
 use Rattle.record.specs.Descriptors.{descriptorOf, characterItems, baseOf, floatItems, integerItems}
 use Rattle.record.specs.Opening.{firstOf, secondOf}
 use Rattle.record.specs.Plain.{commentItems, endItems}
 use Rattle.record.specs.SlotLines.{satellitesOf, countIn}
+use Rattle.record.specs.LineKinds.{firstKind, secondKind, satellitesKind, accuraciesKind, charactersKind, floatsKind, integersKind, commentKind, epochKind, positionKind, velocityKind, positionCorrelationKind, velocityCorrelationKind, endKind}
 use Rattle.header.specs.declared.types.Rules.{Rules}
 use Rattle.record.specs.declared.types.LineKind.the-variants as kind
 use Rattle.file.specs.Kinds.{kindIn, ofKind}
@@ -50,43 +51,43 @@ module _ {rules : Rules} {lines : List (List ℕ)} (p : Plain rules lines) where
   by-epochs = by-epoch rules velocities identifiers interval8 epochs start8 (p .epochs) (p .are-epochs)
 
   -- the parts of the header, each of its kind
-  pub first-kind : Of rules 1 (p .first ∷ [])
+  pub first-kind : Of rules firstKind (p .first ∷ [])
   first-kind = (record-kind rules kind.First (firstOf rules (padded (p .first)) .fault) (p .first) (p .is-first), tt)
 
-  pub second-kind : Of rules 2 (p .second ∷ [])
+  pub second-kind : Of rules secondKind (p .second ∷ [])
   second-kind = (record-kind rules kind.Second (secondOf (padded (p .second)) .fault) (p .second) (and-left _ (secondAgrees start8 (secondOf (padded (p .second)))) (p .is-second)), tt)
 
-  pub identifiers-kind : Of rules 3 (p .count ∷ p .slots)
+  pub identifiers-kind : Of rules satellitesKind (p .count ∷ p .slots)
   identifiers-kind = (
     record-kind rules kind.Satellites (satellitesOf rules (padded (p .count)) .fault) (p .count) (p .is-count),
     slots-kind rules false _ (p .slots) (p .are-slots),
   )
 
-  pub accuracies-kind : Of rules 4 (p .accuracies)
+  pub accuracies-kind : Of rules accuraciesKind (p .accuracies)
   accuracies-kind = slots-kind rules true satellites (p .accuracies) (p .are-accuracies)
 
-  pub characters-kind : Of rules 5 (p .descriptor ∷ p .characters ∷ [])
+  pub characters-kind : Of rules charactersKind (p .descriptor ∷ p .characters ∷ [])
   characters-kind = (
     record-kind rules kind.Characters (descriptorOf (padded (p .descriptor)) .fault) (p .descriptor) (and-left _ (typeAgrees (descriptorOf (padded (p .descriptor)) .«file_type») identifiers) (p .is-descriptor)),
     (record-kind rules kind.Characters (faultOf characterItems (padded (p .characters))) (p .characters) (p .is-characters), tt),
   )
 
-  pub floats-kind : Of rules 6 (p .bases ∷ p .floats ∷ [])
+  pub floats-kind : Of rules floatsKind (p .bases ∷ p .floats ∷ [])
   floats-kind = (
     record-kind rules kind.Floats (baseOf (padded (p .bases)) .fault) (p .bases) (p .is-bases),
     (record-kind rules kind.Floats (faultOf floatItems (padded (p .floats))) (p .floats) (p .is-floats), tt),
   )
 
-  pub integers-kind : Of rules 7 (p .integers ∷ p .integers′ ∷ [])
+  pub integers-kind : Of rules integersKind (p .integers ∷ p .integers′ ∷ [])
   integers-kind = (
     record-kind rules kind.Integers (faultOf integerItems (padded (p .integers))) (p .integers) (p .is-integers),
     (record-kind rules kind.Integers (faultOf integerItems (padded (p .integers′))) (p .integers′) (p .is-integers′), tt),
   )
 
-  pub comments-kind : Of rules 8 (p .comments)
+  pub comments-kind : Of rules commentKind (p .comments)
   comments-kind = records-kind rules kind.Comment (λ (l : List ℕ). faultOf commentItems (padded l)) (p .comments) (p .are-comments)
 
-  pub last-kind : Of rules 14 (p .last ∷ [])
+  pub last-kind : Of rules endKind (p .last ∷ [])
   last-kind = (record-kind rules kind.EndOfFile (faultOf endItems (padded (p .last))) (p .last) (p .is-last), tt)
 
   -- any choice of kinds, part by part
@@ -95,89 +96,89 @@ module _ {rules : Rules} {lines : List (List ℕ)} (p : Plain rules lines) where
     part k ls = cond (pick k) ls []
 
     abbrev tail : List (List ℕ)
-    tail = picked rules pick (p .epochs) ++ part 14 (p .last ∷ [])
+    tail = picked rules pick (p .epochs) ++ part endKind (p .last ∷ [])
 
     whole-picked : picked rules pick lines
-        ≡ part 1 (p .first ∷ [])
-        ++ (part 2 (p .second ∷ [])
-        ++ (part 3 (p .count ∷ p .slots)
-        ++ (part 4 (p .accuracies)
-        ++ (part 5 (p .descriptor ∷ p .characters ∷ [])
-        ++ (part 6 (p .bases ∷ p .floats ∷ []) ++ (part 7 (p .integers ∷ p .integers′ ∷ []) ++ (part 8 (p .comments) ++ tail)))))))
+        ≡ part firstKind (p .first ∷ [])
+        ++ (part secondKind (p .second ∷ [])
+        ++ (part satellitesKind (p .count ∷ p .slots)
+        ++ (part accuraciesKind (p .accuracies)
+        ++ (part charactersKind (p .descriptor ∷ p .characters ∷ [])
+        ++ (part floatsKind (p .bases ∷ p .floats ∷ []) ++ (part integersKind (p .integers ∷ p .integers′ ∷ []) ++ (part commentKind (p .comments) ++ tail)))))))
     whole-picked =
         ap (picked rules pick) (p .lines-are)
-        ∙ next 1 (p .first ∷ []) _ _ first-kind
-        (next 2 (p .second ∷ []) _ _ second-kind
-        (next 3 (p .count ∷ p .slots) _ _ identifiers-kind
-        (next 4 (p .accuracies) _ _ accuracies-kind
-        (next 5 (p .descriptor ∷ p .characters ∷ []) _ _ characters-kind
-        (next 6 (p .bases ∷ p .floats ∷ []) _ _ floats-kind
-        (next 7 (p .integers ∷ p .integers′ ∷ []) _ _ integers-kind
-        (next 8 (p .comments) _ _ comments-kind
+        ∙ next firstKind (p .first ∷ []) _ _ first-kind
+        (next secondKind (p .second ∷ []) _ _ second-kind
+        (next satellitesKind (p .count ∷ p .slots) _ _ identifiers-kind
+        (next accuraciesKind (p .accuracies) _ _ accuracies-kind
+        (next charactersKind (p .descriptor ∷ p .characters ∷ []) _ _ characters-kind
+        (next floatsKind (p .bases ∷ p .floats ∷ []) _ _ floats-kind
+        (next integersKind (p .integers ∷ p .integers′ ∷ []) _ _ integers-kind
+        (next commentKind (p .comments) _ _ comments-kind
         (select-append (λ (l : List ℕ). pick (kindIn rules l)) (p .epochs) (p .last ∷ [])
-        ∙ ap (λ (t : List (List ℕ)). picked rules pick (p .epochs) ++ t) (picked-of rules pick 14 (p .last ∷ []) last-kind)))))))))
+        ∙ ap (λ (t : List (List ℕ)). picked rules pick (p .epochs) ++ t) (picked-of rules pick endKind (p .last ∷ []) last-kind)))))))))
       where
         next : (k : ℕ) (ls more after : List (List ℕ)) → Of rules k ls → picked rules pick more ≡ after → picked rules pick (ls ++ more) ≡ part k ls ++ after
         next k ls more after h e = picked-part rules pick k ls more h ∙ ap (λ (t : List (List ℕ)). part k ls ++ t) e
 
   -- a kind that no line of the epochs has
-  none-among : (k : ℕ) → within 9 13 k ≡ false → ofKind rules k (p .epochs) ≡ []
+  none-among : (k : ℕ) → within epochKind velocityCorrelationKind k ≡ false → ofKind rules k (p .epochs) ≡ []
   none-among k h =
-      body-none rules velocities (λ (n : ℕ). eqb n k) (other 12 refl) (other 13 refl) by-epochs
-      (other 9 refl) (other 10 refl) (other 11 refl)
+      body-none rules velocities (λ (n : ℕ). eqb n k) (other positionCorrelationKind refl) (other velocityCorrelationKind refl) by-epochs
+      (other epochKind refl) (other positionKind refl) (other velocityKind refl)
     where
-      other : (i : ℕ) → within 9 13 i ≡ true → eqb i k ≡ false
-      other i t = ne-eqb i k (λ e. false≢true (sym h ∙ ap (within 9 13) (sym e) ∙ t))
+      other : (i : ℕ) → within epochKind velocityCorrelationKind i ≡ true → eqb i k ≡ false
+      other i t = ne-eqb i k (λ e. false≢true (sym h ∙ ap (within epochKind velocityCorrelationKind) (sym e) ∙ t))
 
   -- THE KINDS: what each selection gives. In words: the first line is the only one of its kind, and so on.
-  pub kind-1 : ofKind rules 1 lines ≡ p .first ∷ []
-  kind-1 = whole-picked (λ (n : ℕ). eqb n 1) ∙ rw (none-among 1 refl)
+  pub kind-1 : ofKind rules firstKind lines ≡ p .first ∷ []
+  kind-1 = whole-picked (λ (n : ℕ). eqb n firstKind) ∙ rw (none-among firstKind refl)
 
-  pub kind-2 : ofKind rules 2 lines ≡ p .second ∷ []
-  kind-2 = whole-picked (λ (n : ℕ). eqb n 2) ∙ rw (none-among 2 refl)
+  pub kind-2 : ofKind rules secondKind lines ≡ p .second ∷ []
+  kind-2 = whole-picked (λ (n : ℕ). eqb n secondKind) ∙ rw (none-among secondKind refl)
 
-  pub kind-3 : ofKind rules 3 lines ≡ p .count ∷ p .slots
+  pub kind-3 : ofKind rules satellitesKind lines ≡ p .count ∷ p .slots
   kind-3 =
-      whole-picked (λ (n : ℕ). eqb n 3)
-      ∙ rw (none-among 3 refl) (append-nil (p .count ∷ p .slots))
+      whole-picked (λ (n : ℕ). eqb n satellitesKind)
+      ∙ rw (none-among satellitesKind refl) (append-nil (p .count ∷ p .slots))
 
-  pub kind-4 : ofKind rules 4 lines ≡ p .accuracies
+  pub kind-4 : ofKind rules accuraciesKind lines ≡ p .accuracies
   kind-4 =
-      whole-picked (λ (n : ℕ). eqb n 4)
-      ∙ rw (none-among 4 refl) (append-nil (p .accuracies))
+      whole-picked (λ (n : ℕ). eqb n accuraciesKind)
+      ∙ rw (none-among accuraciesKind refl) (append-nil (p .accuracies))
 
-  pub kind-5 : ofKind rules 5 lines ≡ p .descriptor ∷ p .characters ∷ []
-  kind-5 = whole-picked (λ (n : ℕ). eqb n 5) ∙ rw (none-among 5 refl)
+  pub kind-5 : ofKind rules charactersKind lines ≡ p .descriptor ∷ p .characters ∷ []
+  kind-5 = whole-picked (λ (n : ℕ). eqb n charactersKind) ∙ rw (none-among charactersKind refl)
 
-  pub kind-6 : ofKind rules 6 lines ≡ p .bases ∷ p .floats ∷ []
-  kind-6 = whole-picked (λ (n : ℕ). eqb n 6) ∙ rw (none-among 6 refl)
+  pub kind-6 : ofKind rules floatsKind lines ≡ p .bases ∷ p .floats ∷ []
+  kind-6 = whole-picked (λ (n : ℕ). eqb n floatsKind) ∙ rw (none-among floatsKind refl)
 
-  pub kind-7 : ofKind rules 7 lines ≡ p .integers ∷ p .integers′ ∷ []
-  kind-7 = whole-picked (λ (n : ℕ). eqb n 7) ∙ rw (none-among 7 refl)
+  pub kind-7 : ofKind rules integersKind lines ≡ p .integers ∷ p .integers′ ∷ []
+  kind-7 = whole-picked (λ (n : ℕ). eqb n integersKind) ∙ rw (none-among integersKind refl)
 
-  pub kind-8 : ofKind rules 8 lines ≡ p .comments
+  pub kind-8 : ofKind rules commentKind lines ≡ p .comments
   kind-8 =
-      whole-picked (λ (n : ℕ). eqb n 8)
-      ∙ rw (none-among 8 refl) (append-nil (p .comments))
+      whole-picked (λ (n : ℕ). eqb n commentKind)
+      ∙ rw (none-among commentKind refl) (append-nil (p .comments))
 
-  pub kind-14 : ofKind rules 14 lines ≡ p .last ∷ []
-  kind-14 = whole-picked (λ (n : ℕ). eqb n 14) ∙ rw (none-among 14 refl)
+  pub kind-14 : ofKind rules endKind lines ≡ p .last ∷ []
+  kind-14 = whole-picked (λ (n : ℕ). eqb n endKind) ∙ rw (none-among endKind refl)
 
   -- epochs, P, V, EP and EV stand in the part of the epochs alone
-  pub kind-9 : ofKind rules 9 lines ≡ ofKind rules 9 (p .epochs)
-  kind-9 = whole-picked (λ (n : ℕ). eqb n 9) ∙ append-nil (ofKind rules 9 (p .epochs))
+  pub kind-9 : ofKind rules epochKind lines ≡ ofKind rules epochKind (p .epochs)
+  kind-9 = whole-picked (λ (n : ℕ). eqb n epochKind) ∙ append-nil (ofKind rules epochKind (p .epochs))
 
-  pub kind-10 : ofKind rules 10 lines ≡ ofKind rules 10 (p .epochs)
-  kind-10 = whole-picked (λ (n : ℕ). eqb n 10) ∙ append-nil (ofKind rules 10 (p .epochs))
+  pub kind-10 : ofKind rules positionKind lines ≡ ofKind rules positionKind (p .epochs)
+  kind-10 = whole-picked (λ (n : ℕ). eqb n positionKind) ∙ append-nil (ofKind rules positionKind (p .epochs))
 
-  pub kind-11 : ofKind rules 11 lines ≡ ofKind rules 11 (p .epochs)
-  kind-11 = whole-picked (λ (n : ℕ). eqb n 11) ∙ append-nil (ofKind rules 11 (p .epochs))
+  pub kind-11 : ofKind rules velocityKind lines ≡ ofKind rules velocityKind (p .epochs)
+  kind-11 = whole-picked (λ (n : ℕ). eqb n velocityKind) ∙ append-nil (ofKind rules velocityKind (p .epochs))
 
-  pub kind-12 : ofKind rules 12 lines ≡ ofKind rules 12 (p .epochs)
-  kind-12 = whole-picked (λ (n : ℕ). eqb n 12) ∙ append-nil (ofKind rules 12 (p .epochs))
+  pub kind-12 : ofKind rules positionCorrelationKind lines ≡ ofKind rules positionCorrelationKind (p .epochs)
+  kind-12 = whole-picked (λ (n : ℕ). eqb n positionCorrelationKind) ∙ append-nil (ofKind rules positionCorrelationKind (p .epochs))
 
-  pub kind-13 : ofKind rules 13 lines ≡ ofKind rules 13 (p .epochs)
-  kind-13 = whole-picked (λ (n : ℕ). eqb n 13) ∙ append-nil (ofKind rules 13 (p .epochs))
+  pub kind-13 : ofKind rules velocityCorrelationKind lines ≡ ofKind rules velocityCorrelationKind (p .epochs)
+  kind-13 = whole-picked (λ (n : ℕ). eqb n velocityCorrelationKind) ∙ append-nil (ofKind rules velocityCorrelationKind (p .epochs))
 
   pub kind-rows : rowLines rules lines ≡ rowLines rules (p .epochs)
-  kind-rows = whole-picked (λ (n : ℕ). eqb n 10 || eqb n 11) ∙ append-nil (rowLines rules (p .epochs))
+  kind-rows = whole-picked (λ (n : ℕ). eqb n positionKind || eqb n velocityKind) ∙ append-nil (rowLines rules (p .epochs))

@@ -9,7 +9,7 @@ use native.Mathlib.Omega.{arith}
 use lib.Dec.{leb}
 use lib.ListN.{length}
 use Rattle.laws.specs.Tests.{within}
-use Rattle.record.specs.LineKinds.{toldKind}
+use Rattle.record.specs.LineKinds.{firstKind, commentKind, positionCorrelationKind, velocityCorrelationKind, toldKind}
 use Rattle.header.specs.declared.types.Rules.{Rules}
 use Rattle.record.specs.declared.types.LineKind.{LineKind}
 use Rattle.record.specs.declared.types.LineKind.the-variants as kind
@@ -48,12 +48,12 @@ module _ (rules : Rules) where
 
   -- a line of another kind is the same
   abbrev Ordinary : List ℕ → Type 0
-  Ordinary l = within 12 13 (kindIn rules l) ≡ false
+  Ordinary l = within positionCorrelationKind velocityCorrelationKind (kindIn rules l) ≡ false
 
   same-line : (l m : List ℕ) → Ordinary l → SameLine rules l m → l ≡ m
   same-line l m o (inl e) = e
-  same-line l m o (inr (inl both)) = absurd (false≢true (sym o ∙ ap (within 12 13) (line-kind rules kind.PositionCorrelation l (both .0))))
-  same-line l m o (inr (inr both)) = absurd (false≢true (sym o ∙ ap (within 12 13) (line-kind rules kind.VelocityCorrelation l (both .0))))
+  same-line l m o (inr (inl both)) = absurd (false≢true (sym o ∙ ap (within positionCorrelationKind velocityCorrelationKind) (line-kind rules kind.PositionCorrelation l (both .0))))
+  same-line l m o (inr (inr both)) = absurd (false≢true (sym o ∙ ap (within positionCorrelationKind velocityCorrelationKind) (line-kind rules kind.VelocityCorrelation l (both .0))))
 
   same-lines : (a b : List (List ℕ)) → Each Ordinary a → SameBut rules a b → a ≡ b
   same-lines [] [] o s = refl
@@ -98,9 +98,9 @@ module _ (rules : Rules) where
   -- so do the lines of a satellite, of an epoch and of all epochs
   row-ordinary : (v : Bool) (identifier : ℕ) (l : List ℕ) → isRowLine rules v identifier l ≡ true → Ordinary l
   row-ordinary v identifier l e =
-      ap (within 12 13) (row-kind rules v identifier l e) ∙ go v
+      ap (within positionCorrelationKind velocityCorrelationKind) (row-kind rules v identifier l e) ∙ go v
     where
-      go : (t : Bool) → within 12 13 (toldKind (rowKind t)) ≡ false
+      go : (t : Bool) → within positionCorrelationKind velocityCorrelationKind (toldKind (rowKind t)) ≡ false
       go true = refl
       go false = refl
 
@@ -151,7 +151,7 @@ module _ (rules : Rules) where
   same-epochs v identifiers interval8 zero at8 a b e s = no-more b (subst (λ (ls : List (List ℕ)). SameBut rules ls b) e s)
   same-epochs v identifiers interval8 (suc n) at8 a b e s =
       let l = e .0 in
-      let one = same-first l (e .1 ++ e .2) b (ap (within 12 13) (epoch-kind rules at8 l (e .4))) (subst (λ (ls : List (List ℕ)). SameBut rules ls b) (e .3) s) in
+      let one = same-first l (e .1 ++ e .2) b (ap (within positionCorrelationKind velocityCorrelationKind) (epoch-kind rules at8 l (e .4))) (subst (λ (ls : List (List ℕ)). SameBut rules ls b) (e .3) s) in
       let d = divided (e .1) (e .2) (one .0) (one .2) in (
         l,
         d .front,
@@ -165,11 +165,11 @@ module _ (rules : Rules) where
 -- ONE IS ACCEPTED WHERE THE OTHER IS.
 pub same-plain : (rules : Rules) (a b : List (List ℕ)) → SameBut rules a b → Plain rules a → Plain rules b
 same-plain rules a b s p =
-    let ordinary : Each (Ordinary rules) (header p) = each-weaken (λ (l : List ℕ). within 1 8 (kindIn rules l) ≡ true) (Ordinary rules) (λ l e. apart (kindIn rules l) e) (header p) (header-kinds p) in
+    let ordinary : Each (Ordinary rules) (header p) = each-weaken (λ (l : List ℕ). within firstKind commentKind (kindIn rules l) ≡ true) (Ordinary rules) (λ l e. apart (kindIn rules l) e) (header p) (header-kinds p) in
     let d = divided rules (header p) (p .epochs ++ (p .last ∷ [])) b (subst (λ (ls : List (List ℕ)). SameBut rules ls b) (three-parts p) s) in
     let e = divided rules (p .epochs) (p .last ∷ []) (d .back) (d .same-back) in
     let before : header p ≡ d .front = same-lines rules (header p) (d .front) ordinary (d .same-front) in
-    let after : p .last ∷ [] ≡ e .back = same-lines rules (p .last ∷ []) (e .back) (ap (within 12 13) (last-kind p .0), tt) (e .same-back) in
+    let after : p .last ∷ [] ≡ e .back = same-lines rules (p .last ∷ []) (e .back) (ap (within positionCorrelationKind velocityCorrelationKind) (last-kind p .0), tt) (e .same-back) in
     record {
       first = p .first;
       second = p .second;
@@ -210,8 +210,8 @@ same-plain rules a b s p =
       is-last = p .is-last;
     }
   where
-    apart : (k : ℕ) → within 1 8 k ≡ true → within 12 13 k ≡ false
-    apart k e = below-within 12 13 k (omega (arith, within-true 1 8 k e))
+    apart : (k : ℕ) → within firstKind commentKind k ≡ true → within positionCorrelationKind velocityCorrelationKind k ≡ false
+    apart k e = below-within positionCorrelationKind velocityCorrelationKind k (omega (arith, within-true firstKind commentKind k e))
 
 -- and the other where the one is
 pub plain-same : (rules : Rules) (a b : List (List ℕ)) → SameBut rules a b → Plain rules b → Plain rules a

@@ -13,9 +13,8 @@ use Rattle.layout.specs.Kind.{identifierCode}
 use Rattle.layout.specs.Layout.{faultOf}
 use Rattle.layout.specs.Line.{padded}
 use Rattle.lines.specs.Lines.{select}
-use Rattle.machine.specs.Checks.{instantIn}
-use Rattle.machine.specs.Faults.{longest}
-use Rattle.record.specs.LineKinds.{toldKind}
+use Rattle.record.specs.Agrees.{instantIn}
+use Rattle.record.specs.LineKinds.{toldKind, longest, commentKind, epochKind}
 use Rattle.record.specs.Opening.{epochOf}
 use Rattle.record.specs.Plain.{commentItems}
 use Rattle.record.specs.Rows.{rowFault, cut}
@@ -97,10 +96,10 @@ module _ (rules : Rules) where
   pub epoch-record : (at8 : ℕ) (l : List ℕ) → isEpochLine rules at8 l ≡ true → isRecord rules kind.Epoch (epochOf (padded l) .fault) l ≡ true
   epoch-record at8 l e = and-left (isRecord rules kind.Epoch (epochOf (padded l) .fault) l) (eqb (instantIn (epochOf (padded l) .moment)) at8) e
 
-  pub epoch-kind : (at8 : ℕ) (l : List ℕ) → isEpochLine rules at8 l ≡ true → kindIn rules l ≡ 9
+  pub epoch-kind : (at8 : ℕ) (l : List ℕ) → isEpochLine rules at8 l ≡ true → kindIn rules l ≡ epochKind
   epoch-kind at8 l e = record-kind kind.Epoch (epochOf (padded l) .fault) l (epoch-record at8 l e)
 
-  pub comment-kind : (l : List ℕ) → isCommentLine rules l ≡ true → kindIn rules l ≡ 8
+  pub comment-kind : (l : List ℕ) → isCommentLine rules l ≡ true → kindIn rules l ≡ commentKind
   comment-kind l e = record-kind kind.Comment (faultOf commentItems (padded l)) l e
 
   -- lines that are all of one kind

@@ -11,7 +11,9 @@ use lib.ListN.{length, getD, take, drop}
 use lib.Seq.{take-at, drop-append-add, getD-take, getD-drop}
 use Rattle.lines.specs.Lent.{flat}
 use Rattle.lines.specs.Lines.{nth}
-use Rattle.record.specs.Rows.{rowOf}
+use Rattle.record.specs.Rows.{rowOf, rowWidth}
+use Rattle.record.specs.LineKinds.{commentKind, positionKind, velocityKind}
+use Rattle.record.specs.Plain.{commentWidth}
 use Rattle.header.specs.declared.types.Rules.{Rules}
 use Rattle.file.specs.Kinds.{ofKind}
 use Rattle.file.specs.Plain.{Plain}
@@ -38,17 +40,17 @@ module _ {A : Type 0} (w : ℕ) (f : List ℕ → List A) (wide : (l : List ℕ)
 
 module _ (rules : Rules) (lines : List (List ℕ)) where
   -- the row r of any lines, and the comment c
-  pub row-stored : (r : ℕ) → r < length (rowLines rules lines) → take 12 (drop (12 * r) (rowsIn rules lines)) ≡ rowNumbers (rowIn rules (nth r (rowLines rules lines)))
+  pub row-stored : (r : ℕ) → r < length (rowLines rules lines) → take rowWidth (drop (rowWidth * r) (rowsIn rules lines)) ≡ rowNumbers (rowIn rules (nth r (rowLines rules lines)))
   unfolding numbersOfRows
   row-stored r h =
-      ap (λ (m : ℕ). take 12 (drop m (rowsIn rules lines))) (mul-comm 12 r)
-      ∙ part-stored 12 (λ (l : List ℕ). rowNumbers (rowIn rules l)) (row-wide rules) (rowLines rules lines) r h
+      ap (λ (m : ℕ). take rowWidth (drop m (rowsIn rules lines))) (mul-comm rowWidth r)
+      ∙ part-stored rowWidth (λ (l : List ℕ). rowNumbers (rowIn rules l)) (row-wide rules) (rowLines rules lines) r h
 
-  pub comment-stored : (c : ℕ) → c < length (ofKind rules 8 lines) → take 77 (drop (77 * c) (commentsIn rules lines)) ≡ commentText (nth c (ofKind rules 8 lines))
+  pub comment-stored : (c : ℕ) → c < length (ofKind rules commentKind lines) → take commentWidth (drop (commentWidth * c) (commentsIn rules lines)) ≡ commentText (nth c (ofKind rules commentKind lines))
   unfolding commentsIn
   comment-stored c h =
-      ap (λ (m : ℕ). take 77 (drop m (commentsIn rules lines))) (mul-comm 77 c)
-      ∙ part-stored 77 commentText comment-wide (ofKind rules 8 lines) c h
+      ap (λ (m : ℕ). take commentWidth (drop m (commentsIn rules lines))) (mul-comm commentWidth c)
+      ∙ part-stored commentWidth commentText comment-wide (ofKind rules commentKind lines) c h
 
   -- identifier or exponent 17 * k + i stands in slot i of the k-th line of its kind
   pub slot-stored : (accuracies : Bool) (n k i : ℕ) → k < length (ofKind rules (slotLineKind accuracies) lines) → i < 17 → 17 * k + i < n
@@ -74,13 +76,13 @@ module _ {rules : Rules} {lines : List (List ℕ)} (p : Plain rules lines) (k j 
   rowAt = k * satellites p + j
 
   abbrev pub placeLine : List ℕ
-  placeLine = nth rowAt (ofKind rules 10 lines)
+  placeLine = nth rowAt (ofKind rules positionKind lines)
 
   abbrev pub motionLine : List ℕ
-  motionLine = nth rowAt (ofKind rules 11 lines)
+  motionLine = nth rowAt (ofKind rules velocityKind lines)
 
   -- without velocities: its twelve numbers stand at 12 * (k * n + j), and are those of its P line
-  pub place-stored : velocities p ≡ false → take 12 (drop (12 * rowAt) (rowsIn rules lines)) ≡ exactNumbers (rowOf false placeLine)
+  pub place-stored : velocities p ≡ false → take rowWidth (drop (rowWidth * rowAt) (rowsIn rules lines)) ≡ exactNumbers (rowOf false placeLine)
   place-stored alone =
       row-stored rules lines rowAt (omega (arith, rows-many p alone, below k (epochs p) (satellites p) j hk hj))
       ∙ ap (λ (ls : List (List ℕ)). rowNumbers (rowIn rules (nth rowAt ls))) (rows-are-places p alone)
@@ -88,13 +90,13 @@ module _ {rules : Rules} {lines : List (List ℕ)} (p : Plain rules lines) (k j 
 
   -- with velocities: those of its P line at 12 * (2 * (k * n + j)), those of its V line after them
   module _ (both : velocities p ≡ true) where
-    pub place-stored-both : take 12 (drop (12 * (2 * rowAt)) (rowsIn rules lines)) ≡ exactNumbers (rowOf false placeLine)
+    pub place-stored-both : take rowWidth (drop (rowWidth * (2 * rowAt)) (rowsIn rules lines)) ≡ exactNumbers (rowOf false placeLine)
     place-stored-both =
         row-stored rules lines (2 * rowAt) (omega (arith, rows-many-both p both, below k (epochs p) (satellites p) j hk hj))
         ∙ ap (λ (l : List ℕ). rowNumbers (rowIn rules l)) (row-begins p both k j hk hj)
         ∙ row-exact rules false (getD (identifiers p) j 0) placeLine (place-at p k j hk hj)
 
-    pub motion-stored : take 12 (drop (12 * (2 * rowAt + 1)) (rowsIn rules lines)) ≡ exactNumbers (rowOf true motionLine)
+    pub motion-stored : take rowWidth (drop (rowWidth * (2 * rowAt + 1)) (rowsIn rules lines)) ≡ exactNumbers (rowOf true motionLine)
     motion-stored =
         row-stored rules lines (2 * rowAt + 1) (omega (arith, rows-many-both p both, below k (epochs p) (satellites p) j hk hj))
         ∙ ap (λ (l : List ℕ). rowNumbers (rowIn rules l)) (row-motion p both k j hk hj)

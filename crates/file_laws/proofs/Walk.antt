@@ -9,7 +9,7 @@ use borrow.Author.Tests.{ne-eqb}
 use lib.Dec.{leb, eqb}
 use lib.ListN.{length}
 use Rattle.laws.specs.Tests.{within}
-use Rattle.record.specs.LineKinds.{toldKind}
+use Rattle.record.specs.LineKinds.{firstKind, secondKind, satellitesKind, accuraciesKind, charactersKind, floatsKind, integersKind, positionCorrelationKind, endKind, toldKind}
 use Rattle.header.specs.declared.types.Rules.{Rules}
 use Rattle.record.specs.declared.types.LineKind.{LineKind}
 use Rattle.record.specs.declared.types.LineKind.the-variants as kind
@@ -22,7 +22,7 @@ use Rattle.file_laws.proofs.Selected.{velocities, identifiers, interval
 
 -- the kinds of the other lines: the header without its comments, EP and EV, EOF
 abbrev pub isOther : ℕ → Bool
-isOther k = within 1 7 k || within 12 14 k
+isOther k = within firstKind integersKind k || within positionCorrelationKind endKind k
 
 pub other-apart : (k i : ℕ) → isOther k ≡ true → isOther i ≡ false → eqb k i ≡ false
 other-apart k i e t = ne-eqb k i (λ same. false≢true (sym t ∙ ap isOther (sym same) ∙ e))
@@ -87,15 +87,15 @@ module _ (rules : Rules) (holds : List ℕ → Type 0) (c : Covers rules holds) 
       let l3 = p .count ∷ (p .slots ++ l4) in
       let e9 = join (p .epochs) (p .last ∷ [])
       (epochs-hold (velocities p) (identifiers p) (interval8 p) (epochs p) (start8 p) (p .epochs) (p .are-epochs))
-      (of-other 14 (p .last ∷ []) refl (last-kind p)) in
+      (of-other endKind (p .last ∷ []) refl (last-kind p)) in
       let e8 = join (p .comments) l9 (comments-hold (p .comments) (p .are-comments)) e9 in
-      let e7 = join (p .integers ∷ p .integers′ ∷ []) l8 (of-other 7 (p .integers ∷ p .integers′ ∷ []) refl (integers-kind p)) e8 in
-      let e6 = join (p .bases ∷ p .floats ∷ []) l7 (of-other 6 (p .bases ∷ p .floats ∷ []) refl (floats-kind p)) e7 in
-      let e5 = join (p .descriptor ∷ p .characters ∷ []) l6 (of-other 5 (p .descriptor ∷ p .characters ∷ []) refl (characters-kind p)) e6 in
-      let e4 = join (p .accuracies) l5 (of-other 4 (p .accuracies) refl (accuracies-kind p)) e5 in
-      let e3 = join (p .count ∷ p .slots) l4 (of-other 3 (p .count ∷ p .slots) refl (identifiers-kind p)) e4 in
-      let e2 = join (p .second ∷ []) l3 (of-other 2 (p .second ∷ []) refl (second-kind p)) e3 in
-      subst (Each holds) (sym (p .lines-are)) (join (p .first ∷ []) (p .second ∷ l3) (of-other 1 (p .first ∷ []) refl (first-kind p)) e2)
+      let e7 = join (p .integers ∷ p .integers′ ∷ []) l8 (of-other integersKind (p .integers ∷ p .integers′ ∷ []) refl (integers-kind p)) e8 in
+      let e6 = join (p .bases ∷ p .floats ∷ []) l7 (of-other floatsKind (p .bases ∷ p .floats ∷ []) refl (floats-kind p)) e7 in
+      let e5 = join (p .descriptor ∷ p .characters ∷ []) l6 (of-other charactersKind (p .descriptor ∷ p .characters ∷ []) refl (characters-kind p)) e6 in
+      let e4 = join (p .accuracies) l5 (of-other accuraciesKind (p .accuracies) refl (accuracies-kind p)) e5 in
+      let e3 = join (p .count ∷ p .slots) l4 (of-other satellitesKind (p .count ∷ p .slots) refl (identifiers-kind p)) e4 in
+      let e2 = join (p .second ∷ []) l3 (of-other secondKind (p .second ∷ []) refl (second-kind p)) e3 in
+      subst (Each holds) (sym (p .lines-are)) (join (p .first ∷ []) (p .second ∷ l3) (of-other firstKind (p .first ∷ []) refl (first-kind p)) e2)
     where
       join : (a b : List (List ℕ)) → Each holds a → Each holds b → Each holds (a ++ b)
       join = each-append holds

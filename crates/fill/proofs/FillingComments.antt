@@ -13,6 +13,7 @@ use Rattle.layout.specs.Line.{padded}
 use Rattle.layout.proofs.Lines.{padded-length}
 use Rattle.lines.specs.Lent.{laid}
 use Rattle.lines.specs.Lines.{lineLength, linesOf, select}
+use Rattle.record.specs.Plain.{commentWidth}
 use Rattle.lines.proofs.Laying.{laid-none}
 use Rattle.file.specs.Table.{commentText}
 use Rattle.fill.proofs.Filling.{Filling, either-met, filling-full, filling-kept, filling-last, filling-more, filling-none, neither-met, parts-none, parts-one, parts-spent, partsLeft}
@@ -21,9 +22,9 @@ use Rattle.fill.proofs.Filling.{Filling, either-met, filling-full, fill
 pub no-comments : (count : ℕ) (ls : List (List ℕ)) (old : List ℕ) → count ≡ 0 → old ≡ laid (partsLeft commentText count ls) old
 no-comments count ls old e = sym (ap (λ (t : List ℕ). laid t old) (parts-spent commentText count ls e) ∙ laid-none old)
 
-pub comment-length : (line : List ℕ) → length (commentText line) ≡ 77
+pub comment-length : (line : List ℕ) → length (commentText line) ≡ commentWidth
 comment-length line =
-    omega (arith, length-take 77 (drop 3 (padded line)), length-drop 3 (padded line), padded-length line)
+    omega (arith, length-take commentWidth (drop 3 (padded line)), length-drop 3 (padded line), padded-length line)
 
 module _ {test : List ℕ → Bool} {bytes all old now : List ℕ} {at stored left : ℕ}
     (f : Filling test (partsLeft commentText) bytes all old now at stored left) (end : ℕ) (found : end ≡ at + lineLength (drop at bytes)) where
@@ -45,11 +46,11 @@ module _ {test : List ℕ → Bool} {bytes all old now : List ℕ} {at stored le
     comments-kept = filling-kept f end found h is text (left - 1) comments-here e
 
     -- the last of them
-    pub comments-done : (leb left 1 || leb (length (putMid stored (length now - stored) now part) - stored) 77) ≡ true
+    pub comments-done : (leb left 1 || leb (length (putMid stored (length now - stored) now part) - stored) commentWidth) ≡ true
         → putMid stored (length now - stored) now part ≡ laid all old
-    comments-done flag = go (either-met left 1 (length (putMid stored (length now - stored) now part) - stored) 77 flag)
+    comments-done flag = go (either-met left 1 (length (putMid stored (length now - stored) now part) - stored) commentWidth flag)
       where
-        go : (left ≤ 1) ⊎ (length (putMid stored (length now - stored) now part) - stored ≤ 77)
+        go : (left ≤ 1) ⊎ (length (putMid stored (length now - stored) now part) - stored ≤ commentWidth)
             → putMid stored (length now - stored) now part ≡ laid all old
         go (inl w) = filling-last f end found h is text (left - 1) comments-here e (parts-spent commentText (left - 1) more-comments (omega arith))
         go (inr w) =
@@ -57,12 +58,12 @@ module _ {test : List ℕ → Bool} {bytes all old now : List ℕ} {at stored le
             (omega (arith, comment-length (take (end - at) (drop at bytes)), comments-kept))
 
     -- and more
-    pub comments-more : (leb left 1 || leb (length (putMid stored (length now - stored) now part) - stored) 77) ≡ false
+    pub comments-more : (leb left 1 || leb (length (putMid stored (length now - stored) now part) - stored) commentWidth) ≡ false
         → (0 < left - 1)
-        × Filling test (partsLeft commentText) bytes all old (putMid stored (length now - stored) now part) (end + 1) (stored + 77) (left - 1)
+        × Filling test (partsLeft commentText) bytes all old (putMid stored (length now - stored) now part) (end + 1) (stored + commentWidth) (left - 1)
     comments-more flag =
-        let both = neither-met left 1 (length (putMid stored (length now - stored) now part) - stored) 77 flag in
-        let size : length text ≡ 77 = comment-length (take (end - at) (drop at bytes)) in (
+        let both = neither-met left 1 (length (putMid stored (length now - stored) now part) - stored) commentWidth flag in
+        let size : length text ≡ commentWidth = comment-length (take (end - at) (drop at bytes)) in (
           omega (arith, both .0),
           rw size at (filling-more f end found h is text (left - 1) comments-here e (omega (arith, both .1, comments-kept))),
         )

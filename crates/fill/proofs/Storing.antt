@@ -7,12 +7,13 @@ use native.Mathlib.Omega.{arith}
 use lib.IntN.{ℤ}
 use lib.ListN.{length, set}
 use Rattle.lines.specs.Lent.{over}
+use Rattle.record.specs.Rows.{rowWidth}
 use Rattle.lines.proofs.Laying.{laying-none, laying-one, laying-all, laid-fits}
 use Rattle.record.specs.declared.types.Row.{Row}
 use Rattle.file.specs.Table.{storedSigned, storedCount, storedMark, rowNumbers}
 
 -- twelve numbers, stored one after another
-pub twelve-stored : {a b c d e f g h i j k l : ℤ} (old : List ℤ) → 12 ≤ length old
+pub twelve-stored : {a b c d e f g h i j k l : ℤ} (old : List ℤ) → rowWidth ≤ length old
     → set (set (set (set (set (set (set (set (set (set (set (set old 0 a) 1 b) 2 c) 3 d) 4 e) 5 f) 6 g) 7 h) 8 i) 9 j) 10 k) 11 l
     ≡ over (a ∷ b ∷ c ∷ d ∷ e ∷ f ∷ g ∷ h ∷ i ∷ j ∷ k ∷ l ∷ []) old
 twelve-stored {a} {b} {c} {d} {e} {f} {g} {h} {i} {j} {k} {l} old room =
@@ -32,7 +33,7 @@ twelve-stored {a} {b} {c} {d} {e} {f} {g} {h} {i} {j} {k} {l} old room =
     let s12 = laying-one (omega (arith, s11 .kept)) refl s11 in
     laying-all s12 ∙ laid-fits all old room
 
-pub row-stored : (p : Row) {a b c d e f g h i j k l : ℤ} (old : List ℤ) → 12 ≤ length old → a ≡ storedSigned (p .x) → b ≡ storedSigned (p .y)
+pub row-stored : (p : Row) {a b c d e f g h i j k l : ℤ} (old : List ℤ) → rowWidth ≤ length old → a ≡ storedSigned (p .x) → b ≡ storedSigned (p .y)
     → c ≡ storedSigned (p .z) → d ≡ storedSigned (p .clock) → e ≡ storedCount (p .«x_exponent») → f ≡ storedCount (p .«y_exponent»)
     → g ≡ storedCount (p .«z_exponent») → h ≡ storedCount (p .«clock_exponent») → i ≡ storedMark (p .event) → j ≡ storedMark (p .predicted)
     → k ≡ storedMark (p .maneuver) → l ≡ storedMark (p .«orbit_predicted»)

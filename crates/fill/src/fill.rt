@@ -5,11 +5,19 @@ ghost use Prim.Native.Nat.{_/_};
 ghost use lib.ListN.{length, take};
 ghost use Rattle.lines.specs.Lent.{laid, over, flat};
 ghost use Rattle.lines.specs.Lines.{linesOf};
+ghost use Rattle.record.specs.LineKinds.{commentKind};
+ghost use Rattle.record.specs.Rows.{rowWidth};
 ghost use Rattle.file.specs.Kinds.{ofKind};
-ghost use Rattle.file.specs.Table.{slotNumbers, slotsIn, commentText, rowWidth, rowLines, numbersOfRows};
+ghost use Rattle.file.specs.Table.{slotNumbers, slotsIn, commentText, rowLines, numbersOfRows};
 use crate::rows;
 use header::Rules;
-use stored_row::ROW_WIDTH;
+use record::kind::ACCURACIES_KIND;
+use record::kind::COMMENT_KIND;
+use record::kind::POSITION_KIND;
+use record::kind::SATELLITES_KIND;
+use record::kind::VELOCITY_KIND;
+use record::plain::COMMENT_WIDTH;
+use record::rows::ROW_WIDTH;
 
 // The numbers in the slots of a `+ ` line, or of a `++` line where `accuracies` says so, laid over the front of `out`, at most so many.
 fn lay_slots(line: &[u8], accuracies: bool, left: u64, out: &mut [u64])
@@ -31,7 +39,11 @@ fn lay_slots(line: &[u8], accuracies: bool, left: u64, out: &mut [u64])
 pub fn fill_slots(rules: Rules, bytes: &[u8], accuracies: bool, n: u64, out: &mut [u64])
     ensures lent { λ _. ⌜ now (out .exit) ≡ laid (slotsIn rules accuracies n (linesOf (now (bytes .entry)))) (now (out .entry)) ⌝ }
 {
-    let kind = if accuracies { 4 } else { 3 };
+    let kind = if accuracies {
+        ACCURACIES_KIND
+    } else {
+        SATELLITES_KIND
+    };
     let mut at: usize = 0;
     let mut stored: usize = 0;
     let mut left = n;
@@ -53,7 +65,7 @@ pub fn fill_slots(rules: Rules, bytes: &[u8], accuracies: bool, n: u64, out: &mu
     }
 }
 
-// The text of a comment, 77 bytes, laid over the front of `out`.
+// The text of a comment laid over the front of `out`.
 fn lay_comment(line: &[u8], out: &mut [u8])
     ensures { λ _. ⌜ now (out .exit) ≡ laid (commentText (now (line .entry))) (now (out .entry)) ⌝ }
 {
@@ -64,7 +76,7 @@ fn lay_comment(line: &[u8], out: &mut [u8])
 
 // The first comments, so many of them.
 pub fn fill_comments(rules: Rules, bytes: &[u8], count: u64, out: &mut [u8])
-    ensures lent { λ _. ⌜ now (out .exit) ≡ laid (flat (map commentText (take count (ofKind rules 8 (linesOf (now (bytes .entry))))))) (now (out .entry)) ⌝ }
+    ensures lent { λ _. ⌜ now (out .exit) ≡ laid (flat (map commentText (take count (ofKind rules commentKind (linesOf (now (bytes .entry))))))) (now (out .entry)) ⌝ }
 {
     if count == 0 {
         return;
@@ -78,13 +90,13 @@ pub fn fill_comments(rules: Rules, bytes: &[u8], count: u64, out: &mut [u8])
             return;
         }
         let line = &bytes[at..end];
-        if file::kind_in(rules, line) == 8 {
+        if file::kind_in(rules, line) == COMMENT_KIND {
             lay_comment(line, &mut out[stored..]);
-            if (left <= 1) | (out.len() - stored <= 77) {
+            if (left <= 1) | (out.len() - stored <= COMMENT_WIDTH) {
                 return;
             }
             left -= 1;
-            stored += 77;
+            stored += COMMENT_WIDTH;
         }
         at = end + 1;
     }
@@ -103,11 +115,14 @@ pub fn fill_rows(rules: Rules, bytes: &[u8], out: &mut [i64])
         }
         let line = &bytes[at..end];
         let kind = file::kind_in(rules, line);
-        if (kind == 10) | (kind == 11) {
+        if (kind == POSITION_KIND) | (kind == VELOCITY_KIND) {
             if out.len() - stored < ROW_WIDTH {
                 return;
             }
-            rows::store_row(record::rows::row_of(line, kind == 11), &mut out[stored..]);
+            rows::store_row(
+                record::rows::row_of(line, kind == VELOCITY_KIND),
+                &mut out[stored..],
+            );
             stored += ROW_WIDTH;
         }
         at = end + 1;

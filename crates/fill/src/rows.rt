@@ -3,6 +3,7 @@ ghost use mathlib.Core.Path.{_≡_};
 ghost use Prim.Native.Nat.{_≤_};
 ghost use lib.ListN.{length};
 ghost use Rattle.lines.specs.Lent.{over};
+ghost use Rattle.record.specs.Rows.{rowWidth};
 ghost use Rattle.file.specs.Table.{storedSigned, storedMark, rowNumbers};
 use record::Row;
 use record::Signed;
@@ -24,7 +25,7 @@ fn stored_mark(set: bool) -> i64
 
 // Stores a row in the first twelve places.
 pub(crate) fn store_row(row: Row, out: &mut [i64])
-    requires { ⌜ 12 ≤ length (now out) ⌝ }
+    requires { ⌜ rowWidth ≤ length (now out) ⌝ }
     ensures { λ _. ⌜ now (out .exit) ≡ over (rowNumbers row) (now (out .entry)) ⌝ }
 {
     let x = row.x;

@@ -3,9 +3,11 @@
 -- number, where a clock is absent its float is none; a row beside a refusal has both marks.
 use mathlib.Core.Bool.{Bool, true, false, cond}
 use mathlib.Core.List.{List}
-use Prim.Native.Nat.{ℕ}
+use Prim.Native.Nat.{ℕ, suc}
 use lib.Dec.{eqb}
+use lib.IntN.{ℤ, pos, negsuc}
 use lib.Ieee.{Float, nan, ofInt, binary64}
+use lib.Ieee.Exact.{HasValue}
 use lib.ListN.{drop}
 use Rattle.lines.specs.Lines.{linesOf, nth}
 use Rattle.record.specs.Absence.{placeAbsent, clockAbsent}
@@ -52,3 +54,8 @@ rowAnswer bytes place =
     cond (eqb (place .refusal) 0)
     (record { refusal = 0; line = 0; row = floatRow (rowOf false (lineFrom (place .at) bytes)) })
     (record { refusal = place .refusal; line = place .line; row = absentRow })
+
+-- a float is exactly a whole number: its sign and its size
+abbrev pub Exactly : Float → ℤ → Type 0
+Exactly v (pos n) = HasValue v false n 1
+Exactly v (negsuc n) = HasValue v true (suc n) 1

@@ -130,7 +130,7 @@ front-as-alone a b accepted identifiers exponents comments rows = (
 )
 
 -- ITS ROWS, by epoch k and satellite j, P rows (false) and in mode V the V rows (true): what a row holds is what the columns of its line say, each field by
--- its rule; and asked by name the lent rows give place, clock, exponents and flags of that line.
+-- its rule; and asked by wanted the lent rows give place, clock, exponents and flags of that line.
 module _ (bytes : List ℕ) (accepted : IsFile d bytes) (identifiers exponents comments : List ℕ) (old : List ℤ)
     (read : readAnswer d bytes (fileOf d bytes) identifiers exponents comments old .refusal ≡ 0) (k j : ℕ) (there : There bytes k j) (v : Bool)
     (mode : v ≡ true → header bytes .velocity ≡ true) where
@@ -166,12 +166,15 @@ module _ (bytes : List ℕ) (accepted : IsFile d bytes) (identifiers exponents c
       × (flagIn rows r 2 ≡ cond (row .maneuver) flag.Set flag.NotSet) × (flagIn rows r 3 ≡ cond (row .«orbit_predicted») flag.Set flag.NotSet)
   row-flags = lent.lent-flags bytes accepted identifiers exponents comments old read k j there v mode
 
--- A stored row that the lent numbers do not have is 13.
-pub stored-missing : (rows : List ℤ) (k : ℕ) → isThere rows k ≡ false
-    → (placeIn rows k ≡ place.NotThere) × (clockIn rows k ≡ clock.NotThere)
-    × ((which : ℕ) → deviationIn rows k which ≡ deviation.NotThere)
-    × ((which : ℕ) → flagIn rows k which ≡ flag.NotThere)
-stored-missing rows k none = answers.stored-missing rows k none
+-- Asked by wanted a row is 13 exactly where the lent numbers do not have it, an exponent or a flag also where it is none of the four.
+pub stored-thirteen : (rows : List ℤ) (k : ℕ)
+    → ((placeIn rows k ≡ place.NotThere) ↔ (isThere rows k ≡ false)) × ((clockIn rows k ≡ clock.NotThere) ↔ (isThere rows k ≡ false))
+stored-thirteen rows k = answers.stored-thirteen rows k
+
+pub stored-parts-thirteen : (rows : List ℤ) (k which : ℕ)
+    → ((deviationIn rows k which ≡ deviation.NotThere) ↔ ((isThere rows k && leb which 3) ≡ false))
+    × ((flagIn rows k which ≡ flag.NotThere) ↔ ((isThere rows k && leb which 3) ≡ false))
+stored-parts-thirteen rows k which = answers.stored-parts-thirteen rows k which
 
 module _ (bytes : List ℕ) (accepted : IsFile d bytes) where
   -- EVERY SATELLITE OF THE HEADER STAYS IN EVERY EPOCH, IN HEADER ORDER: the P rows number satellites times epochs,
@@ -193,10 +196,6 @@ module _ (bytes : List ℕ) (accepted : IsFile d bytes) where
   -- The row question answers for each of them,
   pub row-answered : (k j : ℕ) → There bytes k j → asked bytes k j .refusal ≡ 0
   row-answered k j there = floats.asked-answered bytes accepted k j there
-
-  -- 13 exactly for an epoch or satellite that the file does not have.
-  pub row-thirteen : (k j : ℕ) → (asked bytes k j .refusal ≡ 13) ↔ (IsFile d bytes × (There bytes k j → ⊥))
-  row-thirteen k j = answers.row-thirteen bytes k j
 
   -- ABSENT IS A CASE: the row question marks a place absent exactly when its three fields are zero, whatever the clock,
   pub absent-exactly : (k j : ℕ) (there : There bytes k j) → (asked bytes k j .row .«place_absent» ≡ true)
@@ -242,8 +241,21 @@ comment-refused bytes number line column e k = answers.comment-refused bytes num
 
 -- the satellite.
 pub satellite-refused : (bytes : List ℕ) (number line column : ℕ) → fileOf d bytes ≡ front.Refused number line column
-    → (name : ℕ) → satelliteAnswer d bytes (fileOf d bytes) name ≡ noSatellite number line
-satellite-refused bytes number line column e name = answers.satellite-refused bytes number line column e name
+    → (wanted : ℕ) → satelliteAnswer d bytes (fileOf d bytes) wanted ≡ noSatellite number line
+satellite-refused bytes number line column e wanted = answers.satellite-refused bytes number line column e wanted
+
+-- What is asked by number and is not there is 13: a row exactly where an accepted file has no such epoch or satellite, a comment exactly where it has no
+-- comment of that number. 12 is never the answer of a question.
+pub row-thirteen : (bytes : List ℕ) (k j : ℕ) → (asked bytes k j .refusal ≡ 13) ↔ (IsFile d bytes × (There bytes k j → ⊥))
+row-thirteen bytes k j = answers.row-thirteen bytes k j
+
+pub comment-thirteen : (bytes : List ℕ) (k : ℕ) → (commentAnswer d bytes (fileOf d bytes) k .refusal ≡ 13) ↔ (IsFile d bytes × (header bytes .comments ≤ k))
+comment-thirteen bytes k = answers.comment-thirteen bytes k
+
+pub questions-never-12 : (bytes : List ℕ) (k j : ℕ)
+    → (asked bytes k j .refusal ≡ 12 → ⊥) × (commentAnswer d bytes (fileOf d bytes) k .refusal ≡ 12 → ⊥)
+    × (satelliteAnswer d bytes (fileOf d bytes) k .refusal ≡ 12 → ⊥)
+questions-never-12 bytes k j = answers.questions-never-12 bytes k j
 
 module _ (bytes : List ℕ) (accepted : IsFile d bytes) where
   -- A comment of an accepted file is columns 4 on of its line without trailing blanks; one that is not there is 13 and empty.
@@ -255,20 +267,25 @@ module _ (bytes : List ℕ) (accepted : IsFile d bytes) where
   comment-not-there k h = answers.comment-not-there bytes accepted k h
 
   -- A satellite that is found is in the header and has that identifier; 13 comes exactly where none has it.
-  pub satellite-found : (name : ℕ) → satelliteAnswer d bytes (fileOf d bytes) name .refusal ≡ 0
-      → (satelliteAnswer d bytes (fileOf d bytes) name .number < length (identifiersOf d (linesOf bytes)))
-      × (identifier bytes (satelliteAnswer d bytes (fileOf d bytes) name .number) ≡ name)
-  satellite-found name zero = answers.satellite-found bytes accepted name zero
+  pub satellite-found : (wanted : ℕ) → satelliteAnswer d bytes (fileOf d bytes) wanted .refusal ≡ 0
+      → (satelliteAnswer d bytes (fileOf d bytes) wanted .number < length (identifiersOf d (linesOf bytes)))
+      × (identifier bytes (satelliteAnswer d bytes (fileOf d bytes) wanted .number) ≡ wanted)
+  satellite-found wanted zero = answers.satellite-found bytes accepted wanted zero
 
-  pub satellite-thirteen : (name : ℕ) → (satelliteAnswer d bytes (fileOf d bytes) name ≡ noSatellite 13 0)
-      ↔ ((j : ℕ) → j < length (identifiersOf d (linesOf bytes)) → identifier bytes j ≡ name → ⊥)
-  satellite-thirteen name = answers.satellite-thirteen bytes accepted name
+  pub satellite-thirteen : (wanted : ℕ) → (satelliteAnswer d bytes (fileOf d bytes) wanted ≡ noSatellite 13 0)
+      ↔ ((j : ℕ) → j < length (identifiersOf d (linesOf bytes)) → identifier bytes j ≡ wanted → ⊥)
+  satellite-thirteen wanted = answers.satellite-thirteen bytes accepted wanted
 
 -- A comment's text is handed back as that stretch of the lent file: for every file and every number it is the part that `comment_answer` names, those
 -- bytes at that address. So any two outcomes are one machine value, a pointer and a count.
 pub comment-part : (κs : _) (a : _) (r : _) (s : _) → CommentPost κs a r s
     → let answer = commentAnswer d (now (a .0)) (fileOf d (now (a .0))) (a .1 .0) in PartAt (a .0) (answer .at) (answer .length) r
 comment-part κs a r s promised = asking.comment-part κs a r s promised
+
+-- Of an accepted file these bytes are columns 4 on of that comment's line, without trailing blanks.
+pub comment-says : (κs : _) (a : _) (r : _) (s : _) → CommentPost κs a r s → IsFile d (now (a .0)) → a .1 .0 < header (now (a .0)) .comments
+    → now r ≡ textIn (commentLine d (linesOf (now (a .0))) (a .1 .0))
+comment-says κs a r s promised accepted there = promised .0 ∙ answers.comment-text (now (a .0)) accepted (a .1 .0) there
 
 pub comment-one : (κs : _) (a : _) (r r′ : _) (s s′ : _) → CommentPost κs a r s → CommentPost κs a r′ s′ → slice-vals r ≡ slice-vals r′
 comment-one κs a r r′ s s′ p q = places.same-value r r′ (comment-determined κs a r r′ s s′ p q)
@@ -277,7 +294,7 @@ comment-one κs a r r′ s s′ p q = places.same-value r r′ (comment-determin
 pub same-table : (a b : List ℕ) → OnlyAfterTwo a b → SameTable d (linesOf a) (linesOf b)
 same-table a b same = correlations.same-table a b same
 
--- LINE BY LINE: after k lines of an accepted file the place is the length of those lines, the state is the machine's after them, and there the line
+-- LINE BY LINE: after k lines of an accepted file the spot is the length of those lines, the state is the machine's after them, and there the line
 -- reader reads the next, for every k.
 pub stepping : (bytes : List ℕ) (t : Tally) → frontOf d bytes ≡ front.File t → (k : ℕ) → k < t .lines → Stands d bytes k (after bytes k)
 stepping bytes t accepted k h = judging.stepping-file bytes t accepted k h
@@ -297,7 +314,7 @@ pub judge-room : (bytes : List ℕ) (k : ℕ) → AllGoOn bytes k → k ≤ leng
     → let g = after bytes k in Overfull d bytes (g .at) (g .state) (g .identifiers) → ⊥
 judge-room bytes k goes h o = lent-list.judge-room bytes k goes h o
 
--- THE WALKER: after k steps from any place, with any list lent, the place, the state and the identifiers are those of the first k lines from there, for
+-- THE WALKER: after k steps from any spot, with any list lent, the spot, the state and the identifiers are those of the first k lines from there, for
 -- every k and any bytes; a line that is refused or ends the file is not passed.
 pub walker-lines : (bytes : List ℕ) (k : ℕ) (g : Going) → walkedFrom d bytes g k ≡ overLines d g (take k (linesOf (drop (g .at) bytes)))
 walker-lines bytes k g = walks.walks d bytes k g
@@ -401,10 +418,10 @@ module _ (bytes : List ℕ) (accepted : IsFile d bytes) (identifiers exponents c
 
 -- The program `rewrite` lends room for 255 satellites, 800 comments and 1,074 rows. Rows are never short in a file of at most 65,536 bytes, and reading it
 -- answers 12 exactly where it has more than 800 comments.
-pub rewrite-rows : (bytes : List ℕ) → IsFile d bytes → length bytes ≤ 65_536 → rowsNeeded (header bytes) ≤ 12_888
+pub rewrite-rows : (bytes : List ℕ) → IsFile d bytes → length bytes ≤ mostBytes → rowsNeeded (header bytes) ≤ mostRows * rowWidth
 rewrite-rows bytes accepted short = rewriteRoom.rows-fit bytes accepted short
 
-pub rewrite-12 : (bytes : List ℕ) → IsFile d bytes → length bytes ≤ 65_536 → (rewriteRoom.rewriteReading bytes .refusal ≡ 12) ↔ (800 < header bytes .comments)
+pub rewrite-12 : (bytes : List ℕ) → IsFile d bytes → length bytes ≤ mostBytes → (rewriteRoom.rewriteReading bytes .refusal ≡ 12) ↔ (mostComments < header bytes .comments)
 rewrite-12 bytes accepted short = rewriteRoom.twelve-exactly bytes accepted short
 
 -- DEMAND 3. No accepted file is the beginning of a longer accepted file, so a stretch divides into files in at most one way; that division is given
@@ -434,7 +451,7 @@ pub rest-refused : {bytes old : List ℕ} {answer : Division} (f : AtFront bytes
     → (column : ℕ) × (0 < length (f .rest)) × (frontOf d (f .rest) ≡ front.Refused (answer .refusal) (answer .line) column)
 rest-refused f some = dividing.rest-refused f some
 
--- 12 comes exactly where more accepted files stand at the front than there is room for, and 11 never.
+-- 12 comes exactly where more accepted files stand at the front than there is room for, 11 and 13 never.
 pub no-room : (bytes : List ℕ) (room : ℕ) → (divideOf d bytes room .refusal ≡ 12) ↔ TooMany bytes room
 no-room bytes room = dividing.twelve-exactly bytes room
 
@@ -444,6 +461,9 @@ twelve-alone bytes room e = dividing.twelve-alone bytes room e
 
 pub never-11 : (bytes : List ℕ) (room : ℕ) → divideOf d bytes room .refusal ≡ 11 → ⊥
 never-11 bytes room e = dividing.never-11 bytes room e
+
+pub never-13 : (bytes : List ℕ) (room : ℕ) → divideOf d bytes room .refusal ≡ 13 → ⊥
+never-13 bytes room e = dividing.never-13 bytes room e
 
 -- The file of number i begins at the sum of the first i lengths, and is an accepted file of the length of number i.
 pub file-at-sum : (bytes old : List ℕ) (i : ℕ) → i < divideOf d bytes (length old) .count

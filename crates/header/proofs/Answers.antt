@@ -4,10 +4,10 @@ use mathlib.Core.Bool.{true, false, _&&_}
 use mathlib.Core.List.{List, [], _∷_}
 use mathlib.Core.Path.{_≡_}
 use Prim.Native.Nat.{ℕ, _+_, _*_}
-use lib.Dec.{lit≤, eqb}
+use lib.Dec.{lit≤}
 use Rattle.calendar.specs.Gregorian.{isDate, mjdOf}
 use Rattle.calendar.specs.Clock.{isTime, timeOf, dayUnits, instantAnswer}
-use Rattle.header.specs.Header.{lettersListed, isMoment, instantOf, numbersBounded, refused, headerOf}
+use Rattle.header.specs.Header.{lettersListed, isMoment, instantOf, numbersBounded, headerMade, refused, headerOf}
 use Rattle.header.specs.declared.types.Moment.{Moment}
 use Rattle.header.specs.declared.types.Texts.{Texts}
 use Rattle.header.specs.declared.types.Bases.{Bases}
@@ -38,21 +38,7 @@ module _ (mode : ℕ) (start : Moment) (epochs interval8 : ℕ) (texts : Texts) 
   -- the header that begins at an instant
   abbrev pub begun : ℕ → HeaderAnswer
   begun at =
-      record {
-        refusal = 0;
-        header = record {
-          velocity = eqb mode 86;
-          start8 = at;
-          epochs = epochs;
-          interval8 = interval8;
-          texts = texts;
-          satellites = satellites;
-          comments = comments;
-          «file_type» = fileType;
-          «time_system» = timeSystem;
-          bases = bases;
-        };
-      }
+      record { refusal = 0; header = headerMade mode at epochs interval8 texts satellites comments fileType timeSystem bases }
 
   abbrev answer : HeaderAnswer
   answer = headerOf mode start epochs interval8 texts satellites comments fileType timeSystem bases

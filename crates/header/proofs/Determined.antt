@@ -8,6 +8,7 @@ use Rattle.header.proofs.slot_lines.Reads as slots
 use Rattle.header.proofs.making.texts_printable.Reads as texts
 use Rattle.header.proofs.types.Rules.d.Reads as rules
 use Rattle.header.proofs.types.Header.bounds_hold.Reads as bounds
+use Rattle.header.proofs.types.Header.of.Reads as made
 use Rattle.header.proofs.types.Header.none.Reads as none
 use Rattle.header.proofs.types.Header.new.Reads as new
 
@@ -31,6 +32,9 @@ rules-d-determined κs a r r′ s s′ p q = p ∙ sym q
 
 pub header-bounds-hold-determined : (κs : _) (a : _) (r r′ : _) (s s′ : _) → bounds.Post κs a r s → bounds.Post κs a r′ s′ → r ≡ r′
 header-bounds-hold-determined κs a r r′ s s′ p q = p .0 ∙ sym (q .0)
+
+pub header-of-determined : (κs : _) (a : _) (r r′ : _) (s s′ : _) → made.Post κs a r s → made.Post κs a r′ s′ → r ≡ r′
+header-of-determined κs a r r′ s s′ p q = p ∙ sym q
 
 pub header-none-determined : (κs : _) (a : _) (r r′ : _) (s s′ : _) → none.Post κs a r s → none.Post κs a r′ s′ → r ≡ r′
 header-none-determined κs a r r′ s s′ p q = p ∙ sym q

@@ -55,6 +55,21 @@ numbersBounded epochs interval8 satellites comments bases =
     && (within 1 maxSatellites satellites
     && (leb minComments comments && (leb (bases .place) maxPlaceBase && leb (bases .clock) maxClockBase))))
 
+-- a header put together from its parts, untested: mode (86 is V), start and interval in 10^-8 s, texts, counts, letters and bases
+abbrev pub headerMade : ℕ → ℕ → ℕ → ℕ → Texts → ℕ → ℕ → ℕ → List ℕ → Bases → Header
+headerMade mode start8 epochs interval8 texts satellites comments fileType timeSystem bases = record {
+  velocity = eqb mode 86;
+  start8 = start8;
+  epochs = epochs;
+  interval8 = interval8;
+  texts = texts;
+  satellites = satellites;
+  comments = comments;
+  «file_type» = fileType;
+  «time_system» = timeSystem;
+  bases = bases;
+}
+
 -- the header that has nothing in it, which stands beside a refusal
 abbrev pub noHeader : Header
 noHeader = record {
@@ -81,18 +96,7 @@ headerOf mode start epochs interval8 texts satellites comments fileType timeSyst
     (cond (isMoment start && numbersBounded epochs interval8 satellites comments bases)
     (record {
       refusal = 0;
-      header = record {
-        velocity = eqb mode 86;
-        start8 = instantOf start;
-        epochs = epochs;
-        interval8 = interval8;
-        texts = texts;
-        satellites = satellites;
-        comments = comments;
-        «file_type» = fileType;
-        «time_system» = timeSystem;
-        bases = bases;
-      };
+      header = headerMade mode (instantOf start) epochs interval8 texts satellites comments fileType timeSystem bases;
     })
     (refused 7))
     (refused 6)

@@ -3,7 +3,7 @@ ghost use mathlib.Core.Path.{_≡_};
 ghost use mathlib.Core.Bool.{true};
 ghost use Rattle.calendar.specs.Clock.{toldInstant, instantAnswer};
 ghost use Rattle.header.specs.Rules.{d, maxSatellites, maxEpochs, minComments};
-ghost use Rattle.header.specs.Header.{maxInterval, maxPlaceBase, maxClockBase, textsPrintable, lettersListed, numbersBounded, noHeader, refused, headerOf};
+ghost use Rattle.header.specs.Header.{maxInterval, maxPlaceBase, maxClockBase, textsPrintable, lettersListed, numbersBounded, headerMade, noHeader, refused, headerOf};
 use crate::types::Bases;
 use crate::types::Header;
 use crate::types::HeaderAnswer;
@@ -112,27 +112,47 @@ impl Header {
         true
     }
 
+    // A header put together from its parts, untested: it has velocities where the mode is V.
+    pub fn of(
+        mode: u8,
+        start8: u64,
+        epochs: u64,
+        interval8: u64,
+        texts: Texts,
+        satellites: u64,
+        comments: u64,
+        file_type: u8,
+        time_system: [u8; 3],
+        bases: Bases,
+    ) -> Header
+        ensures result { λ r. ⌜ r ≡ headerMade mode start8 epochs interval8 texts satellites comments «file_type» «time_system» bases ⌝ }
+    {
+        Header {
+            velocity: mode == b'V',
+            start8,
+            epochs,
+            interval8,
+            texts,
+            satellites,
+            comments,
+            file_type,
+            time_system,
+            bases,
+        }
+    }
+
     // The header that has nothing in it, which stands beside a refusal.
     pub fn none() -> Header
         ensures result { λ r. ⌜ r ≡ noHeader ⌝ }
     {
-        Header {
-            velocity: false,
-            start8: 0,
-            epochs: 0,
-            interval8: 0,
-            texts: Texts {
-                data_used: [b' '; 5],
-                coordinates: [b' '; 5],
-                orbit: [b' '; 3],
-                agency: [b' '; 4],
-            },
-            satellites: 0,
-            comments: 0,
-            file_type: b' ',
-            time_system: [b' '; 3],
-            bases: Bases { place: 0, clock: 0 },
-        }
+        let texts = Texts {
+            data_used: [b' '; 5],
+            coordinates: [b' '; 5],
+            orbit: [b' '; 3],
+            agency: [b' '; 4],
+        };
+        let bases = Bases { place: 0, clock: 0 };
+        Header::of(b' ', 0, 0, 0, texts, 0, 0, b' ', [b' '; 3], bases)
     }
 
     // A header of these letters, numbers and texts, or the lowest refusal: 6 for mode Q, 7 for 256 satellites, 6 for both.
@@ -161,8 +181,8 @@ impl Header {
         }
         HeaderAnswer {
             refusal: 0,
-            header: Header {
-                velocity: mode == b'V',
+            header: Header::of(
+                mode,
                 start8,
                 epochs,
                 interval8,
@@ -172,7 +192,7 @@ impl Header {
                 file_type,
                 time_system,
                 bases,
-            },
+            ),
         }
     }
 }

@@ -22,6 +22,7 @@ use Rattle.line_walk.specs.declared.Walker.{Walker}
 use Rattle.line_walk.proofs.Facts.{both, both-pairs}
 use Rattle.line_walk.proofs.first_spot.Reads as first-spot
 use Rattle.line_walk.proofs.read_at.Reads as read-at
+use Rattle.line_walk.proofs.gone_to.Reads as gone-to
 use Rattle.line_walk.proofs.spot_after.Reads as spot-after
 use Rattle.line_walk.proofs.new as new
 use Rattle.line_walk.proofs.next as next
@@ -34,6 +35,9 @@ first-spot-determined κs a r r′ s s′ p q = p ∙ sym q
 
 pub read-at-determined : (κs : _) (a : _) (r r′ : _) (s s′ : _) → read-at.Post κs a r s → read-at.Post κs a r′ s′ → (r ≡ r′) × (now (s .1 .1 .0) ≡ now (s′ .1 .1 .0))
 read-at-determined κs a r r′ s s′ p q = (toldRead-one r r′ (p .0 ∙ sym (q .0)), p .1 ∙ sym (q .1))
+
+pub gone-to-determined : (κs : _) (a : _) (r r′ : _) (s s′ : _) → gone-to.Post κs a r s → gone-to.Post κs a r′ s′ → r ≡ r′
+gone-to-determined κs a r r′ s s′ p q = p ∙ sym q
 
 pub spot-after-determined : (κs : _) (a : _) (r r′ : _) (s s′ : _) → spot-after.Post κs a r s → spot-after.Post κs a r′ s′ → (r ≡ r′) × (now (s .1 .1 .0) ≡ now (s′ .1 .1 .0))
 spot-after-determined κs a r r′ s s′ p q = (p .0 ∙ sym (q .0), p .1 ∙ sym (q .1))

@@ -4,7 +4,7 @@ ghost use mathlib.Core.Path.{_≡_};
 ghost use Rattle.header.specs.Rules.{d};
 ghost use Rattle.machine.specs.Step.{lineRead, lineIdentifiers};
 ghost use Rattle.machine.specs.Told.{toldRead};
-ghost use Rattle.line_walk.specs.Spots.{firstSpot, spotAfter, spotsAfter, identifiersPast};
+ghost use Rattle.line_walk.specs.Spots.{firstSpot, goneTo, spotAfter, spotsAfter, identifiersPast};
 use header::Rules;
 use machine::LineRead;
 use machine::State;
@@ -42,12 +42,12 @@ pub fn read_at<'a, 'b>(file: &'a [u8], spot: Spot, identifiers: &'b mut [u64]) -
     machine::read_line(Rules::d(), file, at, state, identifiers)
 }
 
-// The spot after that line; the same spot where no line is left, where the line is refused and where it ends the file.
-pub fn spot_after<'a, 'b>(file: &'a [u8], spot: Spot, identifiers: &'b mut [u64]) -> Spot
-    ensures result { λ r. ⌜ r ≡ spotAfter d (now (file .entry)) (now (identifiers .entry)) spot ⌝ }
-    ensures lent { λ _. ⌜ now (identifiers .exit) ≡ lineIdentifiers d (now (file .entry)) (spot .at) (spot .state) (now (identifiers .entry)) ⌝ }
+// The spot that what was read at a spot leads to: the next where the line goes on; the same where no line is left, where it is refused and where it ends
+// the file.
+pub fn gone_to(found: LineRead, spot: Spot) -> Spot
+    ensures result { λ r. ⌜ r ≡ goneTo found spot ⌝ }
 {
-    match read_at(file, spot, identifiers) {
+    match found {
         LineRead::Next { at, state } => Spot { at, state },
         LineRead::NoLine => spot,
         LineRead::Fault {
@@ -56,6 +56,14 @@ pub fn spot_after<'a, 'b>(file: &'a [u8], spot: Spot, identifiers: &'b mut [u64]
         } => spot,
         LineRead::Finished { at: _ } => spot,
     }
+}
+
+// The spot after that line; the same spot where no line is left, where the line is refused and where it ends the file.
+pub fn spot_after<'a, 'b>(file: &'a [u8], spot: Spot, identifiers: &'b mut [u64]) -> Spot
+    ensures result { λ r. ⌜ r ≡ spotAfter d (now (file .entry)) (now (identifiers .entry)) spot ⌝ }
+    ensures lent { λ _. ⌜ now (identifiers .exit) ≡ lineIdentifiers d (now (file .entry)) (spot .at) (spot .state) (now (identifiers .entry)) ⌝ }
+{
+    gone_to(read_at(file, spot, identifiers), spot)
 }
 
 // A walker at a spot of a file.

@@ -17,7 +17,8 @@ use Rattle.calendar.specs.Clock.{dayUnits, weekAnswer}
 use Rattle.calendar.specs.Fraction.{agrees}
 use Rattle.layout.specs.Kind.{isOneOf}
 use Rattle.record.specs.declared.types.Second.{Second}
-use Rattle.machine.specs.Checks.{firstUnprintable, secondAgrees, repeats}
+use Rattle.record.specs.Agrees.{secondAgrees, repeats}
+use Rattle.machine.specs.Faults.{firstUnprintable}
 use Rattle.laws.proofs.Bools.{same-truth}
 use Rattle.laws.proofs.Bounds.{true-within, below-within, above-within}
 use Rattle.laws.proofs.Lists.{rest-step, rest-none}

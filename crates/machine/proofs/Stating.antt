@@ -2,10 +2,11 @@
 -- Assumes nothing.
 use mathlib.Core.Path.{_≡_}
 use mathlib.Core.Bool.{true, false}
+use Rattle.record.specs.LineKinds.{positionCorrelationKind}
 use Rattle.machine.specs.Next.{satelliteDone, afterPosition}
 use Rattle.machine.specs.declared.types.State.{State}
 
 -- in mode P the rows of a satellite end with its P
-pub position-done : (s : State) → s .velocity ≡ false → satelliteDone 12 s ≡ afterPosition s
+pub position-done : (s : State) → s .velocity ≡ false → satelliteDone positionCorrelationKind s ≡ afterPosition s
 unfolding afterPosition
 position-done s e = rw e

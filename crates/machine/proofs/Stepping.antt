@@ -19,14 +19,13 @@ use Rattle.lines.specs.Lines.{lineLength, linesOf}
 use Rattle.lines.proofs.Ends.{no-line, first-line}
 use Rattle.lines.proofs.Laying.{rest-lent, rest-back, laid-fits}
 use Rattle.lines.proofs.Lined.{Lined, lined}
-use Rattle.record.specs.LineKinds.{toldKind, kindOf}
+use Rattle.record.specs.LineKinds.{toldKind, kindOf, longest, satellitesKind}
 use Rattle.record.specs.SlotLines.{satellitesOf, moreOf}
 use Rattle.record.proofs.Determined.{toldKind-one}
 use Rattle.header.specs.declared.types.Rules.{Rules}
 use Rattle.record.specs.declared.types.LineKind.{LineKind}
-use Rattle.machine.specs.Checks.{firstUnprintable}
+use Rattle.machine.specs.Faults.{firstUnprintable}
 use Rattle.machine.specs.State.{seen, identifiersIn, fitBehind, laidBehind, hasRoom, identifiersJoined}
-use Rattle.machine.specs.Faults.{longest}
 use Rattle.machine.specs.Step.{judgedLine, printedLine, stepOf, identifiersBrought, keptOn, identifiersKept, findsRoom, ifRoom, stepWithin, readAs, readFirst, identifiersFirst, lineKnown, lineRead, lineIdentifiers}
 use Rattle.machine.specs.Told.{toldRead}
 use Rattle.machine.proofs.Told.{toldRead-one}
@@ -139,9 +138,9 @@ kept-so rules s identifiers line pad new from pad-is from-is new-is = rw (new-is
 -- a line keeps the number of places for identifiers
 pub brought-length : (rules : Rules) (s : State) (identifiers line : List ℕ) → length (identifiersBrought rules s identifiers line) ≡ length identifiers
 unfolding identifiersBrought identifiersJoined
-brought-length rules s identifiers line = go (eqb (s .due) 3) refl
+brought-length rules s identifiers line = go (eqb (s .due) satellitesKind) refl
   where
-    go : (due : Bool) → eqb (s .due) 3 ≡ due → length (identifiersBrought rules s identifiers line) ≡ length identifiers
+    go : (due : Bool) → eqb (s .due) satellitesKind ≡ due → length (identifiersBrought rules s identifiers line) ≡ length identifiers
     go true e = rw e (laid-length (seen s) (identifiersIn rules s (padded line)) identifiers)
     go false e = rw e
 
@@ -244,21 +243,21 @@ module _ (rules : Rules) (bytes : List ℕ) (at : ℕ) (s : State) (identifiers 
     kept-by = rw (g .lines-are, g .does)
 
     -- where no `+ ` line is due
-    pub read-other : (s .due ≡ 3 → ⊥) → ReadAs (found.Next place s′) identifiers
+    pub read-other : (s .due ≡ satellitesKind → ⊥) → ReadAs (found.Next place s′) identifiers
     unfolding identifiersBrought
     read-other not-due =
-        let not-three = ne-eqb (s .due) 3 not-due in
+        let not-three = ne-eqb (s .due) satellitesKind not-due in
         let free : true ≡ findsRoom rules s identifiers (g .line) = rw not-three in
         let same : identifiers ≡ identifiersBrought rules s identifiers (g .line) = rw not-three in
         (ap toldRead (read-by true free), same ∙ kept-by)
 
     -- where one is due, by the room for what it brings
-    pub read-identifiers : s .due ≡ 3 → (roomy : Bool) (kept : List ℕ) → let text = take (place - 1 - at) (drop at bytes) in
+    pub read-identifiers : s .due ≡ satellitesKind → (roomy : Bool) (kept : List ℕ) → let text = take (place - 1 - at) (drop at bytes) in
         roomy ≡ hasRoom rules s identifiers (padded text) → kept ≡ identifiersJoined rules s identifiers (padded text)
         → ReadAs (readAs (ifRoom roomy (verdict.Next s′)) place) kept
     unfolding identifiersBrought
     read-identifiers due roomy kept e k =
-        let three = eq-eqb (s .due) 3 due in
+        let three = eq-eqb (s .due) satellitesKind due in
         let room : roomy ≡ findsRoom rules s identifiers (g .line) = rw three (e ∙ ap (λ (l : List ℕ). hasRoom rules s identifiers (padded l)) text-is) in
         let new : kept ≡ identifiersBrought rules s identifiers (g .line) = rw three (k ∙ ap (λ (l : List ℕ). identifiersJoined rules s identifiers (padded l)) text-is) in
         (ap toldRead (read-by roomy room), new ∙ kept-by)
@@ -267,9 +266,9 @@ module _ (rules : Rules) (bytes : List ℕ) (at : ℕ) (s : State) (identifiers 
 module _ (rules : Rules) (s : State) (identifiers l : List ℕ) where
   no-room : findsRoom rules s identifiers l ≡ false → identifiersBrought rules s identifiers l ≡ identifiers
   unfolding identifiersBrought identifiersJoined laidBehind hasRoom
-  no-room e = go (eqb (s .due) 3) refl
+  no-room e = go (eqb (s .due) satellitesKind) refl
     where
-      go : (due : Bool) → eqb (s .due) 3 ≡ due → identifiersBrought rules s identifiers l ≡ identifiers
+      go : (due : Bool) → eqb (s .due) satellitesKind ≡ due → identifiersBrought rules s identifiers l ≡ identifiers
       go true three = let none : hasRoom rules s identifiers (padded l) ≡ false = rw three at e in rw (three, none)
       go false three = rw three
 

@@ -10,7 +10,7 @@ use Rattle.laws.specs.Texts.{every, isPrintable}
 use Rattle.laws.proofs.Bools.{and-left, and-right}
 use Rattle.layout.specs.Line.{padded}
 use Rattle.layout.specs.Kind.{identifierCode}
-use Rattle.record.specs.LineKinds.{kindOf}
+use Rattle.record.specs.LineKinds.{positionKind, kindOf}
 use Rattle.record.specs.Rows.{rowFault, cut}
 use Rattle.picture.specs.Picture.{usual}
 use Rattle.picture.proofs.Rows.{usual-clean}
@@ -31,7 +31,7 @@ module _ (rules : Rules) (s : State) (identifiers line : List ℕ) where
   unfolding kindOf
   its-kind e = rw e
 
-  its-fault : s .due ≡ 10 → rowFault false (padded line) ≡ 0 → eqb (identifierCode (cut 2 4 (padded line))) (identifierDue s identifiers) ≡ true
+  its-fault : s .due ≡ positionKind → rowFault false (padded line) ≡ 0 → eqb (identifierCode (cut 2 4 (padded line))) (identifierDue s identifiers) ≡ true
       → standingFault kind.Position rules s identifiers (padded line) ≡ 0
   unfolding standingFault namedFault
   its-fault due clean named = rw (due, clean, named)
@@ -48,10 +48,10 @@ module _ (rules : Rules) (s : State) (identifiers line : List ℕ) where
 
   at-padded : dueRow s identifiers line (padded line) ≡ true → verdict.Next (afterPosition s) ≡ stepOf rules s identifiers line
   at-padded h =
-      let place = and-left (eqb (s .due) 10 && leb (length line) 80) _ h in
-      let text = and-right (eqb (s .due) 10 && leb (length line) 80) _ h in
-      let due = eqb-true (s .due) 10 (and-left (eqb (s .due) 10) _ place) in
-      let short = and-right (eqb (s .due) 10) (leb (length line) 80) place in
+      let place = and-left (eqb (s .due) positionKind && leb (length line) 80) _ h in
+      let text = and-right (eqb (s .due) positionKind && leb (length line) 80) _ h in
+      let due = eqb-true (s .due) positionKind (and-left (eqb (s .due) positionKind) _ place) in
+      let short = and-right (eqb (s .due) positionKind) (leb (length line) 80) place in
       let fits = and-left (usual (padded line)) _ text in
       let named = and-right (usual (padded line)) _ text in
       let printed = usual-printed (padded line) fits in

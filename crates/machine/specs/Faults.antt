@@ -2,10 +2,11 @@
 -- record earn (5 to 8), then 8, 9 and 10 against header and start. A fault is a key of number and column (layout, Fault); that of 2 may lie
 -- far past column 80 and is told as two numbers.
 use mathlib.Core.Bool.{Bool, true, false, cond, not}
-use mathlib.Core.List.{List}
-use Prim.Native.Nat.{ℕ, _+_, min}
+use mathlib.Core.List.{List, [], _∷_}
+use Prim.Native.Nat.{ℕ, suc, _+_}
 use lib.Dec.{eqb}
 use lib.ListN.{take}
+use Rattle.laws.specs.Texts.{isPrintable}
 use Rattle.layout.specs.Fault.{keyed, lower}
 use Rattle.layout.specs.Kind.{unless, identifierCode}
 use Rattle.layout.specs.Layout.{faultOf}
@@ -17,27 +18,14 @@ use Rattle.record.specs.Rows.{rowFault, cut}
 use Rattle.header.specs.declared.types.Rules.{Rules}
 use Rattle.record.specs.declared.types.LineKind.{LineKind}
 use Rattle.record.specs.declared.types.LineKind.the-variants as kind
-use Rattle.machine.specs.Checks.{instantIn, secondAgrees, repeats, typeAgrees}
+use Rattle.record.specs.Agrees.{instantIn, secondAgrees, repeats, typeAgrees}
 use Rattle.machine.specs.State.{stands, knownIdentifiers, identifierDue, isFirst, identifiersIn}
 use Rattle.machine.specs.declared.types.State.{State}
 
--- the columns that a line of a kind may have: 80, or fewer of a comment where the version says so
-abbrev pub longest : Rules → LineKind → ℕ
-longest rules kind.Other = 80
-longest rules kind.First = 80
-longest rules kind.Second = 80
-longest rules kind.Satellites = 80
-longest rules kind.Accuracies = 80
-longest rules kind.Characters = 80
-longest rules kind.Floats = 80
-longest rules kind.Integers = 80
-longest rules kind.Comment = min 80 (rules .«comment_columns»)
-longest rules kind.Epoch = 80
-longest rules kind.Position = 80
-longest rules kind.Velocity = 80
-longest rules kind.PositionCorrelation = 80
-longest rules kind.VelocityCorrelation = 80
-longest rules kind.EndOfFile = 80
+-- the column of the first byte outside 32 to 126; where there is none, which is no fault, the length of the line
+unfoldable pub firstUnprintable : List ℕ → ℕ
+firstUnprintable [] = 0
+firstUnprintable (b ∷ bs) = cond (isPrintable b) (suc (firstUnprintable bs)) 1
 
 -- line 2 agrees with the start
 unfoldable pub secondFault : State → List ℕ → ℕ

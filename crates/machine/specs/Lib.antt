@@ -1,4 +1,3 @@
-pub mod Checks
 pub mod State
 pub mod Faults
 pub mod Next

@@ -6,17 +6,17 @@ use lib.Dec.{eqb, leb}
 use lib.ListN.{length, getD, take, drop, replicate}
 use Rattle.header.specs.Rules.{maxSatellites}
 use Rattle.lines.specs.Lent.{over}
-use Rattle.record.specs.LineKinds.{toldKind}
+use Rattle.record.specs.LineKinds.{noKind, firstKind, toldKind}
 use Rattle.record.specs.SlotLines.{satellitesOf, moreOf}
 use Rattle.header.specs.declared.types.Rules.{Rules}
 use Rattle.record.specs.declared.types.LineKind.{LineKind}
 use Rattle.machine.specs.declared.types.State.{State}
 
--- before the first line: `#d` (1) must come
+-- before the first line: `#d` must come
 abbrev pub startState : State
 startState = record {
-  due = 1;
-  also = 0;
+  due = firstKind;
+  also = noKind;
   lines = 1;
   left = 0;
   comments = 0;

@@ -10,12 +10,11 @@ use Rattle.laws.specs.Texts.{every, isPrintable}
 use Rattle.layout.specs.Fault.{keyNumber, columnOf}
 use Rattle.layout.specs.Line.{padded}
 use Rattle.lines.specs.Lines.{linesOf}
-use Rattle.record.specs.LineKinds.{kindOf}
+use Rattle.record.specs.LineKinds.{kindOf, longest, satellitesKind}
 use Rattle.header.specs.declared.types.Rules.{Rules}
 use Rattle.record.specs.declared.types.LineKind.{LineKind}
-use Rattle.machine.specs.Checks.{firstUnprintable}
 use Rattle.machine.specs.State.{hasRoom, identifiersJoined}
-use Rattle.machine.specs.Faults.{longest, standingFault}
+use Rattle.machine.specs.Faults.{firstUnprintable, standingFault}
 use Rattle.machine.specs.Next.{nextOf}
 use Rattle.machine.specs.declared.types.State.{State}
 use Rattle.machine.specs.declared.types.Verdict.{Verdict}
@@ -41,9 +40,9 @@ unfoldable pub stepOf : Rules → State → List ℕ → List ℕ → Verdict
 stepOf rules s identifiers line =
     cond (every isPrintable line) (printedLine (kindOf rules (padded line)) rules s identifiers line) (verdict.Fault 2 (firstUnprintable line))
 
--- the identifiers after a line without fault: where a `+ ` line (3) is due it brings some
+-- the identifiers after a line without fault: where a `+ ` line is due it brings some
 unfoldable pub identifiersBrought : Rules → State → List ℕ → List ℕ → List ℕ
-identifiersBrought rules s identifiers line = cond (eqb (s .due) 3) (identifiersJoined rules s identifiers (padded line)) identifiers
+identifiersBrought rules s identifiers line = cond (eqb (s .due) satellitesKind) (identifiersJoined rules s identifiers (padded line)) identifiers
 
 -- the identifiers after a line, by what it does; where there is no room for them `identifiersJoined` leaves the list as it was
 abbrev pub keptOn : Verdict → Rules → State → List ℕ → List ℕ → List ℕ
@@ -54,9 +53,9 @@ keptOn verdict.Finished rules s identifiers line = identifiers
 unfoldable pub identifiersKept : Rules → State → List ℕ → List ℕ → List ℕ
 identifiersKept rules s identifiers line = keptOn (stepOf rules s identifiers line) rules s identifiers line
 
--- where a `+ ` line (3) is due, the list has room for the identifiers that it brings; any other line needs none
+-- where a `+ ` line is due, the list has room for the identifiers that it brings; any other line needs none
 abbrev pub findsRoom : Rules → State → List ℕ → List ℕ → Bool
-findsRoom rules s identifiers line = cond (eqb (s .due) 3) (hasRoom rules s identifiers (padded line)) true
+findsRoom rules s identifiers line = cond (eqb (s .due) satellitesKind) (hasRoom rules s identifiers (padded line)) true
 
 -- 12 where a line goes on and there is no room
 abbrev pub ifRoom : Bool → Verdict → Verdict
@@ -99,7 +98,7 @@ pub record Overfull (rules : Rules) (bytes : List ℕ) (at : ℕ) (s : State) (i
   pub line : List ℕ
   pub after : List (List ℕ)
   pub stands : linesOf (drop at bytes) ≡ line ∷ after
-  pub due : s .due ≡ 3
+  pub due : s .due ≡ satellitesKind
   pub next : State
   pub good : stepOf rules s identifiers line ≡ verdict.Next next
   pub full : hasRoom rules s identifiers (padded line) ≡ false

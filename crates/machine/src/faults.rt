@@ -3,18 +3,38 @@ ghost use mathlib.Core.Path.{_≡_};
 ghost use Prim.Native.Nat.{_+_, _≤_};
 ghost use lib.Dec.{eqb};
 ghost use lib.ListN.{take};
-ghost use Rattle.layout.specs.Fault.{lower};
+ghost use Rattle.layout.specs.Fault.{lower, keyed};
 ghost use Rattle.layout.specs.Kind.{unless};
-ghost use Rattle.record.specs.LineKinds.{toldKind};
+ghost use Rattle.record.specs.LineKinds.{toldKind, longest};
 ghost use Rattle.machine.specs.State.{seen, identifierDue};
-ghost use Rattle.machine.specs.Faults.{longest, secondFault, satellitesFault, charactersFault, floatsFault, epochFault, namedFault, recordFault, standingFault};
+ghost use Rattle.machine.specs.Faults.{secondFault, satellitesFault, charactersFault, floatsFault, epochFault, namedFault, recordFault, standingFault};
 use crate::checks;
 use crate::types::State;
 use header::Rules;
 use record::LineKind;
+use record::kind::ACCURACIES_KIND;
+use record::kind::CHARACTERS_KIND;
+use record::kind::COMMENT_KIND;
+use record::kind::END_KIND;
+use record::kind::EPOCH_KIND;
+use record::kind::FIRST_KIND;
+use record::kind::FLOATS_KIND;
+use record::kind::INTEGERS_KIND;
+use record::kind::NO_KIND;
+use record::kind::POSITION_CORRELATION_KIND;
+use record::kind::POSITION_KIND;
+use record::kind::SATELLITES_KIND;
+use record::kind::SECOND_KIND;
+use record::kind::VELOCITY_CORRELATION_KIND;
+use record::kind::VELOCITY_KIND;
 
-// 4, which names no column.
-const NOT_HERE: usize = 512;
+// The key of a fault of this number that names no column.
+fn key_alone(number: usize) -> usize
+    requires { ⌜ number ≤ 13 ⌝ }
+    ensures { λ r. ⌜ r ≡ keyed number 0 ⌝ }
+{
+    number * 128
+}
 
 // The lower of a fault and one of this number that a test not passed earns; it names no column.
 fn lower_unless(lowest: usize, passed: bool, number: usize) -> usize
@@ -24,7 +44,7 @@ fn lower_unless(lowest: usize, passed: bool, number: usize) -> usize
     if passed {
         return lowest;
     }
-    layout::lower(lowest, number * 128)
+    layout::lower(lowest, key_alone(number))
 }
 
 // How many satellites have had their slot, or their row of this epoch.
@@ -168,7 +188,7 @@ fn record_fault(
         LineKind::Floats => floats_fault(state, line),
         LineKind::Integers => record::descriptors::integers_fault(line),
         LineKind::EndOfFile => record::plain::end_fault(line),
-        LineKind::Other => NOT_HERE,
+        LineKind::Other => key_alone(4),
     }
 }
 
@@ -177,21 +197,21 @@ pub fn kind_number(kind: LineKind) -> u64
     ensures result { λ r. ⌜ r ≡ toldKind kind ⌝ }
 {
     match kind {
-        LineKind::Other => 0,
-        LineKind::First => 1,
-        LineKind::Second => 2,
-        LineKind::Satellites => 3,
-        LineKind::Accuracies => 4,
-        LineKind::Characters => 5,
-        LineKind::Floats => 6,
-        LineKind::Integers => 7,
-        LineKind::Comment => 8,
-        LineKind::Epoch => 9,
-        LineKind::Position => 10,
-        LineKind::Velocity => 11,
-        LineKind::PositionCorrelation => 12,
-        LineKind::VelocityCorrelation => 13,
-        LineKind::EndOfFile => 14,
+        LineKind::Other => NO_KIND,
+        LineKind::First => FIRST_KIND,
+        LineKind::Second => SECOND_KIND,
+        LineKind::Satellites => SATELLITES_KIND,
+        LineKind::Accuracies => ACCURACIES_KIND,
+        LineKind::Characters => CHARACTERS_KIND,
+        LineKind::Floats => FLOATS_KIND,
+        LineKind::Integers => INTEGERS_KIND,
+        LineKind::Comment => COMMENT_KIND,
+        LineKind::Epoch => EPOCH_KIND,
+        LineKind::Position => POSITION_KIND,
+        LineKind::Velocity => VELOCITY_KIND,
+        LineKind::PositionCorrelation => POSITION_CORRELATION_KIND,
+        LineKind::VelocityCorrelation => VELOCITY_CORRELATION_KIND,
+        LineKind::EndOfFile => END_KIND,
     }
 }
 
@@ -209,7 +229,7 @@ pub(crate) fn standing_fault(
     if (number == state.due) | (number == state.also) {
         return record_fault(kind, rules, state, identifiers, line);
     }
-    NOT_HERE
+    key_alone(4)
 }
 
 // The columns that a line of a kind may have.

@@ -8,6 +8,20 @@ use crate::types::Verdict;
 use header::Rules;
 use record::First;
 use record::LineKind;
+use record::kind::ACCURACIES_KIND;
+use record::kind::CHARACTERS_KIND;
+use record::kind::COMMENT_KIND;
+use record::kind::END_KIND;
+use record::kind::EPOCH_KIND;
+use record::kind::FLOATS_KIND;
+use record::kind::INTEGERS_KIND;
+use record::kind::NO_KIND;
+use record::kind::POSITION_CORRELATION_KIND;
+use record::kind::POSITION_KIND;
+use record::kind::SATELLITES_KIND;
+use record::kind::SECOND_KIND;
+use record::kind::VELOCITY_CORRELATION_KIND;
+use record::kind::VELOCITY_KIND;
 
 // So many less, or none.
 fn less(n: u64, by: u64) -> u64
@@ -25,7 +39,7 @@ fn expected(due: u64, lines: u64, state: State) -> State
 {
     State {
         due,
-        also: 0,
+        also: NO_KIND,
         lines,
         ..state
     }
@@ -48,8 +62,8 @@ fn after_first(first: First, state: State) -> State
 {
     let start = first.start;
     State {
-        due: 2,
-        also: 0,
+        due: SECOND_KIND,
+        also: NO_KIND,
         lines: 1,
         velocity: first.mode == b'V',
         satellites: 0,
@@ -65,8 +79,8 @@ fn after_second(interval8: u64, state: State) -> State
     ensures { λ r. ⌜ r ≡ afterSecond interval8 state ⌝ }
 {
     State {
-        due: 3,
-        also: 0,
+        due: SATELLITES_KIND,
+        also: NO_KIND,
         interval8,
         ..state
     }
@@ -77,8 +91,8 @@ fn after_count(n: u64, state: State) -> State
     ensures { λ r. ⌜ r ≡ afterCount n state ⌝ }
 {
     State {
-        due: 3,
-        also: 0,
+        due: SATELLITES_KIND,
+        also: NO_KIND,
         lines: header::slot_lines(n) - 1,
         left: less(n, 17),
         satellites: n,
@@ -93,16 +107,16 @@ fn after_identifiers(state: State) -> State
     let lines = less(state.lines, 1);
     if lines == 0 {
         return State {
-            due: 4,
-            also: 0,
+            due: ACCURACIES_KIND,
+            also: NO_KIND,
             lines: header::slot_lines(state.satellites),
             left: state.satellites,
             ..state
         };
     }
     State {
-        due: 3,
-        also: 0,
+        due: SATELLITES_KIND,
+        also: NO_KIND,
         lines,
         left: less(state.left, 17),
         ..state
@@ -113,7 +127,7 @@ fn after_identifiers(state: State) -> State
 fn after_accuracies(state: State) -> State
     ensures { λ r. ⌜ r ≡ afterAccuracies state ⌝ }
 {
-    let next = line_less(5, 2, state);
+    let next = line_less(CHARACTERS_KIND, 2, state);
     State {
         left: less(state.left, 17),
         ..next
@@ -126,16 +140,16 @@ fn comments_due(needed: u64, allowed: u64, state: State) -> State
 {
     if needed != 0 {
         return State {
-            due: 8,
-            also: 0,
+            due: COMMENT_KIND,
+            also: NO_KIND,
             lines: needed,
             comments: allowed,
             ..state
         };
     }
     State {
-        due: 9,
-        also: if allowed == 0 { 0 } else { 8 },
+        due: EPOCH_KIND,
+        also: if allowed == 0 { NO_KIND } else { COMMENT_KIND },
         lines: needed,
         comments: allowed,
         ..state
@@ -150,7 +164,7 @@ fn after_integers(rules: Rules, state: State) -> State
     if lines == 0 {
         return comments_due(rules.fewest_comments, rules.most_comments, state);
     }
-    expected(7, lines, state)
+    expected(INTEGERS_KIND, lines, state)
 }
 
 // An epoch less; the row of the first satellite must come, and the next epoch an interval later.
@@ -158,8 +172,8 @@ fn after_epoch(at8: u64, state: State) -> State
     ensures { λ r. ⌜ r ≡ afterEpoch at8 state ⌝ }
 {
     State {
-        due: 10,
-        also: 0,
+        due: POSITION_KIND,
+        also: NO_KIND,
         lines: 1,
         left: state.satellites,
         epochs: less(state.epochs, 1),
@@ -174,9 +188,9 @@ fn row_due(left: u64, epochs: u64) -> u64
     ensures { λ r. ⌜ r ≡ rowDue left epochs ⌝ }
 {
     if left != 0 {
-        return 10;
+        return POSITION_KIND;
     }
-    if epochs == 0 { 14 } else { 9 }
+    if epochs == 0 { END_KIND } else { EPOCH_KIND }
 }
 
 // The rows of a satellite are read; the correlation record of the last of them may stand.
@@ -199,13 +213,13 @@ pub(crate) fn after_position(state: State) -> State
 {
     if state.velocity {
         return State {
-            due: 11,
-            also: 12,
+            due: VELOCITY_KIND,
+            also: POSITION_CORRELATION_KIND,
             lines: 1,
             ..state
         };
     }
-    satellite_done(12, state)
+    satellite_done(POSITION_CORRELATION_KIND, state)
 }
 
 // A `+ ` line: the first says how many satellites there are.
@@ -225,9 +239,15 @@ pub(crate) fn after_line(kind: LineKind, rules: Rules, state: State, line: &[u8;
 {
     match kind {
         LineKind::Position => Verdict::Next(after_position(state)),
-        LineKind::Velocity => Verdict::Next(satellite_done(13, state)),
-        LineKind::PositionCorrelation => Verdict::Next(State { also: 0, ..state }),
-        LineKind::VelocityCorrelation => Verdict::Next(State { also: 0, ..state }),
+        LineKind::Velocity => Verdict::Next(satellite_done(VELOCITY_CORRELATION_KIND, state)),
+        LineKind::PositionCorrelation => Verdict::Next(State {
+            also: NO_KIND,
+            ..state
+        }),
+        LineKind::VelocityCorrelation => Verdict::Next(State {
+            also: NO_KIND,
+            ..state
+        }),
         LineKind::Epoch => {
             let epoch = record::opening::read_epoch(line);
             let moment = epoch.moment;
@@ -246,8 +266,8 @@ pub(crate) fn after_line(kind: LineKind, rules: Rules, state: State, line: &[u8;
         }
         LineKind::Satellites => Verdict::Next(after_satellites(rules, state, line)),
         LineKind::Accuracies => Verdict::Next(after_accuracies(state)),
-        LineKind::Characters => Verdict::Next(line_less(6, 2, state)),
-        LineKind::Floats => Verdict::Next(line_less(7, 2, state)),
+        LineKind::Characters => Verdict::Next(line_less(FLOATS_KIND, 2, state)),
+        LineKind::Floats => Verdict::Next(line_less(INTEGERS_KIND, 2, state)),
         LineKind::Integers => Verdict::Next(after_integers(rules, state)),
         LineKind::EndOfFile => Verdict::Finished,
         LineKind::Other => Verdict::Next(state),

@@ -14,14 +14,18 @@ use crate::types::State;
 use crate::types::Verdict;
 use header::Rules;
 use record::LineKind;
+use record::kind::FIRST_KIND;
+use record::kind::NO_KIND;
+use record::kind::POSITION_KIND;
+use record::kind::SATELLITES_KIND;
 
 // The state before the first line.
 pub fn start() -> State
     ensures result { λ r. ⌜ r ≡ startState ⌝ }
 {
     State {
-        due: 1,
-        also: 0,
+        due: FIRST_KIND,
+        also: NO_KIND,
         lines: 1,
         left: 0,
         comments: 0,
@@ -71,7 +75,7 @@ fn is_plain(line: &[u8], columns: &[u8; 80]) -> bool
 fn is_due_row(state: State, identifiers: &[u64], line: &[u8], columns: &[u8; 80]) -> bool
     ensures { λ r. ⌜ r ≡ dueRow state (now (identifiers .entry)) (now (line .entry)) (now (columns .entry)) ⌝ }
 {
-    let due = (state.due == 10) & (line.len() <= 80);
+    let due = (state.due == POSITION_KIND) & (line.len() <= 80);
     if !due {
         return false;
     }
@@ -185,7 +189,7 @@ pub fn read_line(
     let LineRead::Next { at: next, state: _ } = found else {
         return found;
     };
-    if state.due != 3 {
+    if state.due != SATELLITES_KIND {
         return found;
     }
     if keep_identifiers(rules, state, identifiers, &bytes[at..next - 1]) {

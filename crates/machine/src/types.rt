@@ -1,10 +1,11 @@
-// What must stand next in a file and what its lines have said so far. Kinds of line are told by their numbers, 1 for `#d` to 14 for EOF.
+// What must stand next in a file and what its lines have said so far. Kinds of line are told by their numbers (`record::kind`).
 #[repr(C)]
 pub struct State {
-    // The kind of line that must come, and the kind that may stand here before it (0 where none may).
+    // The kind of line that must come, and the kind that may stand here before it (none: `NO_KIND`).
     pub due: u64,
     pub also: u64,
-    // Lines of the kind due that are still to come, this one too.
+    // How many lines must still come of a kind whose number is known, the one due too: `+ ` lines after the first, `++`, `%c`, `%f` and
+    // `%i` lines, comments. 0 between the last comment that must come and the first epoch; 1 before any other line, the first `+ ` too.
     pub lines: u64,
     // Satellites of which a slot, or a row of this epoch, is still to come.
     pub left: u64,

@@ -18,7 +18,8 @@ use Rattle.layout.specs.Line.{trimmed}
 use Rattle.lines.specs.Lent.{laid}
 use Rattle.lines.proofs.Laying.{laid-fits}
 use Rattle.lines.specs.Lines.{linesOf, bytesIn, select, nth, beginsFrom}
-use Rattle.header.specs.Rules.{d}
+use Rattle.header.specs.Rules.{d, maxSatellites, maxEpochs}
+use Rattle.record.specs.LineKinds.{commentKind, positionKind}
 use Rattle.file.specs.Kinds.{isKind, ofKind}
 use Rattle.file.specs.Plain.{Plain}
 use Rattle.file.specs.Table.{firstIn, countOf, slotsIn}
@@ -78,7 +79,7 @@ comment-told rules lines k place indent line text p l i t = rw (p, i, t, l)
 -- and it begins within the bytes
 pub text-within : (rules : Rules) (bytes : List ℕ) (k place indent : ℕ) (line : List ℕ)
     → place ≡ commentBegins rules (linesOf bytes) k → line ≡ commentLine rules (linesOf bytes) k → indent ≡ min 3 (length line) → place + indent ≤ length bytes
-text-within rules bytes k place indent line p l i = omega (arith, ap length l, line-within (isKind rules 8) k bytes)
+text-within rules bytes k place indent line p l i = omega (arith, ap length l, line-within (isKind rules commentKind) k bytes)
 
 pub epochs-are : {rules : Rules} {lines : List (List ℕ)} (p : Plain rules lines) → epochsOf rules lines ≡ epochs p
 unfolding nth
@@ -89,7 +90,7 @@ module _ (bytes : List ℕ) (t : Tally) (e : wholeFront (length bytes) (scanOf d
   pub whole-plain : Plain d (linesTo (t .end) bytes)
   whole-plain = front-plain bytes t (whole-ends d bytes t e .0)
 
-  pub bounded : (epochsOf d (linesTo (t .end) bytes) ≤ 100000) × (countOf d (linesTo (t .end) bytes) ≤ 255)
+  pub bounded : (epochsOf d (linesTo (t .end) bytes) ≤ maxEpochs) × (countOf d (linesTo (t .end) bytes) ≤ maxSatellites)
   bounded =
       let p = whole-plain in
       (omega (arith, epochs-are p, epochs-bounds p .1), omega (arith, count-is p, satellites-bounds p .1))
@@ -100,7 +101,7 @@ module _ (bytes : List ℕ) (t : Tally) (e : wholeFront (length bytes) (scanOf d
       let p = whole-plain in
       ap (λ (n : ℕ). length (slotsIn d false n (linesTo (t .end) bytes))) (count-is p) ∙ identifiers-room p ∙ sym (count-is p)
 
-  pub identifiers-bounded : length (identifiersOf d (linesTo (t .end) bytes)) ≤ 255
+  pub identifiers-bounded : length (identifiersOf d (linesTo (t .end) bytes)) ≤ maxSatellites
   identifiers-bounded =
       let p = whole-plain in
       let many : length (identifiersOf d (linesTo (t .end) bytes)) ≡ satellites p =
@@ -108,11 +109,11 @@ module _ (bytes : List ℕ) (t : Tally) (e : wholeFront (length bytes) (scanOf d
       omega (arith, many, satellites-bounds p .1)
 
 -- a number of a P line that is far from overflowing
-module _ (f : First) (epoch satellite n : ℕ) (has : (ltb epoch (f .epochs) && ltb satellite n) ≡ true) (few : f .epochs ≤ 100000) (fewer : n ≤ 255) where
-  pub row-bounds : (epoch * n ≤ 25500000) × (satellite < 255)
+module _ (f : First) (epoch satellite n : ℕ) (has : (ltb epoch (f .epochs) && ltb satellite n) ≡ true) (few : f .epochs ≤ maxEpochs) (fewer : n ≤ maxSatellites) where
+  pub row-bounds : (epoch * n ≤ maxEpochs * maxSatellites) × (satellite < maxSatellites)
   row-bounds =
       let tests = both-true (ltb epoch (f .epochs)) (ltb satellite n) has in
-      let before : epoch ≤ 100000 = omega (arith, ltb-true epoch (f .epochs) (tests .0)) in
+      let before : epoch ≤ maxEpochs = omega (arith, ltb-true epoch (f .epochs) (tests .0)) in
       (omega (arith, mul-le-mul before fewer), omega (arith, ltb-true satellite n (tests .1)))
 
 -- where a row lies, by what line 1 and the first `+ ` line say
@@ -120,10 +121,10 @@ module _ (rules : Rules) (lines : List (List ℕ)) (epoch satellite : ℕ) (f : 
   has-row : (b : Bool) → (ltb epoch (f .epochs) && ltb satellite n) ≡ b → (ltb epoch (epochsOf rules lines) && ltb satellite (countOf rules lines)) ≡ b
   has-row b e = sym (ap (λ (x : First). ltb epoch (x .epochs) && ltb satellite (countOf rules lines)) is-first) ∙ sym (ap (λ (m : ℕ). ltb epoch (f .epochs) && ltb satellite m) is-count) ∙ e
 
-  pub row-told : (place : ℕ) → (ltb epoch (f .epochs) && ltb satellite n) ≡ true → place ≡ beginsFrom (isKind rules 10) (epoch * n + satellite) 0 lines
+  pub row-told : (place : ℕ) → (ltb epoch (f .epochs) && ltb satellite n) ≡ true → place ≡ beginsFrom (isKind rules positionKind) (epoch * n + satellite) 0 lines
       → _≡_ {A = RowBegins} (record { refusal = 0; line = 0; at = place }) (rowAt rules lines epoch satellite)
   row-told place has e =
-      ap (λ (a : ℕ). record { refusal = 0; line = 0; at = a }) (e ∙ ap (λ (m : ℕ). beginsFrom (isKind rules 10) (epoch * m + satellite) 0 lines) is-count)
+      ap (λ (a : ℕ). record { refusal = 0; line = 0; at = a }) (e ∙ ap (λ (m : ℕ). beginsFrom (isKind rules positionKind) (epoch * m + satellite) 0 lines) is-count)
       ∙ rw (has-row true has)
 
   pub row-missing : (ltb epoch (f .epochs) && ltb satellite n) ≡ false → noRow 13 0 ≡ rowAt rules lines epoch satellite
@@ -156,7 +157,7 @@ module _ (rules : Rules) (r : rules ≡ d) (bytes : List ℕ) (t : Tally) where
   unfolding commentAnswer
   comment-there k a h is = is ∙ rw (r, lines-as, lt-ltb k (t .comments) h)
 
-  pub words-there : (k : ℕ) (s l : List ℕ) → k < t .comments → s ≡ textIn l → l ≡ nth k (ofKind rules 8 (linesTo (t .end - 0) bytes)) → s ≡ commentWords d bytes (front.File t) k
+  pub words-there : (k : ℕ) (s l : List ℕ) → k < t .comments → s ≡ textIn l → l ≡ nth k (ofKind rules commentKind (linesTo (t .end - 0) bytes)) → s ≡ commentWords d bytes (front.File t) k
   unfolding commentWords
   words-there k s l h is line = is ∙ rw (line, r, lines-as, lt-ltb k (t .comments) h)
 
@@ -169,10 +170,10 @@ module _ (rules : Rules) (r : rules ≡ d) (bytes : List ℕ) (t : Tally) where
   satellite-found identifier a is = is ∙ rw (r, lines-as)
 
   pub counted-as : fileOf d bytes ≡ front.File t
-      → (length (identifiersOf rules (linesTo (t .end - 0) bytes)) ≡ countOf rules (linesTo (t .end - 0) bytes)) × (countOf rules (linesTo (t .end - 0) bytes) ≤ 255)
+      → (length (identifiersOf rules (linesTo (t .end - 0) bytes)) ≡ countOf rules (linesTo (t .end - 0) bytes)) × (countOf rules (linesTo (t .end - 0) bytes) ≤ maxSatellites)
   counted-as e = rw (r, lines-as) (identifiers-counted bytes t e, bounded bytes t e .1)
 
-  pub bounded-as : fileOf d bytes ≡ front.File t → (epochsOf rules (linesTo (t .end - 0) bytes) ≤ 100000) × (countOf rules (linesTo (t .end - 0) bytes) ≤ 255)
+  pub bounded-as : fileOf d bytes ≡ front.File t → (epochsOf rules (linesTo (t .end - 0) bytes) ≤ maxEpochs) × (countOf rules (linesTo (t .end - 0) bytes) ≤ maxSatellites)
   bounded-as e = rw (r, lines-as) (bounded bytes t e)
 
 pub no-comment-there : (bytes : List ℕ) (t : Tally) (k : ℕ) (a : CommentAnswer) → t .comments ≤ k → a ≡ noComment 13 0 → a ≡ commentAnswer d bytes (front.File t) k

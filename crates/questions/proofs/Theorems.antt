@@ -14,6 +14,7 @@ use denote.Ref.{now}
 use Rattle.laws.specs.Places.{PartAt}
 use Rattle.lines.specs.Lines.{linesOf, nth, beginsFrom}
 use Rattle.header.specs.Rules.{d}
+use Rattle.record.specs.LineKinds.{commentKind, positionKind}
 use Rattle.file.specs.Kinds.{isKind, ofKind}
 use Rattle.file.specs.Plain.{isRowLine}
 use Rattle.file.specs.Table.{countOf}
@@ -62,8 +63,8 @@ module _ (bytes : List ℕ) (t : Tally) (e : fileOf d bytes ≡ front.File t) wh
     stretch =
         let place = commentBegins d (linesOf bytes) k in
         let line = commentLine d (linesOf bytes) k in
-        let many = subst (λ (b : List ℕ). t .comments ≡ length (ofKind d 8 (linesOf b))) all-bytes (accepted-front d bytes t (whole-ends d bytes t e .0) .comments) in
-        let p = placed (isKind d 8) k bytes (omega arith) in
+        let many = subst (λ (b : List ℕ). t .comments ≡ length (ofKind d commentKind (linesOf b))) all-bytes (accepted-front d bytes t (whole-ends d bytes t e .0) .comments) in
+        let p = placed (isKind d commentKind) k bytes (omega arith) in
         let f = first (drop place bytes) line (p .more) (p .there) in
         ap (take (length (textIn line))) (sym (drop-drop (min 3 (length line)) place bytes) ∙ ap (drop (min 3 (length line))) (f .bytes-are))
         ∙ text-in-line line (10 ∷ f .rest)
@@ -79,7 +80,7 @@ module _ (bytes : List ℕ) (t : Tally) (e : fileOf d bytes ≡ front.File t) wh
     abbrev pub told : ℕ
     told = rowBegins d bytes (fileOf d bytes) epoch satellite .at
 
-    place-told : told ≡ beginsFrom (isKind d 10) (rowIndex d (linesOf bytes) epoch satellite) 0 (linesOf bytes)
+    place-told : told ≡ beginsFrom (isKind d positionKind) (rowIndex d (linesOf bytes) epoch satellite) 0 (linesOf bytes)
     unfolding rowBegins
     place-told =
         ap (λ (f : Front). rowBegins d bytes f epoch satellite .at) e
@@ -89,16 +90,16 @@ module _ (bytes : List ℕ) (t : Tally) (e : fileOf d bytes ≡ front.File t) wh
     unfolding rowBegins
     row-not-refused = rw (e, all-bytes, lt-ltb epoch (epochsOf d (linesOf bytes)) some, lt-ltb satellite (countOf d (linesOf bytes)) one)
 
-    pub row-numbered : nth 0 (linesOf (drop told bytes)) ≡ nth (epoch * countOf d (linesOf bytes) + satellite) (ofKind d 10 (linesOf bytes))
+    pub row-numbered : nth 0 (linesOf (drop told bytes)) ≡ nth (epoch * countOf d (linesOf bytes) + satellite) (ofKind d positionKind (linesOf bytes))
     row-numbered =
         ap (λ (n : ℕ). nth 0 (linesOf (drop n bytes))) place-told
-        ∙ line-at-place (isKind d 10) (rowIndex d (linesOf bytes) epoch satellite) bytes
+        ∙ line-at-place (isKind d positionKind) (rowIndex d (linesOf bytes) epoch satellite) bytes
 
     pub record RowThere : Type 0 where
-      pub numbered : nth 0 (linesOf (drop told bytes)) ≡ nth (epoch * countOf d (linesOf bytes) + satellite) (ofKind d 10 (linesOf bytes))
+      pub numbered : nth 0 (linesOf (drop told bytes)) ≡ nth (epoch * countOf d (linesOf bytes) + satellite) (ofKind d positionKind (linesOf bytes))
       pub named : isRowLine d false (getD (identifiersOf d (linesOf bytes)) satellite 0) (nth 0 (linesOf (drop told bytes))) ≡ true
       pub at-epoch : EpochAt (file-plain bytes (t, e)) epoch
-      pub among : nth 0 (linesOf (drop told bytes)) ≡ nth satellite (ofKind d 10 (at-epoch .epoch ∷ at-epoch .rows))
+      pub among : nth 0 (linesOf (drop told bytes)) ≡ nth satellite (ofKind d positionKind (at-epoch .epoch ∷ at-epoch .rows))
 
     pub row-there : RowThere
     row-there =
@@ -106,8 +107,8 @@ module _ (bytes : List ℕ) (t : Tally) (e : fileOf d bytes ≡ front.File t) wh
         let count : countOf d (linesOf bytes) ≡ satellites p = count-is p in
         let in-time = subst (λ (n : ℕ). epoch < n) (epochs-are p) some in
         let in-header = subst (λ (n : ℕ). satellite < n) count one in
-        let by-header : nth 0 (linesOf (drop told bytes)) ≡ nth (epoch * satellites p + satellite) (ofKind d 10 (linesOf bytes)) =
-        row-numbered ∙ ap (λ (n : ℕ). nth (epoch * n + satellite) (ofKind d 10 (linesOf bytes))) count in
+        let by-header : nth 0 (linesOf (drop told bytes)) ≡ nth (epoch * satellites p + satellite) (ofKind d positionKind (linesOf bytes)) =
+        row-numbered ∙ ap (λ (n : ℕ). nth (epoch * n + satellite) (ofKind d positionKind (linesOf bytes))) count in
         record {
           numbered = row-numbered;
           named = rw (identifiers-are p, by-header) (place-at p epoch satellite in-time in-header);

@@ -9,6 +9,7 @@ use lib.ListN.{length, drop}
 use Rattle.layout.specs.Line.{trimmed}
 use Rattle.layout.specs.Kind.{named, identifierNumber, identifierCode}
 use Rattle.lines.specs.Lines.{nth, beginsFrom}
+use Rattle.record.specs.LineKinds.{commentKind, positionKind}
 use Rattle.file.specs.Kinds.{isKind, ofKind}
 use Rattle.file.specs.Table.{firstIn, countOf}
 use Rattle.header.specs.declared.types.Rules.{Rules}
@@ -28,10 +29,10 @@ noComment number line = record { refusal = number; line = line; at = 0; length =
 
 -- the k-th comment's line, and the byte at which it begins
 abbrev pub commentLine : Rules → List (List ℕ) → ℕ → List ℕ
-commentLine rules lines k = nth k (ofKind rules 8 lines)
+commentLine rules lines k = nth k (ofKind rules commentKind lines)
 
 abbrev pub commentBegins : Rules → List (List ℕ) → ℕ → ℕ
-commentBegins rules lines k = beginsFrom (isKind rules 8) k 0 lines
+commentBegins rules lines k = beginsFrom (isKind rules commentKind) k 0 lines
 
 -- where its text lies: at column 4, or at the line's end where the line is shorter
 abbrev pub commentAt : Rules → List (List ℕ) → ℕ → CommentAnswer
@@ -88,7 +89,7 @@ hasRow rules lines epoch satellite = ltb epoch (epochsOf rules lines) && ltb sat
 abbrev pub rowAt : Rules → List (List ℕ) → ℕ → ℕ → RowBegins
 rowAt rules lines epoch satellite =
     cond (hasRow rules lines epoch satellite)
-    (record { refusal = 0; line = 0; at = beginsFrom (isKind rules 10) (rowIndex rules lines epoch satellite) 0 lines })
+    (record { refusal = 0; line = 0; at = beginsFrom (isKind rules positionKind) (rowIndex rules lines epoch satellite) 0 lines })
     (noRow 13 0)
 
 unfoldable pub rowBegins : Rules → List ℕ → Front → ℕ → ℕ → RowBegins

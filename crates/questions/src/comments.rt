@@ -10,6 +10,7 @@ ghost use Rattle.reader.specs.Reading.{fileOf};
 ghost use Rattle.questions.specs.Questions.{textIn, noComment, commentAt, commentAnswer, commentWords};
 use crate::types::CommentAnswer;
 use header::Rules;
+use record::kind::COMMENT_KIND;
 use scan::Front;
 
 // The text of a comment's line: from column 4 on, without trailing blanks. It lies at column 4, or at the line's end where the line is shorter.
@@ -41,8 +42,8 @@ fn no_comment(number: usize, line: u64) -> CommentAnswer
 fn comment_at(rules: Rules, bytes: &[u8], k: u64) -> CommentAnswer
     ensures { λ r. ⌜ r ≡ commentAt rules (linesOf (now (bytes .entry))) k ⌝ }
 {
-    let place = file::line_begins(rules, bytes, 8, k);
-    let line = file::line_of(rules, bytes, 8, k);
+    let place = file::line_begins(rules, bytes, COMMENT_KIND, k);
+    let line = file::line_of(rules, bytes, COMMENT_KIND, k);
     let indent = laws::fewer(3, line.len());
     let text = text_of(line);
     CommentAnswer {
@@ -89,7 +90,7 @@ pub fn comment(file: &[u8], k: u64) -> &[u8]
         Front::File(tally) => {
             if k < tally.comments {
                 let end = tally.end;
-                return text_of(file::line_of(rules, &file[0..end], 8, k));
+                return text_of(file::line_of(rules, &file[0..end], COMMENT_KIND, k));
             }
             file::nothing_at(file, 0)
         }

@@ -2,12 +2,13 @@
 ghost use mathlib.Core.Path.{_≡_};
 ghost use Prim.Native.Nat.{_≤_};
 ghost use Rattle.lines.specs.Lines.{linesOf};
-ghost use Rattle.header.specs.Rules.{d};
+ghost use Rattle.header.specs.Rules.{d, maxSatellites, maxEpochs};
 ghost use Rattle.file.specs.Table.{countOf};
 ghost use Rattle.reader.specs.Reading.{fileOf};
 ghost use Rattle.questions.specs.Questions.{epochsOf, noRow, rowAt, rowBegins};
 use crate::types::RowBegins;
 use header::Rules;
+use record::kind::POSITION_KIND;
 use scan::Front;
 
 // A refusal beside no row.
@@ -23,7 +24,7 @@ fn no_row(number: usize, line: u64) -> RowBegins
 
 // Where the P line of an epoch and a satellite begins among some lines.
 fn row_at(rules: Rules, bytes: &[u8], epoch: u64, satellite: u64) -> RowBegins
-    requires { ⌜ (epochsOf rules (linesOf (now bytes)) ≤ 100000) × (countOf rules (linesOf (now bytes)) ≤ 255) ⌝ }
+    requires { ⌜ (epochsOf rules (linesOf (now bytes)) ≤ maxEpochs) × (countOf rules (linesOf (now bytes)) ≤ maxSatellites) ⌝ }
     ensures { λ r. ⌜ r ≡ rowAt rules (linesOf (now (bytes .entry))) epoch satellite ⌝ }
 {
     let first = file::first_of(rules, bytes);
@@ -32,7 +33,7 @@ fn row_at(rules: Rules, bytes: &[u8], epoch: u64, satellite: u64) -> RowBegins
         return RowBegins {
             refusal: 0,
             line: 0,
-            at: file::line_begins(rules, bytes, 10, epoch * n + satellite),
+            at: file::line_begins(rules, bytes, POSITION_KIND, epoch * n + satellite),
         };
     }
     no_row(13, 0)

@@ -6,11 +6,12 @@ ghost use Rattle.laws.specs.Tests.{within};
 ghost use Rattle.field.specs.Digits.{isDigit};
 ghost use lib.ListN.{length};
 ghost use Rattle.lines.specs.Lines.{linesOf};
-ghost use Rattle.header.specs.Rules.{d};
+ghost use Rattle.header.specs.Rules.{d, maxSatellites};
 ghost use Rattle.file.specs.Table.{countOf};
 ghost use Rattle.reader.specs.Reading.{fileOf, identifiersOf};
 ghost use Rattle.questions.specs.Questions.{identifierNamed, indexOf, noSatellite, satelliteIn, satelliteAnswer};
 use crate::types::SatelliteAnswer;
+use header::Header;
 use header::Rules;
 use scan::Front;
 
@@ -54,16 +55,16 @@ fn satellite_in(identifier: u64, identifiers: &[u64]) -> SatelliteAnswer
     no_satellite(13, 0)
 }
 
-// The number of an identifier among the identifiers of some lines, as many as they say and at most 255.
+// The number of an identifier among the identifiers of some lines, as many as they say and at most so many as there may be.
 fn satellite_among(rules: Rules, bytes: &[u8], identifier: u64) -> SatelliteAnswer
-    requires { ⌜ (length (identifiersOf rules (linesOf (now bytes))) ≡ countOf rules (linesOf (now bytes))) × (countOf rules (linesOf (now bytes)) ≤ 255) ⌝ }
+    requires { ⌜ (length (identifiersOf rules (linesOf (now bytes))) ≡ countOf rules (linesOf (now bytes))) × (countOf rules (linesOf (now bytes)) ≤ maxSatellites) ⌝ }
     ensures { λ r. ⌜ r ≡ satelliteIn identifier (identifiersOf rules (linesOf (now (bytes .entry)))) ⌝ }
 {
-    let mut identifiers = [0u64; 255];
+    let mut identifiers = [0u64; Header::MAX_SATELLITES as usize];
     let n = file::count_of(rules, bytes);
     fill::fill_slots(rules, bytes, false, n, &mut identifiers);
     let all = &identifiers[..];
-    if n < 255 {
+    if n < Header::MAX_SATELLITES {
         let few = n as usize;
         return satellite_in(identifier, &all[0..few]);
     }

@@ -14,11 +14,14 @@ use lib.Seq.{take-all}
 use Rattle.laws.proofs.Bools.{and-left, and-right}
 use Rattle.lines.specs.Lent.{over, laid, flat}
 use Rattle.lines.specs.Lines.{linesOf}
+use Rattle.record.specs.LineKinds.{commentKind}
+use Rattle.record.specs.Plain.{commentWidth}
+use Rattle.record.specs.Rows.{rowWidth}
 use Rattle.lines.proofs.Each.{each-map}
 use Rattle.lines.proofs.Laying.{laid-fits}
 use Rattle.lines.proofs.Picking.{length-flat}
 use Rattle.file.specs.Kinds.{ofKind}
-use Rattle.file.specs.Table.{countOf, slotNumbers, slotLineKind, slotsIn, commentText, commentsIn, rowWidth, rowLines, numbersOfRows, rowsIn}
+use Rattle.file.specs.Table.{countOf, slotNumbers, slotLineKind, slotsIn, commentText, commentsIn, rowLines, numbersOfRows, rowsIn}
 use Rattle.file_laws.proofs.Counts.{comment-wide}
 use Rattle.header.specs.declared.types.Rules.{Rules}
 use Rattle.scan.specs.declared.Tally.{Tally}
@@ -60,7 +63,7 @@ module _ (room : Bool) (rules : Rules) (n count : ℕ) (used : List (List ℕ)) 
   Filled identifiers′ exponents′ comments′ rows′ =
       (identifiers′ ≡ filled room (take (length identifiers) (slotsIn rules false n used)) identifiers)
       × ((exponents′ ≡ filled room (take (length exponents) (slotsIn rules true n used)) exponents)
-      × ((comments′ ≡ filled room (take (length comments) (flat (map commentText (take count (ofKind rules 8 used))))) comments)
+      × ((comments′ ≡ filled room (take (length comments) (flat (map commentText (take count (ofKind rules commentKind used))))) comments)
       × (rows′ ≡ filled room (numbersOfRows rules (take (length rows / rowWidth) (rowLines rules used))) rows)))
 
   pub lists-left : room ≡ false → Filled identifiers exponents comments rows
@@ -69,7 +72,7 @@ module _ (room : Bool) (rules : Rules) (n count : ℕ) (used : List (List ℕ)) 
   pub lists-filled : (identifiers′ exponents′ comments′ : List ℕ) (rows′ : List ℤ) → room ≡ true
       → identifiers′ ≡ laid (slotsIn rules false n used) identifiers
       → exponents′ ≡ laid (slotsIn rules true n used) exponents
-      → comments′ ≡ laid (flat (map commentText (take count (ofKind rules 8 used)))) comments
+      → comments′ ≡ laid (flat (map commentText (take count (ofKind rules commentKind used)))) comments
       → rows′ ≡ over (numbersOfRows rules (take (length rows / rowWidth) (rowLines rules used))) rows
       → Filled identifiers′ exponents′ comments′ rows′
   lists-filled identifiers′ exponents′ comments′ rows′ e i x c r = (
@@ -88,20 +91,20 @@ slots-fewer rules accuracies n ls =
 
 -- 77 bytes for each comment
 abbrev commentBytes : Rules → List (List ℕ) → List ℕ
-commentBytes rules ls = flat (map commentText (ofKind rules 8 ls))
+commentBytes rules ls = flat (map commentText (ofKind rules commentKind ls))
 
 comments-are : (rules : Rules) (ls : List (List ℕ)) → commentBytes rules ls ≡ commentsIn rules ls
 unfolding commentsIn
 comments-are rules ls = refl
 
-comments-wide : (rules : Rules) (ls : List (List ℕ)) → length (commentsIn rules ls) ≡ length (ofKind rules 8 ls) * 77
+comments-wide : (rules : Rules) (ls : List (List ℕ)) → length (commentsIn rules ls) ≡ length (ofKind rules commentKind ls) * commentWidth
 unfolding commentsIn
 comments-wide rules ls =
-    length-flat 77 (map commentText (ofKind rules 8 ls)) (each-map (λ (part : List ℕ). length part ≡ 77) commentText comment-wide (ofKind rules 8 ls))
-    ∙ ap (λ (k : ℕ). k * 77) (length-map (ofKind rules 8 ls) commentText)
+    length-flat commentWidth (map commentText (ofKind rules commentKind ls)) (each-map (λ (part : List ℕ). length part ≡ commentWidth) commentText comment-wide (ofKind rules commentKind ls))
+    ∙ ap (λ (k : ℕ). k * commentWidth) (length-map (ofKind rules commentKind ls) commentText)
 
 -- as many whole parts as fit
-comments-within : (k n : ℕ) → k ≤ n / 77 → k * 77 ≤ n
+comments-within : (k n : ℕ) → k ≤ n / commentWidth → k * commentWidth ≤ n
 comments-within k n h = omega arith
 
 module _ (rules : Rules) (bytes : List ℕ) (f : Front) (i x c r : ℕ) where
@@ -162,13 +165,13 @@ module _ (rules : Rules) (bytes : List ℕ) (f : Front) (i x c r : ℕ) where
       unfolding roomFor
       exponents-fit = leb-true n x (and-right (leb n i) (leb n x) (and-left (leb n i && leb n x) _ roomy))
 
-      comments-fit : t .comments ≤ c / 77
+      comments-fit : t .comments ≤ c / commentWidth
       unfolding roomFor
-      comments-fit = leb-true (t .comments) (c / 77) (and-left (leb (t .comments) (c / 77)) _ (and-right (leb n i && leb n x) _ roomy))
+      comments-fit = leb-true (t .comments) (c / commentWidth) (and-left (leb (t .comments) (c / commentWidth)) _ (and-right (leb n i && leb n x) _ roomy))
 
-      rows-fit : t .rows ≤ r / 12
+      rows-fit : t .rows ≤ r / rowWidth
       unfolding roomFor
-      rows-fit = leb-true (t .rows) (r / 12) (and-right (leb (t .comments) (c / 77)) _ (and-right (leb n i && leb n x) _ roomy))
+      rows-fit = leb-true (t .rows) (r / rowWidth) (and-right (leb (t .comments) (c / commentWidth)) _ (and-right (leb n i && leb n x) _ roomy))
 
       slots-all : (accuracies : Bool) (old : List ℕ) → n ≤ length old
           → take (length old) (slotsIn rules accuracies n used) ≡ slotsIn rules accuracies (countOf rules (linesIn bytes f)) (linesIn bytes f)
@@ -176,17 +179,17 @@ module _ (rules : Rules) (bytes : List ℕ) (f : Front) (i x c r : ℕ) where
           take-all (length old) (slotsIn rules accuracies n used) (omega (arith, slots-fewer rules accuracies n used))
           ∙ ap₂ (λ (k : ℕ) (ls : List (List ℕ)). slotsIn rules accuracies k ls) (n-is ∙ sym (ap (λ (g : Front). countOf rules (linesIn bytes g)) is)) used-lines
 
-      comments-all : (old : List ℕ) → length old ≡ c → take (length old) (flat (map commentText (take (t .comments) (ofKind rules 8 used)))) ≡ commentsIn rules (linesIn bytes f)
+      comments-all : (old : List ℕ) → length old ≡ c → take (length old) (flat (map commentText (take (t .comments) (ofKind rules commentKind used)))) ≡ commentsIn rules (linesIn bytes f)
       comments-all old size =
           ap (λ (ls : List (List ℕ)). take (length old) (flat (map commentText ls))) all
           ∙ ap (λ (g : Front). take (length old) (commentBytes rules (linesIn bytes g))) (sym is)
           ∙ ap (take (length old)) (comments-are rules (linesIn bytes f))
           ∙ take-all (length old) (commentsIn rules (linesIn bytes f)) wide
         where
-          all : take (t .comments) (ofKind rules 8 used) ≡ ofKind rules 8 lines
+          all : take (t .comments) (ofKind rules commentKind used) ≡ ofKind rules commentKind lines
           all =
-              ap (λ (b : List ℕ). take (t .comments) (ofKind rules 8 (linesOf b))) (front-part (t .end) bytes)
-              ∙ take-all (t .comments) (ofKind rules 8 lines) (omega (arith, counts .1))
+              ap (λ (b : List ℕ). take (t .comments) (ofKind rules commentKind (linesOf b))) (front-part (t .end) bytes)
+              ∙ take-all (t .comments) (ofKind rules commentKind lines) (omega (arith, counts .1))
 
           wide : length (commentsIn rules (linesIn bytes f)) ≤ length old
           wide = omega (arith, size, ap (λ (g : Front). length (commentsIn rules (linesIn bytes g))) is, comments-wide rules lines, counts .1, comments-within (t .comments) c comments-fit)
@@ -197,7 +200,7 @@ module _ (rules : Rules) (bytes : List ℕ) (f : Front) (i x c r : ℕ) where
           all : take (length old / rowWidth) (rowLines rules used) ≡ rowLines rules lines
           all =
               ap (λ (b : List ℕ). take (length old / rowWidth) (rowLines rules (linesOf b))) (front-part (t .end) bytes)
-              ∙ take-all (length old / rowWidth) (rowLines rules lines) (omega (arith, ap (λ (k : ℕ). k / 12) size, counts .2, rows-fit))
+              ∙ take-all (length old / rowWidth) (rowLines rules lines) (omega (arith, ap (λ (k : ℕ). k / rowWidth) size, counts .2, rows-fit))
 
     -- so a list that the flag fills, or leaves, is as it is delivered
     delivers : {A : Type 0} (some all old now : List A) → (room ≡ true → some ≡ all) → now ≡ filled room some old → now ≡ filled (enough rules bytes f i x c r) all old

@@ -11,8 +11,11 @@ use lib.ListN.{length, take}
 use Rattle.lines.specs.Lent.{over}
 use Rattle.lines.specs.Lines.{linesOf}
 use Rattle.header.specs.Header.{noHeader}
+use Rattle.record.specs.LineKinds.{commentKind}
+use Rattle.record.specs.Plain.{commentWidth}
+use Rattle.record.specs.Rows.{rowWidth}
 use Rattle.file.specs.Kinds.{ofKind}
-use Rattle.file.specs.Table.{countOf, headerIn, slotsIn, commentsIn, rowWidth, rowLines, rowsIn}
+use Rattle.file.specs.Table.{countOf, headerIn, slotsIn, commentsIn, rowLines, rowsIn}
 use Rattle.scan.specs.Run.{scanOf, wholeFront}
 use Rattle.header.specs.declared.types.Header.{Header}
 use Rattle.header.specs.declared.types.Rules.{Rules}
@@ -49,13 +52,9 @@ fileOf rules bytes = wholeFront (length bytes) (scanOf rules bytes)
 abbrev pub Accounted : Rules → List ℕ → Front → Type 0
 Accounted rules bytes (front.File t) =
     (t .end ≤ length bytes)
-    × (t .comments ≡ length (ofKind rules 8 (linesTo (t .end) bytes)))
+    × (t .comments ≡ length (ofKind rules commentKind (linesTo (t .end) bytes)))
     × (t .rows ≡ length (rowLines rules (linesTo (t .end) bytes)))
 Accounted rules bytes (front.Refused number line column) = Unit
-
--- the bytes of a stored comment
-abbrev pub commentWidth : ℕ
-commentWidth = 77
 
 -- lent room: identifiers, exponents, bytes of comments, numbers of rows; whole comments and whole rows count
 unfoldable pub roomFor : ℕ → Tally → ℕ → ℕ → ℕ → ℕ → Bool

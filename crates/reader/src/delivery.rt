@@ -7,12 +7,16 @@ ghost use lib.ListN.{length, take};
 ghost use Rattle.lines.specs.Lent.{flat};
 ghost use Rattle.lines.specs.Lines.{linesOf};
 ghost use Rattle.header.specs.Rules.{d};
+ghost use Rattle.record.specs.LineKinds.{commentKind};
+ghost use Rattle.record.specs.Rows.{rowWidth};
 ghost use Rattle.file.specs.Kinds.{ofKind};
-ghost use Rattle.file.specs.Table.{slotsIn, commentText, rowWidth, rowLines, numbersOfRows};
+ghost use Rattle.file.specs.Table.{slotsIn, commentText, rowLines, numbersOfRows};
 ghost use Rattle.reader.specs.Reading.{frontOf, fileOf, Accounted, roomFor, filled, readAnswer, identifiersAfter, exponentsAfter, commentsAfter, rowsAfter};
 use crate::judging;
 use crate::types::Reading;
 use header::Rules;
+use record::plain::COMMENT_WIDTH;
+use record::rows::ROW_WIDTH;
 use scan::Front;
 use scan::Tally;
 
@@ -21,7 +25,7 @@ fn has_room(n: u64, tally: Tally, i: usize, x: usize, c: usize, r: usize) -> boo
     ensures { λ s. ⌜ s ≡ roomFor n tally i x c r ⌝ }
 {
     ((n <= i as u64) & (n <= x as u64))
-        & ((tally.comments <= (c / 77) as u64) & (tally.rows <= (r / stored_row::ROW_WIDTH) as u64))
+        & ((tally.comments <= (c / COMMENT_WIDTH) as u64) & (tally.rows <= (r / ROW_WIDTH) as u64))
 }
 
 // Fills each list with what fits of a file's n satellites, so many comments and rows, where there is room enough; else leaves it as it was.
@@ -38,7 +42,7 @@ fn fill_lists(
 )
     ensures { λ _. ⌜ now (identifiers .exit) ≡ filled enough (take (length (now (identifiers .entry))) (slotsIn rules false n (linesOf (now (bytes .entry))))) (now (identifiers .entry)) ⌝ }
     ensures { λ _. ⌜ now (exponents .exit) ≡ filled enough (take (length (now (exponents .entry))) (slotsIn rules true n (linesOf (now (bytes .entry))))) (now (exponents .entry)) ⌝ }
-    ensures { λ _. ⌜ now (comments .exit) ≡ filled enough (take (length (now (comments .entry))) (flat (map commentText (take count (ofKind rules 8 (linesOf (now (bytes .entry)))))))) (now (comments .entry)) ⌝ }
+    ensures { λ _. ⌜ now (comments .exit) ≡ filled enough (take (length (now (comments .entry))) (flat (map commentText (take count (ofKind rules commentKind (linesOf (now (bytes .entry)))))))) (now (comments .entry)) ⌝ }
     ensures { λ _. ⌜ now (rows .exit) ≡ filled enough (numbersOfRows rules (take (length (now (rows .entry)) / rowWidth) (rowLines rules (linesOf (now (bytes .entry)))))) (now (rows .entry)) ⌝ }
 {
     if !enough {

@@ -8,6 +8,9 @@ ghost use Rattle.reader.specs.Reading.{refusedWith, judged, frontOf, fil
 use crate::types::Reading;
 use header::Header;
 use header::Rules;
+use record::kind::CHARACTERS_KIND;
+use record::kind::FLOATS_KIND;
+use record::kind::SECOND_KIND;
 use scan::Front;
 
 // A refusal beside nothing.
@@ -29,26 +32,26 @@ fn header_of(rules: Rules, bytes: &[u8], comments: u64) -> Header
     let first = file::first_of(rules, bytes);
     let texts = first.texts;
     let start = first.start;
-    let second_line = file::padded_line(rules, bytes, 2);
+    let second_line = file::padded_line(rules, bytes, SECOND_KIND);
     let second = record::opening::read_second(&second_line);
-    let descriptor_line = file::padded_line(rules, bytes, 5);
+    let descriptor_line = file::padded_line(rules, bytes, CHARACTERS_KIND);
     let descriptor = record::descriptors::read_descriptor(&descriptor_line);
     let time_system = descriptor.time_system;
-    let base_line = file::padded_line(rules, bytes, 6);
+    let base_line = file::padded_line(rules, bytes, FLOATS_KIND);
     let based = record::descriptors::read_bases(&base_line);
     let bases = based.bases;
-    Header {
-        velocity: first.mode == b'V',
-        start8: machine::instant_in(start),
-        epochs: first.epochs,
-        interval8: second.interval8,
+    Header::of(
+        first.mode,
+        machine::instant_in(start),
+        first.epochs,
+        second.interval8,
         texts,
-        satellites: file::count_of(rules, bytes),
+        file::count_of(rules, bytes),
         comments,
-        file_type: descriptor.file_type,
+        descriptor.file_type,
         time_system,
         bases,
-    }
+    )
 }
 
 // What is found in some bytes: one whole file, or one at their front.

@@ -30,7 +30,14 @@ clock-absent false m h = (refl, eqb-true m largest h)
 pub nines-absent : clockAbsent false largest ≡ true
 nines-absent = refl
 
--- a place says nothing of the clock, nor a clock of the place; an exponent that is unknown is neither 0 nor too large
+-- a place says nothing of the clock, nor a clock of the place: there are all four cases
+pub absent-apart : (place clock : Bool) → (x : ℕ) × (m : ℕ) × (placeAbsent x 0 0 ≡ place) × (clockAbsent false m ≡ clock)
+absent-apart true true = (0, largest, refl, refl)
+absent-apart true false = (0, 0, refl, refl)
+absent-apart false true = (1, largest, refl, refl)
+absent-apart false false = (1, 0, refl, refl)
+
+-- an exponent that is unknown is neither 0 nor too large
 pub unknown-apart : (clock : Bool) → (isUnknown 0 ≡ false) × (isTooLarge clock unknown ≡ false)
 unknown-apart true = (refl, refl)
 unknown-apart false = (refl, refl)

@@ -11,6 +11,8 @@ use Rattle.record.proofs.absence.place_absent.Reads as place-absent
 use Rattle.record.proofs.absence.clock_absent.Reads as clock-absent
 use Rattle.record.proofs.absence.is_unknown.Reads as is-unknown
 use Rattle.record.proofs.absence.is_too_large.Reads as is-too-large
+use Rattle.record.proofs.kind.kinds_hold.Reads as kinds-hold
+use Rattle.record.proofs.rows.widths_hold.Reads as widths-hold
 use Rattle.record.proofs.kind.kind_of.Reads as kind-of
 use Rattle.record.proofs.kind.kind_by.Reads as kind-by
 use Rattle.record.proofs.opening.read_first.Reads as read-first
@@ -138,4 +140,10 @@ pub satellite-in-determined : (κs : _) (a : _) (r r′ : _) (s s′ : _) → sa
 satellite-in-determined κs a r r′ s s′ p q = p ∙ sym q
 
 pub kind-by-determined : (κs : _) (a : _) (r r′ : _) (s s′ : _) → kind-by.Post κs a r s → kind-by.Post κs a r′ s′ → r ≡ r′
-kind-by-determined κs a r r′ s s′ p q = p ∙ sym q
+kind-by-determined κs a r r′ s s′ p q = toldKind-one r r′ (p ∙ sym q)
+
+pub kinds-hold-determined : (κs : _) (a : _) (r r′ : _) (s s′ : _) → kinds-hold.Post κs a r s → kinds-hold.Post κs a r′ s′ → r ≡ r′
+kinds-hold-determined κs a r r′ s s′ p q = p .0 ∙ sym (q .0)
+
+pub widths-hold-determined : (κs : _) (a : _) (r r′ : _) (s s′ : _) → widths-hold.Post κs a r s → widths-hold.Post κs a r′ s′ → r ≡ r′
+widths-hold-determined κs a r r′ s s′ p q = p .0 ∙ sym (q .0)

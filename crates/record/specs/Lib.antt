@@ -7,3 +7,4 @@ pub mod Descriptors
 pub mod Plain
 pub mod Absence
 pub mod Rows
+pub mod Agrees

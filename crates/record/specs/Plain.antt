@@ -12,6 +12,10 @@ use Rattle.layout.specs.Line.{ended}
 abbrev pub commentItems : List Item
 commentItems = partAt 0 1 2 (fixed 4 (47 ∷ 42 ∷ [])) ∷ column 3 unused ∷ columns 4 80 text ∷ []
 
+-- the bytes of a stored comment: columns 4 to 80
+abbrev pub commentWidth : ℕ
+commentWidth = 77
+
 -- the text of a comment's line of 80 columns
 abbrev pub commentOf : List ℕ → List ℕ
 commentOf line = partOf (columns 4 80 text) line

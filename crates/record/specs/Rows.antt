@@ -3,7 +3,7 @@
 -- 000, line thirty three, and line twenty six in example 2. Numbers are whole: mm and ps in P, 10^-4 mm/s and 10^-16 s/s in V.
 use mathlib.Core.Bool.{Bool, true, false, not, _&&_}
 use mathlib.Core.List.{List, [], _∷_, _++_}
-use Prim.Native.Nat.{ℕ, _-_}
+use Prim.Native.Nat.{ℕ, _-_, _*_}
 use lib.Dec.{eqb}
 use lib.ListN.{getD, take, drop}
 use Rattle.field.specs.Read.{exponentOf}
@@ -141,3 +141,10 @@ rowTaken velocity line = record {
 -- the row of a line as it stands, a short one being padded
 abbrev pub rowOf : Bool → List ℕ → Row
 rowOf velocity line = rowTaken velocity (padded line)
+
+-- the numbers of a stored row: x, y, z, clock, their exponents, and four flags; and those of a P row with its V row
+abbrev pub rowWidth : ℕ
+rowWidth = 12
+
+abbrev pub bothWidth : ℕ
+bothWidth = 2 * rowWidth

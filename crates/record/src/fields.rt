@@ -6,7 +6,7 @@ ghost use Prim.Native.Nat.{_+_, _-_, _*_, _≤_};
 ghost use lib.ListN.{length};
 ghost use Rattle.field.specs.Digits.{isDigit};
 ghost use Rattle.laws.specs.Tests.{within};
-ghost use Rattle.layout.specs.Fault.{lower};
+ghost use Rattle.layout.specs.Fault.{lower, keyed};
 ghost use Rattle.layout.specs.Kind.{unless, unusedFault, sameBytes, isListed, faultIn, identifierCode};
 ghost use Rattle.layout.specs.Kind.Kind.{unused, fixed, whole, decimal, signed, clock, exponent, flag, letter, listed, identifier, zeroWhole, zeroDecimal, text};
 ghost use Rattle.layout.specs.Layout.{columns, column, partAt, partOf, faultAt};
@@ -21,6 +21,14 @@ use field::Exponent;
 use field::Whole;
 use header::Moment;
 
+// The lower of a fault and one of this number at this column.
+fn fault_at(lowest: usize, number: usize, at: usize) -> usize
+    requires { ⌜ (number ≤ 13) × (at ≤ 80) ⌝ }
+    ensures { λ r. ⌜ r ≡ lower lowest (keyed number at) ⌝ }
+{
+    layout::lower(lowest, number * 128 + at)
+}
+
 // A fault of this number at this column where a test is not passed.
 pub(crate) fn fault_unless(lowest: usize, passed: bool, number: usize, at: usize) -> usize
     requires { ⌜ (number ≤ 13) × (at ≤ 80) ⌝ }
@@ -29,7 +37,7 @@ pub(crate) fn fault_unless(lowest: usize, passed: bool, number: usize, at: usize
     if passed {
         return lowest;
     }
-    layout::lower(lowest, number * 128 + at)
+    fault_at(lowest, number, at)
 }
 
 // Unused columns from the column `first` on.
@@ -40,7 +48,7 @@ fn read_unused(lowest: usize, bytes: &[u8], first: usize) -> usize
     let mut i = 0;
     while i < bytes.len() {
         if bytes[i] != b' ' {
-            return layout::lower(lowest, 5 * 128 + (first + i));
+            return fault_at(lowest, 5, first + i);
         }
         i += 1;
     }
@@ -109,7 +117,7 @@ pub(crate) fn whole_in(
     let from = first - 1;
     let Whole::Value(n) = field::read::whole(&s[from..last]) else {
         return Judged {
-            fault: layout::lower(lowest, 6 * 128 + blamed),
+            fault: fault_at(lowest, 6, blamed),
             value: 0,
         };
     };
@@ -141,7 +149,7 @@ pub(crate) fn decimal_in(
     } = field::read::decimal(&s[from..last], places, false)
     else {
         return Judged {
-            fault: layout::lower(lowest, 6 * 128 + first),
+            fault: fault_at(lowest, 6, first),
             value: 0,
         };
     };
@@ -160,7 +168,7 @@ pub(crate) fn zero_whole_in(lowest: usize, line: &[u8; 80], first: usize, last: 
     let s = &line[..];
     let from = first - 1;
     let Whole::Value(n) = field::read::whole(&s[from..last]) else {
-        return layout::lower(lowest, 5 * 128 + first);
+        return fault_at(lowest, 5, first);
     };
     fault_unless(lowest, n == 0, 5, first)
 }
@@ -182,7 +190,7 @@ pub(crate) fn zero_decimal_in(
         magnitude,
     } = field::read::decimal(&s[from..last], places, false)
     else {
-        return layout::lower(lowest, 5 * 128 + first);
+        return fault_at(lowest, 5, first);
     };
     fault_unless(lowest, magnitude == 0, 5, first)
 }
@@ -197,7 +205,7 @@ pub(crate) fn dated(lowest: usize, m: Moment) -> usize
         seconds: _,
     } = calendar::date(m.year, m.month, m.day)
     else {
-        return layout::lower(lowest, 7 * 128 + 4);
+        return fault_at(lowest, 7, 4);
     };
     lowest
 }
@@ -334,7 +342,7 @@ fn read_identifier(lowest: usize, bytes: &[u8], first: usize) -> Judged
     let ones = bytes[2];
     if !is_named(letter, tens, ones) {
         return Judged {
-            fault: layout::lower(lowest, 6 * 128 + first),
+            fault: fault_at(lowest, 6, first),
             value: 0,
         };
     }
@@ -376,7 +384,7 @@ pub(crate) fn signed_in(lowest: usize, line: &[u8; 80], first: usize, last: usiz
         magnitude,
     } = field::read::decimal(&s[from..last], 6, true)
     else {
-        return layout::lower(lowest, 6 * 128 + first);
+        return fault_at(lowest, 6, first);
     };
     let bounded = laws::within(0, field::sign::LARGEST, magnitude);
     fault_unless(lowest, bounded, 7, first)
@@ -400,7 +408,7 @@ pub(crate) fn exponent_in(lowest: usize, line: &[u8; 80], first: usize, last: us
     let Exponent::Malformed = field::read::exponent(&s[from..last]) else {
         return lowest;
     };
-    layout::lower(lowest, 6 * 128 + first)
+    fault_at(lowest, 6, first)
 }
 
 // A flag: its letter or blank.

@@ -4,6 +4,9 @@ ghost use Rattle.layout.specs.Layout.{faultOf};
 ghost use Rattle.record.specs.Plain.{commentItems, correlationItems, endItems};
 use crate::fields;
 
+// The bytes of a stored comment: columns 4 to 80 of its line.
+pub const COMMENT_WIDTH: usize = 77;
+
 // A comment: text in column 3 is 5 at column 3. Its text is columns 4 to 80.
 pub fn comment_fault(line: &[u8; 80]) -> usize
     ensures result { λ r. ⌜ r ≡ faultOf commentItems (now (line .entry)) ⌝ }

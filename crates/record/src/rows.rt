@@ -1,17 +1,35 @@
 // P and V lines: judged first, and their rows taken when they have no fault.
 ghost use mathlib.Core.Path.{_≡_};
+ghost use mathlib.Core.Bool.{true};
 ghost use Prim.Native.Nat.{_≤_};
 ghost use lib.ListN.{length};
 ghost use Rattle.layout.specs.Kind.{identifierCode};
 ghost use Rattle.layout.specs.Layout.{faultFrom};
-ghost use Rattle.record.specs.Rows.{bodyItems, flagItems, rowFault, cut, signedIn, exponentIn, flagIn, rowTaken, rowOf};
+ghost use Rattle.record.specs.Rows.{bodyItems, flagItems, rowFault, cut, signedIn, exponentIn, flagIn, rowTaken, rowOf, rowWidth, bothWidth};
+ghost use Rattle.record.specs.Plain.{commentWidth};
 use crate::fields;
+use crate::plain::COMMENT_WIDTH;
 use crate::types::Row;
 use crate::types::Signed;
 use field::Exponent;
 
 // Stands for an unknown exponent: no exponent of three columns has it.
 pub const UNKNOWN: u64 = 1000;
+
+// The numbers of a stored row: x, y, z, clock, their four exponents, four flags; and those of a P row with its V row.
+pub const ROW_WIDTH: usize = 12;
+
+pub const BOTH_WIDTH: usize = 2 * ROW_WIDTH;
+
+// The widths are those of the definitions.
+pub fn widths_hold() -> bool
+    ensures result { λ r. ⌜ r ≡ true ⌝ }
+    ensures row { λ r. do ⌜ (← ⟦ROW_WIDTH⟧ .entry) ≡ rowWidth ⌝ }
+    ensures both { λ r. do ⌜ (← ⟦BOTH_WIDTH⟧ .entry) ≡ bothWidth ⌝ }
+    ensures comment { λ r. do ⌜ (← ⟦COMMENT_WIDTH⟧ .entry) ≡ commentWidth ⌝ }
+{
+    true
+}
 
 // Columns 2 to 73, the same in P and V.
 fn body_fault(lowest: usize, line: &[u8; 80]) -> usize

@@ -5,14 +5,15 @@ use mathlib.Core.Path.{_≡_, refl, ap, _∙_}
 use mathlib.Core.Bool.{Bool, true, false, cond, _&&_}
 use mathlib.Core.List.{List, [], _∷_, _++_}
 use mathlib.Core.Logic.{_⊎_, inl, inr}
-use Prim.Native.Nat.{ℕ, _≤_, _<_}
+use Prim.Native.Nat.{ℕ, _≤_, _<_, _*_}
 use native.Mathlib.Omega.{arith}
 use borrow.Author.Tests.{leb-true, leb-false, le-leb, lt-leb, eq-eqb, ne-eqb}
 use lib.Dec.{eqb, leb}
 use lib.IntN.{ℤ}
 use lib.ListN.{length, length-append}
-use Rattle.header.specs.Rules.{d}
+use Rattle.header.specs.Rules.{d, maxSatellites}
 use Rattle.layout.specs.Line.{Lays}
+use Rattle.record.specs.Plain.{commentWidth}
 use Rattle.reader.specs.Reading.{refusedWith, fileOf, delivered}
 use Rattle.canon.specs.Table.{Table}
 use Rattle.canon.specs.Canonical.{canonical}
@@ -29,7 +30,7 @@ use Rattle.canon.specs.declared.types.Measured.{Measured}
 use Rattle.scan.specs.declared.Tally.{Tally}
 use Rattle.scan.specs.declared.Front.{Front}
 use Rattle.scan.specs.declared.Front.the-variants as front
-use Rattle.rewrite.specs.Printed.{longest, mostComments, tooLong, refusedWord, lineWord, numberText, said, refusedText, answered, printed}
+use Rattle.rewrite.specs.Printed.{mostBytes, mostComments, tooLong, refusedWord, lineWord, numberText, said, refusedText, answered, printed}
 use Rattle.rewrite.specs.Rewriting.{asWritten, reading, tableRead, rewriteAnswer, outRewritten}
 use Rattle.rewrite.specs.declared.types.Rewritten.{Rewritten}
 use Rattle.rewrite.proofs.Digits.{digits-few}
@@ -55,8 +56,8 @@ Outcome text out done now =
     ⊎ ((done .refusal ≡ 0 → ⊥) × (text ≡ refusedText (done .refusal) (done .line)) × (now ≡ out))
 
 -- Of a file of at most 65,536 bytes, with the lists and the output of the program.
-module _ (bytes identifiers exponents comments : List ℕ) (rows : List ℤ) (out : List ℕ) (short : length bytes ≤ longest) (room : length out ≡ longest)
-    (named : length identifiers ≡ 255) (weighed : length exponents ≡ 255) (noted : length comments ≡ 61_600) (placed : length rows ≡ 12_888) where
+module _ (bytes identifiers exponents comments : List ℕ) (rows : List ℤ) (out : List ℕ) (short : length bytes ≤ mostBytes) (room : length out ≡ mostBytes)
+    (named : length identifiers ≡ maxSatellites) (weighed : length exponents ≡ maxSatellites) (noted : length comments ≡ mostComments * commentWidth) (placed : length rows ≡ 12_888) where
   abbrev read : Reading
   read = reading bytes identifiers exponents comments rows
 
@@ -90,7 +91,7 @@ module _ (bytes identifiers exponents comments : List ℕ) (rows : List ℤ) (ou
 
   -- a form that fits is laid; for one that does not the output stays as it was
   module _ (t : Tally) (file : fileOf d bytes ≡ front.File t) (zero : read .refusal ≡ 0) where
-    fitting : length form ≤ longest → Outcome form out answer left
+    fitting : length form ≤ mostBytes → Outcome form out answer left
     fitting fits =
         let enough : length form ≤ length out = omega arith in
         let told = lent-answer bytes (t, file) identifiers exponents comments rows zero out enough in
@@ -104,7 +105,7 @@ module _ (bytes identifiers exponents comments : List ℕ) (rows : List ℤ) (ou
           },
         )
 
-    too-large : longest < length form → Outcome (refusedText 12 0) out answer left
+    too-large : mostBytes < length form → Outcome (refusedText 12 0) out answer left
     too-large over =
         let less : length out < length (canonical d table) = rw (lent-form bytes (t, file) identifiers exponents comments rows zero) (omega arith) in
         let twelve = too-small-12 table out (lent-valid bytes (t, file) identifiers exponents comments rows zero) less in
@@ -115,17 +116,17 @@ module _ (bytes identifiers exponents comments : List ℕ) (rows : List ℤ) (ou
   -- a file that is accepted
   filed : (t : Tally) → fileOf d bytes ≡ front.File t → Outcome (answered bytes (front.File t)) out answer left
   unfolding answered
-  filed t file = by (leb (header bytes .comments) mostComments) (leb (length form) longest) refl refl
+  filed t file = by (leb (header bytes .comments) mostComments) (leb (length form) mostBytes) refl refl
     where
       some-0 : leb (header bytes .comments) mostComments ≡ true → read .refusal ≡ 0
       some-0 few =
           let answers = few-comments bytes (t, file) short (leb-true (header bytes .comments) mostComments few) in
           ap (λ (r : Reading). r .refusal) (read-is ∙ answers)
 
-      by : (few fits : Bool) → leb (header bytes .comments) mostComments ≡ few → leb (length form) longest ≡ fits
+      by : (few fits : Bool) → leb (header bytes .comments) mostComments ≡ few → leb (length form) mostBytes ≡ fits
           → Outcome (cond (few && fits) form (refusedText 12 0)) out answer left
-      by true true p q = fitting t file (some-0 p) (leb-true (length form) longest q)
-      by true false p q = too-large t file (some-0 p) (leb-false (length form) longest q)
+      by true true p q = fitting t file (some-0 p) (leb-true (length form) mostBytes q)
+      by true false p q = too-large t file (some-0 p) (leb-false (length form) mostBytes q)
       by false fits p q =
           let answers = many-comments bytes (t, file) short (leb-false (header bytes .comments) mostComments p) in
           refused 12 0 (omega arith) (read-is ∙ answers)
@@ -154,22 +155,22 @@ outcome-laid done (inl (zero, laid)) none = laid
 outcome-laid done (inr (apart, words, same)) none = absurd (apart none)
 
 -- the answer has room
-pub answer-fits : (bytes : List ℕ) (f : Front) → length (answered bytes f) ≤ longest
+pub answer-fits : (bytes : List ℕ) (f : Front) → length (answered bytes f) ≤ mostBytes
 unfolding answered
 answer-fits bytes (front.Refused number line column) = omega (arith, few-words number line)
-answer-fits bytes (front.File t) = go (leb (header bytes .comments) mostComments) (leb (length (rewritten d bytes)) longest) refl
+answer-fits bytes (front.File t) = go (leb (header bytes .comments) mostComments) (leb (length (rewritten d bytes)) mostBytes) refl
   where
-    go : (few fits : Bool) → leb (length (rewritten d bytes)) longest ≡ fits
-        → length (cond (few && fits) (rewritten d bytes) (refusedText 12 0)) ≤ longest
-    go true true q = leb-true (length (rewritten d bytes)) longest q
+    go : (few fits : Bool) → leb (length (rewritten d bytes)) mostBytes ≡ fits
+        → length (cond (few && fits) (rewritten d bytes) (refusedText 12 0)) ≤ mostBytes
+    go true true q = leb-true (length (rewritten d bytes)) mostBytes q
     go true false q = omega (arith, few-words 12 0)
     go false fits q = omega (arith, few-words 12 0)
 
 -- PRINTED: what is laid is what the paper says, too long or not
-pub printed-long : (bytes : List ℕ) → longest < length bytes → tooLong ≡ printed bytes
+pub printed-long : (bytes : List ℕ) → mostBytes < length bytes → tooLong ≡ printed bytes
 unfolding printed
-printed-long bytes long = rw (lt-leb (length bytes) longest long)
+printed-long bytes long = rw (lt-leb (length bytes) mostBytes long)
 
-pub printed-short : (bytes : List ℕ) → length bytes ≤ longest → answered bytes (fileOf d bytes) ≡ printed bytes
+pub printed-short : (bytes : List ℕ) → length bytes ≤ mostBytes → answered bytes (fileOf d bytes) ≡ printed bytes
 unfolding printed
-printed-short bytes short = rw (le-leb (length bytes) longest short)
+printed-short bytes short = rw (le-leb (length bytes) mostBytes short)

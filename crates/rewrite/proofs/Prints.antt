@@ -17,14 +17,14 @@ use Rattle.canon_laws.proofs.Rewriting as rewriting
 use Rattle.theorems.specs.Files.{header}
 use Rattle.header.specs.declared.types.Header.{Header}
 use Rattle.scan.specs.declared.Front.the-variants as front
-use Rattle.rewrite.specs.Printed.{longest, mostComments, tooLong, refusedText, answered, printed}
+use Rattle.rewrite.specs.Printed.{mostBytes, mostComments, tooLong, refusedText, answered, printed}
 use Rattle.rewrite.proofs.Answering.{printed-long, printed-short}
 
 -- More than 65,536 bytes are too long, whatever they are;
-pub prints-too-long : (bytes : List ℕ) → longest < length bytes → printed bytes ≡ tooLong
+pub prints-too-long : (bytes : List ℕ) → mostBytes < length bytes → printed bytes ≡ tooLong
 prints-too-long bytes long = sym (printed-long bytes long)
 
-module _ (bytes : List ℕ) (short : length bytes ≤ longest) where
+module _ (bytes : List ℕ) (short : length bytes ≤ mostBytes) where
   -- else a file that is refused is answered by its number and line,
   pub prints-refusal : (number line column : ℕ) → fileOf d bytes ≡ front.Refused number line column → printed bytes ≡ refusedText number line
   unfolding answered
@@ -38,15 +38,15 @@ module _ (bytes : List ℕ) (short : length bytes ≤ longest) where
         sym (printed-short bytes short) ∙ ap (answered bytes) (accepted .1) ∙ rw (lt-leb (header bytes .comments) mostComments many)
 
     -- and any other, whose form has at most 65,536 bytes, by that form.
-    pub prints-form : header bytes .comments ≤ mostComments → length (rewritten d bytes) ≤ longest → printed bytes ≡ rewritten d bytes
+    pub prints-form : header bytes .comments ≤ mostComments → length (rewritten d bytes) ≤ mostBytes → printed bytes ≡ rewritten d bytes
     unfolding answered
     prints-form few fits =
         sym (printed-short bytes short)
         ∙ ap (answered bytes) (accepted .1)
-        ∙ rw (le-leb (header bytes .comments) mostComments few, le-leb (length (rewritten d bytes)) longest fits)
+        ∙ rw (le-leb (header bytes .comments) mostComments few, le-leb (length (rewritten d bytes)) mostBytes fits)
 
 -- REWRITTEN TWICE: a form that was printed is an accepted file, and taken in again it is printed as it is.
-pub prints-again : (bytes : List ℕ) → IsFile d bytes → header bytes .comments ≤ mostComments → length (rewritten d bytes) ≤ longest
+pub prints-again : (bytes : List ℕ) → IsFile d bytes → header bytes .comments ≤ mostComments → length (rewritten d bytes) ≤ mostBytes
     → printed (rewritten d bytes) ≡ rewritten d bytes
 prints-again bytes accepted few fits =
     let form = rewritten d bytes in

@@ -14,13 +14,7 @@ use Rattle.reader.specs.Reading.{fileOf}
 use Rattle.canon_laws.specs.Held.{rewritten}
 use Rattle.scan.specs.declared.Front.{Front}
 use Rattle.scan.specs.declared.Front.the-variants as front
-
--- the most bytes of input, and of output; the most comments
-abbrev pub longest : ℕ
-longest = 65_536
-
-abbrev pub mostComments : ℕ
-mostComments = 800
+pub use Rattle.theorems.specs.Room.{mostBytes, mostComments}
 
 -- `too long` and LF
 abbrev pub tooLong : List ℕ
@@ -49,9 +43,9 @@ refusedText number line = (said refusedWord number ++ said lineWord line) ++ (10
 -- of a file that is accepted, the canonical form where there is room; the refusal of another
 unfoldable pub answered : List ℕ → Front → List ℕ
 answered bytes (front.File t) =
-    cond (leb (headerIn d (linesOf bytes) .comments) mostComments && leb (length (rewritten d bytes)) longest) (rewritten d bytes) (refusedText 12 0)
+    cond (leb (headerIn d (linesOf bytes) .comments) mostComments && leb (length (rewritten d bytes)) mostBytes) (rewritten d bytes) (refusedText 12 0)
 answered bytes (front.Refused number line column) = refusedText number line
 
 -- all that is printed
 unfoldable pub printed : List ℕ → List ℕ
-printed bytes = cond (leb (length bytes) longest) (answered bytes (fileOf d bytes)) tooLong
+printed bytes = cond (leb (length bytes) mostBytes) (answered bytes (fileOf d bytes)) tooLong

@@ -4,26 +4,34 @@ ghost use lib.ListN.{length, take};
 ghost use Rattle.header.specs.Rules.{d};
 ghost use Rattle.reader.specs.Reading.{fileOf};
 ghost use Rattle.layout.specs.Line.{Lays};
-ghost use Rattle.rewrite.specs.Printed.{answered, printed, longest};
+ghost use Rattle.rewrite.specs.Printed.{answered, printed, mostBytes};
 ghost use Prim.Native.Nat.{_≤_};
 ghost use Rattle.io.specs.Counts.{Counts};
 use crate::rewriting;
 use crate::text;
+use header::Header;
+use record::plain::COMMENT_WIDTH;
+use record::rows::ROW_WIDTH;
 
 // The most bytes of input, and of output.
 const LONGEST: usize = 65_536;
 
-// The canonical form of a file of at most 65,536 bytes, or its refusal as a line. Room is lent for 255 satellites, 800 comments of 77 bytes and 1,074
-// rows of 12 numbers: a row has at least 61 bytes, so there are no more.
+// The most comments and rows that room is lent for.
+const MOST_COMMENTS: usize = 800;
+
+const MOST_ROWS: usize = 1_074;
+
+// The canonical form of a file of at most 65,536 bytes, or its refusal as a line. Room is lent for all its satellites, for 800 comments and for 1,074 rows:
+// a row has at least 61 bytes, so there are no more.
 fn answer_short(file: &[u8], out: &mut [u8]) -> usize
-    requires { ⌜ length (now file) ≤ longest ⌝ }
-    requires { ⌜ length (now out) ≡ longest ⌝ }
+    requires { ⌜ length (now file) ≤ mostBytes ⌝ }
+    requires { ⌜ length (now out) ≡ mostBytes ⌝ }
     ensures { λ r. ⌜ Lays (answered (now (file .entry)) (fileOf d (now (file .entry)))) (now (out .entry)) r (now (out .exit)) ⌝ }
 {
-    let mut identifiers = [0u64; 255];
-    let mut exponents = [0u64; 255];
-    let mut comments = [0u8; 61_600];
-    let mut rows = [0i64; 12_888];
+    let mut identifiers = [0u64; Header::MAX_SATELLITES as usize];
+    let mut exponents = [0u64; Header::MAX_SATELLITES as usize];
+    let mut comments = [0u8; MOST_COMMENTS * COMMENT_WIDTH];
+    let mut rows = [0i64; MOST_ROWS * ROW_WIDTH];
     let done = rewriting::read_and_write(
         file,
         &mut identifiers,
@@ -40,7 +48,7 @@ fn answer_short(file: &[u8], out: &mut [u8]) -> usize
 
 // What is printed for the bytes of standard input, of which the first 65,537 are enough, and how many bytes it has.
 pub(crate) fn answer(file: &[u8], out: &mut [u8]) -> usize
-    requires { ⌜ length (now out) ≡ longest ⌝ }
+    requires { ⌜ length (now out) ≡ mostBytes ⌝ }
     ensures result { λ r. ⌜ take r (now (out .exit)) ≡ printed (now (file .entry)) ⌝ }
     ensures within { λ r. ⌜ Counts r (now (out .exit)) ⌝ }
 {

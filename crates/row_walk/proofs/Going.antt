@@ -14,7 +14,7 @@ use Rattle.layout.specs.Line.{padded}
 use Rattle.lines.specs.Lines.{isLf, lineLength, linesOf, onFirst, joinLines, bytesIn}
 use Rattle.lines.proofs.Ends.{no-line, first-line}
 use Rattle.lines.proofs.Split.{bytes-in, parted}
-use Rattle.record.specs.LineKinds.{toldKind, kindOf, kindBy, starKind, eKind, plusKind, slashKind, percentKind, hashKind}
+use Rattle.record.specs.LineKinds.{positionKind, toldKind, kindOf, kindBy, starKind, eKind, plusKind, slashKind, percentKind, hashKind}
 use Rattle.file.specs.Kinds.{isKind}
 use Rattle.file.proofs.Finding.{padded-column}
 use Rattle.machine.specs.Step.{stepOf, readFirst}
@@ -28,18 +28,18 @@ use Rattle.line_walk.specs.declared.Spot.{Spot}
 use Rattle.row_walk.specs.Rows.{spotPast, toRow, rowAhead}
 
 -- a kind that is not P, or another that is not
-not-row : (p : Bool) (x y : LineKind) → eqb (toldKind x) 10 ≡ false → eqb (toldKind y) 10 ≡ false → eqb (toldKind (cond p x y)) 10 ≡ false
+not-row : (p : Bool) (x y : LineKind) → eqb (toldKind x) positionKind ≡ false → eqb (toldKind y) positionKind ≡ false → eqb (toldKind (cond p x y)) positionKind ≡ false
 not-row true x y e f = e
 not-row false x y e f = f
 
 -- P is told by the first byte alone
-row-letter : (letter a b c : ℕ) → eqb (toldKind (kindBy letter a b c)) 10 ≡ eqb a 80
+row-letter : (letter a b c : ℕ) → eqb (toldKind (kindBy letter a b c)) positionKind ≡ eqb a 80
 row-letter letter a b c = go (eqb a 80)
   where
     other : eqb (toldKind (cond (eqb a 86) kind.Velocity
         (cond (eqb a 42) (starKind b)
         (cond (eqb a 69) (eKind b c)
-        (cond (eqb a 43) (plusKind b) (cond (eqb a 47) (slashKind b) (cond (eqb a 37) (percentKind b) (cond (eqb a 35) (hashKind letter b) kind.Other)))))))) 10
+        (cond (eqb a 43) (plusKind b) (cond (eqb a 47) (slashKind b) (cond (eqb a 37) (percentKind b) (cond (eqb a 35) (hashKind letter b) kind.Other)))))))) positionKind
         ≡ false
     other =
         not-row (eqb a 86) _ _ refl
@@ -54,23 +54,23 @@ row-letter letter a b c = go (eqb a 80)
         (cond (eqb a 86) kind.Velocity
         (cond (eqb a 42) (starKind b)
         (cond (eqb a 69) (eKind b c)
-        (cond (eqb a 43) (plusKind b) (cond (eqb a 47) (slashKind b) (cond (eqb a 37) (percentKind b) (cond (eqb a 35) (hashKind letter b) kind.Other))))))))) 10
+        (cond (eqb a 43) (plusKind b) (cond (eqb a 47) (slashKind b) (cond (eqb a 37) (percentKind b) (cond (eqb a 35) (hashKind letter b) kind.Other))))))))) positionKind
         ≡ t
     go true = refl
     go false = other
 
-line-row : (rules : Rules) (l : List ℕ) → isKind rules 10 l ≡ eqb (getD l 0 32) 80
+line-row : (rules : Rules) (l : List ℕ) → isKind rules positionKind l ≡ eqb (getD l 0 32) 80
 unfolding kindOf
 line-row rules l =
     row-letter (rules .letter) (getD (padded l) 0 0) (getD (padded l) 1 0) (getD (padded l) 2 0) ∙ ap (λ (a : ℕ). eqb a 80) (padded-column l 0 (omega arith))
 
 -- a line is a P line exactly where the byte at which it begins is P
-pub row-begins : (rules : Rules) (xs l : List ℕ) (ls : List (List ℕ)) → linesOf xs ≡ l ∷ ls → isKind rules 10 l ≡ eqb (getD xs 0 0) 80
+pub row-begins : (rules : Rules) (xs l : List ℕ) (ls : List (List ℕ)) → linesOf xs ≡ l ∷ ls → isKind rules positionKind l ≡ eqb (getD xs 0 0) 80
 unfolding linesOf onFirst
 row-begins rules [] l ls e = let z : _≡_ {A = ℕ} 0 1 = cc in absurd (omega arith)
 row-begins rules (b ∷ bs) l ls e = go (isLf b) refl (linesOf bs) refl
   where
-    go : (t : Bool) → isLf b ≡ t → (ms : List (List ℕ)) → linesOf bs ≡ ms → isKind rules 10 l ≡ eqb b 80
+    go : (t : Bool) → isLf b ≡ t → (ms : List (List ℕ)) → linesOf bs ≡ ms → isKind rules positionKind l ≡ eqb b 80
     go true is ms lines =
         let same : [] ∷ linesOf bs ≡ l ∷ ls = rw is at e in
         let empty : [] ≡ l = cc in
@@ -117,17 +117,17 @@ module _ (rules : Rules) (file identifiers : List ℕ) (p : Spot) where
 
   module _ (l : List ℕ) (ls : List (List ℕ)) (e : linesOf (drop (p .at) file) ≡ l ∷ ls) where
     -- a P line stops the walk
-    stays-row : isKind rules 10 l ≡ true → p ≡ rowAhead rules file identifiers p
+    stays-row : isKind rules positionKind l ≡ true → p ≡ rowAhead rules file identifiers p
     unfolding toRow
     stays-row is = rw (e, is)
 
     -- another that is refused or ends the file does
-    stays-fault : (m c : ℕ) → isKind rules 10 l ≡ false → stepOf rules (p .state) identifiers l ≡ verdict.Fault m c
+    stays-fault : (m c : ℕ) → isKind rules positionKind l ≡ false → stepOf rules (p .state) identifiers l ≡ verdict.Fault m c
         → (p ≡ rowAhead rules file identifiers p) × (spotPast rules file identifiers p ≡ p)
     unfolding toRow spotPast readFirst
     stays-fault m c is v = (rw (e, is, v), rw (e, v))
 
-    stays-end : isKind rules 10 l ≡ false → stepOf rules (p .state) identifiers l ≡ verdict.Finished
+    stays-end : isKind rules positionKind l ≡ false → stepOf rules (p .state) identifiers l ≡ verdict.Finished
         → (p ≡ rowAhead rules file identifiers p) × (spotPast rules file identifiers p ≡ p)
     unfolding toRow spotPast readFirst
     stays-end is v = (rw (e, is, v), rw (e, v))
@@ -136,7 +136,7 @@ module _ (rules : Rules) (file identifiers : List ℕ) (p : Spot) where
     abbrev behind : State → Spot
     behind s = record { at = p .at + length l + 1; state = s }
 
-    moves : (s : State) → isKind rules 10 l ≡ false → stepOf rules (p .state) identifiers l ≡ verdict.Next s
+    moves : (s : State) → isKind rules positionKind l ≡ false → stepOf rules (p .state) identifiers l ≡ verdict.Next s
         → (rowAhead rules file identifiers (behind s) ≡ rowAhead rules file identifiers p) × (spotPast rules file identifiers p ≡ behind s)
     unfolding toRow spotPast readFirst
     moves s is v = (rw (e, is, v, passed file (p .at) l ls e .rest), rw (e, v))
@@ -174,7 +174,7 @@ module _ (rules : Rules) (file identifiers : List ℕ) (p : Spot) where
       go [] e = still (stays-none e)
       go (l ∷ ls) e = by (stepOf rules (p .state) identifiers l) refl
         where
-          is : isKind rules 10 l ≡ false
+          is : isKind rules positionKind l ≡ false
           is = row-begins rules (drop (p .at) file) l ls e ∙ ap (λ (b : ℕ). eqb b 80) here-byte ∙ none
 
           by : (v : Verdict) → stepOf rules (p .state) identifiers l ≡ v → Turn (spotPast rules file identifiers p)

@@ -8,6 +8,7 @@ use lib.Dec.{eqb}
 use lib.ListN.{length, take, drop}
 use Rattle.lines.specs.Lines.{linesOf}
 use Rattle.record.specs.Rows.{rowOf}
+use Rattle.record.specs.LineKinds.{positionKind}
 use Rattle.file.specs.Kinds.{isKind}
 use Rattle.machine.specs.Step.{stepOf, lineKnown}
 use Rattle.float_row.specs.Floats.{floatRow, lineFrom}
@@ -38,11 +39,11 @@ onward (verdict.Fault number column) p more = p
 onward (verdict.Next s) p more = more s
 onward verdict.Finished p more = p
 
--- the spot of the next P line (10) among the lines that follow a spot; or of the line before it that is refused or ends the file
+-- the spot of the next P line among the lines that follow a spot; or of the line before it that is refused or ends the file
 unfoldable pub toRow : Rules → List ℕ → Spot → List (List ℕ) → Spot
 toRow rules identifiers p [] = p
 toRow rules identifiers p (l ∷ ls) =
-    cond (isKind rules 10 l) p
+    cond (isKind rules positionKind l) p
     (onward (stepOf rules (p .state) identifiers l) p (λ s. toRow rules identifiers (record { at = p .at + length l + 1; state = s }) ls))
 
 abbrev pub rowAhead : Rules → List ℕ → List ℕ → Spot → Spot

@@ -47,15 +47,7 @@ pub fn read_known<'a>(file: &'a [u8], identifiers: &'a [u64], spot: Spot) -> Lin
 fn spot_past<'a>(file: &'a [u8], identifiers: &'a [u64], spot: Spot) -> Spot
     ensures { λ r. ⌜ r ≡ spotPast d (now (file .entry)) (now (identifiers .entry)) spot ⌝ }
 {
-    match read_known(file, identifiers, spot) {
-        LineRead::Next { at, state } => Spot { at, state },
-        LineRead::NoLine => spot,
-        LineRead::Fault {
-            number: _,
-            column: _,
-        } => spot,
-        LineRead::Finished { at: _ } => spot,
-    }
+    line_walk::gone_to(read_known(file, identifiers, spot), spot)
 }
 
 // The spot of the next P line; or of the line before it that is refused or ends the file.

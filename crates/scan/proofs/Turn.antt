@@ -8,8 +8,10 @@ use native.Mathlib.Omega.{arith}
 use borrow.Author.Tests.{eq-eqb, ne-eqb}
 use lib.Dec.{eqb}
 use lib.ListN.{length, getD, take, drop}
+use Rattle.header.specs.Rules.{maxSatellites}
 use Rattle.layout.specs.Line.{padded}
 use Rattle.lines.specs.Lines.{linesOf}
+use Rattle.record.specs.LineKinds.{satellitesKind, commentKind, positionKind, velocityKind}
 use Rattle.lines.proofs.Lined.{Lined, lined}
 use Rattle.file.specs.Kinds.{kindIn, isKind, isRow}
 use Rattle.file.proofs.Finding.{kind-told}
@@ -27,12 +29,12 @@ use Rattle.scan.specs.declared.Front.the-variants as front
 use Rattle.scan.specs.Run.{nothingSeen, oneMore, counted, onVerdict, run, scanOf}
 
 -- the kind of a P line by its first column
-pub position-told : (rules : Rules) (line : List ℕ) → getD line 0 32 ≡ 80 → 10 ≡ kindIn rules line
+pub position-told : (rules : Rules) (line : List ℕ) → getD line 0 32 ≡ 80 → positionKind ≡ kindIn rules line
 position-told rules line e = rw (← kind-told rules line 80 (getD line 1 32) (getD line 2 32) (sym e) refl refl)
 
 -- one line more, by the number of its kind
 pub counted-as : (rules : Rules) (t : Tally) (line : List ℕ) (kind comments rows : ℕ) → kind ≡ kindIn rules line
-    → comments ≡ oneMore (eqb kind 8) (t .comments) → rows ≡ oneMore (eqb kind 10 || eqb kind 11) (t .rows)
+    → comments ≡ oneMore (eqb kind commentKind) (t .comments) → rows ≡ oneMore (eqb kind positionKind || eqb kind velocityKind) (t .rows)
     → _≡_ {A = Tally} (record { lines = t .lines + 1; end = t .end + length line + 1; comments = comments; rows = rows }) (counted rules t line)
 unfolding counted
 counted-as rules t line kind comments rows e p q = rw (p, q, e)
@@ -42,7 +44,7 @@ more-or-not true n = omega arith
 more-or-not false n = omega arith
 
 pub record Going (rules : Rules) (bytes identifiers : List ℕ) (s : State) (t : Tally) : Type 0 where
-  pub size : length identifiers ≡ 255
+  pub size : length identifiers ≡ maxSatellites
   pub within : t .end ≤ length bytes
   pub lines : t .lines ≤ t .end
   pub comments : t .comments ≤ t .end
@@ -95,7 +97,7 @@ module _ (rules : Rules) (bytes identifiers : List ℕ) (s : State) (t : Tally) 
           size = ap length x ∙ brought-length rules s identifiers l ∙ g .size;
           within = omega (arith, here .within);
           lines = omega (arith, ap (λ (x : Tally). x .lines) y, g .lines);
-          comments = omega (arith, ap (λ (x : Tally). x .comments) y, more-or-not (isKind rules 8 l) (t .comments), g .comments);
+          comments = omega (arith, ap (λ (x : Tally). x .comments) y, more-or-not (isKind rules commentKind l) (t .comments), g .comments);
           rows = omega (arith, ap (λ (x : Tally). x .rows) y, more-or-not (isRow rules l) (t .rows), g .rows);
           same = ap (λ (n : List ℕ). run rules s′ n t′ (linesOf (drop (t′ .end) bytes))) x ∙ after;
         }
@@ -129,13 +131,13 @@ module _ (rules : Rules) (bytes identifiers : List ℕ) (s : State) (t : Tally) 
       subst (λ (x : LineRead). Turned rules bytes identifiers s t x) (sym p ∙ e) (first-turned (linesOf (drop (t .end) bytes)) refl)
 
 -- the identifiers after a line, whether it brings some or not
-pub brought-so : (rules : Rules) (s : State) (identifiers line kept : List ℕ) → s .due ≡ 3 → kept ≡ identifiersJoined rules s identifiers (padded line) → kept ≡ identifiersBrought rules s identifiers line
+pub brought-so : (rules : Rules) (s : State) (identifiers line kept : List ℕ) → s .due ≡ satellitesKind → kept ≡ identifiersJoined rules s identifiers (padded line) → kept ≡ identifiersBrought rules s identifiers line
 unfolding identifiersBrought
-brought-so rules s identifiers line kept due e = rw (eq-eqb (s .due) 3 due) e
+brought-so rules s identifiers line kept due e = rw (eq-eqb (s .due) satellitesKind due) e
 
-pub none-brought : (rules : Rules) (s : State) (identifiers line : List ℕ) → (s .due ≡ 3 → ⊥) → identifiers ≡ identifiersBrought rules s identifiers line
+pub none-brought : (rules : Rules) (s : State) (identifiers line : List ℕ) → (s .due ≡ satellitesKind → ⊥) → identifiers ≡ identifiersBrought rules s identifiers line
 unfolding identifiersBrought
-none-brought rules s identifiers line not-due = rw (ne-eqb (s .due) 3 not-due)
+none-brought rules s identifiers line not-due = rw (ne-eqb (s .due) satellitesKind not-due)
 
 -- a file has no more lines than bytes
 no-more-lines : (ls : List (List ℕ)) (rules : Rules) (s : State) (identifiers : List ℕ) (t t′ : Tally) → t .lines ≤ t .end → run rules s identifiers t ls ≡ front.File t′ → t′ .lines ≤ t′ .end

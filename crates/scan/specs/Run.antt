@@ -8,6 +8,7 @@ use Prim.Native.Nat.{ℕ, _+_}
 use lib.Dec.{ltb}
 use lib.ListN.{length}
 use Rattle.lines.specs.Lines.{linesOf}
+use Rattle.record.specs.LineKinds.{commentKind}
 use Rattle.file.specs.Kinds.{isKind, isRow}
 use Rattle.header.specs.declared.types.Rules.{Rules}
 use Rattle.machine.specs.State.{startState, noIdentifiers}
@@ -27,12 +28,12 @@ nothingSeen = record { lines = 0; end = 0; comments = 0; rows = 0 }
 abbrev pub oneMore : Bool → ℕ → ℕ
 oneMore passed n = cond passed (n + 1) n
 
--- one line more, with its LF: a comment (8), a row, or another
+-- one line more, with its LF: a comment, a row, or another
 unfoldable pub counted : Rules → Tally → List ℕ → Tally
 counted rules t l = record {
   lines = t .lines + 1;
   end = t .end + length l + 1;
-  comments = oneMore (isKind rules 8 l) (t .comments);
+  comments = oneMore (isKind rules commentKind l) (t .comments);
   rows = oneMore (isRow rules l) (t .rows);
 }
 

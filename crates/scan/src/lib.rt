@@ -6,9 +6,14 @@ ghost use Rattle.file.specs.Kinds.{kindIn};
 ghost use Rattle.scan.specs.declared.Front.the-variants as front;
 ghost use Rattle.scan.specs.Told.{toldFront};
 ghost use Rattle.scan.specs.Run.{counted, scanOf, wholeFront};
+use header::Header;
 use header::Rules;
 use machine::LineRead;
 use machine::State;
+use record::kind::COMMENT_KIND;
+use record::kind::POSITION_KIND;
+use record::kind::SATELLITES_KIND;
+use record::kind::VELOCITY_KIND;
 
 // What has been read so far: lines, bytes, comments, and rows of both kinds.
 pub struct Tally {
@@ -34,7 +39,7 @@ fn kind_told(rules: Rules, line: &[u8]) -> u64
 {
     if line.len() > 0 {
         if line[0] == b'P' {
-            return 10;
+            return POSITION_KIND;
         }
     }
     file::kind_in(rules, line)
@@ -46,12 +51,12 @@ fn count_line(rules: Rules, tally: Tally, line: &[u8]) -> Tally
     ensures { λ r. ⌜ r ≡ counted rules tally (now (line .entry)) ⌝ }
 {
     let kind = kind_told(rules, line);
-    let comments = if kind == 8 {
+    let comments = if kind == COMMENT_KIND {
         tally.comments + 1
     } else {
         tally.comments
     };
-    let rows = if (kind == 10) | (kind == 11) {
+    let rows = if (kind == POSITION_KIND) | (kind == VELOCITY_KIND) {
         tally.rows + 1
     } else {
         tally.rows
@@ -79,7 +84,7 @@ fn refused(number: usize, line: u64, column: usize) -> Front
 pub fn scan_front(rules: Rules, bytes: &[u8]) -> Front
     ensures result { λ r. ⌜ toldFront r ≡ toldFront (scanOf rules (now (bytes .entry))) ⌝ }
 {
-    let mut identifiers = [0u64; 255];
+    let mut identifiers = [0u64; Header::MAX_SATELLITES as usize];
     let mut state = machine::start();
     let mut tally = Tally {
         lines: 0,
@@ -105,7 +110,7 @@ pub fn scan_front(rules: Rules, bytes: &[u8]) -> Front
                 state: next,
             } => {
                 let text = &bytes[at..end - 1];
-                if state.due == 3 {
+                if state.due == SATELLITES_KIND {
                     machine::keep_identifiers(rules, state, &mut identifiers, text);
                 }
                 tally = count_line(rules, tally, text);

@@ -12,7 +12,7 @@ use Rattle.record.specs.Opening.{firstOf}
 use Rattle.record.specs.SlotLines.{satellitesOf}
 use Rattle.header.specs.Rules.{maxSatellites, slotLines}
 use Rattle.header.specs.declared.types.Rules.{Rules}
-use Rattle.machine.specs.Checks.{instantIn, repeats}
+use Rattle.record.specs.Agrees.{instantIn, repeats}
 use Rattle.machine.specs.State.{startState, noIdentifiers}
 use Rattle.machine.specs.Next.{afterFirst, afterSecond, afterCount}
 use Rattle.file.specs.Plain.{slotIdentifiers, areSlots, isFirstLine, isSecondLine, isCountLine, Plain, Sound}

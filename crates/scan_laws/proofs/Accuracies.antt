@@ -11,6 +11,7 @@ use Rattle.laws.proofs.Bools.{and-left, and-right, and-both}
 use Rattle.laws.proofs.Lists.{one-less}
 use Rattle.layout.specs.Line.{padded}
 use Rattle.record.specs.SlotLines.{moreOf}
+use Rattle.record.specs.LineKinds.{accuraciesKind, charactersKind}
 use Rattle.header.specs.declared.types.Rules.{Rules}
 use Rattle.record.specs.declared.types.LineKind.the-variants as kind
 use Rattle.machine.specs.Next.{expect, leave, afterAccuracies}
@@ -25,9 +26,9 @@ use Rattle.scan_laws.proofs.Reaching.{countedOver, Reach, reach-append,
 module _ (rules : Rules) (s : State) (identifiers : List ℕ) where
   -- so many `++` lines are due, with the slots of so many satellites
   abbrev pub accuraciesDue : ℕ → ℕ → State
-  accuraciesDue lines left = leave left (expect 4 lines s)
+  accuraciesDue lines left = leave left (expect accuraciesKind lines s)
 
-  last-one : (left : ℕ) → afterAccuracies (accuraciesDue 1 left) ≡ leave (left - 17) (expect 5 2 s)
+  last-one : (left : ℕ) → afterAccuracies (accuraciesDue 1 left) ≡ leave (left - 17) (expect charactersKind 2 s)
   unfolding afterAccuracies
   last-one left = refl
 
@@ -43,16 +44,16 @@ module _ (rules : Rules) (s : State) (identifiers : List ℕ) where
       (identifiers-kept rules (accuraciesDue lines left) identifiers l refl)
 
   pub accuracies-reach : (k left : ℕ) (ls : List (List ℕ)) → length ls ≡ suc k → areSlots rules true left ls ≡ true
-      → (x : ℕ) × Reach rules (accuraciesDue (suc k) left) identifiers ls (leave x (expect 5 2 s)) identifiers
+      → (x : ℕ) × Reach rules (accuraciesDue (suc k) left) identifiers ls (leave x (expect charactersKind 2 s)) identifiers
   unfolding areSlots
   accuracies-reach k left [] many are = absurd (omega arith)
-  accuracies-reach zero left (l ∷ []) many are = (left - 17, line-reach 1 left (leave (left - 17) (expect 5 2 s)) l (last-one left) (and-left (isRecord rules kind.Accuracies (moreOf true left (padded l) .fault) l) _ are))
+  accuracies-reach zero left (l ∷ []) many are = (left - 17, line-reach 1 left (leave (left - 17) (expect charactersKind 2 s)) l (last-one left) (and-left (isRecord rules kind.Accuracies (moreOf true left (padded l) .fault) l) _ are))
   accuracies-reach zero left (l ∷ m ∷ ls) many are = absurd (omega arith)
   accuracies-reach (suc k) left (l ∷ ls) many are =
       let parts = isRecord rules kind.Accuracies (moreOf true left (padded l) .fault) l in
       let others = accuracies-reach k (left - 17) ls (omega arith) (and-right parts _ are) in
       let first = line-reach (suc (suc k)) left (accuraciesDue (suc k) (left - 17)) l (one-of-more k left) (and-left parts _ are) in
-      (others .0, reach-append rules (accuraciesDue (suc (suc k)) left) (accuraciesDue (suc k) (left - 17)) (leave (others .0) (expect 5 2 s)) identifiers identifiers identifiers (l ∷ []) ls first (others .1))
+      (others .0, reach-append rules (accuraciesDue (suc (suc k)) left) (accuraciesDue (suc k) (left - 17)) (leave (others .0) (expect charactersKind 2 s)) identifiers identifiers identifiers (l ∷ []) ls first (others .1))
 
   -- the `++` lines that a run to a file has read
   pub record Rated (lines left : ℕ) (t t′ : Tally) (ls : List (List ℕ)) : Type 0 where
@@ -62,7 +63,7 @@ module _ (rules : Rules) (s : State) (identifiers : List ℕ) where
     pub many : length used ≡ lines
     pub are : areSlots rules true left used ≡ true
     pub over : ℕ
-    pub goes : run rules (leave over (expect 5 2 s)) identifiers (countedOver rules t used) more ≡ front.File t′
+    pub goes : run rules (leave over (expect charactersKind 2 s)) identifiers (countedOver rules t used) more ≡ front.File t′
 
   record One (left : ℕ) (next : State) (t t′ : Tally) (ls : List (List ℕ)) : Type 0 where
     line : List ℕ
@@ -81,7 +82,7 @@ module _ (rules : Rules) (s : State) (identifiers : List ℕ) where
   pub accuracies-read : (k left : ℕ) (t t′ : Tally) (ls : List (List ℕ)) → run rules (accuraciesDue (suc k) left) identifiers t ls ≡ front.File t′ → Rated (suc k) left t t′ ls
   unfolding countedOver areSlots
   accuracies-read zero left t t′ ls e =
-      let x = line-read 1 left (leave (left - 17) (expect 5 2 s)) t t′ ls (last-one left) e in
+      let x = line-read 1 left (leave (left - 17) (expect charactersKind 2 s)) t t′ ls (last-one left) e in
       record { used = x .line ∷ []; more = x .others; split = x .split; many = refl; are = rw (x .is); over = left - 17; goes = x .goes }
   accuracies-read (suc k) left t t′ ls e =
       let x = line-read (suc (suc k)) left (accuraciesDue (suc k) (left - 17)) t t′ ls (one-of-more k left) e in

@@ -11,7 +11,7 @@ use borrow.Author.Tests.{eqb-true, eqb-false, ne-eqb}
 use Rattle.laws.proofs.Bools.{and-left, and-right, and-both}
 use Rattle.layout.specs.Layout.{faultOf}
 use Rattle.layout.specs.Line.{padded}
-use Rattle.record.specs.LineKinds.{toldKind}
+use Rattle.record.specs.LineKinds.{noKind, satellitesKind, commentKind, epochKind, toldKind}
 use Rattle.record.specs.Plain.{commentItems}
 use Rattle.record.proofs.Determined.{toldKind-one}
 use Rattle.header.specs.declared.types.Rules.{Rules}
@@ -28,27 +28,27 @@ use Rattle.scan_laws.proofs.Forgetting.{forget}
 use Rattle.scan_laws.proofs.Reaching.{countedOver, Reach, reach-none, reach-append, reach-one, reach-also, identifiers-kept}
 
 module _ (rules : Rules) (s : State) (identifiers : List ℕ) where
-  other-due : (needed allowed : ℕ) → eqb (commentsDue needed allowed s .due) 3 ≡ false
+  other-due : (needed allowed : ℕ) → eqb (commentsDue needed allowed s .due) satellitesKind ≡ false
   unfolding commentsDue
   other-due needed allowed = go (eqb needed 0)
     where
-      go : (b : Bool) → eqb (cond b 9 8) 3 ≡ false
+      go : (b : Bool) → eqb (cond b epochKind commentKind) satellitesKind ≡ false
       go true = refl
       go false = refl
 
-  due-comment : (needed allowed : ℕ) → eqb needed 0 ≡ false → commentsDue needed allowed s .due ≡ 8
+  due-comment : (needed allowed : ℕ) → eqb needed 0 ≡ false → commentsDue needed allowed s .due ≡ commentKind
   unfolding commentsDue
   due-comment needed allowed e = rw e
 
-  none-else : (needed allowed : ℕ) → eqb needed 0 ≡ false → commentsDue needed allowed s .also ≡ 0
+  none-else : (needed allowed : ℕ) → eqb needed 0 ≡ false → commentsDue needed allowed s .also ≡ noKind
   unfolding commentsDue
   none-else needed allowed e = rw e
 
-  also-comment : (needed allowed : ℕ) → eqb needed 0 ≡ true → eqb allowed 0 ≡ false → commentsDue needed allowed s .also ≡ 8
+  also-comment : (needed allowed : ℕ) → eqb needed 0 ≡ true → eqb allowed 0 ≡ false → commentsDue needed allowed s .also ≡ commentKind
   unfolding commentsDue
   also-comment needed allowed e f = rw (e, f)
 
-  nothing-else : (needed allowed : ℕ) → eqb needed 0 ≡ true → eqb allowed 0 ≡ true → commentsDue needed allowed s ≡ allow 0 (commentsDue needed allowed s)
+  nothing-else : (needed allowed : ℕ) → eqb needed 0 ≡ true → eqb allowed 0 ≡ true → commentsDue needed allowed s ≡ allow noKind (commentsDue needed allowed s)
   unfolding commentsDue
   nothing-else needed allowed e f = rw (e, f)
 
@@ -95,7 +95,7 @@ module _ (rules : Rules) (s : State) (identifiers : List ℕ) where
     pub enough : needed ≤ length comments
     pub few : length comments ≤ allowed
     pub spare : ℕ
-    pub goes : run rules (allow 0 (commentsDue 0 spare s)) identifiers (countedOver rules t comments) more ≡ front.File t′
+    pub goes : run rules (allow noKind (commentsDue 0 spare s)) identifiers (countedOver rules t comments) more ≡ front.File t′
 
   one-more : (needed allowed : ℕ) (t t′ : Tally) (l : List ℕ) (ls : List (List ℕ)) → 1 ≤ allowed → isCommentLine rules l ≡ true
       → Commented (needed - 1) (allowed - 1) (counted rules t l) t′ ls → Commented needed allowed t t′ (l ∷ ls)
@@ -120,7 +120,7 @@ module _ (rules : Rules) (s : State) (identifiers : List ℕ) where
       let kept = identifiers-kept rules (commentsDue needed allowed s) identifiers l (other-due needed allowed) in
       (rw (x .is-kind, x .clean), rw kept at (x .goes))
 
-  no-comment : (needed allowed : ℕ) (t t′ : Tally) (ls : List (List ℕ)) → eqb needed 0 ≡ true → run rules (allow 0 (commentsDue needed allowed s)) identifiers t ls ≡ front.File t′
+  no-comment : (needed allowed : ℕ) (t t′ : Tally) (ls : List (List ℕ)) → eqb needed 0 ≡ true → run rules (allow noKind (commentsDue needed allowed s)) identifiers t ls ≡ front.File t′
       → Commented needed allowed t t′ ls
   unfolding countedOver everyLine
   no-comment needed allowed t t′ ls none e =
@@ -144,20 +144,20 @@ module _ (rules : Rules) (s : State) (identifiers : List ℕ) where
   pub comments-read : (ls : List (List ℕ)) (needed allowed : ℕ) (t t′ : Tally) → needed ≤ allowed → run rules (commentsDue needed allowed s) identifiers t ls ≡ front.File t′
       → Commented needed allowed t t′ ls
   comments-read [] needed allowed t t′ h e = absurd (some-line rules (commentsDue needed allowed s) identifiers t t′ e)
-  comments-read (l ∷ ls) needed allowed t t′ h e = go (eqb needed 0) refl (isKind rules 8 l) refl (eqb allowed 0) refl (comments-read ls (needed - 1) (allowed - 1) (counted rules t l) t′ (omega arith))
+  comments-read (l ∷ ls) needed allowed t t′ h e = go (eqb needed 0) refl (isKind rules commentKind l) refl (eqb allowed 0) refl (comments-read ls (needed - 1) (allowed - 1) (counted rules t l) t′ (omega arith))
     where
       first : 1 ≤ allowed → kindHere rules l ≡ kind.Comment → More needed allowed t t′ l ls → Commented needed allowed t t′ (l ∷ ls)
       first some is more =
           let x = comment-read needed allowed t t′ l ls is e in
           one-more needed allowed t t′ l ls some (x .0) (more (x .1))
 
-      go : (b : Bool) → eqb needed 0 ≡ b → (c : Bool) → isKind rules 8 l ≡ c → (d : Bool) → eqb allowed 0 ≡ d → More needed allowed t t′ l ls → Commented needed allowed t t′ (l ∷ ls)
+      go : (b : Bool) → eqb needed 0 ≡ b → (c : Bool) → isKind rules commentKind l ≡ c → (d : Bool) → eqb allowed 0 ≡ d → More needed allowed t t′ l ls → Commented needed allowed t t′ (l ∷ ls)
       go false some c is d many more =
           first (omega (arith, eqb-false needed 0 some))
           (is-due rules kind.Comment (commentsDue needed allowed s) identifiers t t′ l ls (due-comment needed allowed some) (none-else needed allowed some) e) more
       go true none c is true many more = no-comment needed allowed t t′ (l ∷ ls) none (subst (λ (x : State). run rules x identifiers t (l ∷ ls) ≡ front.File t′) (nothing-else needed allowed none many) e)
       go true none true is false many more =
-          first (omega (arith, eqb-false allowed 0 many)) (toldKind-one (kindHere rules l) kind.Comment (eqb-true (toldKind (kindHere rules l)) 8 is)) more
+          first (omega (arith, eqb-false allowed 0 many)) (toldKind-one (kindHere rules l) kind.Comment (eqb-true (toldKind (kindHere rules l)) commentKind is)) more
       go true none false is false many more =
           no-comment needed allowed t t′ (l ∷ ls) none
           (sym (forget rules (commentsDue needed allowed s) identifiers t l ls (ap (λ (k : ℕ). isKind rules k l) (also-comment needed allowed none many) ∙ is)) ∙ e)

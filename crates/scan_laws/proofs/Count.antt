@@ -13,9 +13,10 @@ use Rattle.laws.proofs.Bools.{and-left, and-right}
 use Rattle.layout.specs.Line.{padded}
 use Rattle.record.specs.SlotLines.{satellitesOf}
 use Rattle.header.specs.Rules.{slotLines}
+use Rattle.record.specs.LineKinds.{noKind, satellitesKind, accuraciesKind}
 use Rattle.header.specs.declared.types.Rules.{Rules}
 use Rattle.record.specs.declared.types.LineKind.the-variants as kind
-use Rattle.machine.specs.Checks.{repeats}
+use Rattle.record.specs.Agrees.{repeats}
 use Rattle.machine.specs.State.{identifiersIn, fitBehind, laidBehind, identifiersJoined}
 use Rattle.machine.specs.Faults.{satellitesFault}
 use Rattle.machine.specs.Next.{expect, leave, afterCount, afterSatellites}
@@ -55,7 +56,7 @@ module _ (rules : Rules) where
     unfolding satellitesFault identifiersIn
     count-faults identifiers l = rw (is-first, none-seen, first-fresh rules l)
 
-  module _ (s : State) (identifiers : List ℕ) (due : s .due ≡ 3) (none : s .satellites ≡ 0) (room : rules .«most_satellites» ≤ length identifiers) (wide : 17 ≤ length identifiers) where
+  module _ (s : State) (identifiers : List ℕ) (due : s .due ≡ satellitesKind) (none : s .satellites ≡ 0) (room : rules .«most_satellites» ≤ length identifiers) (wide : 17 ≤ length identifiers) where
     -- the identifiers after the first line
     abbrev pub others : List ℕ → List ℕ
     others l = drop (length (freshIn (said l) l)) identifiers
@@ -88,7 +89,7 @@ module _ (rules : Rules) where
 
     -- all identifiers are known, and the `++` lines are due
     abbrev pub allKnown : ℕ → State
-    allKnown n = leave n (expect 4 (slotLines n) (afterCount n s))
+    allKnown n = leave n (expect accuraciesKind (slotLines n) (afterCount n s))
 
     count-reach : (l : List ℕ) → isCountLine rules l ≡ true → repeats [] (freshIn (said l) l) ≡ false
         → Reach rules s identifiers (l ∷ []) (afterCount (said l) s) (freshIn (said l) l ++ others l)
@@ -138,7 +139,7 @@ module _ (rules : Rules) where
       new : repeats [] (freshIn (said line) line) ≡ false
       goes : run rules (afterCount (said line) s) (freshIn (said line) line ++ others line) (counted rules t line) more ≡ front.File t′
 
-    count-read : (t t′ : Tally) (ls : List (List ℕ)) → s .also ≡ 0 → run rules s identifiers t ls ≡ front.File t′ → Counted t t′ ls
+    count-read : (t t′ : Tally) (ls : List (List ℕ)) → s .also ≡ noKind → run rules s identifiers t ls ≡ front.File t′ → Counted t t′ ls
     count-read t t′ ls also e =
         let x = due-line rules kind.Satellites s identifiers t t′ ls due also e in
         let l = x .line in
@@ -177,5 +178,5 @@ module _ (rules : Rules) where
               (all-identifiers n [] l (y .used)) (y .goes);
         }
 
-    pub plus-read : (t t′ : Tally) (ls : List (List ℕ)) → s .also ≡ 0 → run rules s identifiers t ls ≡ front.File t′ → Plus t t′ ls
+    pub plus-read : (t t′ : Tally) (ls : List (List ℕ)) → s .also ≡ noKind → run rules s identifiers t ls ≡ front.File t′ → Plus t t′ ls
     plus-read t t′ ls also e = plus-more t t′ ls (count-read t t′ ls also e)

@@ -16,9 +16,10 @@ use Rattle.layout.specs.Line.{padded}
 use Rattle.layout.proofs.Again.{lower-clean, passed}
 use Rattle.record.specs.Opening.{epochOf}
 use Rattle.record.specs.Plain.{endItems}
+use Rattle.record.specs.LineKinds.{noKind, satellitesKind, epochKind, endKind}
 use Rattle.header.specs.declared.types.Rules.{Rules}
 use Rattle.record.specs.declared.types.LineKind.the-variants as kind
-use Rattle.machine.specs.Checks.{instantIn}
+use Rattle.record.specs.Agrees.{instantIn}
 use Rattle.machine.specs.Faults.{epochFault}
 use Rattle.machine.specs.Next.{afterEpoch}
 use Rattle.machine.specs.declared.types.State.{State}
@@ -33,14 +34,14 @@ use Rattle.scan_laws.proofs.Rows.{rowsLeft, rows-reach, rows-read}
 
 -- what is due where so many epochs are still to come: an epoch, or EOF
 abbrev pub epochDue : ℕ → ℕ
-epochDue epochs = cond (eqb epochs 0) 14 9
+epochDue epochs = cond (eqb epochs 0) endKind epochKind
 
-pub epoch-due : (n : ℕ) → epochDue (suc n) ≡ 9
+pub epoch-due : (n : ℕ) → epochDue (suc n) ≡ epochKind
 epoch-due n = rw (ne-eqb (suc n) 0 (λ e. omega arith))
 
 -- after an epoch line the rows of all satellites are due
 module _ (s : State) (at : ℕ) where
-  rows-due : (n : ℕ) → s .satellites ≡ n → 1 ≤ n → afterEpoch at s ≡ rowsLeft 0 n (afterEpoch at s)
+  rows-due : (n : ℕ) → s .satellites ≡ n → 1 ≤ n → afterEpoch at s ≡ rowsLeft noKind n (afterEpoch at s)
   unfolding afterEpoch
   rows-due n many some = rw (many, ne-eqb n 0 (λ e. omega arith))
 
@@ -57,7 +58,7 @@ module _ (s : State) (at : ℕ) where
 
 module _ (rules : Rules) (identifiers known rest : List ℕ) (are : identifiers ≡ known ++ rest) (some : 1 ≤ length known) where
   -- the line of an epoch
-  epoch-reach : (s : State) (at : ℕ) (l : List ℕ) → s .due ≡ 9 → s .at8 + s .gap8 ≡ at → isEpochLine rules at l ≡ true → Reach rules s identifiers (l ∷ []) (afterEpoch at s) identifiers
+  epoch-reach : (s : State) (at : ℕ) (l : List ℕ) → s .due ≡ epochKind → s .at8 + s .gap8 ≡ at → isEpochLine rules at l ≡ true → Reach rules s identifiers (l ∷ []) (afterEpoch at s) identifiers
   unfolding epochFault
   epoch-reach s at l due here is =
       let e = epochOf (padded l) in
@@ -67,11 +68,11 @@ module _ (rules : Rules) (identifiers known rest : List ℕ) (are : identifiers 
       let clean : epochFault s (padded l) ≡ 0 = rw (here, now, fault) in
       reach-one rules kind.Epoch s (afterEpoch at s) identifiers identifiers l due (and-left (isLine rules kind.Epoch l) _ whole) clean
       (ap (λ (x : ℕ). verdict.Next (afterEpoch x s)) (eqb-true (instantIn (e .moment)) at now))
-      (identifiers-kept rules s identifiers l (ap (λ (d : ℕ). eqb d 3) due))
+      (identifiers-kept rules s identifiers l (ap (λ (d : ℕ). eqb d satellitesKind) due))
 
   -- all epochs, up to where EOF is due
   pub epochs-reach : (n : ℕ) (s : State) (at : ℕ) (ls : List (List ℕ)) → s .due ≡ epochDue n → s .epochs ≡ n → s .satellites ≡ length known → s .at8 + s .gap8 ≡ at
-      → Epochs rules (s .velocity) known (s .interval8) n at ls → (s′ : State) × (s′ .due ≡ 14) × Reach rules s identifiers ls s′ identifiers
+      → Epochs rules (s .velocity) known (s .interval8) n at ls → (s′ : State) × (s′ .due ≡ endKind) × Reach rules s identifiers ls s′ identifiers
   unfolding afterEpoch
   epochs-reach zero s at ls due epochs many here none =
       (s, due, subst (λ (x : List (List ℕ)). Reach rules s identifiers x s identifiers) (sym none) (reach-none rules s identifiers))
@@ -91,7 +92,7 @@ module _ (rules : Rules) (identifiers known rest : List ℕ) (are : identifiers 
       )
 
   -- the last line
-  pub last-run : (s : State) (t : Tally) (l : List ℕ) (more : List (List ℕ)) → s .due ≡ 14 → isLastLine rules l ≡ true → run rules s identifiers t (l ∷ more) ≡ front.File (counted rules t l)
+  pub last-run : (s : State) (t : Tally) (l : List ℕ) (more : List (List ℕ)) → s .due ≡ endKind → isLastLine rules l ≡ true → run rules s identifiers t (l ∷ more) ≡ front.File (counted rules t l)
   last-run s t l more due is =
       pass rules kind.EndOfFile s identifiers t l more due (and-left (isLine rules kind.EndOfFile l) _ is)
       (eqb-true (faultOf endItems (padded l)) 0 (and-right (isLine rules kind.EndOfFile l) _ is))
@@ -106,7 +107,7 @@ module _ (rules : Rules) (identifiers known rest : List ℕ) (are : identifiers 
     pub is-last : isLastLine rules last ≡ true
     pub tally : t′ ≡ countedOver rules t (epochs ++ (last ∷ []))
 
-  last-read : (s : State) (at : ℕ) (t t′ : Tally) (ls : List (List ℕ)) → s .due ≡ 14 → s .also ≡ 0 → run rules s identifiers t ls ≡ front.File t′
+  last-read : (s : State) (at : ℕ) (t t′ : Tally) (ls : List (List ℕ)) → s .due ≡ endKind → s .also ≡ noKind → run rules s identifiers t ls ≡ front.File t′
       → Ended (s .velocity) (s .interval8) 0 at t t′ ls
   unfolding countedOver
   last-read s at t t′ ls due also e =
@@ -129,9 +130,9 @@ module _ (rules : Rules) (identifiers known rest : List ℕ) (are : identifiers 
     others : List (List ℕ)
     split : ls ≡ line ∷ others
     is-epoch : isEpochLine rules at line ≡ true
-    goes : run rules (rowsLeft 0 (length known) (afterEpoch at s)) identifiers (counted rules t line) others ≡ front.File t′
+    goes : run rules (rowsLeft noKind (length known) (afterEpoch at s)) identifiers (counted rules t line) others ≡ front.File t′
 
-  epoch-read : (s : State) (at : ℕ) (t t′ : Tally) (ls : List (List ℕ)) → s .due ≡ 9 → s .also ≡ 0 → s .satellites ≡ length known → s .at8 + s .gap8 ≡ at
+  epoch-read : (s : State) (at : ℕ) (t t′ : Tally) (ls : List (List ℕ)) → s .due ≡ epochKind → s .also ≡ noKind → s .satellites ≡ length known → s .at8 + s .gap8 ≡ at
       → run rules s identifiers t ls ≡ front.File t′ → Begun s at t t′ ls
   unfolding epochFault
   epoch-read s at t t′ ls due also many here e =
@@ -140,7 +141,7 @@ module _ (rules : Rules) (identifiers known rest : List ℕ) (are : identifiers 
       let same = eqb (instantIn (m .moment)) (s .at8 + s .gap8) in
       let parts = lower-clean (m .fault) (unless same 9 0) (x .clean) in
       let now : eqb (instantIn (m .moment)) at ≡ true = sym (ap (eqb (instantIn (m .moment))) here) ∙ passed same 9 0 (omega arith) (parts .1) in
-      let kept = identifiers-kept rules s identifiers (x .line) (ap (λ (d : ℕ). eqb d 3) due) in
+      let kept = identifiers-kept rules s identifiers (x .line) (ap (λ (d : ℕ). eqb d satellitesKind) due) in
       let instant = eqb-true (instantIn (m .moment)) at now in
       let went : run rules (afterEpoch at s) identifiers (counted rules t (x .line)) (x .others) ≡ front.File t′ = rw (instant, kept) at (x .goes) in
       record {
@@ -171,7 +172,7 @@ module _ (rules : Rules) (identifiers known rest : List ℕ) (are : identifiers 
         tally = z .tally ∙ sym (counted-append rules (counted rules t line) rows (z .epochs ++ end)) ∙ ap (countedOver rules (counted rules t line)) joined;
       }
 
-  pub epochs-read : (n : ℕ) (s : State) (at : ℕ) (t t′ : Tally) (ls : List (List ℕ)) → s .due ≡ epochDue n → s .also ≡ 0 → s .epochs ≡ n
+  pub epochs-read : (n : ℕ) (s : State) (at : ℕ) (t t′ : Tally) (ls : List (List ℕ)) → s .due ≡ epochDue n → s .also ≡ noKind → s .epochs ≡ n
       → s .satellites ≡ length known → s .at8 + s .gap8 ≡ at → run rules s identifiers t ls ≡ front.File t′ → Ended (s .velocity) (s .interval8) n at t t′ ls
   unfolding afterEpoch
   epochs-read zero s at t t′ ls due also epochs many here e = last-read s at t t′ ls due also e
@@ -180,5 +181,5 @@ module _ (rules : Rules) (identifiers known rest : List ℕ) (are : identifiers 
       let all-many : s .satellites ≡ 0 + length known = omega (arith, many) in
       let y = rows-read rules identifiers (afterEpoch at s) known [] rest (counted rules t (x .line)) t′ (x .others) are all-many (x .goes) in
       ended-more (s .velocity) (s .interval8) n at t t′ (x .line) ls (x .others) (y .used) (y .more) (x .split) (y .split) (x .is-epoch) (y .holds)
-      (epochs-read n (rowsLeft 0 0 (afterEpoch at s)) (at + s .interval8) (countedOver rules (counted rules t (x .line)) (y .used)) t′ (y .more)
+      (epochs-read n (rowsLeft noKind 0 (afterEpoch at s)) (at + s .interval8) (countedOver rules (counted rules t (x .line)) (y .used)) t′ (y .more)
       (after-due s at 0 n epochs) refl (after-epochs s at 0 n epochs) many refl (y .goes))

@@ -7,7 +7,7 @@ use Prim.Native.Nat.{ℕ}
 use lib.Dec.{eqb}
 use Rattle.layout.specs.Fault.{keyed}
 use Rattle.layout.specs.Line.{padded}
-use Rattle.record.specs.LineKinds.{toldKind, kindOf}
+use Rattle.record.specs.LineKinds.{noKind, toldKind, kindOf}
 use Rattle.header.specs.declared.types.Rules.{Rules}
 use Rattle.record.specs.declared.types.LineKind.{LineKind}
 use Rattle.record.specs.declared.types.LineKind.the-variants as kind
@@ -25,9 +25,9 @@ cond-same true x = refl
 cond-same false x = refl
 
 module _ (rules : Rules) (s : State) (identifiers p : List ℕ) where
-  judged : (k : LineKind) → eqb (toldKind k) (s .also) ≡ false → judgedLine k rules s identifiers p ≡ judgedLine k rules (allow 0 s) identifiers p
+  judged : (k : LineKind) → eqb (toldKind k) (s .also) ≡ false → judgedLine k rules s identifiers p ≡ judgedLine k rules (allow noKind s) identifiers p
   unfolding judgedLine onKey standingFault secondFault satellitesFault charactersFault floatsFault epochFault namedFault identifiersIn afterFirst afterSecond afterCount afterIdentifiers afterSatellites afterAccuracies commentsDue afterIntegers afterEpoch satelliteDone afterPosition
-  judged kind.Other e = rw (cond-same (stands s kind.Other) (keyed 4 0), cond-same (stands (allow 0 s) kind.Other) (keyed 4 0))
+  judged kind.Other e = rw (cond-same (stands s kind.Other) (keyed 4 0), cond-same (stands (allow noKind s) kind.Other) (keyed 4 0))
   judged kind.First e = rw e
   judged kind.Second e = rw e
   judged kind.Satellites e = rw e
@@ -45,6 +45,6 @@ module _ (rules : Rules) (s : State) (identifiers p : List ℕ) where
 
 -- the run over lines of which the first is of another kind than the one that may stand here too
 pub forget : (rules : Rules) (s : State) (identifiers : List ℕ) (t : Tally) (l : List ℕ) (ls : List (List ℕ)) → isKind rules (s .also) l ≡ false
-    → run rules s identifiers t (l ∷ ls) ≡ run rules (allow 0 s) identifiers t (l ∷ ls)
+    → run rules s identifiers t (l ∷ ls) ≡ run rules (allow noKind s) identifiers t (l ∷ ls)
 unfolding run stepOf printedLine identifiersBrought identifiersJoined identifiersIn
 forget rules s identifiers t l ls e = rw (judged rules s identifiers (padded l) (kindOf rules (padded l)) e)

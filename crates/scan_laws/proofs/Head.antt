@@ -14,11 +14,12 @@ use Rattle.layout.specs.Line.{padded}
 use Rattle.record.specs.Opening.{firstOf, secondOf}
 use Rattle.record.specs.SlotLines.{satellitesOf}
 use Rattle.header.specs.Rules.{slotLines}
+use Rattle.record.specs.LineKinds.{noKind, secondKind, satellitesKind}
 use Rattle.header.proofs.Theorems.{slots-enough}
 use Rattle.header.specs.declared.types.Rules.{Rules}
 use Rattle.record.specs.declared.types.First.{First}
 use Rattle.record.specs.declared.types.LineKind.the-variants as kind
-use Rattle.machine.specs.Checks.{instantIn, secondAgrees}
+use Rattle.record.specs.Agrees.{instantIn, secondAgrees}
 use Rattle.machine.specs.State.{startState}
 use Rattle.machine.specs.Faults.{recordFault, secondFault}
 use Rattle.machine.specs.Next.{afterFirst, afterSecond, afterCount}
@@ -60,11 +61,11 @@ module _ (rules : Rules) where
       abbrev pub faultAtStart : List ℕ → ℕ
       faultAtStart l = lower (secondOf (padded l) .fault) (unless (secondAgrees start8 (secondOf (padded l))) 8 0)
 
-      pub second-due : opened first .due ≡ 2
+      pub second-due : opened first .due ≡ secondKind
       unfolding afterFirst
       second-due = refl
 
-      pub second-alone : opened first .also ≡ 0
+      pub second-alone : opened first .also ≡ noKind
       unfolding afterFirst
       second-alone = refl
 
@@ -97,11 +98,11 @@ module _ (rules : Rules) where
 
   -- the `+ ` lines are due
   module _ (first second : List ℕ) where
-    pub identifiers-due : dated first second .due ≡ 3
+    pub identifiers-due : dated first second .due ≡ satellitesKind
     unfolding afterFirst afterSecond
     identifiers-due = refl
 
-    pub identifiers-alone : dated first second .also ≡ 0
+    pub identifiers-alone : dated first second .also ≡ noKind
     unfolding afterFirst afterSecond
     identifiers-alone = refl
 

@@ -18,9 +18,10 @@ use Rattle.layout.specs.Line.{padded}
 use Rattle.layout.proofs.Again.{lower-clean, passed}
 use Rattle.record.specs.SlotLines.{moreOf}
 use Rattle.header.specs.Rules.{slotLines}
+use Rattle.record.specs.LineKinds.{satellitesKind, accuraciesKind}
 use Rattle.header.specs.declared.types.Rules.{Rules}
 use Rattle.record.specs.declared.types.LineKind.the-variants as kind
-use Rattle.machine.specs.Checks.{repeats}
+use Rattle.record.specs.Agrees.{repeats}
 use Rattle.machine.specs.State.{identifiersIn, fitBehind, laidBehind, identifiersJoined}
 use Rattle.machine.specs.Faults.{satellitesFault}
 use Rattle.machine.specs.Next.{expect, leave, afterIdentifiers, afterSatellites}
@@ -49,10 +50,10 @@ clean-identifiers fault again e =
 module _ (rules : Rules) (s : State) (some : eqb (s .satellites) 0 ≡ false) where
   -- so many `+ ` lines are due, with the slots of so many satellites
   abbrev pub identifiersDue : ℕ → ℕ → State
-  identifiersDue lines left = leave left (expect 3 lines s)
+  identifiersDue lines left = leave left (expect satellitesKind lines s)
 
   abbrev pub afterAll : State
-  afterAll = leave (s .satellites) (expect 4 (slotLines (s .satellites)) s)
+  afterAll = leave (s .satellites) (expect accuraciesKind (slotLines (s .satellites)) s)
 
   pub last-one : (left : ℕ) (p : List ℕ) → afterSatellites rules (identifiersDue 1 left) p ≡ afterAll
   unfolding afterSatellites afterIdentifiers

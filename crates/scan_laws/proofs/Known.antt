@@ -11,12 +11,12 @@ use lib.Seq.{getD-take}
 use borrow.Author.Tests.{eqb-true, eqb-false, ne-eqb}
 use Rattle.laws.specs.Texts.{every, isPrintable}
 use Rattle.layout.specs.Line.{padded}
-use Rattle.record.specs.LineKinds.{toldKind, kindOf}
+use Rattle.record.specs.LineKinds.{toldKind, kindOf, longest, noKind, satellitesKind, accuraciesKind, charactersKind, floatsKind, integersKind, commentKind, epochKind, positionKind, velocityKind, positionCorrelationKind, velocityCorrelationKind}
 use Rattle.header.specs.declared.types.Rules.{Rules}
 use Rattle.record.specs.declared.types.LineKind.{LineKind}
 use Rattle.record.specs.declared.types.LineKind.the-variants as kind
 use Rattle.machine.specs.State.{stands, seen}
-use Rattle.machine.specs.Faults.{longest, charactersFault, namedFault, standingFault}
+use Rattle.machine.specs.Faults.{charactersFault, namedFault, standingFault}
 use Rattle.machine.specs.Next.{lineLess, leave, afterAccuracies, commentsDue, afterIntegers, afterEpoch, satelliteDone, afterPosition, nextOf}
 use Rattle.machine.specs.Step.{onKey, judgedLine, printedLine, stepOf}
 use Rattle.machine.specs.declared.types.State.{State}
@@ -27,24 +27,24 @@ use Rattle.scan.specs.Run.{Going, goneOn, stepped}
 use Rattle.scan_laws.proofs.Passing.{placed}
 use Rattle.scan_laws.proofs.Reaching.{identifiers-kept}
 
--- each of the lines does the same with these identifiers as in the run, and where a P line (10) stands the number of satellites is known
+-- each of the lines does the same with these identifiers as in the run, and where a P line stands the number of satellites is known
 unfoldable pub Alike : Rules → ℕ → List ℕ → Going → List (List ℕ) → Type 0
 Alike rules n identifiers g [] = Unit
 Alike rules n identifiers g (l ∷ ls) =
     (stepOf rules (g .state) identifiers l ≡ stepOf rules (g .state) (g .identifiers) l)
-    × (isKind rules 10 l ≡ true → g .state .satellites ≡ n)
+    × (isKind rules positionKind l ≡ true → g .state .satellites ≡ n)
     × Alike rules n identifiers (stepped rules g l) ls
 
 -- what may stand besides the kind due after the `+ ` lines: nothing, a comment, a correlation record
 abbrev aside : ℕ → Bool
-aside kind = eqb kind 0 || (eqb kind 8 || leb 12 kind)
+aside kind = eqb kind noKind || (eqb kind commentKind || leb positionCorrelationKind kind)
 
 -- the `+ ` lines are read, with n identifiers, and where a row is due one of them is not yet seen
 pub record Past (n : ℕ) (s : State) : Type 0 where
   pub many : s .satellites ≡ n
-  pub later : 4 ≤ s .due
+  pub later : accuraciesKind ≤ s .due
   pub others : aside (s .also) ≡ true
-  pub row : 10 ≤ s .due → s .due ≤ 11 → 1 ≤ s .left
+  pub row : positionKind ≤ s .due → s .due ≤ velocityKind → 1 ≤ s .left
 
 -- what follows is past them too
 abbrev Goes : ℕ → Verdict → Type 0
@@ -70,7 +70,7 @@ module _ (n : ℕ) (s : State) (p : Past n s) where
           absurd (omega arith)
 
   -- one line less of a kind
-  less-past : (next lines : ℕ) → 4 ≤ next → next ≤ 9 → Past n (lineLess next lines s)
+  less-past : (next lines : ℕ) → accuraciesKind ≤ next → next ≤ epochKind → Past n (lineLess next lines s)
   less-past next lines low high =
       either n (eqb (s .lines - 1) 0) _ _ (record { many = p .many; later = low; others = refl; row = λ a b. absurd (omega arith) })
       (record { many = p .many; later = p .later; others = refl; row = p .row })
@@ -96,7 +96,7 @@ module _ (n : ℕ) (s : State) (p : Past n s) where
       go false c e f = rw e (record { many = p .many; later = omega arith; others = may; row = omega (arith, eqb-false (s .left - 1) 0 e) })
 
   -- where a row may stand, some satellite is not yet seen
-  row-left : (k : LineKind) → aside (toldKind k) ≡ false → stands s k ≡ true → 10 ≤ toldKind k → toldKind k ≤ 11 → 1 ≤ s .left
+  row-left : (k : LineKind) → aside (toldKind k) ≡ false → stands s k ≡ true → positionKind ≤ toldKind k → toldKind k ≤ velocityKind → 1 ≤ s .left
   row-left k not here low high =
       let due = is-due k not here in p .row (omega arith) (omega arith)
 
@@ -109,14 +109,14 @@ module _ (n : ℕ) (s : State) (p : Past n s) where
   next-past some rules l kind.Satellites here = absurd (omega (arith, is-due kind.Satellites refl here, p .later))
   next-past some rules l kind.Accuracies here = go (eqb (s .lines - 1) 0) refl
     where
-      due : 4 ≡ s .due
+      due : accuraciesKind ≡ s .due
       due = is-due kind.Accuracies refl here
 
-      go : (b : Bool) → eqb (s .lines - 1) 0 ≡ b → Past n (leave (s .left - 17) (lineLess 5 2 s))
+      go : (b : Bool) → eqb (s .lines - 1) 0 ≡ b → Past n (leave (s .left - 17) (lineLess charactersKind 2 s))
       go true e = rw e (record { many = p .many; later = omega arith; others = refl; row = omega arith })
       go false e = rw e (record { many = p .many; later = p .later; others = refl; row = λ a b. absurd (omega (arith, due)) })
-  next-past some rules l kind.Characters here = less-past 6 2 (omega arith) (omega arith)
-  next-past some rules l kind.Floats here = less-past 7 2 (omega arith) (omega arith)
+  next-past some rules l kind.Characters here = less-past floatsKind 2 (omega arith) (omega arith)
+  next-past some rules l kind.Floats here = less-past integersKind 2 (omega arith) (omega arith)
   next-past some rules l kind.Integers here =
       either n (eqb (s .lines - 1) 0) _ _ (comments-past (rules .«fewest_comments») (rules .«most_comments»))
       (record { many = p .many; later = omega arith; others = refl; row = omega arith })
@@ -125,8 +125,8 @@ module _ (n : ℕ) (s : State) (p : Past n s) where
       record { many = p .many; later = omega arith; others = refl; row = λ a b. omega (arith, p .many) }
   next-past some rules l kind.Position here =
       let left = row-left kind.Position refl here (omega arith) (omega arith) in
-      either n (s .velocity) _ _ (record { many = p .many; later = omega arith; others = refl; row = λ a b. left }) (done-past 12 refl)
-  next-past some rules l kind.Velocity here = done-past 13 refl
+      either n (s .velocity) _ _ (record { many = p .many; later = omega arith; others = refl; row = λ a b. left }) (done-past positionCorrelationKind refl)
+  next-past some rules l kind.Velocity here = done-past velocityCorrelationKind refl
   next-past some rules l kind.PositionCorrelation here = record { many = p .many; later = p .later; others = refl; row = p .row }
   next-past some rules l kind.VelocityCorrelation here = record { many = p .many; later = p .later; others = refl; row = p .row }
   next-past some rules l kind.EndOfFile here = tt
@@ -190,7 +190,7 @@ module _ (rules : Rules) (n : ℕ) (some : 1 ≤ n) (identifiers : List ℕ) whe
       → Past n (goneOn v rules g l .state) × (goneOn v rules g l .identifiers ≡ g .identifiers)
   gone-past g l p (verdict.Fault number column) goes = (p, refl)
   gone-past g l p (verdict.Next s) goes =
-      (goes, identifiers-kept rules (g .state) (g .identifiers) l (ne-eqb (g .state .due) 3 (λ e. omega (arith, p .later))))
+      (goes, identifiers-kept rules (g .state) (g .identifiers) l (ne-eqb (g .state .due) satellitesKind (λ e. omega (arith, p .later))))
   gone-past g l p verdict.Finished goes = (p, refl)
 
   -- From behind the `+ ` lines on, every line does the same with any list that begins with the same n identifiers.

@@ -10,13 +10,13 @@ use lib.ListN.{length, drop}
 use borrow.Author.Tests.{eqb-true, eq-eqb}
 use Rattle.laws.proofs.Bools.{and-left, and-right}
 use Rattle.layout.specs.Line.{padded}
-use Rattle.record.specs.LineKinds.{toldKind}
+use Rattle.record.specs.LineKinds.{satellitesKind, positionKind, toldKind}
 use Rattle.record.specs.SlotLines.{satellitesOf, moreOf}
 use Rattle.header.specs.Rules.{slotLines}
 use Rattle.header.specs.declared.types.Rules.{Rules}
 use Rattle.record.specs.declared.types.LineKind.{LineKind}
 use Rattle.record.specs.declared.types.LineKind.the-variants as kind
-use Rattle.machine.specs.Checks.{repeats}
+use Rattle.record.specs.Agrees.{repeats}
 use Rattle.machine.specs.State.{stands}
 use Rattle.machine.specs.Faults.{recordFault}
 use Rattle.machine.specs.Next.{afterCount, afterSatellites, nextOf}
@@ -37,7 +37,7 @@ module _ (rules : Rules) (n : ℕ) (identifiers : List ℕ) where
   From s now ls = (at : ℕ) → Alike rules n identifiers (record { at = at; state = s; identifiers = now }) ls
 
   -- one line of the kind due that has no fault with either list
-  pub alike-one : (k : LineKind) (s s′ : State) (now now′ l : List ℕ) (ls : List (List ℕ)) → eqb (toldKind k) 10 ≡ false → s .due ≡ toldKind k → isLine rules k l ≡ true
+  pub alike-one : (k : LineKind) (s s′ : State) (now now′ l : List ℕ) (ls : List (List ℕ)) → eqb (toldKind k) positionKind ≡ false → s .due ≡ toldKind k → isLine rules k l ≡ true
       → recordFault k rules s identifiers (padded l) ≡ 0 → recordFault k rules s now (padded l) ≡ 0 → nextOf k rules s (padded l) ≡ verdict.Next s′
       → identifiersBrought rules s now l ≡ now′ → From s′ now′ ls → From s now (l ∷ ls)
   unfolding Alike stepped
@@ -45,7 +45,7 @@ module _ (rules : Rules) (n : ℕ) (identifiers : List ℕ) where
       let here : stands s k ≡ true = rw (eq-eqb (toldKind k) (s .due) (sym due)) in
       let goes = step-of rules k s now l is here clean′ ∙ next in (
         step-of rules k s identifiers l is here clean ∙ next ∙ sym goes,
-        λ row. absurd (false≢true (sym other ∙ ap (λ (x : LineKind). eqb (toldKind x) 10) (sym (line-kind rules k l is)) ∙ row)),
+        λ row. absurd (false≢true (sym other ∙ ap (λ (x : LineKind). eqb (toldKind x) positionKind) (sym (line-kind rules k l is)) ∙ row)),
         rw (goes, kept) (more (at + length l + 1)),
       )
 
@@ -87,7 +87,7 @@ module _ (rules : Rules) (n : ℕ) (identifiers : List ℕ) where
         (rw (all-identifiers left known l ls) all) (rw (all-identifiers left known l ls) more))
 
   -- All `+ ` lines, where the lines after them do the same.
-  pub plus-alike : (s : State) (now : List ℕ) (due : s .due ≡ 3) (none : s .satellites ≡ 0) (room : rules .«most_satellites» ≤ length now) (wide : 17 ≤ length now)
+  pub plus-alike : (s : State) (now : List ℕ) (due : s .due ≡ satellitesKind) (none : s .satellites ≡ 0) (room : rules .«most_satellites» ≤ length now) (wide : 17 ≤ length now)
       (l : List ℕ) (slots tail : List (List ℕ)) (rest : List ℕ) → isCountLine rules l ≡ true → areSlots rules false (said rules l - 17) slots ≡ true
       → suc (length slots) ≡ slotLines (said rules l) → repeats [] (slotIdentifiers (said rules l) (l ∷ slots)) ≡ false
       → identifiers ≡ slotIdentifiers (said rules l) (l ∷ slots) ++ rest

@@ -15,9 +15,10 @@ use Rattle.lines.specs.Lines.{linesOf, nth}
 use Rattle.record.specs.Opening.{firstOf, secondOf}
 use Rattle.record.specs.SlotLines.{satellitesOf}
 use Rattle.header.specs.Rules.{slotLines}
+use Rattle.record.specs.LineKinds.{accuraciesKind, positionKind}
 use Rattle.header.specs.declared.types.Rules.{Rules}
 use Rattle.record.specs.declared.types.LineKind.the-variants as kind
-use Rattle.machine.specs.Checks.{secondAgrees}
+use Rattle.record.specs.Agrees.{secondAgrees}
 use Rattle.machine.specs.State.{startState, noIdentifiers}
 use Rattle.machine.specs.Next.{expect, leave, afterCount}
 use Rattle.machine.specs.Step.{stepOf}
@@ -64,7 +65,7 @@ module _ (rules : Rules) (n : ℕ) (identifiers : List ℕ) where
   -- the line after the first k, of lines that do the same
   alike-at : (k : ℕ) (ls : List (List ℕ)) (g : Going) → k < length ls → Alike rules n identifiers g ls
       → (stepOf rules (behind rules g ls k .state) identifiers (nth k ls) ≡ judged rules (behind rules g ls k) (nth k ls))
-      × (isKind rules 10 (nth k ls) ≡ true → behind rules g ls k .state .satellites ≡ n)
+      × (isKind rules positionKind (nth k ls) ≡ true → behind rules g ls k .state .satellites ≡ n)
   unfolding Alike nth steppedOver
   alike-at k [] g h a = absurd (not-suc-le-zero h)
   alike-at zero (l ∷ ls) g h a = (a .0, a .1)
@@ -81,7 +82,7 @@ plain-alike rules identifiers sound used more p same =
     let some : 1 ≤ n = omega (arith, some-identifier rules (p .first) (p .second) (p .count) (p .slots) (p .is-count) (p .slots-many)) in
     let all : identifiers ≡ ids ++ drop n identifiers = sym (take-append-drop n identifiers) ∙ ap (λ (x : List ℕ). x ++ drop n identifiers) same in
     let tail = tailOf rules sound noIdentifiers identifiers-wide used p ++ more in
-    let past : Past n (leave n (expect 4 (slotLines n) (counts rules (p .first) (p .second) (p .count)))) =
+    let past : Past n (leave n (expect accuraciesKind (slotLines n) (counts rules (p .first) (p .second) (p .count)))) =
     record { many = refl; later = omega arith; others = refl; row = omega arith } in
     let lines : used ++ more ≡ p .first ∷ p .second ∷ p .count ∷ (p .slots ++ tail) =
     ap (λ (x : List (List ℕ)). x ++ more) (p .lines-are)
@@ -100,7 +101,7 @@ pub known-plain : (rules : Rules) → Sound rules → (bytes : List ℕ) (t : Ta
     (identifiers : List ℕ) → take (satellitesIn p) identifiers ≡ plainIdentifiers p → (k : ℕ) → k < t .lines
     → (stepOf rules (behind rules atFirst (linesOf bytes) k .state) identifiers (nth k (linesOf bytes))
     ≡ stepOf rules (behind rules atFirst (linesOf bytes) k .state) (behind rules atFirst (linesOf bytes) k .identifiers) (nth k (linesOf bytes)))
-    × (isKind rules 10 (nth k (linesOf bytes)) ≡ true → behind rules atFirst (linesOf bytes) k .state .satellites ≡ satellitesIn p)
+    × (isKind rules positionKind (nth k (linesOf bytes)) ≡ true → behind rules atFirst (linesOf bytes) k .state .satellites ≡ satellitesIn p)
 known-plain rules sound bytes t e p identifiers same k h =
     let a = accepted-front rules bytes t e in
     let below : k < length (linesOf bytes) = omega (arith, a .lines, ap length (a .split), length-append (frontLines bytes t) (a .rest)) in

@@ -14,7 +14,7 @@ use Rattle.layout.specs.Fault.{clean, keyed, keyNumber, columnOf, lowerOf}
 use Rattle.layout.specs.Kind.{unless, identifierCode}
 use Rattle.layout.specs.Layout.{Item, faultAt, faultOf}
 use Rattle.layout.specs.Line.{padded}
-use Rattle.record.specs.LineKinds.{kindOf}
+use Rattle.record.specs.LineKinds.{kindOf, longest}
 use Rattle.record.specs.Times.{dateFault}
 use Rattle.record.specs.Opening.{firstItems, firstOf, secondItems, secondOf, epochItems, epochOf}
 use Rattle.record.specs.SlotLines.{satelliteItems, countIn, moreItems}
@@ -24,9 +24,9 @@ use Rattle.record.specs.Rows.{rowItems, cut}
 use Rattle.header.specs.declared.types.Rules.{Rules}
 use Rattle.record.specs.declared.types.LineKind.{LineKind}
 use Rattle.record.specs.declared.types.LineKind.the-variants as kind
-use Rattle.machine.specs.Checks.{firstUnprintable, instantIn, secondAgrees, repeats, typeAgrees}
+use Rattle.record.specs.Agrees.{instantIn, secondAgrees, repeats, typeAgrees}
 use Rattle.machine.specs.State.{stands, knownIdentifiers, identifierDue, isFirst, identifiersIn}
-use Rattle.machine.specs.Faults.{longest, secondFault, satellitesFault, charactersFault, floatsFault, epochFault, namedFault, recordFault, standingFault}
+use Rattle.machine.specs.Faults.{firstUnprintable, secondFault, satellitesFault, charactersFault, floatsFault, epochFault, namedFault, recordFault, standingFault}
 use Rattle.machine.specs.Next.{nextOf}
 use Rattle.machine.specs.Step.{onKey, judgedLine, printedLine, stepOf}
 use Rattle.machine.specs.declared.types.State.{State}

@@ -11,7 +11,7 @@ use borrow.Author.Tests.{eqb-true, leb-true}
 use Rattle.laws.proofs.Bools.{and-left}
 use Rattle.layout.specs.Layout.{faultOf}
 use Rattle.layout.specs.Line.{padded}
-use Rattle.record.specs.LineKinds.{toldKind, kindOf, kindBy, starKind, eKind, plusKind, slashKind, percentKind, hashKind}
+use Rattle.record.specs.LineKinds.{noKind, satellitesKind, toldKind, kindOf, kindBy, starKind, eKind, plusKind, slashKind, percentKind, hashKind}
 use Rattle.record.specs.Plain.{correlationItems}
 use Rattle.record.proofs.Determined.{toldKind-one}
 use Rattle.header.specs.declared.types.Rules.{Rules}
@@ -115,14 +115,14 @@ note-clean rules velocity l is =
 
 module _ (rules : Rules) (s : State) (identifiers : List ℕ) where
   -- one correlation line at most, where it may stand
-  one-note : (velocity : Bool) (l : List ℕ) → s .also ≡ toldKind (noteKind velocity) → eqb (s .due) 3 ≡ false → isLine rules (noteKind velocity) l ≡ true
-      → Reach rules s identifiers (l ∷ []) (allow 0 s) identifiers
+  one-note : (velocity : Bool) (l : List ℕ) → s .also ≡ toldKind (noteKind velocity) → eqb (s .due) satellitesKind ≡ false → isLine rules (noteKind velocity) l ≡ true
+      → Reach rules s identifiers (l ∷ []) (allow noKind s) identifiers
   one-note true l also due is =
-      reach-also rules kind.VelocityCorrelation s (allow 0 s) identifiers identifiers l also is (note-clean rules true l is) refl (identifiers-kept rules s identifiers l due)
+      reach-also rules kind.VelocityCorrelation s (allow noKind s) identifiers identifiers l also is (note-clean rules true l is) refl (identifiers-kept rules s identifiers l due)
   one-note false l also due is =
-      reach-also rules kind.PositionCorrelation s (allow 0 s) identifiers identifiers l also is (note-clean rules false l is) refl (identifiers-kept rules s identifiers l due)
+      reach-also rules kind.PositionCorrelation s (allow noKind s) identifiers identifiers l also is (note-clean rules false l is) refl (identifiers-kept rules s identifiers l due)
 
-  pub notes-reach : (velocity : Bool) (notes : List (List ℕ)) → s .also ≡ toldKind (noteKind velocity) → eqb (s .due) 3 ≡ false
+  pub notes-reach : (velocity : Bool) (notes : List (List ℕ)) → s .also ≡ toldKind (noteKind velocity) → eqb (s .due) satellitesKind ≡ false
       → areNotes rules (noteKind velocity) notes ≡ true → (a : ℕ) × Reach rules s identifiers notes (allow a s) identifiers
   unfolding everyLine
   notes-reach velocity [] also due are = (s .also, reach-none rules s identifiers)
@@ -131,8 +131,8 @@ module _ (rules : Rules) (s : State) (identifiers : List ℕ) where
       absurd (omega (arith, leb-true (length (l ∷ m ∷ ls)) 1 (and-left (leb (length (l ∷ m ∷ ls)) 1) _ are)))
 
   -- and what a run to a file has read of them
-  read-one : (velocity : Bool) (t t′ : Tally) (l : List ℕ) (ls : List (List ℕ)) → eqb (s .due) 3 ≡ false → kindHere rules l ≡ noteKind velocity
-      → run rules s identifiers t (l ∷ ls) ≡ front.File t′ → Read rules (λ notes. areNotes rules (noteKind velocity) notes ≡ true) (allow 0 s) identifiers t t′ (l ∷ ls)
+  read-one : (velocity : Bool) (t t′ : Tally) (l : List ℕ) (ls : List (List ℕ)) → eqb (s .due) satellitesKind ≡ false → kindHere rules l ≡ noteKind velocity
+      → run rules s identifiers t (l ∷ ls) ≡ front.File t′ → Read rules (λ notes. areNotes rules (noteKind velocity) notes ≡ true) (allow noKind s) identifiers t t′ (l ∷ ls)
   unfolding countedOver everyLine
   read-one true t t′ l ls due is e =
       let x = taken rules kind.VelocityCorrelation s identifiers t t′ l ls is e in
@@ -143,13 +143,13 @@ module _ (rules : Rules) (s : State) (identifiers : List ℕ) where
       let kept = identifiers-kept rules s identifiers l due in
       record { used = l ∷ []; more = ls; split = refl; holds = rw (x .is-kind); goes = rw kept at (x .goes) }
 
-  pub notes-read : (velocity : Bool) (t t′ : Tally) (ls : List (List ℕ)) → s .also ≡ toldKind (noteKind velocity) → eqb (s .due) 3 ≡ false
-      → run rules s identifiers t ls ≡ front.File t′ → Read rules (λ notes. areNotes rules (noteKind velocity) notes ≡ true) (allow 0 s) identifiers t t′ ls
+  pub notes-read : (velocity : Bool) (t t′ : Tally) (ls : List (List ℕ)) → s .also ≡ toldKind (noteKind velocity) → eqb (s .due) satellitesKind ≡ false
+      → run rules s identifiers t ls ≡ front.File t′ → Read rules (λ notes. areNotes rules (noteKind velocity) notes ≡ true) (allow noKind s) identifiers t t′ ls
   unfolding countedOver everyLine
   notes-read velocity t t′ [] also due e = absurd (some-line rules s identifiers t t′ e)
   notes-read velocity t t′ (l ∷ ls) also due e = go (isKind rules (s .also) l) refl
     where
-      go : (b : Bool) → isKind rules (s .also) l ≡ b → Read rules (λ notes. areNotes rules (noteKind velocity) notes ≡ true) (allow 0 s) identifiers t t′ (l ∷ ls)
+      go : (b : Bool) → isKind rules (s .also) l ≡ b → Read rules (λ notes. areNotes rules (noteKind velocity) notes ≡ true) (allow noKind s) identifiers t t′ (l ∷ ls)
       go true is =
           read-one velocity t t′ l ls due
           (toldKind-one (kindHere rules l) (noteKind velocity) (eqb-true (toldKind (kindHere rules l)) (s .also) is ∙ also)) e

@@ -27,7 +27,7 @@ use Rattle.header.specs.declared.types.Rules.{Rules}
 use Rattle.header.specs.declared.types.Moment.{Moment}
 use Rattle.record.specs.declared.types.LineKind.{LineKind}
 use Rattle.record.specs.declared.types.LineKind.the-variants as kind
-use Rattle.machine.specs.Checks.{instantIn, secondAgrees, repeats, typeAgrees}
+use Rattle.record.specs.Agrees.{instantIn, secondAgrees, repeats, typeAgrees}
 use Rattle.machine.specs.State.{isFirst, knownIdentifiers, identifierDue, identifiersIn}
 use Rattle.machine.specs.Step.{stepOf}
 use Rattle.machine.specs.declared.types.State.{State}

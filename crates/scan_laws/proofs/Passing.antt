@@ -12,13 +12,13 @@ use Rattle.laws.specs.Texts.{every, isPrintable}
 use Rattle.laws.proofs.Bools.{and-left, and-right}
 use Rattle.layout.specs.Fault.{keyed}
 use Rattle.layout.specs.Line.{padded}
-use Rattle.record.specs.LineKinds.{toldKind, kindOf}
+use Rattle.record.specs.LineKinds.{toldKind, kindOf, longest, noKind}
 use Rattle.record.proofs.Determined.{toldKind-one}
 use Rattle.header.specs.declared.types.Rules.{Rules}
 use Rattle.record.specs.declared.types.LineKind.{LineKind}
 use Rattle.record.specs.declared.types.LineKind.the-variants as kind
 use Rattle.machine.specs.State.{stands}
-use Rattle.machine.specs.Faults.{longest, recordFault, standingFault}
+use Rattle.machine.specs.Faults.{recordFault, standingFault}
 use Rattle.machine.specs.Next.{nextOf}
 use Rattle.machine.specs.Step.{onKey, judgedLine, printedLine, stepOf, identifiersBrought}
 use Rattle.machine.specs.declared.types.State.{State}
@@ -134,14 +134,14 @@ module _ (rules : Rules) where
       }
 
   -- where nothing else may stand it is of the kind due
-  pub is-due : (k : LineKind) (s : State) (identifiers : List ℕ) (t t′ : Tally) (l : List ℕ) (ls : List (List ℕ)) → s .due ≡ toldKind k → s .also ≡ 0
+  pub is-due : (k : LineKind) (s : State) (identifiers : List ℕ) (t t′ : Tally) (l : List ℕ) (ls : List (List ℕ)) → s .due ≡ toldKind k → s .also ≡ noKind
       → run rules s identifiers t (l ∷ ls) ≡ front.File t′ → kindHere l ≡ k
   unfolding run
   is-due k s identifiers t t′ l ls due also e =
       let g = good s identifiers l (counted rules t l) t′ _ e in
       go (eqb (toldKind (kindHere l)) (s .due)) refl (g .here) (g .clean)
     where
-      other : (a : LineKind) → toldKind a ≡ 0 → recordFault a rules s identifiers (padded l) ≡ 0 → ⊥
+      other : (a : LineKind) → toldKind a ≡ noKind → recordFault a rules s identifiers (padded l) ≡ 0 → ⊥
       other a none clean =
           let is : a ≡ kind.Other = toldKind-one a kind.Other none in
           let z : _≡_ {A = ℕ} 512 0 = rw is at clean in

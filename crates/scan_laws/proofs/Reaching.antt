@@ -6,7 +6,7 @@ use mathlib.Core.List.{List, [], _∷_, _++_, append-assoc}
 use Prim.Native.Nat.{ℕ}
 use lib.Dec.{eqb}
 use Rattle.layout.specs.Line.{padded}
-use Rattle.record.specs.LineKinds.{toldKind}
+use Rattle.record.specs.LineKinds.{noKind, satellitesKind, toldKind}
 use Rattle.header.specs.declared.types.Rules.{Rules}
 use Rattle.record.specs.declared.types.LineKind.{LineKind}
 use Rattle.machine.specs.Faults.{recordFault}
@@ -69,7 +69,7 @@ module _ (rules : Rules) where
       record { runs = λ t more. pass-also rules k s identifiers t l more also is clean ∙ went k s s′ identifiers identifiers′ t l more next kept }
 
   -- only a line of kind 3 brings identifiers
-  pub identifiers-kept : (s : State) (identifiers l : List ℕ) → eqb (s .due) 3 ≡ false → identifiersBrought rules s identifiers l ≡ identifiers
+  pub identifiers-kept : (s : State) (identifiers l : List ℕ) → eqb (s .due) satellitesKind ≡ false → identifiersBrought rules s identifiers l ≡ identifiers
   unfolding identifiersBrought
   identifiers-kept s identifiers l e = rw e
 
@@ -82,7 +82,7 @@ module _ (rules : Rules) where
     pub clean : recordFault k rules s identifiers (padded line) ≡ 0
     pub goes : after rules k s identifiers t line others ≡ front.File t′
 
-  pub due-line : (k : LineKind) (s : State) (identifiers : List ℕ) (t t′ : Tally) (ls : List (List ℕ)) → s .due ≡ toldKind k → s .also ≡ 0
+  pub due-line : (k : LineKind) (s : State) (identifiers : List ℕ) (t t′ : Tally) (ls : List (List ℕ)) → s .due ≡ toldKind k → s .also ≡ noKind
       → run rules s identifiers t ls ≡ front.File t′ → Due k s identifiers t t′ ls
   due-line k s identifiers t t′ [] due also e = absurd (some-line rules s identifiers t t′ e)
   due-line k s identifiers t t′ (l ∷ ls) due also e =

@@ -14,10 +14,11 @@ use Rattle.layout.specs.Line.{padded}
 use Rattle.layout.proofs.Again.{lower-clean}
 use Rattle.record.specs.SlotLines.{satellitesOf, moreOf}
 use Rattle.header.specs.Rules.{maxSatellites}
+use Rattle.record.specs.LineKinds.{satellitesKind, floatsKind, integersKind, positionCorrelationKind, velocityCorrelationKind}
 use Rattle.header.specs.declared.types.Rules.{Rules}
 use Rattle.record.specs.declared.types.LineKind.{LineKind}
 use Rattle.record.specs.declared.types.LineKind.the-variants as kind
-use Rattle.machine.specs.Checks.{repeats}
+use Rattle.record.specs.Agrees.{repeats}
 use Rattle.machine.specs.State.{seen, knownIdentifiers, isFirst, identifiersIn, hasRoom}
 use Rattle.machine.specs.Faults.{recordFault, satellitesFault}
 use Rattle.machine.specs.Next.{lineLess, afterFirst, afterSecond, afterCount, afterIdentifiers, afterSatellites, afterAccuracies, commentsDue, afterIntegers, afterEpoch, satelliteDone, afterPosition, nextOf}
@@ -96,7 +97,7 @@ module _ (rules : Rules) where
 
     after-position : Bounded (afterPosition s)
     unfolding afterPosition
-    after-position = either (s .velocity) _ _ (same _ refl refl) (satellite-done 12)
+    after-position = either (s .velocity) _ _ (same _ refl refl) (satellite-done positionCorrelationKind)
 
     on : (t s′ : State) → Bounded t → verdict.Next t ≡ verdict.Next s′ → Bounded s′
     on t s′ bounded e = let same-state : t ≡ s′ = cc in subst (λ (x : State). Bounded x) same-state bounded
@@ -109,13 +110,13 @@ module _ (rules : Rules) where
     bounded-next kind.Second identifiers p s′ clean e = on _ s′ (same _ refl refl) e
     bounded-next kind.Satellites identifiers p s′ clean e = on _ s′ (after-satellites identifiers p clean) e
     bounded-next kind.Accuracies identifiers p s′ clean e = on _ s′ after-accuracies e
-    bounded-next kind.Characters identifiers p s′ clean e = on _ s′ (less-lines 6 2) e
-    bounded-next kind.Floats identifiers p s′ clean e = on _ s′ (less-lines 7 2) e
+    bounded-next kind.Characters identifiers p s′ clean e = on _ s′ (less-lines floatsKind 2) e
+    bounded-next kind.Floats identifiers p s′ clean e = on _ s′ (less-lines integersKind 2) e
     bounded-next kind.Integers identifiers p s′ clean e = on _ s′ after-integers e
     bounded-next kind.Comment identifiers p s′ clean e = on _ s′ (same _ refl refl) e
     bounded-next kind.Epoch identifiers p s′ clean e = on _ s′ (fewer s _ b refl (inr (omega arith))) e
     bounded-next kind.Position identifiers p s′ clean e = on _ s′ after-position e
-    bounded-next kind.Velocity identifiers p s′ clean e = on _ s′ (satellite-done 13) e
+    bounded-next kind.Velocity identifiers p s′ clean e = on _ s′ (satellite-done velocityCorrelationKind) e
     bounded-next kind.PositionCorrelation identifiers p s′ clean e = on _ s′ (same _ refl refl) e
     bounded-next kind.VelocityCorrelation identifiers p s′ clean e = on _ s′ (same _ refl refl) e
     bounded-next kind.EndOfFile identifiers p s′ clean e = let z : _≡_ {A = ℕ} 0 1 = cc in absurd (omega arith)
@@ -163,7 +164,7 @@ module _ (rules : Rules) where
             (omega (arith, h, fresh-length (g .state .left) l, ready .places, ready .bounded .most, sound .identifiers-fit)))
 
     finds-room : findsRoom rules (g .state) (g .identifiers) l ≡ true
-    finds-room = rw has-room (either-true (eqb (g .state .due) 3))
+    finds-room = rw has-room (either-true (eqb (g .state .due) satellitesKind))
       where
         either-true : (b : Bool) → cond b true true ≡ true
         either-true true = refl

@@ -15,7 +15,7 @@ use Rattle.laws.proofs.Lists.{one-less, snoc-length}
 use Rattle.layout.specs.Kind.{identifierCode, unless}
 use Rattle.layout.specs.Line.{padded}
 use Rattle.layout.proofs.Again.{lower-clean, passed}
-use Rattle.record.specs.LineKinds.{toldKind}
+use Rattle.record.specs.LineKinds.{noKind, satellitesKind, epochKind, positionKind, velocityKind, positionCorrelationKind, velocityCorrelationKind, endKind, toldKind}
 use Rattle.record.specs.Rows.{rowFault, cut}
 use Rattle.header.specs.declared.types.Rules.{Rules}
 use Rattle.record.specs.declared.types.LineKind.the-variants as kind
@@ -37,20 +37,20 @@ abbrev pub rowsLeft : ℕ → ℕ → State → State
 rowsLeft also left s = leave left (allow also (expect (rowDue left (s .epochs)) 1 s))
 
 -- no identifiers are brought by rows
-row-not-identifiers : (velocity : Bool) → eqb (toldKind (rowKind velocity)) 3 ≡ false
+row-not-identifiers : (velocity : Bool) → eqb (toldKind (rowKind velocity)) satellitesKind ≡ false
 row-not-identifiers true = refl
 row-not-identifiers false = refl
 
-left-not-identifiers : (left epochs : ℕ) → eqb (rowDue left epochs) 3 ≡ false
+left-not-identifiers : (left epochs : ℕ) → eqb (rowDue left epochs) satellitesKind ≡ false
 left-not-identifiers left epochs = go (eqb left 0) (eqb epochs 0)
   where
-    go : (a b : Bool) → eqb (cond a (cond b 14 9) 10) 3 ≡ false
+    go : (a b : Bool) → eqb (cond a (cond b endKind epochKind) positionKind) satellitesKind ≡ false
     go true true = refl
     go true false = refl
     go false b = refl
 
 -- a satellite is left
-row-due : (k epochs : ℕ) → rowDue (suc k) epochs ≡ 10
+row-due : (k epochs : ℕ) → rowDue (suc k) epochs ≡ positionKind
 row-due k epochs = rw (ne-eqb (suc k) 0 (λ e. omega arith))
 
 -- the fault of a row of 80 columns is that of its columns and of its identifier
@@ -75,9 +75,9 @@ module _ (rules : Rules) (identifiers : List ℕ) where
   -- P or V with what may stand after it
   module _ (velocity : Bool) (s next : State) (identifier : ℕ) (due : s .due ≡ toldKind (rowKind velocity)) (identifier-due : identifierDue s identifiers ≡ identifier)
       (nexts : (p : List ℕ) → nextOf (rowKind velocity) rules s p ≡ verdict.Next next) (also : next .also ≡ toldKind (noteKind velocity))
-      (other : eqb (next .due) 3 ≡ false) where
+      (other : eqb (next .due) satellitesKind ≡ false) where
     kept : (l : List ℕ) → identifiersBrought rules s identifiers l ≡ identifiers
-    kept l = identifiers-kept rules s identifiers l (ap (λ (d : ℕ). eqb d 3) due ∙ row-not-identifiers velocity)
+    kept l = identifiers-kept rules s identifiers l (ap (λ (d : ℕ). eqb d satellitesKind) due ∙ row-not-identifiers velocity)
 
     row-reach : (l : List ℕ) → isRowLine rules velocity identifier l ≡ true → Reach rules s identifiers (l ∷ []) next identifiers
     row-reach l is =
@@ -97,8 +97,8 @@ module _ (rules : Rules) (identifiers : List ℕ) where
         )
 
     -- and what a run to a file has read
-    pub noted-read : (t t′ : Tally) (ls : List (List ℕ)) → s .also ≡ 0 → run rules s identifiers t ls ≡ front.File t′
-        → Read rules (Noted rules velocity (noteKind velocity) identifier) (allow 0 next) identifiers t t′ ls
+    pub noted-read : (t t′ : Tally) (ls : List (List ℕ)) → s .also ≡ noKind → run rules s identifiers t ls ≡ front.File t′
+        → Read rules (Noted rules velocity (noteKind velocity) identifier) (allow noKind next) identifiers t t′ ls
     unfolding countedOver
     noted-read t t′ ls none e =
         let x = due-line rules (rowKind velocity) s identifiers t t′ ls due none e in
@@ -122,18 +122,18 @@ module _ (rules : Rules) (identifiers : List ℕ) where
 
   -- the state of a satellite whose P has been read, in mode V
   abbrev rowDone : ℕ → ℕ → State → State
-  rowDone also left s = allow also (expect 11 1 (rowsLeft 0 left s))
+  rowDone also left s = allow also (expect velocityKind 1 (rowsLeft noKind left s))
 
   module _ (s : State) where
-    done-position : (a k : ℕ) → s .velocity ≡ false → afterPosition (rowsLeft a (suc k) s) ≡ rowsLeft 12 k s
+    done-position : (a k : ℕ) → s .velocity ≡ false → afterPosition (rowsLeft a (suc k) s) ≡ rowsLeft positionCorrelationKind k s
     unfolding afterPosition satelliteDone
     done-position a k v = rw (v, one-less k)
 
-    half-position : (a k : ℕ) → s .velocity ≡ true → afterPosition (rowsLeft a (suc k) s) ≡ rowDone 12 (suc k) s
+    half-position : (a k : ℕ) → s .velocity ≡ true → afterPosition (rowsLeft a (suc k) s) ≡ rowDone positionCorrelationKind (suc k) s
     unfolding afterPosition
     half-position a k v = rw v
 
-    done-velocity : (a k : ℕ) → satelliteDone 13 (rowDone a (suc k) s) ≡ rowsLeft 13 k s
+    done-velocity : (a k : ℕ) → satelliteDone velocityCorrelationKind (rowDone a (suc k) s) ≡ rowsLeft velocityCorrelationKind k s
     unfolding satelliteDone
     done-velocity a k = rw (one-less k)
 
@@ -142,27 +142,27 @@ module _ (rules : Rules) (identifiers : List ℕ) where
         → Satellite rules velocity identifier ls → (b : ℕ) × Reach rules (rowsLeft a (suc k) s) identifiers ls (rowsLeft b k s) identifiers
     satellite-reach false a k identifier ls v identifier-due sat =
         let p =
-        noted-reach false (rowsLeft a (suc k) s) (rowsLeft 12 k s) identifier (row-due k (s .epochs)) identifier-due (λ p. ap verdict.Next (done-position a k v)) refl
+        noted-reach false (rowsLeft a (suc k) s) (rowsLeft positionCorrelationKind k s) identifier (row-due k (s .epochs)) identifier-due (λ p. ap verdict.Next (done-position a k v)) refl
         (left-not-identifiers k (s .epochs)) (sat .position) (sat .is-position) in
         let none : ls ≡ sat .position = sat .lines-are ∙ ap (λ (r : List (List ℕ)). sat .position ++ r) (sat .is-rest) ∙ append-nil (sat .position) in
         (p .0, subst (λ (x : List (List ℕ)). Reach rules (rowsLeft a (suc k) s) identifiers x (rowsLeft (p .0) k s) identifiers) (sym none) (p .1))
     satellite-reach true a k identifier ls v identifier-due sat =
         let p =
-        noted-reach false (rowsLeft a (suc k) s) (rowDone 12 (suc k) s) identifier (row-due k (s .epochs)) identifier-due (λ p. ap verdict.Next (half-position a k v)) refl
+        noted-reach false (rowsLeft a (suc k) s) (rowDone positionCorrelationKind (suc k) s) identifier (row-due k (s .epochs)) identifier-due (λ p. ap verdict.Next (half-position a k v)) refl
         refl (sat .position) (sat .is-position) in
         let q =
-        noted-reach true (rowDone (p .0) (suc k) s) (rowsLeft 13 k s) identifier refl identifier-due (λ q. ap verdict.Next (done-velocity (p .0) k)) refl
+        noted-reach true (rowDone (p .0) (suc k) s) (rowsLeft velocityCorrelationKind k s) identifier refl identifier-due (λ q. ap verdict.Next (done-velocity (p .0) k)) refl
         (left-not-identifiers k (s .epochs)) (sat .rest) (sat .is-rest) in (
           q .0,
           subst (λ (x : List (List ℕ)). Reach rules (rowsLeft a (suc k) s) identifiers x (rowsLeft (q .0) k s) identifiers) (sym (sat .lines-are))
               (reach-append rules (rowsLeft a (suc k) s) (rowDone (p .0) (suc k) s) (rowsLeft (q .0) k s) identifiers identifiers identifiers (sat .position) (sat .rest) (p .1) (q .1)),
         )
 
-    satellite-read : (velocity : Bool) (k identifier : ℕ) (t t′ : Tally) (ls : List (List ℕ)) → s .velocity ≡ velocity → identifierDue (rowsLeft 0 (suc k) s) identifiers ≡ identifier
-        → run rules (rowsLeft 0 (suc k) s) identifiers t ls ≡ front.File t′ → Read rules (Satellite rules velocity identifier) (rowsLeft 0 k s) identifiers t t′ ls
+    satellite-read : (velocity : Bool) (k identifier : ℕ) (t t′ : Tally) (ls : List (List ℕ)) → s .velocity ≡ velocity → identifierDue (rowsLeft noKind (suc k) s) identifiers ≡ identifier
+        → run rules (rowsLeft noKind (suc k) s) identifiers t ls ≡ front.File t′ → Read rules (Satellite rules velocity identifier) (rowsLeft noKind k s) identifiers t t′ ls
     satellite-read false k identifier t t′ ls v identifier-due e =
         let p =
-        noted-read false (rowsLeft 0 (suc k) s) (rowsLeft 12 k s) identifier (row-due k (s .epochs)) identifier-due (λ p. ap verdict.Next (done-position 0 k v)) refl
+        noted-read false (rowsLeft noKind (suc k) s) (rowsLeft positionCorrelationKind k s) identifier (row-due k (s .epochs)) identifier-due (λ p. ap verdict.Next (done-position 0 k v)) refl
         (left-not-identifiers k (s .epochs)) t t′ ls refl e in
         record {
           used = p .used;
@@ -173,17 +173,17 @@ module _ (rules : Rules) (identifiers : List ℕ) where
         }
     satellite-read true k identifier t t′ ls v identifier-due e =
         let p =
-        noted-read false (rowsLeft 0 (suc k) s) (rowDone 12 (suc k) s) identifier (row-due k (s .epochs)) identifier-due (λ p. ap verdict.Next (half-position 0 k v)) refl
+        noted-read false (rowsLeft noKind (suc k) s) (rowDone positionCorrelationKind (suc k) s) identifier (row-due k (s .epochs)) identifier-due (λ p. ap verdict.Next (half-position 0 k v)) refl
         refl t t′ ls refl e in
         let q =
-        noted-read true (rowDone 0 (suc k) s) (rowsLeft 13 k s) identifier refl identifier-due (λ q. ap verdict.Next (done-velocity 0 k)) refl
+        noted-read true (rowDone noKind (suc k) s) (rowsLeft velocityCorrelationKind k s) identifier refl identifier-due (λ q. ap verdict.Next (done-velocity 0 k)) refl
         (left-not-identifiers k (s .epochs)) (countedOver rules t (p .used)) t′ (p .more) refl (p .goes) in
         record {
           used = p .used ++ q .used;
           more = q .more;
           split = split-on rules ls (p .used) (q .used) (p .more) (q .more) (p .split) (q .split);
           holds = record { position = p .used; rest = q .used; lines-are = refl; is-position = p .holds; is-rest = q .holds };
-          goes = goes-on rules (rowsLeft 0 k s) identifiers t t′ (p .used) (q .used) (q .more) (q .goes);
+          goes = goes-on rules (rowsLeft noKind k s) identifiers t t′ (p .used) (q .used) (q .more) (q .goes);
         }
 
     -- the identifier of the satellite whose row comes next
@@ -213,7 +213,7 @@ module _ (rules : Rules) (identifiers : List ℕ) where
         )
 
     pub rows-read : (after before rest : List ℕ) (t t′ : Tally) (ls : List (List ℕ)) → identifiers ≡ before ++ (after ++ rest) → s .satellites ≡ length before + length after
-        → run rules (rowsLeft 0 (length after) s) identifiers t ls ≡ front.File t′ → Read rules (Rows rules (s .velocity) after) (rowsLeft 0 0 s) identifiers t t′ ls
+        → run rules (rowsLeft noKind (length after) s) identifiers t ls ≡ front.File t′ → Read rules (Rows rules (s .velocity) after) (rowsLeft noKind 0 s) identifiers t t′ ls
     unfolding countedOver
     rows-read [] before rest t t′ ls are many e = record { used = []; more = ls; split = refl; holds = refl; goes = e }
     rows-read (identifier ∷ after) before rest t t′ ls are many e =
@@ -226,5 +226,5 @@ module _ (rules : Rules) (identifiers : List ℕ) where
           more = q .more;
           split = split-on rules ls (p .used) (q .used) (p .more) (q .more) (p .split) (q .split);
           holds = (p .used, q .used, refl, p .holds, q .holds);
-          goes = goes-on rules (rowsLeft 0 0 s) identifiers t t′ (p .used) (q .used) (q .more) (q .goes);
+          goes = goes-on rules (rowsLeft noKind 0 s) identifiers t t′ (p .used) (q .used) (q .more) (q .goes);
         }

@@ -11,7 +11,7 @@ use Rattle.laws.proofs.Bools.{and-left, and-right, and-true, and-false}
 use Rattle.layout.specs.Fault.{lower, lowerOf}
 use Rattle.layout.specs.Kind.{unless}
 use Rattle.layout.specs.Line.{padded}
-use Rattle.record.specs.LineKinds.{toldKind}
+use Rattle.record.specs.LineKinds.{noKind, satellitesKind, toldKind}
 use Rattle.header.specs.declared.types.Rules.{Rules}
 use Rattle.record.specs.declared.types.LineKind.{LineKind}
 use Rattle.machine.specs.Faults.{recordFault}
@@ -48,13 +48,13 @@ module _ (rules : Rules) where
   reach-cons s s′ s″ identifiers identifiers′ identifiers″ l ls p q = reach-append rules s s′ s″ identifiers identifiers′ identifiers″ (l ∷ []) ls p q
 
   module _ (k : LineKind) (s : State) (identifiers : List ℕ) (fault : List ℕ → ℕ) (next : List ℕ → State) (due : s .due ≡ toldKind k)
-      (other : eqb (toldKind k) 3 ≡ false) (faults : (l : List ℕ) → recordFault k rules s identifiers (padded l) ≡ fault l)
+      (other : eqb (toldKind k) satellitesKind ≡ false) (faults : (l : List ℕ) → recordFault k rules s identifiers (padded l) ≡ fault l)
       (nexts : (l : List ℕ) → nextOf k rules s (padded l) ≡ verdict.Next (next l)) where
     pub single-reach : (l : List ℕ) → isRecord rules k (fault l) l ≡ true → Reach rules s identifiers (l ∷ []) (next l) identifiers
     single-reach l is =
         reach-one rules k s (next l) identifiers identifiers l due (and-left (isLine rules k l) _ is)
         (faults l ∙ eqb-true (fault l) 0 (and-right (isLine rules k l) _ is)) (nexts l)
-        (identifiers-kept rules s identifiers l (ap (λ (d : ℕ). eqb d 3) due ∙ other))
+        (identifiers-kept rules s identifiers l (ap (λ (d : ℕ). eqb d satellitesKind) due ∙ other))
 
     pub record Single (t t′ : Tally) (ls : List (List ℕ)) : Type 0 where
       pub line : List ℕ
@@ -63,10 +63,10 @@ module _ (rules : Rules) where
       pub is : isRecord rules k (fault line) line ≡ true
       pub goes : run rules (next line) identifiers (counted rules t line) others ≡ front.File t′
 
-    pub single-read : (t t′ : Tally) (ls : List (List ℕ)) → s .also ≡ 0 → run rules s identifiers t ls ≡ front.File t′ → Single t t′ ls
+    pub single-read : (t t′ : Tally) (ls : List (List ℕ)) → s .also ≡ noKind → run rules s identifiers t ls ≡ front.File t′ → Single t t′ ls
     single-read t t′ ls also e =
         let x = due-line rules k s identifiers t t′ ls due also e in
-        let kept = identifiers-kept rules s identifiers (x .line) (ap (λ (d : ℕ). eqb d 3) due ∙ other) in
+        let kept = identifiers-kept rules s identifiers (x .line) (ap (λ (d : ℕ). eqb d satellitesKind) due ∙ other) in
         let clean : fault (x .line) ≡ 0 = sym (faults (x .line)) ∙ x .clean in
         record {
           line = x .line;

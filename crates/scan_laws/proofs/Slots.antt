@@ -19,7 +19,7 @@ use Rattle.lines.specs.Lent.{flat}
 use Rattle.lines.proofs.Ends.{neither}
 use Rattle.record.specs.SlotLines.{slotKind, satellitesOf, moreOf}
 use Rattle.header.specs.declared.types.Rules.{Rules}
-use Rattle.machine.specs.Checks.{repeats}
+use Rattle.record.specs.Agrees.{repeats}
 use Rattle.file.specs.Table.{slotNumbers}
 use Rattle.file.specs.Plain.{slotIdentifiers}
 

@@ -10,6 +10,7 @@ use borrow.Author.Tests.{ne-eqb}
 use Rattle.laws.specs.Tests.{within}
 use Rattle.laws.proofs.Bounds.{within-true, true-within}
 use Rattle.header.specs.Rules.{slotLines}
+use Rattle.record.specs.LineKinds.{noKind, accuraciesKind, charactersKind, integersKind}
 use Rattle.header.specs.declared.types.Rules.{Rules}
 use Rattle.machine.specs.Next.{expect, allow, leave, commentsDue}
 use Rattle.machine.specs.declared.types.State.{State}
@@ -60,7 +61,7 @@ module _ (rules : Rules) (s : State) (known rest : List ℕ) (many : length know
 
   -- where the comments are due, and where they are read
   abbrev inComments : ℕ → State
-  inComments over = expect 7 1 (leave over s)
+  inComments over = expect integersKind 1 (leave over s)
 
   epochs-due : (c over : ℕ) → commentsDue 0 c (inComments over) .due ≡ epochDue (s .epochs)
   unfolding commentsDue
@@ -76,13 +77,13 @@ module _ (rules : Rules) (s : State) (known rest : List ℕ) (many : length know
       reach-end rules before (r .0) identifiers identifiers epochs (last ∷ []) (r .2)
       (record { runs = λ t more. last-run rules identifiers known rest refl some (r .0) t last more (r .1) is })
 
-  pub tail-ends : (lines : List (List ℕ)) → Tail lines → Ends rules (leave (s .satellites) (expect 4 (slotLines (s .satellites)) s)) identifiers lines
+  pub tail-ends : (lines : List (List ℕ)) → Tail lines → Ends rules (leave (s .satellites) (expect accuraciesKind (slotLines (s .satellites)) s)) identifiers lines
   tail-ends lines p =
       let n = s .satellites in
       let rated = accuracies-reach rules s identifiers (slotLines n - 1) n (p .accuracies) (p .accuracies-many ∙ some-lines n) (p .are-accuracies) in
       let over = rated .0 in
-      let first : Reach rules (leave n (expect 4 (slotLines n) s)) identifiers (p .accuracies) (leave over (expect 5 2 s)) identifiers =
-      subst (λ (k : ℕ). Reach rules (leave n (expect 4 k s)) identifiers (p .accuracies) (leave over (expect 5 2 s)) identifiers) (sym (some-lines n)) (rated .1) in
+      let first : Reach rules (leave n (expect accuraciesKind (slotLines n) s)) identifiers (p .accuracies) (leave over (expect charactersKind 2 s)) identifiers =
+      subst (λ (k : ℕ). Reach rules (leave n (expect accuraciesKind k s)) identifiers (p .accuracies) (leave over (expect charactersKind 2 s)) identifiers) (sym (some-lines n)) (rated .1) in
       let six =
       six-reach rules (leave over s) known rest many (p .descriptor) (p .characters) (p .bases) (p .floats) (p .integers) (p .integers′)
       (p .is-descriptor) (p .is-characters) (p .is-bases) (p .is-floats) (p .is-integers) (p .is-integers′) in
@@ -93,9 +94,9 @@ module _ (rules : Rules) (s : State) (known rest : List ℕ) (many : length know
       let end = p .epochs ++ (p .last ∷ []) in
       let from-comments = reach-end rules due done identifiers identifiers (p .comments) end (noted .1) (end-ends (noted .0) over (p .epochs) (p .last) (p .are-epochs) (p .is-last)) in
       let six-lines = p .descriptor ∷ p .characters ∷ p .bases ∷ p .floats ∷ p .integers ∷ p .integers′ ∷ [] in
-      let from-six = reach-end rules (expect 5 2 (leave over s)) due identifiers identifiers six-lines (p .comments ++ end) six from-comments in
-      subst (λ (x : List (List ℕ)). Ends rules (leave n (expect 4 (slotLines n) s)) identifiers x) (sym (p .lines-are))
-      (reach-end rules (leave n (expect 4 (slotLines n) s)) (leave over (expect 5 2 s)) identifiers identifiers (p .accuracies) (six-lines ++ (p .comments ++ end)) first from-six)
+      let from-six = reach-end rules (expect charactersKind 2 (leave over s)) due identifiers identifiers six-lines (p .comments ++ end) six from-comments in
+      subst (λ (x : List (List ℕ)). Ends rules (leave n (expect accuraciesKind (slotLines n) s)) identifiers x) (sym (p .lines-are))
+      (reach-end rules (leave n (expect accuraciesKind (slotLines n) s)) (leave over (expect charactersKind 2 s)) identifiers identifiers (p .accuracies) (six-lines ++ (p .comments ++ end)) first from-six)
 
   -- such lines at the front of those that a run to a file has read
   pub record TailRead (t t′ : Tally) (ls : List (List ℕ)) : Type 0 where
@@ -104,11 +105,11 @@ module _ (rules : Rules) (s : State) (known rest : List ℕ) (many : length know
     pub tail : Tail used
     pub ending : Ending rules t t′ ls used more
 
-  end-read : (c over : ℕ) (t t′ : Tally) (ls : List (List ℕ)) → run rules (allow 0 (commentsDue 0 c (inComments over))) identifiers t ls ≡ front.File t′
+  end-read : (c over : ℕ) (t t′ : Tally) (ls : List (List ℕ)) → run rules (allow noKind (commentsDue 0 c (inComments over))) identifiers t ls ≡ front.File t′
       → Ended rules identifiers known rest refl some (s .velocity) (s .interval8) (s .epochs) (s .at8 + s .gap8) t t′ ls
   unfolding commentsDue
   end-read c over t t′ ls e =
-      epochs-read rules identifiers known rest refl some (s .epochs) (allow 0 (commentsDue 0 c (inComments over))) (s .at8 + s .gap8) t t′ ls
+      epochs-read rules identifiers known rest refl some (s .epochs) (allow noKind (commentsDue 0 c (inComments over))) (s .at8 + s .gap8) t t′ ls
       (epochs-due c over) refl refl (sym many) refl e
 
   -- the parts that were read, put together
@@ -161,15 +162,15 @@ module _ (rules : Rules) (s : State) (known rest : List ℕ) (many : length know
         ending = ending-on rules t t′ ls (x .used) (x .more) (six-lines ++ (z .comments ++ end)) (w .more) (x .split) from-six;
       }
 
-  rated : (t t′ : Tally) (ls : List (List ℕ)) → run rules (leave (s .satellites) (expect 4 (slotLines (s .satellites)) s)) identifiers t ls ≡ front.File t′
+  rated : (t t′ : Tally) (ls : List (List ℕ)) → run rules (leave (s .satellites) (expect accuraciesKind (slotLines (s .satellites)) s)) identifiers t ls ≡ front.File t′
       → Rated rules s identifiers (slotLines (s .satellites)) (s .satellites) t t′ ls
   rated t t′ ls e =
       let n = s .satellites in
       subst (λ (k : ℕ). Rated rules s identifiers k n t t′ ls) (sym (some-lines n))
-      (accuracies-read rules s identifiers (slotLines n - 1) n t t′ ls (subst (λ (k : ℕ). run rules (leave n (expect 4 k s)) identifiers t ls ≡ front.File t′) (some-lines n) e))
+      (accuracies-read rules s identifiers (slotLines n - 1) n t t′ ls (subst (λ (k : ℕ). run rules (leave n (expect accuraciesKind k s)) identifiers t ls ≡ front.File t′) (some-lines n) e))
 
   pub tail-read : (t t′ : Tally) (ls : List (List ℕ)) → rules .«fewest_comments» ≤ rules .«most_comments»
-      → run rules (leave (s .satellites) (expect 4 (slotLines (s .satellites)) s)) identifiers t ls ≡ front.File t′ → TailRead t t′ ls
+      → run rules (leave (s .satellites) (expect accuraciesKind (slotLines (s .satellites)) s)) identifiers t ls ≡ front.File t′ → TailRead t t′ ls
   tail-read t t′ ls fit e = from-rated (rated t t′ ls e)
     where
       from-six : (x : Rated rules s identifiers (slotLines (s .satellites)) (s .satellites) t t′ ls)

@@ -7,6 +7,7 @@ use Prim.Native.Nat.{ℕ, _+_, _≤_, zero-le}
 use native.Mathlib.Omega.{arith}
 use lib.ListN.{length, take}
 use Rattle.lines.specs.Lines.{linesOf, joinLines, bytesIn, select}
+use Rattle.record.specs.LineKinds.{commentKind}
 use Rattle.lines.proofs.Split.{parted, bytes-in}
 use Rattle.lines.proofs.Picking.{select-fewer}
 use Rattle.file.specs.Kinds.{isKind, isRow, ofKind}
@@ -29,7 +30,7 @@ pub record Taken (rules : Rules) (s : State) (identifiers : List ℕ) (t : Tally
   pub alone : (more : List (List ℕ)) → run rules s identifiers t (used ++ more) ≡ front.File t′
   pub lines : t′ .lines ≡ t .lines + length used
   pub end : t′ .end ≡ t .end + bytesIn used
-  pub comments : t′ .comments ≡ t .comments + length (ofKind rules 8 used)
+  pub comments : t′ .comments ≡ t .comments + length (ofKind rules commentKind used)
   pub rows : t′ .rows ≡ t .rows + length (rowLines rules used)
 
 -- a line more, by a test of it
@@ -56,7 +57,7 @@ module _ (rules : Rules) where
         alone = λ more. rw v e;
         lines = ap (λ (x : Tally). x .lines) (sym is);
         end = ap (λ (x : Tally). x .end) (sym is) ∙ omega arith;
-        comments = ap (λ (x : Tally). x .comments) (sym is) ∙ omega (arith, more-passing (isKind rules 8) l [] (t .comments));
+        comments = ap (λ (x : Tally). x .comments) (sym is) ∙ omega (arith, more-passing (isKind rules commentKind) l [] (t .comments));
         rows = ap (λ (x : Tally). x .rows) (sym is) ∙ omega (arith, more-passing (isRow rules) l [] (t .rows));
       }
 
@@ -73,7 +74,7 @@ module _ (rules : Rules) where
         alone = λ more. rw v (u .alone more);
         lines = omega (arith, u .lines);
         end = omega (arith, u .end);
-        comments = u .comments ∙ more-passing (isKind rules 8) l (u .used) (t .comments);
+        comments = u .comments ∙ more-passing (isKind rules commentKind) l (u .used) (t .comments);
         rows = u .rows ∙ more-passing (isRow rules) l (u .used) (t .rows);
       }
 
@@ -112,7 +113,7 @@ pub record AcceptedFront (rules : Rules) (bytes : List ℕ) (t : Tally) : Type 0
   pub joined : take (t .end) bytes ≡ joinLines (frontLines bytes t)
   pub end : t .end ≡ bytesIn (frontLines bytes t)
   pub lines : t .lines ≡ length (frontLines bytes t)
-  pub comments : t .comments ≡ length (ofKind rules 8 (frontLines bytes t))
+  pub comments : t .comments ≡ length (ofKind rules commentKind (frontLines bytes t))
   pub rows : t .rows ≡ length (rowLines rules (frontLines bytes t))
   pub lines-within : t .lines ≤ t .end
   pub comments-within : t .comments ≤ t .end
@@ -138,6 +139,6 @@ accepted-front rules bytes t e =
       comments = rw (← same) (omega (arith, u .comments));
       rows = rw (← same) (omega (arith, u .rows));
       lines-within = omega (arith, u .lines, u .end);
-      comments-within = omega (arith, u .comments, u .end, select-fewer (isKind rules 8) (u .used));
+      comments-within = omega (arith, u .comments, u .end, select-fewer (isKind rules commentKind) (u .used));
       rows-within = omega (arith, u .rows, u .end, select-fewer (isRow rules) (u .used));
     }

@@ -12,7 +12,7 @@ use Rattle.layout.specs.Fault.{keyed, keyNumber}
 use Rattle.layout.specs.Kind.{unless, identifierCode}
 use Rattle.layout.specs.Layout.{Item, faultAt}
 use Rattle.layout.specs.Line.{padded}
-use Rattle.record.specs.LineKinds.{kindOf}
+use Rattle.record.specs.LineKinds.{kindOf, longest}
 use Rattle.record.specs.Times.{dateFault}
 use Rattle.record.specs.Opening.{firstItems, firstOf, secondItems, secondOf, epochItems, epochOf}
 use Rattle.record.specs.SlotLines.{satelliteItems, countIn, moreItems}
@@ -22,9 +22,8 @@ use Rattle.record.specs.Rows.{rowItems, cut}
 use Rattle.header.specs.declared.types.Rules.{Rules}
 use Rattle.record.specs.declared.types.LineKind.{LineKind}
 use Rattle.record.specs.declared.types.LineKind.the-variants as kind
-use Rattle.machine.specs.Checks.{instantIn, secondAgrees, repeats, typeAgrees}
+use Rattle.record.specs.Agrees.{instantIn, secondAgrees, repeats, typeAgrees}
 use Rattle.machine.specs.State.{stands, knownIdentifiers, identifierDue, isFirst, identifiersIn}
-use Rattle.machine.specs.Faults.{longest}
 use Rattle.machine.specs.declared.types.State.{State}
 
 -- one of some faults

@@ -18,7 +18,8 @@ use Rattle.field.specs.declared.Number.{Number}
 use Rattle.field.specs.declared.Number.the-variants as number
 use Rattle.field.proofs.Told.{number-is}
 use Rattle.record.specs.Absence.{placeAbsent, clockAbsent, isUnknown, isTooLarge}
-use Rattle.file.specs.Table.{storedInt, rowWidth}
+use Rattle.record.specs.Rows.{rowWidth}
+use Rattle.file.specs.Table.{storedInt}
 use Rattle.stored_row.specs.Stored.{isThere, numberAt, isPlaceAbsent, placeIn, clockIn, deviationOf, deviationIn, flagIn}
 use Rattle.stored_row.specs.declared.types.Place.the-variants as place
 use Rattle.stored_row.specs.declared.types.ClockRead.the-variants as clock

@@ -15,10 +15,11 @@ use Rattle.field.specs.Sign.{largest, signedInt, isNegative}
 use Rattle.field.proofs.Signs.{magnitude-back, sign-back}
 use Rattle.lines.specs.Lent.{over}
 use Rattle.record.specs.Absence.{placeAbsent, clockAbsent}
+use Rattle.record.specs.Rows.{rowWidth}
 use Rattle.record.specs.declared.types.Row.{Row}
 use Rattle.record.specs.declared.types.Signed.{Signed}
 use Rattle.file.proofs.Exact.{stored-exact}
-use Rattle.file.specs.Table.{storedInt, storedSigned, storedCount, storedMark, markNumber, rowNumbers, rowWidth}
+use Rattle.file.specs.Table.{storedInt, storedSigned, storedCount, storedMark, markNumber, rowNumbers}
 use Rattle.stored_row.specs.Stored.{isThere, numberAt, placeIn, clockIn, deviationOf, deviationIn, flagIn}
 use Rattle.stored_row.specs.declared.types.Place.the-variants as place
 use Rattle.stored_row.specs.declared.types.ClockRead.the-variants as clock
@@ -54,7 +55,7 @@ module _ (before more : List ℤ) (p : Row) (k : ℕ) (at : length before ≡ k 
   pub row-there : isThere rows k ≡ true
   unfolding rowNumbers
   row-there =
-      let size : length (rowNumbers p ++ more) ≡ 12 + length more = length-append (rowNumbers p) more in
+      let size : length (rowNumbers p ++ more) ≡ rowWidth + length more = length-append (rowNumbers p) more in
       let whole : length rows ≡ length before + length (rowNumbers p ++ more) = length-append before (rowNumbers p ++ more) in
       lt-ltb k (length rows / rowWidth) (omega arith)
 

@@ -8,7 +8,7 @@ use lib.IntN.{ℤ, pos, natAbs}
 use lib.ListN.{length, getD}
 use Rattle.field.specs.Sign.{isNegative}
 use Rattle.record.specs.Absence.{placeAbsent, clockAbsent, isUnknown, isTooLarge}
-use Rattle.file.specs.Table.{rowWidth}
+use Rattle.record.specs.Rows.{rowWidth}
 use Rattle.stored_row.specs.declared.types.Place.{Place}
 use Rattle.stored_row.specs.declared.types.Place.the-variants as place
 use Rattle.stored_row.specs.declared.types.ClockRead.{ClockRead}

@@ -2,7 +2,6 @@
 mod rows;
 mod types;
 
-pub use rows::ROW_WIDTH;
 pub use rows::clock_of;
 pub use rows::exponent_of;
 pub use rows::flag_of;

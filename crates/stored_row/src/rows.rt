@@ -7,9 +7,7 @@ use crate::types::Deviation;
 use crate::types::Flag;
 use crate::types::Place;
 use field::Number;
-
-// The numbers of a stored row: x, y, z, clock, their four exponents, four flags.
-pub const ROW_WIDTH: usize = 12;
+use record::rows::ROW_WIDTH;
 
 // A number as it is stored: 0 beyond the bounds, which no field holds.
 pub fn stored_number(negative: bool, magnitude: u64) -> i64

@@ -8,8 +8,8 @@ use Prim.Native.Nat.{ℕ, zero, suc, _+_, _/_, _≤_, _<_}
 use native.Mathlib.Decide.{decLe, decLt}
 use native.Mathlib.Omega.{arith}
 use borrow.Author.Tests.{lt-ltb, le-ltb, ltb-true, ltb-false, eqb-true, eq-eqb, ne-eqb}
-use lib.Dec.{eqb, ltb}
-use lib.IntN.{ℤ}
+use lib.Dec.{eqb, ltb, leb}
+use lib.IntN.{ℤ, natAbs}
 use lib.ListN.{length, getD, take, drop, length-append, length-drop, take-append-drop}
 use Rattle.header.specs.Rules.{d}
 use Rattle.lines.specs.Lines.{linesOf}
@@ -17,7 +17,9 @@ use Rattle.file.specs.Kinds.{ofKind}
 use Rattle.scan.specs.Run.{wholeFront, IsFile}
 use Rattle.reader.specs.Reading.{refusedWith, linesTo, acceptedAs, frontOf, fileOf, judged, delivered, roomFor, identifiersOf}
 use Rattle.questions.specs.Questions.{textIn, noComment, commentLine, commentAnswer, commentWords, indexOf, noSatellite, satelliteIn, satelliteAnswer}
-use Rattle.stored_row.specs.Stored.{isThere, placeIn, clockIn, deviationIn, flagIn}
+use Rattle.field.specs.Sign.{isNegative}
+use Rattle.record.specs.Absence.{clockAbsent, isUnknown, isTooLarge}
+use Rattle.stored_row.specs.Stored.{isThere, numberAt, isPlaceAbsent, placeIn, clockIn, deviationIn, flagIn}
 use Rattle.scan_laws.proofs.Files.{file-plain, whole-taken}
 use Rattle.scan_laws.proofs.Local.{whole-ends}
 use Rattle.scan_laws.proofs.Used.{accepted-front}
@@ -44,6 +46,7 @@ use Rattle.stored_row.specs.declared.types.Flag.the-variants as flag
 use Rattle.scan.specs.declared.Tally.{Tally}
 use Rattle.scan.specs.declared.Front.{Front}
 use Rattle.scan.specs.declared.Front.the-variants as front
+use Rattle.record.specs.LineKinds.{commentKind}
 
 -- a file that is found refused has a number from 1 to 11
 pub found-numbers : (bytes : List ℕ) (number line column : ℕ) → fileOf d bytes ≡ front.Refused number line column → (1 ≤ number) × (number ≤ 11)
@@ -201,7 +204,7 @@ module _ (bytes : List ℕ) (accepted : IsFile d bytes) where
       ∙ sym (says-comments p)
     where
       comments-in : List ℕ → List (List ℕ)
-      comments-in s = ofKind d 8 (linesOf s)
+      comments-in s = ofKind d commentKind (linesOf s)
 
   -- then the text of the comment, columns 4 on without trailing blanks,
   pub comment-text : (k : ℕ) → k < header bytes .comments → commentWords d bytes (fileOf d bytes) k ≡ textIn (commentLine d (linesOf bytes) k)
@@ -219,68 +222,125 @@ module _ (bytes : List ℕ) (accepted : IsFile d bytes) where
       let none : ltb k (t .comments) ≡ false = le-ltb k (t .comments) (omega (arith, comments-are)) in
       (rw (accepted .1, none), rw (accepted .1, none))
 
+-- So 13 comes exactly where an accepted file has no comment of that number, and 12 never.
+pub comment-thirteen : (bytes : List ℕ) (k : ℕ) → (commentAnswer d bytes (fileOf d bytes) k .refusal ≡ 13) ↔ (IsFile d bytes × (header bytes .comments ≤ k))
+unfolding commentAnswer
+comment-thirteen bytes k = (
+  there (fileOf d bytes) refl,
+  λ b. ap (λ (a : CommentAnswer). a .refusal) (comment-not-there bytes (b .0) k (b .1) .0),
+)
+  where
+    there : (f : Front) → fileOf d bytes ≡ f → commentAnswer d bytes f k .refusal ≡ 13 → IsFile d bytes × (header bytes .comments ≤ k)
+    there (front.File t) e thirteen = ((t, e), by (ltb k (t .comments)) refl)
+      where
+        by : (b : Bool) → ltb k (t .comments) ≡ b → header bytes .comments ≤ k
+        by true h = let z : _≡_ {A = ℕ} 0 13 = rw h at thirteen in absurd (omega arith)
+        by false h = let few = ltb-false k (t .comments) h in omega (arith, comments-are bytes (t, e))
+    there (front.Refused number line column) e thirteen = absurd (omega (arith, found-numbers bytes number line column e .1))
+
+pub questions-never-12 : (bytes : List ℕ) (k j : ℕ)
+    → (asked bytes k j .refusal ≡ 12 → ⊥) × (commentAnswer d bytes (fileOf d bytes) k .refusal ≡ 12 → ⊥)
+    × (satelliteAnswer d bytes (fileOf d bytes) k .refusal ≡ 12 → ⊥)
+unfolding commentAnswer satelliteAnswer
+questions-never-12 bytes k j = (row (fileOf d bytes) refl, comment (fileOf d bytes) refl, satellite (fileOf d bytes) refl)
+  where
+    row : (f : Front) → fileOf d bytes ≡ f → asked bytes k j .refusal ≡ 12 → ⊥
+    row (front.File t) e twelve = by (decLt k (header bytes .epochs)) (decLt j (header bytes .satellites))
+      where
+        none : (There bytes k j → ⊥) → ⊥
+        none missing = let z : _≡_ {A = ℕ} 12 13 = sym twelve ∙ ap (λ (a : RowAnswer). a .refusal) (row-not-there bytes (t, e) k j missing) in omega arith
+
+        by : Dec (k < header bytes .epochs) → Dec (j < header bytes .satellites) → ⊥
+        by (yes some) (yes one) =
+            let z : _≡_ {A = ℕ} 12 0 = sym twelve ∙ ap (λ (a : RowAnswer). a .refusal) (row-asked bytes (t, e) k j (record { epoch = some; satellite = one })) in
+            omega arith
+        by (no some) one = none (λ there. some (there .epoch))
+        by (yes some) (no one) = none (λ there. one (there .satellite))
+    row (front.Refused number line column) e twelve =
+        let n : 12 ≡ number = sym twelve ∙ ap (λ (a : RowAnswer). a .refusal) (row-refused bytes number line column e k j) in
+        omega (arith, found-numbers bytes number line column e .1)
+
+    comment : (f : Front) → fileOf d bytes ≡ f → commentAnswer d bytes f k .refusal ≡ 12 → ⊥
+    comment (front.File t) e twelve = by (ltb k (t .comments)) refl
+      where
+        by : (b : Bool) → ltb k (t .comments) ≡ b → ⊥
+        by true h = let z : _≡_ {A = ℕ} 0 12 = rw h at twelve in omega arith
+        by false h = let z : _≡_ {A = ℕ} 13 12 = rw h at twelve in omega arith
+    comment (front.Refused number line column) e twelve = omega (arith, found-numbers bytes number line column e .1)
+
+    satellite : (f : Front) → fileOf d bytes ≡ f → satelliteAnswer d bytes f k .refusal ≡ 12 → ⊥
+    satellite (front.File t) e twelve = by (ltb (indexOf k list) (length list)) refl
+      where
+        list : List ℕ
+        list = identifiersOf d (linesTo (t .end) bytes)
+
+        by : (b : Bool) → ltb (indexOf k (identifiersOf d (linesTo (t .end) bytes))) (length (identifiersOf d (linesTo (t .end) bytes))) ≡ b → ⊥
+        by true h = let z : _≡_ {A = ℕ} 0 12 = rw h at twelve in omega arith
+        by false h = let z : _≡_ {A = ℕ} 13 12 = rw h at twelve in omega arith
+    satellite (front.Refused number line column) e twelve = omega (arith, found-numbers bytes number line column e .1)
+
 -- THE SATELLITE QUESTION: the file's own refusal first,
 pub satellite-refused : (bytes : List ℕ) (number line column : ℕ) → fileOf d bytes ≡ front.Refused number line column
-    → (name : ℕ) → satelliteAnswer d bytes (fileOf d bytes) name ≡ noSatellite number line
+    → (wanted : ℕ) → satelliteAnswer d bytes (fileOf d bytes) wanted ≡ noSatellite number line
 unfolding satelliteAnswer
-satellite-refused bytes number line column e name = rw e
+satellite-refused bytes number line column e wanted = rw e
 
 -- the first of some numbers that is this one
-index-within : (name : ℕ) (list : List ℕ) → indexOf name list < length list → getD list (indexOf name list) 0 ≡ name
+index-within : (wanted : ℕ) (list : List ℕ) → indexOf wanted list < length list → getD list (indexOf wanted list) 0 ≡ wanted
 unfolding indexOf
-index-within name [] h = absurd (omega arith)
-index-within name (x ∷ xs) h = go (eqb name x) refl (λ below. index-within name xs below)
+index-within wanted [] h = absurd (omega arith)
+index-within wanted (x ∷ xs) h = go (eqb wanted x) refl (λ below. index-within wanted xs below)
   where
-    go : (t : Bool) → eqb name x ≡ t → (indexOf name xs < length xs → getD xs (indexOf name xs) 0 ≡ name)
-        → getD (x ∷ xs) (cond t 0 (suc (indexOf name xs))) 0 ≡ name
-    go true e later = sym (eqb-true name x e)
-    go false e later = let below : suc (indexOf name xs) < suc (length xs) = rw e at h in later (omega arith)
+    go : (t : Bool) → eqb wanted x ≡ t → (indexOf wanted xs < length xs → getD xs (indexOf wanted xs) 0 ≡ wanted)
+        → getD (x ∷ xs) (cond t 0 (suc (indexOf wanted xs))) 0 ≡ wanted
+    go true e later = sym (eqb-true wanted x e)
+    go false e later = let below : suc (indexOf wanted xs) < suc (length xs) = rw e at h in later (omega arith)
 
-index-none : (name : ℕ) (list : List ℕ) → length list ≤ indexOf name list → (j : ℕ) → j < length list → getD list j 0 ≡ name → ⊥
+index-none : (wanted : ℕ) (list : List ℕ) → length list ≤ indexOf wanted list → (j : ℕ) → j < length list → getD list j 0 ≡ wanted → ⊥
 unfolding indexOf
-index-none name [] h j below e = omega arith
-index-none name (x ∷ xs) h zero below e =
-    let here : eqb name x ≡ true = eq-eqb name x (sym e) in
+index-none wanted [] h j below e = omega arith
+index-none wanted (x ∷ xs) h zero below e =
+    let here : eqb wanted x ≡ true = eq-eqb wanted x (sym e) in
     let z : suc (length xs) ≤ 0 = rw here at h in
     omega arith
-index-none name (x ∷ xs) h (suc j) below e = go (eqb name x) refl (λ late. index-none name xs late j (omega arith) e)
+index-none wanted (x ∷ xs) h (suc j) below e = go (eqb wanted x) refl (λ late. index-none wanted xs late j (omega arith) e)
   where
-    go : (t : Bool) → eqb name x ≡ t → (length xs ≤ indexOf name xs → ⊥) → ⊥
+    go : (t : Bool) → eqb wanted x ≡ t → (length xs ≤ indexOf wanted xs → ⊥) → ⊥
     go true f later = let z : suc (length xs) ≤ 0 = rw f at h in omega arith
-    go false f later = let z : suc (length xs) ≤ suc (indexOf name xs) = rw f at h in later (omega arith)
+    go false f later = let z : suc (length xs) ≤ suc (indexOf wanted xs) = rw f at h in later (omega arith)
 
-module _ (bytes : List ℕ) (accepted : IsFile d bytes) (name : ℕ) where
+module _ (bytes : List ℕ) (accepted : IsFile d bytes) (wanted : ℕ) where
   abbrev list : List ℕ
   list = identifiersOf d (linesOf bytes)
 
-  answered : satelliteAnswer d bytes (fileOf d bytes) name ≡ satelliteIn name list
+  answered : satelliteAnswer d bytes (fileOf d bytes) wanted ≡ satelliteIn wanted list
   unfolding satelliteAnswer
   answered = rw (accepted .1, whole-taken bytes (accepted .0) (accepted .1))
 
   -- then the number of the satellite that has this identifier: what is answered with 0 is in the header and has it,
-  pub satellite-found : satelliteAnswer d bytes (fileOf d bytes) name .refusal ≡ 0
-      → (satelliteAnswer d bytes (fileOf d bytes) name .number < length list) × (identifier bytes (satelliteAnswer d bytes (fileOf d bytes) name .number) ≡ name)
-  satellite-found zero-answer = rw answered (go (ltb (indexOf name list) (length list)) refl (rw answered at zero-answer))
+  pub satellite-found : satelliteAnswer d bytes (fileOf d bytes) wanted .refusal ≡ 0
+      → (satelliteAnswer d bytes (fileOf d bytes) wanted .number < length list) × (identifier bytes (satelliteAnswer d bytes (fileOf d bytes) wanted .number) ≡ wanted)
+  satellite-found zero-answer = rw answered (go (ltb (indexOf wanted list) (length list)) refl (rw answered at zero-answer))
     where
-      go : (t : Bool) → ltb (indexOf name list) (length list) ≡ t
-          → cond t (record { refusal = 0; line = 0; number = indexOf name list }) (noSatellite 13 0) .refusal ≡ 0
-          → (satelliteIn name list .number < length list) × (getD list (satelliteIn name list .number) 0 ≡ name)
-      go true e z = rw e (ltb-true (indexOf name list) (length list) e, index-within name list (ltb-true (indexOf name list) (length list) e))
+      go : (t : Bool) → ltb (indexOf wanted list) (length list) ≡ t
+          → cond t (record { refusal = 0; line = 0; number = indexOf wanted list }) (noSatellite 13 0) .refusal ≡ 0
+          → (satelliteIn wanted list .number < length list) × (getD list (satelliteIn wanted list .number) 0 ≡ wanted)
+      go true e z = rw e (ltb-true (indexOf wanted list) (length list) e, index-within wanted list (ltb-true (indexOf wanted list) (length list) e))
       go false e z = absurd (omega arith)
 
   -- and 13 exactly where none has.
-  pub satellite-thirteen : (satelliteAnswer d bytes (fileOf d bytes) name ≡ noSatellite 13 0) ↔ ((j : ℕ) → j < length list → identifier bytes j ≡ name → ⊥)
-  satellite-thirteen = rw answered (go (ltb (indexOf name list) (length list)) refl)
+  pub satellite-thirteen : (satelliteAnswer d bytes (fileOf d bytes) wanted ≡ noSatellite 13 0) ↔ ((j : ℕ) → j < length list → identifier bytes j ≡ wanted → ⊥)
+  satellite-thirteen = rw answered (go (ltb (indexOf wanted list) (length list)) refl)
     where
-      go : (t : Bool) → ltb (indexOf name list) (length list) ≡ t
-          → (satelliteIn name list ≡ noSatellite 13 0) ↔ ((j : ℕ) → j < length list → getD list j 0 ≡ name → ⊥)
+      go : (t : Bool) → ltb (indexOf wanted list) (length list) ≡ t
+          → (satelliteIn wanted list ≡ noSatellite 13 0) ↔ ((j : ℕ) → j < length list → getD list j 0 ≡ wanted → ⊥)
       go true e =
-          let within = ltb-true (indexOf name list) (length list) e in (
+          let within = ltb-true (indexOf wanted list) (length list) e in (
             (λ is. let z : _≡_ {A = ℕ} 0 13 = ap (λ (a : SatelliteAnswer). a .refusal) (rw e at is) in absurd (omega arith)),
-            (λ none. absurd (none (indexOf name list) within (index-within name list within))),
+            (λ none. absurd (none (indexOf wanted list) within (index-within wanted list within))),
           )
       go false e = (
-        (λ is. index-none name list (ltb-false (indexOf name list) (length list) e)),
+        (λ is. index-none wanted list (ltb-false (indexOf wanted list) (length list) e)),
         (λ none. rw e),
       )
 
@@ -300,10 +360,44 @@ begin-twelve bytes old = (there (fileOf d bytes) refl, λ b. ap (λ (a : Reading
         let n : 12 ≡ number = sym twelve ∙ ap (λ (a : Reading). a .refusal) (begin-refused bytes number line column e old .0) in
         absurd (omega (arith, found-numbers bytes number line column e .1))
 
--- A STORED ROW that the lent numbers do not have is 13: place, clock, exponents and flags.
-pub stored-missing : (rows : List ℤ) (k : ℕ) → isThere rows k ≡ false
-    → (placeIn rows k ≡ place.NotThere) × (clockIn rows k ≡ clock.NotThere)
-    × ((which : ℕ) → deviationIn rows k which ≡ deviation.NotThere)
-    × ((which : ℕ) → flagIn rows k which ≡ flag.NotThere)
-unfolding placeIn clockIn deviationIn flagIn
-stored-missing rows k e = (rw e, rw e, λ which. rw e, λ which. rw e)
+-- A STORED ROW is 13 exactly where the lent numbers do not have it; an exponent or flag also where it is none of the four.
+pub stored-thirteen : (rows : List ℤ) (k : ℕ)
+    → ((placeIn rows k ≡ place.NotThere) ↔ (isThere rows k ≡ false)) × ((clockIn rows k ≡ clock.NotThere) ↔ (isThere rows k ≡ false))
+unfolding placeIn clockIn
+stored-thirteen rows k = (
+  ((λ e. by-place (isThere rows k) (isPlaceAbsent rows k) (numberAt rows k 0) (numberAt rows k 1) (numberAt rows k 2) refl e), (λ e. rw e)),
+  ((λ e. by-clock (isThere rows k) (clockAbsent (isNegative (numberAt rows k 3)) (natAbs (numberAt rows k 3))) (numberAt rows k 3) refl e), (λ e. rw e)),
+)
+  where
+    by-place : (t a : Bool) (x y z : ℤ) → isThere rows k ≡ t → cond t (cond a place.Absent (place.At x y z)) place.NotThere ≡ place.NotThere → isThere rows k ≡ false
+    by-place true true x y z p e = let n : _≡_ {A = ℕ} 0 1 = cc in absurd (omega arith)
+    by-place true false x y z p e = let n : _≡_ {A = ℕ} 0 1 = cc in absurd (omega arith)
+    by-place false a x y z p e = p
+
+    by-clock : (t a : Bool) (v : ℤ) → isThere rows k ≡ t → cond t (cond a clock.Absent (clock.At v)) clock.NotThere ≡ clock.NotThere → isThere rows k ≡ false
+    by-clock true true v p e = let z : _≡_ {A = ℕ} 0 1 = cc in absurd (omega arith)
+    by-clock true false v p e = let z : _≡_ {A = ℕ} 0 1 = cc in absurd (omega arith)
+    by-clock false a v p e = p
+
+pub stored-parts-thirteen : (rows : List ℤ) (k which : ℕ)
+    → ((deviationIn rows k which ≡ deviation.NotThere) ↔ ((isThere rows k && leb which 3) ≡ false))
+    × ((flagIn rows k which ≡ flag.NotThere) ↔ ((isThere rows k && leb which 3) ≡ false))
+unfolding deviationIn flagIn
+stored-parts-thirteen rows k which = (
+  ((λ e. let n = natAbs (numberAt rows k (4 + which)) in by-exponent (isThere rows k && leb which 3) (isUnknown n) (isTooLarge (eqb which 3) n) n refl e), (λ e. rw e)),
+  ((λ e. by-flag (isThere rows k && leb which 3) (eqb (natAbs (numberAt rows k (8 + which))) 0) refl e), (λ e. rw e)),
+)
+  where
+    by-exponent : (t a b : Bool) (n : ℕ) → (isThere rows k && leb which 3) ≡ t
+        → cond t (cond a deviation.Unknown (cond b deviation.TooLarge (deviation.Value n))) deviation.NotThere ≡ deviation.NotThere
+        → (isThere rows k && leb which 3) ≡ false
+    by-exponent true true b n p e = let z : _≡_ {A = ℕ} 0 1 = cc in absurd (omega arith)
+    by-exponent true false true n p e = let z : _≡_ {A = ℕ} 0 1 = cc in absurd (omega arith)
+    by-exponent true false false n p e = let z : _≡_ {A = ℕ} 0 1 = cc in absurd (omega arith)
+    by-exponent false a b n p e = p
+
+    by-flag : (t a : Bool) → (isThere rows k && leb which 3) ≡ t → cond t (cond a flag.NotSet flag.Set) flag.NotThere ≡ flag.NotThere
+        → (isThere rows k && leb which 3) ≡ false
+    by-flag true true p e = let z : _≡_ {A = ℕ} 0 1 = cc in absurd (omega arith)
+    by-flag true false p e = let z : _≡_ {A = ℕ} 0 1 = cc in absurd (omega arith)
+    by-flag false a p e = p

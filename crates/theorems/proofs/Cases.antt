@@ -19,7 +19,7 @@ use Rattle.layout.specs.Fault.{keyNumber}
 use Rattle.layout.specs.Kind.{Held, unless, faultIn, heldIn, negativeIn, magnitudeIn}
 use Rattle.layout.specs.Kind.Kind.{signed}
 use Rattle.lines.specs.Lines.{linesOf}
-use Rattle.machine.specs.Checks.{instantIn, secondAgrees}
+use Rattle.record.specs.Agrees.{instantIn, secondAgrees}
 use Rattle.scan.specs.Run.{run, wholeFront}
 use Rattle.reader.specs.Reading.{judged, fileOf}
 use Rattle.header.specs.declared.types.Moment.{Moment}

@@ -137,6 +137,14 @@ never-11 bytes room e = go (refusal-numbers bytes room)
     go (inl of-rest) = not-of-rest (divideOf d bytes room .refusal) (omega arith) of-rest
     go (inr twelve) = omega arith
 
+-- nor 13.
+pub never-13 : (bytes : List ℕ) (room : ℕ) → divideOf d bytes room .refusal ≡ 13 → ⊥
+never-13 bytes room e = go (refusal-numbers bytes room)
+  where
+    go : OfRest (divideOf d bytes room .refusal) ⊎ (divideOf d bytes room .refusal ≡ 12) → ⊥
+    go (inl of-rest) = not-of-rest (divideOf d bytes room .refusal) (omega arith) of-rest
+    go (inr twelve) = omega arith
+
 twelve-short : (bytes : List ℕ) (room : ℕ) → divideOf d bytes room .refusal ≡ 12 → room < length (found bytes)
 twelve-short bytes room e = go (room-or-not (length (found bytes)) room)
   where

@@ -11,7 +11,7 @@ use Rattle.header.specs.Rules.{d}
 use Rattle.lines.specs.Lines.{linesOf}
 use Rattle.file.specs.Table.{rowsIn}
 use Rattle.scan.specs.Run.{IsFile}
-use Rattle.machine.specs.Checks.{repeats, typeAgrees}
+use Rattle.record.specs.Agrees.{repeats, typeAgrees}
 use Rattle.canon.specs.Table.{Table, tableOf, rowsOf}
 use Rattle.canon.specs.Valid.{isInstant, textsFit, timesValid, countsValid, wordsValid, headerValid, listsLong, identifiersValid, exponentsValid, commentValid, commentsValid, rowValid, cellValid, rowsValid, countsHold, valid}
 use Rattle.canon_laws.specs.Held.{Holds}

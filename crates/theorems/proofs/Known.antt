@@ -19,6 +19,7 @@ use Rattle.scan_laws.proofs.Used.{frontLines}
 use Rattle.scan_laws.specs.Lines.{behind}
 use Rattle.scan_laws.proofs.Files.{plain-front}
 use Rattle.scan_laws.proofs.KnownSteps.{known-plain}
+use Rattle.record.specs.LineKinds.{positionKind}
 
 -- the first entries are the identifiers of the file at the front of some bytes
 abbrev pub Knows : Rules → List ℕ → Tally → List ℕ → Type 0
@@ -30,7 +31,7 @@ pub known-steps : (rules : Rules) → Sound rules → (bytes : List ℕ) (t : Ta
     → (k : ℕ) → k < t .lines
     → (stepOf rules (behind rules atFirst (linesOf bytes) k .state) identifiers (nth k (linesOf bytes))
     ≡ stepOf rules (behind rules atFirst (linesOf bytes) k .state) (behind rules atFirst (linesOf bytes) k .identifiers) (nth k (linesOf bytes)))
-    × (isKind rules 10 (nth k (linesOf bytes)) ≡ true → behind rules atFirst (linesOf bytes) k .state .satellites ≡ countOf rules (frontLines bytes t))
+    × (isKind rules positionKind (nth k (linesOf bytes)) ≡ true → behind rules atFirst (linesOf bytes) k .state .satellites ≡ countOf rules (frontLines bytes t))
 known-steps rules sound bytes t e identifiers knows k h =
     let p = plain-front rules sound bytes t e in
     let both = known-plain rules sound bytes t e p identifiers (ap (λ (n : ℕ). take n identifiers) (sym (count-is p)) ∙ knows ∙ identifiers-are p) k h in

@@ -6,7 +6,7 @@ use mathlib.Core.Path.{_≡_, refl, sym, ap, subst}
 use mathlib.Core.Bool.{Bool, true, false}
 use mathlib.Core.List.{List}
 use mathlib.Core.Logic.{inl, inr, _↔_}
-use Prim.Native.Nat.{ℕ, _≤_, _<_}
+use Prim.Native.Nat.{ℕ, _*_, _≤_, _<_}
 use native.Mathlib.Omega.{arith}
 use borrow.Author.Tests.{leb-true, leb-false}
 use lib.Dec.{leb}
@@ -25,61 +25,65 @@ use Rattle.theorems.proofs.Room.{room-accepted, short-refused}
 use Rattle.theorems.specs.Room.{Room, Short, rowsNeeded, answer}
 use Rattle.header.specs.declared.types.Header.{Header}
 use Rattle.reader.specs.declared.types.Reading.{Reading}
+use Rattle.header.specs.Rules.{maxSatellites}
+use Rattle.record.specs.Plain.{commentWidth}
+use Rattle.record.specs.Rows.{rowWidth}
+use Rattle.theorems.specs.Room.{mostBytes, mostComments, mostRows}
 
--- the room that the program lends: 255 identifiers and exponents, 800 comments of 77 bytes, 1,074 rows of 12 numbers
+-- the room that the program lends: comments and rows besides all satellites
 abbrev pub RewriteRoom : Header → Type 0
-RewriteRoom h = Room h 255 255 61_600 12_888
+RewriteRoom h = Room h maxSatellites maxSatellites (mostComments * commentWidth) (mostRows * rowWidth)
 
 -- the answer of a reading into it
 abbrev pub rewriteReading : List ℕ → Reading
-rewriteReading bytes = answer true bytes 255 255 61_600 12_888
+rewriteReading bytes = answer true bytes maxSatellites maxSatellites (mostComments * commentWidth) (mostRows * rowWidth)
 
 module _ (bytes : List ℕ) (accepted : IsFile d bytes) where
   -- An accepted file names at most 255 satellites.
-  pub few-satellites : header bytes .satellites ≤ 255
+  pub few-satellites : header bytes .satellites ≤ maxSatellites
   few-satellites = let p = file-plain bytes accepted in omega (arith, says-satellites p, satellites-bounds p .1)
 
-  module _ (short : length bytes ≤ 65_536) where
+  module _ (short : length bytes ≤ mostBytes) where
     -- One of at most 65,536 bytes has at most 1,074 rows,
     pub few-rows : length (rowLines d (linesOf bytes)) ≤ 1_074
     few-rows = omega (arith, file-bytes bytes accepted)
 
     -- so ROWS ARE NEVER SHORT: it needs at most 12,888 numbers for them.
-    pub rows-fit : rowsNeeded (header bytes) ≤ 12_888
+    pub rows-fit : rowsNeeded (header bytes) ≤ mostRows * rowWidth
     rows-fit = go (header bytes .velocity) refl
       where
-        go : (v : Bool) → header bytes .velocity ≡ v → rowsNeeded (header bytes) ≤ 12_888
+        go : (v : Bool) → header bytes .velocity ≡ v → rowsNeeded (header bytes) ≤ mostRows * rowWidth
         go true e = rw e (omega (arith, few-rows, table-rows-both bytes accepted e))
         go false e = rw e (omega (arith, few-rows, table-rows bytes accepted e))
 
     -- There is room exactly where it has at most 800 comments:
-    pub room-exactly : RewriteRoom (header bytes) ↔ (header bytes .comments ≤ 800)
+    pub room-exactly : RewriteRoom (header bytes) ↔ (header bytes .comments ≤ mostComments)
     room-exactly = (
       λ room. omega (arith, room .comments),
       λ few. record { identifiers = few-satellites; exponents = few-satellites; comments = omega arith; rows = rows-fit },
     )
 
     -- then the reading answers 0, with its length and header,
-    pub few-comments : header bytes .comments ≤ 800 → rewriteReading bytes ≡ acceptedAs d bytes (accepted .0)
+    pub few-comments : header bytes .comments ≤ mostComments → rewriteReading bytes ≡ acceptedAs d bytes (accepted .0)
     few-comments few =
-        room-accepted true bytes (accepted .0) (accepted .1) 255 255 61_600 12_888
+        room-accepted true bytes (accepted .0) (accepted .1) maxSatellites maxSatellites (mostComments * commentWidth) (mostRows * rowWidth)
         (subst (λ (s : List ℕ). RewriteRoom (header s)) (sym (whole-taken bytes (accepted .0) (accepted .1))) (room-exactly .1 few))
 
     -- and with more comments it answers 12, line 0.
-    pub many-comments : 800 < header bytes .comments → rewriteReading bytes ≡ refusedWith 12 0
+    pub many-comments : mostComments < header bytes .comments → rewriteReading bytes ≡ refusedWith 12 0
     many-comments many =
-        short-refused true bytes (accepted .0) (accepted .1) 255 255 61_600 12_888
-        (subst (λ (s : List ℕ). Short (header s) 255 255 61_600 12_888) (sym (whole-taken bytes (accepted .0) (accepted .1)))
+        short-refused true bytes (accepted .0) (accepted .1) maxSatellites maxSatellites (mostComments * commentWidth) (mostRows * rowWidth)
+        (subst (λ (s : List ℕ). Short (header s) maxSatellites maxSatellites (mostComments * commentWidth) (mostRows * rowWidth)) (sym (whole-taken bytes (accepted .0) (accepted .1)))
         (inr (inr (inl (omega arith)))))
 
     -- 12 IS FOR COMMENTS ALONE: it is answered exactly where there are more than 800.
-    pub twelve-exactly : (rewriteReading bytes .refusal ≡ 12) ↔ (800 < header bytes .comments)
+    pub twelve-exactly : (rewriteReading bytes .refusal ≡ 12) ↔ (mostComments < header bytes .comments)
     twelve-exactly = (
       λ twelve. go (leb (header bytes .comments) 800) refl twelve,
       λ many. ap (λ (r : Reading). r .refusal) (many-comments many),
     )
       where
-        go : (b : Bool) → leb (header bytes .comments) 800 ≡ b → rewriteReading bytes .refusal ≡ 12 → 800 < header bytes .comments
+        go : (b : Bool) → leb (header bytes .comments) 800 ≡ b → rewriteReading bytes .refusal ≡ 12 → mostComments < header bytes .comments
         go true e twelve =
             let few = leb-true (header bytes .comments) 800 e in
             let zero = ap (λ (r : Reading). r .refusal) (few-comments few) in

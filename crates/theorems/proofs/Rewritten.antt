@@ -15,6 +15,7 @@ use Rattle.lines.specs.Lent.{over}
 use Rattle.lines.specs.Lines.{linesOf}
 use Rattle.file.specs.Table.{headerIn, commentsIn, rowsIn}
 use Rattle.header.specs.Header.{noHeader}
+use Rattle.record.specs.Plain.{commentWidth}
 use Rattle.scan.specs.Run.{IsFile}
 use Rattle.reader.specs.Reading.{frontOf, fileOf, linesTo, linesIn, filled, fills, identifiersOf, readAnswer, identifiersAfter, exponentsAfter, commentsAfter, rowsAfter}
 use Rattle.reader.specs.Reading as reading
@@ -24,7 +25,7 @@ use Rattle.scan.specs.declared.Tally.{Tally}
 use Rattle.scan.specs.declared.Front.{Front}
 use Rattle.scan.specs.declared.Front.the-variants as front
 use Rattle.scan_laws.proofs.Files.{d-exactly, file-plain, whole-taken}
-use Rattle.canon.specs.Table.{Table, tableOf, commentWidth, cellWidth, cellsIn, tableIdentifiers, exponentsOf, commentsOf, rowsOf}
+use Rattle.canon.specs.Table.{Table, tableOf, cellWidth, cellsIn, tableIdentifiers, exponentsOf, commentsOf, rowsOf}
 use Rattle.canon.specs.Valid.{valid}
 use Rattle.canon.specs.Canonical.{canonical}
 use Rattle.canon.specs.Measured.{measured}

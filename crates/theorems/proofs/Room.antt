@@ -15,9 +15,11 @@ use lib.ListN.{length, take, drop}
 use lib.Seq.{take-at, drop-at}
 use Rattle.laws.proofs.Bools.{and-left, and-right, and-both}
 use Rattle.header.specs.Rules.{d}
+use Rattle.record.specs.Plain.{commentWidth}
+use Rattle.record.specs.Rows.{rowWidth}
 use Rattle.file.specs.Plain.{Plain}
 use Rattle.file.specs.Table.{countOf, headerIn, commentsIn, rowLines, rowsIn}
-use Rattle.reader.specs.Reading.{refusedWith, linesTo, acceptedAs, frontOf, fileOf, roomFor, enough, delivered, filled, identifiersOf, exponentsOf, commentWidth}
+use Rattle.reader.specs.Reading.{refusedWith, linesTo, acceptedAs, frontOf, fileOf, roomFor, enough, delivered, filled, identifiersOf, exponentsOf}
 use Rattle.scan_laws.proofs.Files.{front-plain}
 use Rattle.scan_laws.proofs.Local.{whole-ends}
 use Rattle.scan_laws.proofs.Used.{accepted-front}
@@ -62,10 +64,10 @@ module _ (bytes : List ℕ) (t : Tally) (front-is : frontOf d bytes ≡ front.Fi
   comments-are : t .comments ≡ h .comments
   comments-are = accepted-front d bytes t front-is .comments ∙ ap length (kind-8 p) ∙ sym (says-comments p)
 
-  rows-are : 12 * t .rows ≡ rowsNeeded h
-  rows-are = ap (λ (n : ℕ). 12 * n) (accepted-front d bytes t front-is .rows) ∙ go (h .velocity) refl
+  rows-are : rowWidth * t .rows ≡ rowsNeeded h
+  rows-are = ap (λ (n : ℕ). rowWidth * n) (accepted-front d bytes t front-is .rows) ∙ go (h .velocity) refl
     where
-      go : (v : Bool) → h .velocity ≡ v → 12 * length (rowLines d lines) ≡ rowsNeeded h
+      go : (v : Bool) → h .velocity ≡ v → rowWidth * length (rowLines d lines) ≡ rowsNeeded h
       go true e =
           let many = rows-many-both p (sym (says-velocity p) ∙ e) in
           rw (e, says-satellites p, says-epochs p) (omega arith)
@@ -80,12 +82,12 @@ module _ (bytes : List ℕ) (t : Tally) (front-is : frontOf d bytes ≡ front.Fi
   room-needed : (i x c r : ℕ) → roomFor (countOf d lines) t i x c r ≡ true → Room h i x c r
   unfolding roomFor
   room-needed i x c r e =
-      let left = and-left (leb (countOf d lines) i && leb (countOf d lines) x) (leb (t .comments) (c / 77) && leb (t .rows) (r / 12)) e in
-      let right = and-right (leb (countOf d lines) i && leb (countOf d lines) x) (leb (t .comments) (c / 77) && leb (t .rows) (r / 12)) e in
+      let left = and-left (leb (countOf d lines) i && leb (countOf d lines) x) (leb (t .comments) (c / commentWidth) && leb (t .rows) (r / rowWidth)) e in
+      let right = and-right (leb (countOf d lines) i && leb (countOf d lines) x) (leb (t .comments) (c / commentWidth) && leb (t .rows) (r / rowWidth)) e in
       let ids = leb-true (countOf d lines) i (and-left (leb (countOf d lines) i) (leb (countOf d lines) x) left) in
       let exps = leb-true (countOf d lines) x (and-right (leb (countOf d lines) i) (leb (countOf d lines) x) left) in
-      let notes = leb-true (t .comments) (c / 77) (and-left (leb (t .comments) (c / 77)) (leb (t .rows) (r / 12)) right) in
-      let many = leb-true (t .rows) (r / 12) (and-right (leb (t .comments) (c / 77)) (leb (t .rows) (r / 12)) right) in
+      let notes = leb-true (t .comments) (c / commentWidth) (and-left (leb (t .comments) (c / commentWidth)) (leb (t .rows) (r / rowWidth)) right) in
+      let many = leb-true (t .rows) (r / rowWidth) (and-right (leb (t .comments) (c / commentWidth)) (leb (t .rows) (r / rowWidth)) right) in
       record {
         identifiers = omega (arith, satellites-are);
         exponents = omega (arith, satellites-are);
@@ -96,13 +98,13 @@ module _ (bytes : List ℕ) (t : Tally) (front-is : frontOf d bytes ≡ front.Fi
   room-suffices : (i x c r : ℕ) → Room h i x c r → roomFor (countOf d lines) t i x c r ≡ true
   unfolding roomFor
   room-suffices i x c r room =
-      and-both (leb (countOf d lines) i && leb (countOf d lines) x) (leb (t .comments) (c / 77) && leb (t .rows) (r / 12))
+      and-both (leb (countOf d lines) i && leb (countOf d lines) x) (leb (t .comments) (c / commentWidth) && leb (t .rows) (r / rowWidth))
       (and-both (leb (countOf d lines) i) (leb (countOf d lines) x)
       (le-leb (countOf d lines) i (omega (arith, room .identifiers, satellites-are)))
       (le-leb (countOf d lines) x (omega (arith, room .exponents, satellites-are))))
-      (and-both (leb (t .comments) (c / 77)) (leb (t .rows) (r / 12))
-      (le-leb (t .comments) (c / 77) (omega (arith, room .comments, comments-are)))
-      (le-leb (t .rows) (r / 12) (omega (arith, room .rows, rows-are))))
+      (and-both (leb (t .comments) (c / commentWidth)) (leb (t .rows) (r / rowWidth))
+      (le-leb (t .comments) (c / commentWidth) (omega (arith, room .comments, comments-are)))
+      (le-leb (t .rows) (r / rowWidth) (omega (arith, room .rows, rows-are))))
 
   -- what is to be filled has just so many places
   identifiers-long : length (identifiersOf d lines) ≡ h .satellites
@@ -111,8 +113,8 @@ module _ (bytes : List ℕ) (t : Tally) (front-is : frontOf d bytes ≡ front.Fi
   exponents-long : length (exponentsOf d lines) ≡ h .satellites
   exponents-long = rw (count-is p) (exponents-room p) ∙ sym (says-satellites p)
 
-  comments-long : length (commentsIn d lines) ≡ 77 * h .comments
-  comments-long = comments-room p ∙ ap (λ (n : ℕ). 77 * n) (sym (says-comments p))
+  comments-long : length (commentsIn d lines) ≡ commentWidth * h .comments
+  comments-long = comments-room p ∙ ap (λ (n : ℕ). commentWidth * n) (sym (says-comments p))
 
   rows-long : length (rowsIn d lines) ≡ rowsNeeded h
   rows-long = go (h .velocity) refl
@@ -158,7 +160,7 @@ module _ (whole : Bool) (bytes : List ℕ) where
     -- What is filled has just so many places.
     pub lists-long : (length (identifiersOf d (linesTo (t .end) bytes)) ≡ headerTo t .satellites)
         × (length (exponentsOf d (linesTo (t .end) bytes)) ≡ headerTo t .satellites)
-        × (length (commentsIn d (linesTo (t .end) bytes)) ≡ 77 * headerTo t .comments)
+        × (length (commentsIn d (linesTo (t .end) bytes)) ≡ commentWidth * headerTo t .comments)
         × (length (rowsIn d (linesTo (t .end) bytes)) ≡ rowsNeeded (headerTo t))
     lists-long = let e = found-front whole bytes t found in (identifiers-long bytes t e, exponents-long bytes t e, comments-long bytes t e, rows-long bytes t e)
 
@@ -168,9 +170,9 @@ module _ (whole : Bool) (bytes : List ℕ) where
     room-accepted i x c r room = rw (found, room-suffices bytes t (found-front whole bytes t found) i x c r room)
 
     -- so it is with no place more than that,
-    pub exact-room : answer whole bytes (headerTo t .satellites) (headerTo t .satellites) (77 * headerTo t .comments) (rowsNeeded (headerTo t)) ≡ acceptedAs d bytes t
+    pub exact-room : answer whole bytes (headerTo t .satellites) (headerTo t .satellites) (commentWidth * headerTo t .comments) (rowsNeeded (headerTo t)) ≡ acceptedAs d bytes t
     exact-room =
-        room-accepted (headerTo t .satellites) (headerTo t .satellites) (77 * headerTo t .comments) (rowsNeeded (headerTo t))
+        room-accepted (headerTo t .satellites) (headerTo t .satellites) (commentWidth * headerTo t .comments) (rowsNeeded (headerTo t))
         (record { identifiers = omega arith; exponents = omega arith; comments = omega arith; rows = omega arith })
 
     -- and with one less anywhere it is 12, line 0.

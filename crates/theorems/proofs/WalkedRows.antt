@@ -15,10 +15,10 @@ use Rattle.laws.specs.Texts.{every, isPrintable}
 use Rattle.layout.specs.Line.{padded}
 use Rattle.header.specs.Rules.{d}
 use Rattle.lines.specs.Lines.{linesOf, select, nth}
-use Rattle.record.specs.LineKinds.{toldKind, kindOf}
+use Rattle.record.specs.LineKinds.{positionKind, toldKind, kindOf, longest}
 use Rattle.record.specs.Rows.{rowOf}
 use Rattle.file.specs.Kinds.{isKind, ofKind}
-use Rattle.machine.specs.Faults.{longest, standingFault}
+use Rattle.machine.specs.Faults.{standingFault}
 use Rattle.machine.specs.Next.{nextOf}
 use Rattle.machine.specs.Step.{onKey, judgedLine, printedLine, stepOf, readFirst}
 use Rattle.float_row.specs.Floats.{floatRow, lineFrom}
@@ -74,7 +74,7 @@ last-kind k s line e = go (ends-or-on d k s line)
         let z : _≡_ {A = ℕ} 0 1 = cc in
         absurd (omega arith)
 
-pub last-no-row : (s : State) (identifiers l : List ℕ) → stepOf d s identifiers l ≡ verdict.Finished → isKind d 10 l ≡ false
+pub last-no-row : (s : State) (identifiers l : List ℕ) → stepOf d s identifiers l ≡ verdict.Finished → isKind d positionKind l ≡ false
 unfolding stepOf printedLine judgedLine onKey
 last-no-row s identifiers l e =
     let k = kindOf d (padded l) in
@@ -100,14 +100,14 @@ module _ (bytes identifiers : List ℕ) where
     Ahead p [] = ⊥
     Ahead p (l ∷ ls) =
         ((stepOf d (p .state) identifiers l ≡ verdict.Finished) × (ls ≡ []))
-        ⊎ ((s : State) × (stepOf d (p .state) identifiers l ≡ verdict.Next s) × (isKind d 10 l ≡ true → p .state .satellites ≡ n) × Ahead (behind p l s) ls)
+        ⊎ ((s : State) × (stepOf d (p .state) identifiers l ≡ verdict.Next s) × (isKind d positionKind l ≡ true → p .state .satellites ≡ n) × Ahead (behind p l s) ls)
 
     -- what a walk to the next row finds
     record Row (q : Spot) (l : List ℕ) (more rows : List (List ℕ)) : Type 0 where
       state : State
       goes : stepOf d (q .state) identifiers l ≡ verdict.Next state
       many : q .state .satellites ≡ n
-      rows-are : rows ≡ l ∷ ofKind d 10 more
+      rows-are : rows ≡ l ∷ ofKind d positionKind more
       ahead : Ahead (behind q l state) more
 
     record Found (p : Spot) (ls : List (List ℕ)) : Type 0 where
@@ -116,16 +116,16 @@ module _ (bytes identifiers : List ℕ) where
       more : List (List ℕ)
       is : toRow d identifiers p ls ≡ q
       here : linesOf (drop (q .at) bytes) ≡ l ∷ more
-      what : Row q l more (ofKind d 10 ls) ⊎ ((stepOf d (q .state) identifiers l ≡ verdict.Finished) × (ofKind d 10 ls ≡ []))
+      what : Row q l more (ofKind d positionKind ls) ⊎ ((stepOf d (q .state) identifiers l ≡ verdict.Finished) × (ofKind d positionKind ls ≡ []))
 
     found : (ls : List (List ℕ)) (p : Spot) → Ahead p ls → linesOf (drop (p .at) bytes) ≡ ls → Found p ls
     unfolding Ahead toRow select
     found [] p ahead here = absurd ahead
-    found (l ∷ ls) p ahead here = go (isKind d 10 l) refl ahead (found ls)
+    found (l ∷ ls) p ahead here = go (isKind d positionKind l) refl ahead (found ls)
       where
-        go : (b : Bool) → isKind d 10 l ≡ b
+        go : (b : Bool) → isKind d positionKind l ≡ b
             → ((stepOf d (p .state) identifiers l ≡ verdict.Finished) × (ls ≡ []))
-            ⊎ ((s : State) × (stepOf d (p .state) identifiers l ≡ verdict.Next s) × (isKind d 10 l ≡ true → p .state .satellites ≡ n) × Ahead (behind p l s) ls)
+            ⊎ ((s : State) × (stepOf d (p .state) identifiers l ≡ verdict.Next s) × (isKind d positionKind l ≡ true → p .state .satellites ≡ n) × Ahead (behind p l s) ls)
             → ((p′ : Spot) → Ahead p′ ls → linesOf (drop (p′ .at) bytes) ≡ ls → Found p′ ls)
             → Found p (l ∷ ls)
         go true is (inl (last, none)) later = absurd (false≢true (sym (last-no-row (p .state) identifiers l last) ∙ is))
@@ -159,7 +159,7 @@ module _ (bytes identifiers : List ℕ) where
       l : List ℕ
       others : List (List ℕ)
       next : Spot
-      rows-are : rows ≡ l ∷ ofKind d 10 others
+      rows-are : rows ≡ l ∷ ofKind d positionKind others
       gives : rowStep d bytes identifiers w ≡ shown (epochOf passed-so n) (satelliteOf passed-so n) (floatRow (rowOf false l)) (record { spot = next; passed = passed-so + 1 })
       ahead : Ahead next others
       here : linesOf (drop (next .at) bytes) ≡ others
@@ -186,14 +186,14 @@ module _ (bytes identifiers : List ℕ) where
       end-step q l more e last = rw (e, last)
 
       -- where rows are left, the next of them; where none is, the end
-      next-row : r + 1 < 2 ^ 64 → Taken r (ofKind d 10 ls) at-row ⊎ ((ofKind d 10 ls ≡ []) × (rowStep d bytes identifiers at-row ≡ step.End))
+      next-row : r + 1 < 2 ^ 64 → Taken r (ofKind d positionKind ls) at-row ⊎ ((ofKind d positionKind ls ≡ []) × (rowStep d bytes identifiers at-row ≡ step.End))
       next-row small = go (found ls p ahead here)
         where
-          go : Found p ls → Taken r (ofKind d 10 ls) at-row ⊎ ((ofKind d 10 ls ≡ []) × (rowStep d bytes identifiers at-row ≡ step.End))
+          go : Found p ls → Taken r (ofKind d positionKind ls) at-row ⊎ ((ofKind d positionKind ls ≡ []) × (rowStep d bytes identifiers at-row ≡ step.End))
           go f = by (f .what)
             where
-              by : Row (f .q) (f .l) (f .more) (ofKind d 10 ls) ⊎ ((stepOf d (f .q .state) identifiers (f .l) ≡ verdict.Finished) × (ofKind d 10 ls ≡ []))
-                  → Taken r (ofKind d 10 ls) at-row ⊎ ((ofKind d 10 ls ≡ []) × (rowStep d bytes identifiers at-row ≡ step.End))
+              by : Row (f .q) (f .l) (f .more) (ofKind d positionKind ls) ⊎ ((stepOf d (f .q .state) identifiers (f .l) ≡ verdict.Finished) × (ofKind d positionKind ls ≡ []))
+                  → Taken r (ofKind d positionKind ls) at-row ⊎ ((ofKind d positionKind ls ≡ []) × (rowStep d bytes identifiers at-row ≡ step.End))
               by (inl row) = inl (record {
                 l = f .l;
                 others = f .more;
@@ -238,18 +238,18 @@ module _ (bytes identifiers : List ℕ) where
           end = λ all. leads ∙ more .end (omega arith);
         }
 
-    gives : (i : ℕ) (p : Spot) (ls : List (List ℕ)) (r : ℕ) → Ahead p ls → linesOf (drop (p .at) bytes) ≡ ls → r + length (ofKind d 10 ls) + 1 < 2 ^ 64
-        → Gives (record { spot = p; passed = r }) r i (ofKind d 10 ls)
-    gives zero p ls r ahead here small = gives-first p r (ofKind d 10 ls) (next-row p ls r ahead here (omega arith))
+    gives : (i : ℕ) (p : Spot) (ls : List (List ℕ)) (r : ℕ) → Ahead p ls → linesOf (drop (p .at) bytes) ≡ ls → r + length (ofKind d positionKind ls) + 1 < 2 ^ 64
+        → Gives (record { spot = p; passed = r }) r i (ofKind d positionKind ls)
+    gives zero p ls r ahead here small = gives-first p r (ofKind d positionKind ls) (next-row p ls r ahead here (omega arith))
     gives (suc i) p ls r ahead here small = by (next-row p ls r ahead here (omega arith)) (gives i)
       where
-        by : Taken r (ofKind d 10 ls) (record { spot = p; passed = r }) ⊎ ((ofKind d 10 ls ≡ []) × (rowStep d bytes identifiers (record { spot = p; passed = r }) ≡ step.End))
-            → ((p′ : Spot) (ls′ : List (List ℕ)) (r′ : ℕ) → Ahead p′ ls′ → linesOf (drop (p′ .at) bytes) ≡ ls′ → r′ + length (ofKind d 10 ls′) + 1 < 2 ^ 64
-            → Gives (record { spot = p′; passed = r′ }) r′ i (ofKind d 10 ls′))
-            → Gives (record { spot = p; passed = r }) r (suc i) (ofKind d 10 ls)
+        by : Taken r (ofKind d positionKind ls) (record { spot = p; passed = r }) ⊎ ((ofKind d positionKind ls ≡ []) × (rowStep d bytes identifiers (record { spot = p; passed = r }) ≡ step.End))
+            → ((p′ : Spot) (ls′ : List (List ℕ)) (r′ : ℕ) → Ahead p′ ls′ → linesOf (drop (p′ .at) bytes) ≡ ls′ → r′ + length (ofKind d positionKind ls′) + 1 < 2 ^ 64
+            → Gives (record { spot = p′; passed = r′ }) r′ i (ofKind d positionKind ls′))
+            → Gives (record { spot = p; passed = r }) r (suc i) (ofKind d positionKind ls)
         by (inl x) more =
             rw (x .rows-are)
-            (gives-later i p (x .next) r (x .l) (ofKind d 10 (x .others)) (x .gives)
+            (gives-later i p (x .next) r (x .l) (ofKind d positionKind (x .others)) (x .gives)
             (more (x .next) (x .others) (r + 1) (x .ahead) (x .here) (omega (arith, ap length (x .rows-are)))))
         by (inr (none, end)) more =
             record { row = λ some. absurd (omega (arith, ap length none)); end = λ all. absurd (omega (arith, ap length none)) }
@@ -280,7 +280,7 @@ module _ (bytes : List ℕ) (t : Tally) (accepted : fileOf d bytes ≡ front.Fil
 
   same : (k : ℕ) → k < t .lines
       → (stepOf d (after bytes k .state) identifiers (nth k lines) ≡ judged d (after bytes k) (nth k lines))
-      × (isKind d 10 (nth k lines) ≡ true → after bytes k .state .satellites ≡ n)
+      × (isKind d positionKind (nth k lines) ≡ true → after bytes k .state .satellites ≡ n)
   unfolding headerIn
   same k h =
       let both = known-steps d d-sound bytes t at-front identifiers knows k h in

@@ -1,22 +1,13 @@
 -- The row question as the front page speaks of it. 01: "The adjustment asks for a row of an accepted file and gets its three coordinates and the clock as
 -- f64 in the same units, exactly, or the word absent in place of either".
-use mathlib.Core.Bool.{true, false}
 use mathlib.Core.List.{List}
-use Prim.Native.Nat.{ℕ, suc}
-use lib.IntN.{ℤ, pos, negsuc}
-use lib.Ieee.{Float}
-use lib.Ieee.Exact.{HasValue}
+use Prim.Native.Nat.{ℕ}
 use Rattle.header.specs.Rules.{d}
 use Rattle.reader.specs.Reading.{fileOf}
 use Rattle.questions.specs.Questions.{rowBegins}
 use Rattle.float_row.specs.Floats.{absentRow, rowAnswer}
 use Rattle.float_row.specs.declared.FloatRow.{FloatRow}
 use Rattle.float_row.specs.declared.RowAnswer.{RowAnswer}
-
--- a float is exactly a whole number: its sign and its size
-abbrev pub Exactly : Float → ℤ → Type 0
-Exactly v (pos n) = HasValue v false n 1
-Exactly v (negsuc n) = HasValue v true (suc n) 1
 
 -- what `row` answers for epoch k and satellite j of some bytes
 abbrev pub asked : List ℕ → ℕ → ℕ → RowAnswer

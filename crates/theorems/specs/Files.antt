@@ -7,6 +7,7 @@ use Prim.Native.Nat.{ℕ, _+_, _*_, _<_}
 use lib.ListN.{length, getD}
 use Rattle.header.specs.Rules.{d}
 use Rattle.lines.specs.Lines.{linesOf, nth}
+use Rattle.record.specs.LineKinds.{epochKind}
 use Rattle.record.specs.Rows.{rowOf}
 use Rattle.file.specs.Kinds.{ofKind, rowNumber}
 use Rattle.file.specs.Plain.{isEpochLine, isRowLine}
@@ -56,8 +57,8 @@ pub record RowOf (velocity : Bool) (bytes : List ℕ) (k j : ℕ) : Type 0 where
   pub rows : List (List ℕ)
   pub later : List (List ℕ)
   pub lines-are : linesOf bytes ≡ earlier ++ ((epoch ∷ rows) ++ later)
-  pub earlier-epochs : length (ofKind d 9 earlier) ≡ k
-  pub no-other-epoch : ofKind d 9 rows ≡ []
+  pub earlier-epochs : length (ofKind d epochKind earlier) ≡ k
+  pub no-other-epoch : ofKind d epochKind rows ≡ []
   pub at-instant : isEpochLine d (header bytes .start8 + k * header bytes .interval8) epoch ≡ true
   pub its-row : lineAsked velocity bytes k j ≡ nth j (ofKind d (rowNumber velocity) (epoch ∷ rows))
   pub names-it : isRowLine d velocity (identifier bytes j) (lineAsked velocity bytes k j) ≡ true

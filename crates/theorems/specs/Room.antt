@@ -5,8 +5,9 @@ use mathlib.Core.Logic.{_⊎_}
 use mathlib.Core.List.{List}
 use Prim.Native.Nat.{ℕ, _*_, _≤_, _<_}
 use Rattle.header.specs.Rules.{d}
-use Rattle.file.specs.Table.{rowWidth}
-use Rattle.reader.specs.Reading.{frontOf, fileOf, delivered, enough, commentWidth}
+use Rattle.record.specs.Plain.{commentWidth}
+use Rattle.record.specs.Rows.{rowWidth}
+use Rattle.reader.specs.Reading.{frontOf, fileOf, delivered, enough}
 use Rattle.header.specs.declared.types.Header.{Header}
 use Rattle.reader.specs.declared.types.Reading.{Reading}
 use Rattle.scan.specs.declared.Front.{Front}
@@ -37,3 +38,14 @@ pub record Room (h : Header) (i x c r : ℕ) : Type 0 where
 -- some of it is missing
 abbrev pub Short : Header → ℕ → ℕ → ℕ → ℕ → Type 0
 Short h i x c r = (i < h .satellites) ⊎ ((x < h .satellites) ⊎ ((c < commentWidth * h .comments) ⊎ (r < rowsNeeded h)))
+
+-- The room of the program `rewrite`. 01: "Over 65,536 bytes it prints `too long`. It has room for 800 comments and 65,536 bytes of output, and for all
+-- rows": so many are all rows of a file that is not too long.
+abbrev pub mostBytes : ℕ
+mostBytes = 65_536
+
+abbrev pub mostComments : ℕ
+mostComments = 800
+
+abbrev pub mostRows : ℕ
+mostRows = 1_074

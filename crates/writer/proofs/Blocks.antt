@@ -12,10 +12,10 @@ use lib.ListN.{length, take, drop, getD, length-drop, length-take, drop-of-lengt
 use lib.Seq.{drop-drop, take-all, take-nil, take-take}
 use Rattle.laws.proofs.Lists.{rest-step}
 use Rattle.record.specs.Opening.{epochLine}
-use Rattle.record.specs.Plain.{commentLine}
+use Rattle.record.specs.Plain.{commentLine, commentWidth}
 use Rattle.record.specs.SlotLines.{moreLine}
-use Rattle.record.specs.Rows.{rowLine}
-use Rattle.canon.specs.Table.{commentWidth, cellWidth}
+use Rattle.record.specs.Rows.{rowLine, rowWidth, bothWidth}
+use Rattle.canon.specs.Table.{cellWidth}
 use Rattle.canon.specs.Canonical.{rowShown, slotsShown, slotLinesOf, commentLines, cellLines, cellsLines, epochShown, epochsLines}
 
 -- so many blocks of a width are left from a place on
@@ -98,26 +98,26 @@ cells-next velocity identifiers rows j from width h e =
 
 -- the rows of one satellite: P alone, or P and V
 module _ (velocity : Bool) (cell : List ℤ) (size : length cell ≡ cellWidth velocity) where
-  pub cell-long : 12 ≤ length cell
+  pub cell-long : rowWidth ≤ length cell
   cell-long = go velocity size
     where
-      go : (v : Bool) → length cell ≡ cellWidth v → 12 ≤ length cell
+      go : (v : Bool) → length cell ≡ cellWidth v → rowWidth ≤ length cell
       go true e = omega arith
       go false e = omega arith
 
-  pub cell-wide : velocity ≡ true → length cell ≡ 24
+  pub cell-wide : velocity ≡ true → length cell ≡ bothWidth
   cell-wide e = size ∙ ap cellWidth e
 
-  pub cell-placed : (identifier : ℕ) → velocity ≡ false → cellLines velocity identifier cell ≡ rowLine false (rowShown identifier (take 12 cell)) ∷ []
+  pub cell-placed : (identifier : ℕ) → velocity ≡ false → cellLines velocity identifier cell ≡ rowLine false (rowShown identifier (take rowWidth cell)) ∷ []
   unfolding cellLines
   cell-placed identifier e =
-      let twelve : length cell ≡ 12 = size ∙ ap cellWidth e in
-      rw (e, take-all 12 cell (omega arith))
+      let twelve : length cell ≡ rowWidth = size ∙ ap cellWidth e in
+      rw (e, take-all rowWidth cell (omega arith))
 
   pub cell-moved : (identifier : ℕ) → velocity ≡ true
-      → cellLines velocity identifier cell ≡ rowLine false (rowShown identifier (take 12 cell)) ∷ rowLine true (rowShown identifier (take 12 (drop 12 cell))) ∷ []
+      → cellLines velocity identifier cell ≡ rowLine false (rowShown identifier (take rowWidth cell)) ∷ rowLine true (rowShown identifier (take rowWidth (drop rowWidth cell))) ∷ []
   unfolding cellLines
-  cell-moved identifier e = rw (e, take-all 12 (drop 12 cell) (omega (arith, cell-wide e, length-drop 12 cell)))
+  cell-moved identifier e = rw (e, take-all rowWidth (drop rowWidth cell) (omega (arith, cell-wide e, length-drop rowWidth cell)))
 
 -- what a front has past its first elements
 front-rest : {A : Type 0} (w n : ℕ) (l : List A) → drop w (take n l) ≡ take (n - w) (drop w l)

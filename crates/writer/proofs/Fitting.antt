@@ -5,8 +5,9 @@ use mathlib.Core.Bool.{true}
 use Prim.Native.Nat.{ℕ, _*_, _≤_}
 use native.Mathlib.Nat.{mul-comm, mul-assoc}
 use lib.ListN.{length}
+use Rattle.record.specs.Plain.{commentWidth}
 use Rattle.header.specs.declared.types.Rules.{Rules}
-use Rattle.canon.specs.Table.{Table, commentWidth, cellWidth, cellsIn}
+use Rattle.canon.specs.Table.{Table, cellWidth, cellsIn}
 use Rattle.canon.specs.Valid.{timesValid, valid}
 use Rattle.canon.proofs.Counting.{cells-fit}
 use Rattle.canon.proofs.Parts.{parts}

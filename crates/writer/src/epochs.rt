@@ -13,6 +13,8 @@ ghost use Rattle.canon.specs.Canonical.{cellLines, cellsLines, epochShown, epoc
 use crate::shown;
 use header::Header;
 use record::Epoch;
+use record::rows::BOTH_WIDTH;
+use record::rows::ROW_WIDTH;
 
 // The lines of one satellite in one epoch.
 fn put_cell(velocity: bool, identifier: u64, cell: &[i64], out: &mut [u8]) -> usize
@@ -20,12 +22,12 @@ fn put_cell(velocity: bool, identifier: u64, cell: &[i64], out: &mut [u8]) -> us
     requires { ⌜ length (flat (cellLines velocity identifier (now cell))) ≤ length (now out) ⌝ }
     ensures { λ r. ⌜ Lays (flat (cellLines velocity identifier (now (cell .entry)))) (now (out .entry)) r (now (out .exit)) ⌝ }
 {
-    let place = shown::row_shown(identifier, &cell[0..12]);
+    let place = shown::row_shown(identifier, &cell[0..ROW_WIDTH]);
     let at = draw::rows::write_row(place, false, out);
     if !velocity {
         return at;
     }
-    let motion = shown::row_shown(identifier, &cell[12..24]);
+    let motion = shown::row_shown(identifier, &cell[ROW_WIDTH..BOTH_WIDTH]);
     at + draw::rows::write_row(motion, true, &mut out[at..])
 }
 

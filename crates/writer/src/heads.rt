@@ -8,7 +8,7 @@ ghost use Rattle.lines.specs.Lent.{flat};
 ghost use Rattle.layout.specs.Line.{Lays};
 ghost use Rattle.record.specs.Opening.{firstLine, secondLine};
 ghost use Rattle.record.specs.SlotLines.{satellitesLine};
-ghost use Rattle.canon.specs.Table.{commentWidth};
+ghost use Rattle.record.specs.Plain.{commentWidth};
 ghost use Rattle.canon.specs.Valid.{isInstant};
 ghost use Rattle.canon.specs.Canonical.{firstShown, secondShown, satellitesShown, slotLinesOf, descriptorLines, commentLines};
 use crate::shown;
@@ -18,6 +18,7 @@ use record::BaseLine;
 use record::Descriptor;
 use record::Satellites;
 use record::Slots;
+use record::plain::COMMENT_WIDTH;
 
 // Lines 1 and 2 and the first `+ ` line.
 pub(crate) fn put_first(rules: Rules, h: Header, identifiers: &[u64], out: &mut [u8]) -> usize
@@ -76,7 +77,7 @@ pub(crate) fn put_descriptors(h: Header, out: &mut [u8]) -> usize
     at + draw::descriptors::write_integers(&mut out[at..])
 }
 
-// So many comments of 77 bytes.
+// So many stored comments.
 pub(crate) fn put_comments(count: u64, bytes: &[u8], out: &mut [u8]) -> usize
     requires { ⌜ length (now bytes) ≡ count * commentWidth ⌝ }
     requires { ⌜ length (flat (commentLines count (now bytes))) ≤ length (now out) ⌝ }
@@ -86,7 +87,7 @@ pub(crate) fn put_comments(count: u64, bytes: &[u8], out: &mut [u8]) -> usize
     let mut from: usize = 0;
     let mut more = count;
     while 0 < more {
-        let next = from + 77;
+        let next = from + COMMENT_WIDTH;
         at += draw::plain::write_comment(&bytes[from..next], &mut out[at..]);
         from = next;
         more -= 1;

@@ -4,6 +4,7 @@ ghost use mathlib.Core.Bool.{true};
 ghost use Prim.Native.Nat.{_+_, _*_, _/_, _<_, _≤_};
 ghost use lib.ListN.{length};
 ghost use Rattle.calendar.specs.Clock.{dayUnits};
+ghost use Rattle.record.specs.Rows.{rowWidth};
 ghost use Rattle.canon.specs.Valid.{isInstant, entry};
 ghost use Rattle.canon.specs.Canonical.{momentOf, firstShown, secondShown, seventeen, signedShown, rowShown};
 use calendar::Fraction;
@@ -120,7 +121,7 @@ fn signed_at(row: &[i64], i: usize) -> Signed
 
 // The row of a satellite of twelve stored numbers.
 pub(crate) fn row_shown(identifier: u64, row: &[i64]) -> Row
-    requires { ⌜ length (now row) ≡ 12 ⌝ }
+    requires { ⌜ length (now row) ≡ rowWidth ⌝ }
     ensures { λ r. ⌜ r ≡ rowShown identifier (now (row .entry)) ⌝ }
 {
     Row {

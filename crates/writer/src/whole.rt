@@ -16,6 +16,7 @@ use crate::heads;
 use canon::Measured;
 use header::Header;
 use header::Rules;
+use record::plain::COMMENT_WIDTH;
 
 // The lines before the comments.
 fn put_opening(
@@ -56,7 +57,11 @@ fn put_table(
     let count = h.comments as usize;
     let numbers = n * (h.epochs as usize) * canon::cell_width(h.velocity);
     let mut at = put_opening(rules, h, listed, &exponents[0..n], out);
-    at += heads::put_comments(h.comments, &comments[0..count * 77], &mut out[at..]);
+    at += heads::put_comments(
+        h.comments,
+        &comments[0..count * COMMENT_WIDTH],
+        &mut out[at..],
+    );
     at += epochs::put_epochs(h, listed, &rows[0..numbers], &mut out[at..]);
     draw::plain::write_end(&mut out[at..]);
 }

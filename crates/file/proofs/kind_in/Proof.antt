@@ -15,7 +15,8 @@ returns c =
     let first = second .before in
     let a = first .before .before .args in
     c .kind-number .ensures
-    ∙ ap toldKind (kinded .kind-by .ensures ∙ kind-told (a .rules) (a .line .now) _ _ _ (first .byte-at .ensures) (second .byte-at2 .ensures) (third .byte-at3 .ensures))
+    ∙ (kinded .kind-by .ensures
+    ∙ ap toldKind (kind-told (a .rules) (a .line .now) _ _ _ (first .byte-at .ensures) (second .byte-at2 .ensures) (third .byte-at3 .ensures)))
 
 pub kind-in-spec : {M : Type 1} → statement M
 kind-in-spec =

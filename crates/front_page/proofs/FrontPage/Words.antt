@@ -1,6 +1,6 @@
 -- The words of the front page: where each is defined. The definitions in reading order are in docs/READING.md.
-pub use mathlib.Core.Path.{_≡_}
-pub use mathlib.Core.Bool.{Bool, true, false, not, cond}
+pub use mathlib.Core.Path.{_≡_, _∙_}
+pub use mathlib.Core.Bool.{Bool, true, false, not, _&&_, cond}
 pub use mathlib.Core.Logic.{_↔_}
 pub use mathlib.Core.List.{List, [], _++_, map}
 pub use Prim.Native.Nat.{ℕ, _+_, _*_, _≤_, _<_}
@@ -17,6 +17,7 @@ pub use ghost.Atoms.{Atoms}
 pub use prog.Memory.{Memory}
 pub use prog.Routine.{Routine}
 pub use prog.Wp.{Heap}
+pub use lib.Dec.{leb}
 pub use lib.IntN.{ℤ, pos}
 pub use lib.ListN.{length, getD, take, drop}
 pub use Rattle.header.specs.Rules.{d}
@@ -54,9 +55,9 @@ pub use Rattle.theorems.specs.Faults.{FirstFault, after, AllGoOn}
 pub use Rattle.theorems.proofs.Reading as reading
 pub use Rattle.theorems.specs.Files.{header, rowAt, There, RowOf, held, identifier, rowLinesOf, lineAsked, tableRow}
 pub use Rattle.theorems.proofs.Floats as floats
-pub use Rattle.theorems.specs.Asked.{Exactly, asked, rowFound, rowRefused}
+pub use Rattle.theorems.specs.Asked.{asked, rowFound, rowRefused}
 pub use Rattle.theorems.proofs.Room as room
-pub use Rattle.theorems.specs.Room.{foundIn, Room, Short, rowsNeeded, answer, fills}
+pub use Rattle.theorems.specs.Room.{foundIn, Room, Short, rowsNeeded, answer, fills, mostBytes, mostComments, mostRows}
 pub use Rattle.theorems.proofs.RewriteRoom as rewriteRoom
 pub use Rattle.theorems.proofs.Writing as writing
 pub use Rattle.theorems.proofs.Rewritten as rewritten
@@ -86,7 +87,7 @@ pub use Rattle.row_walk.specs.declared.types.RowWalk.{RowWalk}
 pub use Rattle.row_walk.specs.declared.types.RowStep.the-variants as step
 pub use Rattle.layout.specs.Layout.{valuesOf}
 pub use Rattle.layout.specs.Line.{padded}
-pub use Rattle.record.specs.Rows.{rowItems, rowFrom}
+pub use Rattle.record.specs.Rows.{rowItems, rowFrom, rowWidth}
 pub use Rattle.record.specs.Absence.{placeAbsent, clockAbsent}
 pub use Rattle.reader.specs.Reading as read-as
 pub use Rattle.stored_row.specs.Stored.{isThere, placeIn, clockIn, deviationOf, deviationIn, flagIn}
@@ -100,3 +101,4 @@ pub use Rattle.theorems.proofs.Filled as filling
 pub use Rattle.theorems.proofs.Lent as lent
 pub use Rattle.theorems.proofs.Exist.{oneRow}
 pub use Rattle.record.specs.declared.types.Row.{Row}
+pub use Rattle.float_row.specs.Floats.{Exactly}

@@ -7,7 +7,8 @@ use native.Mathlib.Nat.{sub-zero}
 use borrow.Author.Needs.{needs}
 use lib.ListN.{length, take}
 use lib.Seq.{length-take-le}
-use Rattle.canon.specs.Table.{commentWidth, cellWidth, cellsIn}
+use Rattle.record.specs.Plain.{commentWidth}
+use Rattle.canon.specs.Table.{cellWidth, cellsIn}
 use Rattle.canon.specs.Valid.{commentsValid, rowsValid}
 use Rattle.canon.specs.Measured.{commentsLength, rowsLength}
 use Rattle.canon.proofs.Tests.{both}

@@ -7,6 +7,7 @@ use borrow.Author.Tests.{not-true, not-false}
 use borrow.Author.Needs.{needs}
 use lib.ListN.{length, drop, length-drop}
 use lib.Seq.{take-all}
+use Rattle.record.specs.Rows.{rowWidth, bothWidth}
 use Rattle.canon.specs.Table.{cellWidth}
 use Rattle.canon.specs.Valid.{rowValid, cellValid}
 use Rattle.canon.specs.Measured.{rowLength, cellLength}
@@ -21,7 +22,7 @@ returns : tie.Need-returns
 unfolding cellValid cellLength
 returns c = rw (not-true (c .before .before .args .velocity) (c .before .if1 .taken)) (c .row-spent .ensures)
 
-long : (c : tie.Else1) → length (c .before .args .cell .now) ≡ 24
+long : (c : tie.Else1) → length (c .before .args .cell .now) ≡ bothWidth
 long c = c .before .pre ∙ ap cellWidth (not-false (c .before .args .velocity) (c .if1 .left))
 
 returns-2 : tie.Need-returns-2
@@ -31,7 +32,7 @@ returns-2 c =
     let place = motion .before .before in
     let mode = place .before .before in
     let cell = mode .before .args .cell .now in
-    let second = take-all 12 (drop 12 cell) (omega (arith, length-drop 12 cell, long mode)) in
+    let second = take-all rowWidth (drop rowWidth cell) (omega (arith, length-drop rowWidth cell, long mode)) in
     rw (not-false (mode .before .args .velocity) (mode .if1 .left)) (
       both (place .row-spent2 .ensures .0) (motion .row-spent3 .ensures .0 ∙ ap (rowValid true) second),
       omega (arith, place .row-spent2 .ensures .1, motion .row-spent3 .ensures .1, ap rowLength second),

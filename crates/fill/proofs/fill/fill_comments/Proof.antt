@@ -9,6 +9,7 @@ use borrow.Author.Tests.{eq-eqb, ne-eqb}
 use lib.ListN.{length, take}
 use Rattle.lines.specs.Lent.{flat}
 use Rattle.lines.specs.Lines.{linesOf}
+use Rattle.record.specs.LineKinds.{commentKind}
 use Rattle.file.specs.Kinds.{isKind, ofKind}
 use Rattle.file.specs.Table.{commentText}
 use Rattle.fill.proofs.Filling.{Filling, filling-first, filling-other, partsLeft}
@@ -19,7 +20,7 @@ use Rattle.fill.proofs.fill.fill_comments.Tie as tie
 abbrev Inv-loop : tie.InvT-loop
 Inv-loop rules bytes count out₀ at₀ stored₀ left₀ out at stored left =
     (0 < left)
-    × Filling (isKind rules 8) (partsLeft commentText) bytes (flat (map commentText (take count (ofKind rules 8 (linesOf bytes))))) out₀ out at stored left
+    × Filling (isKind rules commentKind) (partsLeft commentText) bytes (flat (map commentText (take count (ofKind rules commentKind (linesOf bytes))))) out₀ out at stored left
 
 abbrev μ-loop : tie.MeasureT-loop
 μ-loop rules bytes count out₀ at₀ stored₀ left₀ out at stored left = length bytes - at
@@ -27,13 +28,13 @@ abbrev μ-loop : tie.MeasureT-loop
 returns : tie.Need-returns Inv-loop μ-loop
 returns c =
     let a = c .before .before .before .args in
-    no-comments (a .count) (ofKind (a .rules) 8 (linesOf (a .bytes .now))) (a .out .now) (c .if1 .taken)
+    no-comments (a .count) (ofKind (a .rules) commentKind (linesOf (a .bytes .now))) (a .out .now) (c .if1 .taken)
 
 loop-holds : tie.Need-loop-holds Inv-loop μ-loop
 loop-holds c =
     let a = c .before .before .before .args in
-    let all = flat (map commentText (take (a .count) (ofKind (a .rules) 8 (linesOf (a .bytes .now))))) in
-    (search needs, filling-first (isKind (a .rules) 8) (partsLeft commentText) (a .bytes .now) all (a .out .now) (a .count) refl)
+    let all = flat (map commentText (take (a .count) (ofKind (a .rules) commentKind (linesOf (a .bytes .now))))) in
+    (search needs, filling-first (isKind (a .rules) commentKind) (partsLeft commentText) (a .bytes .now) all (a .out .now) (a .count) refl)
 
 returns-2 : tie.Need-returns-2 Inv-loop μ-loop
 returns-2 c =

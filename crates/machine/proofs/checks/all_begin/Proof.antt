@@ -7,7 +7,7 @@ use borrow.Author.Tests.{eq-eqb, ne-eqb}
 use lib.Dec.{eqb}
 use lib.ListN.{length, drop}
 use Rattle.laws.specs.Texts.{every}
-use Rattle.machine.specs.Checks.{letterOf}
+use Rattle.record.specs.Agrees.{letterOf}
 use Rattle.machine.proofs.Checking.{every-step, every-end}
 use Rattle.machine.proofs.checks.all_begin.Statement.{statement}
 use Rattle.machine.proofs.checks.all_begin.Tie as tie

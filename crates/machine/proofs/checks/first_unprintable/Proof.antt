@@ -5,7 +5,7 @@ use Prim.Native.Nat.{_+_, _-_}
 use native.Mathlib.Omega.{arith}
 use borrow.Author.Needs.{needs}
 use lib.ListN.{length, drop}
-use Rattle.machine.specs.Checks.{firstUnprintable}
+use Rattle.machine.specs.Faults.{firstUnprintable}
 use Rattle.machine.proofs.Checking.{unprintable-here, unprintable-later, unprintable-end}
 use Rattle.machine.proofs.checks.first_unprintable.Statement.{statement}
 use Rattle.machine.proofs.checks.first_unprintable.Tie as tie

@@ -4,7 +4,7 @@ use mathlib.Core.Path.{sym, ap, _∙_}
 use borrow.Author.Needs.{needs}
 use Rattle.calendar.specs.Clock.{toldInstant}
 use Rattle.header.proofs.Answers.{no-moment, moment-at}
-use Rattle.machine.specs.Checks.{instantIn}
+use Rattle.record.specs.Agrees.{instantIn}
 use Rattle.machine.proofs.checks.instant_in.Statement.{statement}
 use Rattle.machine.proofs.checks.instant_in.Tie as tie
 

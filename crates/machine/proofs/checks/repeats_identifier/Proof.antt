@@ -7,7 +7,7 @@ use Prim.Native.Nat.{_-_}
 use borrow.Author.Needs.{needs}
 use lib.ListN.{length, getD, take, drop}
 use Rattle.layout.specs.Kind.{isOneOf}
-use Rattle.machine.specs.Checks.{repeats}
+use Rattle.record.specs.Agrees.{repeats}
 use Rattle.machine.proofs.Checking.{repeats-start, repeats-step, repeats-end}
 use Rattle.machine.proofs.checks.repeats_identifier.Statement.{statement}
 use Rattle.machine.proofs.checks.repeats_identifier.Tie as tie

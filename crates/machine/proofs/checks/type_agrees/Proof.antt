@@ -2,7 +2,7 @@
 -- Assumes nothing.
 use borrow.Author.Needs.{needs}
 use borrow.Author.Tests.{eq-eqb, ne-eqb}
-use Rattle.machine.specs.Checks.{typeAgrees}
+use Rattle.record.specs.Agrees.{typeAgrees}
 use Rattle.machine.proofs.checks.type_agrees.Statement.{statement}
 use Rattle.machine.proofs.checks.type_agrees.Tie as tie
 

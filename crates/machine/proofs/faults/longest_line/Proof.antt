@@ -10,7 +10,7 @@ use Rattle.header.specs.declared.types.Rules.{Rules}
 use Rattle.record.specs.declared.types.LineKind.{LineKind}
 use Rattle.record.specs.declared.types.LineKind.the-variants as kind
 use Rattle.record.proofs.types.LineKind.{the-type}
-use Rattle.machine.specs.Faults.{longest}
+use Rattle.record.specs.LineKinds.{longest}
 use Rattle.machine.proofs.faults.longest_line.Statement.{statement}
 use Rattle.machine.proofs.faults.longest_line.Tie as tie
 

@@ -47,7 +47,7 @@ returns-14 : tie.Need-returns-14
 returns-14 c = rw (c .before .enum-told14 .given .1) (c .end-fault .ensures)
 
 returns-15 : tie.Need-returns-15
-returns-15 c = rw (c .enum-told15 .given .1)
+returns-15 c = rw (c .before .enum-told15 .given .1) (c .key-alone .ensures)
 
 pub record-fault-spec : {M : Type 1} → statement M
 record-fault-spec =
@@ -82,6 +82,7 @@ record-fault-spec =
     (λ c. search needs)
     (λ c κs. search needs)
     (λ c. search needs)
+    (λ c κs. search needs)
     returns
     returns-2
     returns-3

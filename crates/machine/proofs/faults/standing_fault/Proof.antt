@@ -19,10 +19,10 @@ returns c =
 returns-2 : tie.Need-returns-2
 unfolding standingFault
 returns-2 c =
-    let number = c .before .before .before in
+    let number = c .before .before .before .before in
     let a = number .before .before .args in
-    let elsewhere : stands (a .state) (a .kind) ≡ false = rw (← (number .kind-number .ensures)) (c .if1 .left) in
-    rw elsewhere
+    let elsewhere : stands (a .state) (a .kind) ≡ false = rw (← (number .kind-number .ensures)) (c .before .if1 .left) in
+    rw elsewhere (c .key-alone .ensures)
 
 pub standing-fault-spec : {M : Type 1} → statement M
-standing-fault-spec = tie.close (tie.spec (λ c κs. search needs) (λ c κs. search needs) returns returns-2)
+standing-fault-spec = tie.close (tie.spec (λ c κs. search needs) (λ c κs. search needs) returns (λ c κs. search needs) returns-2)

@@ -6,19 +6,20 @@ use lib.Dec.{eqb, leb}
 use lib.ListN.{length}
 use borrow.Author.Needs.{needs}
 use borrow.Author.Tests.{not-false, not-true}
+use Rattle.record.specs.LineKinds.{positionKind}
 use Rattle.machine.proofs.step.is_due_row.Statement.{statement}
 use Rattle.machine.proofs.step.is_due_row.Tie as tie
 
 returns : tie.Need-returns
 returns c =
     let a = c .before .before .before .before .args in
-    let none : (eqb (a .state .due) 10 && leb (length (a .line .now)) 80) ≡ false = not-true _ (c .if1 .taken) in
+    let none : (eqb (a .state .due) positionKind && leb (length (a .line .now)) 80) ≡ false = not-true _ (c .if1 .taken) in
     rw none
 
 returns-2 : tie.Need-returns-2
 returns-2 c =
     let a = c .before .before .before .before .before .before .before .args in
-    let due : (eqb (a .state .due) 10 && leb (length (a .line .now)) 80) ≡ true = not-false _ (c .before .before .before .if1 .left) in
+    let due : (eqb (a .state .due) positionKind && leb (length (a .line .now)) 80) ≡ true = not-false _ (c .before .before .before .if1 .left) in
     rw (
       due,
       c .is-usual .ensures,

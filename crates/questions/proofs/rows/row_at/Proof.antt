@@ -4,6 +4,7 @@ use mathlib.Core.Path.{ap, _∙_}
 use Prim.Native.Nat.{_*_, _<_, _≤_}
 use native.Mathlib.Omega.{arith}
 use borrow.Author.Needs.{needs}
+use Rattle.header.specs.Rules.{maxSatellites, maxEpochs}
 use Rattle.lines.specs.Lines.{linesOf}
 use Rattle.record.specs.declared.types.First.{First}
 use Rattle.questions.proofs.Asking.{row-bounds, row-told, row-missing}
@@ -12,8 +13,8 @@ use Rattle.questions.proofs.rows.row_at.Tie as tie
 
 -- the product of the epoch and the number of satellites, and the satellite
 small : (c : tie.Then1)
-    → (c .before .before .before .before .before .args .epoch * c .before .before .count-of .result ≤ 25500000)
-    × (c .before .before .before .before .before .args .satellite < 255)
+    → (c .before .before .before .before .before .args .epoch * c .before .before .count-of .result ≤ maxEpochs * maxSatellites)
+    × (c .before .before .before .before .before .args .satellite < maxSatellites)
 small c =
     let counted = c .before .before in
     let start = counted .before .before .before in

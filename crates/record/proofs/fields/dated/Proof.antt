@@ -8,7 +8,7 @@ use Rattle.record.proofs.fields.dated.Tie as tie
 returns : tie.Need-returns
 returns c =
     let m = c .before .before .before .before .args .m in
-    rw (undated-case (m .year) (m .month) (m .day) _ (c .before .before .before .date .ensures) (c .before .enum-told2 .given .1), c .lower .ensures)
+    rw (undated-case (m .year) (m .month) (m .day) _ (c .before .before .before .date .ensures) (c .before .enum-told2 .given .1), c .fault-at .ensures)
 
 returns-2 : tie.Need-returns-2
 returns-2 c =
@@ -20,8 +20,6 @@ dated-spec =
     tie.close
     (tie.spec
     (λ c κs. search needs)
-    (λ c. search needs)
-    (λ c. search needs)
     (λ c. search needs)
     (λ c. search needs)
     (λ c κs. search needs)

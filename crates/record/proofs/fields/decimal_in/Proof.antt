@@ -11,7 +11,7 @@ use Rattle.record.proofs.fields.decimal_in.Tie as tie
 returns : tie.Need-returns
 returns c =
     let a = c .before .before .before .before .before .before .args in
-    rw (decimal-case (take (a .last - (a .first - 1)) (drop (a .first - 1) (a .line .now))) (a .places) false _ _ (c .before .before .before .decimal .ensures) (c .before .enum-told .given .1), c .lower .ensures)
+    rw (decimal-case (take (a .last - (a .first - 1)) (drop (a .first - 1) (a .line .now))) (a .places) false _ _ (c .before .before .before .decimal .ensures) (c .before .enum-told .given .1), c .fault-at .ensures)
 
 returns-2 : tie.Need-returns-2
 returns-2 c =
@@ -27,8 +27,6 @@ decimal-in-spec =
     (λ c. search needs)
     (λ c. search needs)
     (λ c κs. search needs)
-    (λ c. search needs)
-    (λ c. search needs)
     (λ c. search needs)
     (λ c. search needs)
     (λ c κs. search needs)

@@ -17,7 +17,7 @@ returns c =
 returns-2 : tie.Need-returns-2
 returns-2 c =
     let a = c .before .before .before .before .before .before .args in
-    rw (exponent-case (take (a .last - (a .first - 1)) (drop (a .first - 1) (a .line .now))) _ _ (c .before .before .before .exponent .ensures) (c .before .enum-told .given .1), c .lower .ensures)
+    rw (exponent-case (take (a .last - (a .first - 1)) (drop (a .first - 1) (a .line .now))) _ _ (c .before .before .before .exponent .ensures) (c .before .enum-told .given .1), c .fault-at .ensures)
 
 pub exponent-in-spec : {M : Type 1} → statement M
 exponent-in-spec =
@@ -30,7 +30,5 @@ exponent-in-spec =
     (λ c κs. search needs)
     (λ c. search needs)
     returns
-    (λ c. search needs)
-    (λ c. search needs)
     (λ c κs. search needs)
     returns-2)

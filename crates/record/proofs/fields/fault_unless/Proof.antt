@@ -8,14 +8,12 @@ returns : tie.Need-returns
 returns c = rw (c .if1 .taken)
 
 returns-2 : tie.Need-returns-2
-returns-2 c = rw (c .before .if1 .left) (c .lower .ensures)
+returns-2 c = rw (c .before .if1 .left) (c .fault-at .ensures)
 
 pub fault-unless-spec : {M : Type 1} → statement M
 fault-unless-spec =
     tie.close
     (tie.spec
     returns
-    (λ c. search needs)
-    (λ c. search needs)
     (λ c κs. search needs)
     returns-2)

@@ -24,7 +24,7 @@ returns c =
     let at-loop = c .before .before .before .before in
     let start = at-loop .before .before .args in
     rw (at-loop .loop .inv .1, unused-step (start .first) (start .bytes .now) (at-loop .loop .i) (c .before .before .before .loop-test .taken), ne-eqb _ _ (c .before .if1 .taken))
-    (c .lower .ensures)
+    (c .fault-at .ensures)
 
 loop-again : tie.Need-loop-again Inv-loop μ-loop
 loop-again c =
@@ -42,8 +42,6 @@ read-unused-spec =
     Inv-loop
     μ-loop
     loop-holds
-    (λ c. search needs)
-    (λ c. search needs)
     (λ c. search needs)
     (λ c. search needs)
     (λ c κs. search needs)

@@ -10,7 +10,7 @@ use Rattle.record.proofs.fields.whole_in.Tie as tie
 returns : tie.Need-returns
 returns c =
     let a = c .before .before .before .before .before .before .args in
-    rw (whole-case (take (a .last - (a .first - 1)) (drop (a .first - 1) (a .line .now))) _ _ (c .before .before .before .whole .ensures) (c .before .enum-told .given .1), c .lower .ensures)
+    rw (whole-case (take (a .last - (a .first - 1)) (drop (a .first - 1) (a .line .now))) _ _ (c .before .before .before .whole .ensures) (c .before .enum-told .given .1), c .fault-at .ensures)
 
 returns-2 : tie.Need-returns-2
 returns-2 c =
@@ -26,8 +26,6 @@ whole-in-spec =
     (λ c. search needs)
     (λ c. search needs)
     (λ c κs. search needs)
-    (λ c. search needs)
-    (λ c. search needs)
     (λ c. search needs)
     (λ c. search needs)
     (λ c κs. search needs)

@@ -1,14 +1,13 @@
 -- `record::kind::kind_of` meets its contract.
 -- Assumes nothing.
-use mathlib.Core.Path.{ap}
 use borrow.Author.Needs.{needs}
-use Rattle.record.specs.LineKinds.{toldKind, kindOf}
+use Rattle.record.specs.LineKinds.{kindOf}
 use Rattle.record.proofs.kind.kind_of.Statement.{statement}
 use Rattle.record.proofs.kind.kind_of.Tie as tie
 
 returns : tie.Need-returns
 unfolding kindOf
-returns c = ap toldKind (c .kind-by .ensures)
+returns c = c .kind-by .ensures
 
 pub kind-of-spec : {M : Type 1} → statement M
 kind-of-spec =

@@ -5,7 +5,7 @@ use native.Mathlib.Omega.{arith}
 use borrow.Author.Needs.{needs}
 use lib.IntN.{ℤ, pos}
 use lib.ListN.{length, replicate, length-replicate}
-use Rattle.header.specs.Rules.{d}
+use Rattle.header.specs.Rules.{d, maxSatellites}
 use Rattle.reader.specs.Reading.{fileOf}
 use Rattle.rewrite.specs.Printed.{answered}
 use Rattle.rewrite.proofs.Answering.{few-words, Outcome, outcome-of, outcome-said, outcome-laid}
@@ -19,10 +19,10 @@ answered-so : (c : tie.After-read-and-write)
     → Outcome (answered (start c .args .file .now) (fileOf d (start c .args .file .now))) (start c .args .out .now)
     (c .read-and-write .result) (c .read-and-write .last .1 .1 .1 .1 .1 .0)
 answered-so c =
-    outcome-of (start c .args .file .now) (replicate 255 0) (replicate 255 0) (replicate 61_600 0) (replicate 12_888 (pos 0)) (start c .args .out .now)
+    outcome-of (start c .args .file .now) (replicate maxSatellites 0) (replicate maxSatellites 0) (replicate 61_600 0) (replicate 12_888 (pos 0)) (start c .args .out .now)
     (start c .pre .0) (start c .pre .1)
-    (length-replicate {0} {A = ℕ} 255 0)
-    (length-replicate {0} {A = ℕ} 255 0)
+    (length-replicate {0} {A = ℕ} maxSatellites 0)
+    (length-replicate {0} {A = ℕ} maxSatellites 0)
     (length-replicate {0} {A = ℕ} 61_600 0)
     (length-replicate {0} {A = ℤ} 12_888 (pos 0))
     (c .read-and-write .ensures .0) (c .read-and-write .ensures .1)

@@ -7,7 +7,7 @@ use native.Mathlib.Omega.{arith}
 use borrow.Author.Needs.{needs}
 use borrow.Author.Tests.{not-true, not-false}
 use lib.ListN.{length}
-use Rattle.file.specs.Table.{rowWidth}
+use Rattle.record.specs.Rows.{rowWidth}
 use Rattle.stored_row.specs.Stored.{isThere, toldClock}
 use Rattle.stored_row.proofs.Storing.{row-within, no-clock, clock-is}
 use Rattle.stored_row.proofs.rows.clock_of.Statement.{statement}

@@ -8,7 +8,7 @@ use borrow.Author.Needs.{needs}
 use borrow.Author.Tests.{not-true, not-false, leb-true}
 use lib.Dec.{leb}
 use lib.ListN.{length}
-use Rattle.file.specs.Table.{rowWidth}
+use Rattle.record.specs.Rows.{rowWidth}
 use Rattle.laws.proofs.Bools.{and-left, and-right}
 use Rattle.stored_row.specs.Stored.{isThere, toldDeviation}
 use Rattle.stored_row.proofs.Storing.{row-within, no-deviation, unknown-is, known-is}

@@ -8,7 +8,7 @@ use native.Mathlib.Omega.{arith}
 use borrow.Author.Needs.{needs}
 use borrow.Author.Tests.{not-true, not-false}
 use lib.ListN.{take, drop}
-use Rattle.record.specs.Rows.{rowLine}
+use Rattle.record.specs.Rows.{rowLine, rowWidth}
 use Rattle.canon.specs.Canonical.{rowShown}
 use Rattle.writer.proofs.Blocks.{cell-long, cell-wide, cell-placed, cell-moved}
 use Rattle.writer.proofs.Laying.{Laying, then, laying-first, laying-within, laying-fits, laying-more, laying-end, one-line}
@@ -16,10 +16,10 @@ use Rattle.writer.proofs.epochs.put_cell.Statement.{statement}
 use Rattle.writer.proofs.epochs.put_cell.Tie as tie
 
 abbrev placed : tie.Start → List ℕ
-placed c = rowLine false (rowShown (c .args .identifier) (take 12 (c .args .cell .now)))
+placed c = rowLine false (rowShown (c .args .identifier) (take rowWidth (c .args .cell .now)))
 
 abbrev moved : tie.Start → List ℕ
-moved c = rowLine true (rowShown (c .args .identifier) (take 12 (drop 12 (c .args .cell .now))))
+moved c = rowLine true (rowShown (c .args .identifier) (take rowWidth (drop rowWidth (c .args .cell .now))))
 
 abbrev Laid : tie.Start → ℕ → List ℕ → List (List ℕ) → Type 0
 Laid c at now rest = Laying (placed c ∷ moved c ∷ []) (c .args .out .now) at now rest

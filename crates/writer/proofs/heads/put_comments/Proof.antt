@@ -6,8 +6,7 @@ use Prim.Native.Nat.{ℕ, _+_, _-_, _≤_}
 use native.Mathlib.Omega.{arith}
 use borrow.Author.Needs.{needs}
 use lib.ListN.{length, take, drop}
-use Rattle.record.specs.Plain.{commentLine}
-use Rattle.canon.specs.Table.{commentWidth}
+use Rattle.record.specs.Plain.{commentLine, commentWidth}
 use Rattle.canon.specs.Canonical.{commentLines}
 use Rattle.writer.proofs.Blocks.{Left, left-all, left-here, left-next, comments-next}
 use Rattle.writer.proofs.Laying.{Laying, then, laying-none, laying-as, laying-kept, laying-within, laying-fits, laying-more, laying-end, one-line}
@@ -28,12 +27,12 @@ loop-holds c =
       laying-none (commentLines (start .args .count) (start .args .bytes .now)) (start .args .out .now) (start .pre .1),
     )
 
-here : (c : tie.In-loop Inv-loop μ-loop) → c .before .loop .from + 77 ≤ length (c .before .before .before .before .args .bytes .now)
+here : (c : tie.In-loop Inv-loop μ-loop) → c .before .loop .from + commentWidth ≤ length (c .before .before .before .before .args .bytes .now)
 here c = left-here (c .before .loop .inv .0) (c .loop-test .taken)
 
 -- a comment more
 abbrev rest : tie.At-loop Inv-loop μ-loop → List (List ℕ)
-rest c = commentLines (c .loop .more - 1) (drop (c .loop .from + 77) (c .before .before .before .args .bytes .now))
+rest c = commentLines (c .loop .more - 1) (drop (c .loop .from + commentWidth) (c .before .before .before .args .bytes .now))
 
 abbrev Laid : tie.At-loop Inv-loop μ-loop → ℕ → List ℕ → Type 0
 Laid c at now = Laying (commentLines (c .before .before .before .args .count) (c .before .before .before .args .bytes .now)) (c .before .before .before .args .out .now) at now (rest c)
@@ -43,7 +42,7 @@ laid : (c : tie.After-write-comment Inv-loop μ-loop)
 laid c =
     let bytes = c .before .before .before .before .before .before .before .args .bytes .now in
     let l = c .before .before .before .before .loop in
-    let line = commentLine (take (l .from + 77 - l .from) (drop (l .from) bytes)) in
+    let line = commentLine (take (l .from + commentWidth - l .from) (drop (l .from) bytes)) in
     laying-more (line ∷ []) (rest (c .before .before .before .before)) (laying-as (comments-next (l .more) (c .before .before .before .loop-test .taken) bytes (l .from)) (l .inv .1))
     (one-line line (c .write-comment .ensures))
 

@@ -9,8 +9,8 @@ use borrow.Author.Needs.{needs}
 use lib.ListN.{length, take}
 use lib.Seq.{length-take-le}
 use Rattle.record.specs.Descriptors.{fixedLine}
-use Rattle.record.specs.Plain.{endItems}
-use Rattle.canon.specs.Table.{Table, tableOf, commentWidth, cellWidth, cellsIn, tableIdentifiers, exponentsOf, commentsOf, rowsOf}
+use Rattle.record.specs.Plain.{endItems, commentWidth}
+use Rattle.canon.specs.Table.{Table, tableOf, cellWidth, cellsIn, tableIdentifiers, exponentsOf, commentsOf, rowsOf}
 use Rattle.canon.specs.Canonical.{linesBefore, commentLines, epochsLines, canonicalLines, canonical}
 use Rattle.writer.proofs.Fitting.{Fitting, valid-fits, by-epochs}
 use Rattle.canon.proofs.HeaderBounds.{timed}

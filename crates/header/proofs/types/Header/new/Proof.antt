@@ -7,6 +7,7 @@ use borrow.Author.Needs.{needs}
 use borrow.Author.Tests.{not-true, not-false}
 use Rattle.calendar.specs.Clock.{toldInstant}
 use Rattle.header.specs.Header.{lettersListed}
+use Rattle.header.specs.declared.types.Header.{Header}
 use Rattle.header.proofs.Answers.{startAnswer, no-letters, no-start, no-numbers, made}
 use Rattle.header.proofs.types.Header.new.Statement.{statement}
 use Rattle.header.proofs.types.Header.new.Tie as tie
@@ -48,10 +49,11 @@ returns-3 c =
 
 returns-4 : tie.Need-returns-4
 returns-4 c =
-    let asked = c .before in
+    let asked = c .before .before in
     let at = asked .before .before in
-    sym
-    (made _ _ _ _ _ _ _ _ _ _ (listed (at .before .before .before)) _ (given at) (sym (asked .numbers-bounded .ensures) ∙ not-false _ (c .if2 .left)))
+    ap (λ (h : Header). record { refusal = 0; header = h }) (c .of .ensures)
+    ∙ sym
+    (made _ _ _ _ _ _ _ _ _ _ (listed (at .before .before .before)) _ (given at) (sym (asked .numbers-bounded .ensures) ∙ not-false _ (c .before .if2 .left)))
 
 pub new-spec : {M : Type 1} → statement M
 new-spec =
@@ -68,4 +70,5 @@ new-spec =
     (λ c κs. search needs)
     (λ c κs. search needs)
     returns-3
+    (λ c κs. search needs)
     returns-4)

@@ -1,23 +1,18 @@
 -- What a line must agree with besides its own columns. 01, "Numbers of the answers": 8 "line 2 disagrees with the start; .. an identifier
--- repeats; the file type disagrees", 9 "an epoch stands at the wrong instant", 10 "a P or V names another satellite than the header has here".
+-- repeats; the file type disagrees"; and the instant of a date and time, by which 9 is told.
 use mathlib.Core.Bool.{Bool, false, cond, _&&_, _||_}
 use mathlib.Core.List.{List, [], _∷_, _++_}
-use Prim.Native.Nat.{ℕ, suc, _+_, _-_, _*_, _/_, _%_}
+use Prim.Native.Nat.{ℕ, _+_, _-_, _*_, _/_, _%_}
 use lib.Dec.{eqb}
 use Rattle.laws.specs.Tests.{within}
-use Rattle.laws.specs.Texts.{every, isPrintable}
+use Rattle.laws.specs.Texts.{every}
 use Rattle.calendar.specs.Gregorian.{firstMjd, lastMjd}
 use Rattle.calendar.specs.Clock.{dayUnits}
 use Rattle.calendar.specs.Fraction.{agrees}
 use Rattle.header.specs.Header.{isMoment, instantOf}
 use Rattle.layout.specs.Kind.{isOneOf}
 use Rattle.header.specs.declared.types.Moment.{Moment}
 use Rattle.record.specs.declared.types.Second.{Second}
-
--- the column of the first byte outside 32 to 126
-unfoldable pub firstUnprintable : List ℕ → ℕ
-firstUnprintable [] = 0
-firstUnprintable (b ∷ bs) = cond (isPrintable b) (suc (firstUnprintable bs)) 1
 
 -- the instant of a date and time in 10^-8 s since MJD 0, or 0 where there is none
 unfoldable pub instantIn : Moment → ℕ
