@@ -6,9 +6,7 @@ use Prim.Native.Nat.{ℕ, _≤_}
 use borrow.Author.Tests.{le-leb}
 use lib.IntN.{ℤ}
 use Rattle.field.specs.Sign.{largest, signedInt}
-use Rattle.record.specs.declared.types.Signed.{Signed}
 use Rattle.file.specs.Table.{storedInt}
-use Rattle.file.specs.Exact.{exactSigned}
 
 pub stored-exact : (negative : Bool) (m : ℕ) → m ≤ largest → storedInt negative m ≡ signedInt negative m
 unfolding storedInt

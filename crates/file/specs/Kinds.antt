@@ -3,7 +3,6 @@ use mathlib.Core.Bool.{Bool, _||_, true, false}
 use mathlib.Core.List.{List}
 use Prim.Native.Nat.{ℕ}
 use lib.Dec.{eqb}
-use lib.ListN.{length}
 use Rattle.layout.specs.Line.{padded}
 use Rattle.lines.specs.Lines.{select, nth}
 use Rattle.record.specs.LineKinds.{positionKind, velocityKind, toldKind, kindOf}

@@ -26,7 +26,6 @@ use Rattle.record.specs.Rows.{rowItems, rowFrom, rowFault, rowTaken, rowOf, cut
 use Rattle.header.specs.declared.types.Rules.{Rules}
 use Rattle.field.specs.declared.Exponent.{Exponent}
 use Rattle.field.specs.declared.Exponent.the-variants as exponents
-use Rattle.record.specs.declared.types.Signed.{Signed}
 use Rattle.record.specs.declared.types.Row.{Row}
 use Rattle.record.specs.declared.types.LineKind.the-variants as kind
 use Rattle.file.specs.Kinds.{kindIn, isRow}
@@ -41,7 +40,7 @@ use Rattle.record.proofs.Taking.{row-taken}
 use Rattle.file_laws.proofs.Sorting.{row-record, row-kind, epoch-kind, comment-kind}
 use Rattle.file_laws.proofs.Clean.{record-clean, item-at, amount-bounds}
 use Rattle.file_laws.proofs.Walk.{isOther, other-apart, Covers, every-line}
-use Rattle.file.specs.Exact.{exactSigned, exactNumbers}
+use Rattle.file.specs.Exact.{exactNumbers}
 
 -- a count within the bound is stored as it is
 pub count-exact : (n : ℕ) → n ≤ largest → storedCount n ≡ pos n

@@ -16,7 +16,7 @@ use Rattle.file.specs.Kinds.{kindIn, isKind, ofKind}
 use Rattle.file.specs.Plain.{Plain}
 use Rattle.lines.proofs.Each.{Each, each-append, each-weaken}
 use Rattle.lines.proofs.Picking.{select-append}
-use Rattle.file_laws.proofs.Parted.{before, after}
+use Rattle.file_laws.proofs.Parted.{before}
 use Rattle.file_laws.proofs.Body.{Block, by-satellite, ByEpoch, blockAt, blockIs, rows-many, block-picked, body-many, body-nth, body-before, no-lines}
 use Rattle.file_laws.proofs.Sorting.{Of}
 use Rattle.file_laws.proofs.Selected.{first-kind, second-kind, identifiers-kind, accuracies-kind, characters-kind, floats-kind, integers-kind, comments-kind, kind-9}

@@ -8,7 +8,7 @@ use native.Mathlib.Omega.{arith}
 use borrow.Author.Tests.{eq-eqb}
 use lib.Dec.{eqb}
 use lib.IntN.{ℤ, pos, negsuc, natAbs}
-use lib.Ieee.{Float, nan, ofInt, binary64}
+use lib.Ieee.{nan, ofInt, binary64}
 use lib.Ieee.Back.{round-whole}
 use Rattle.field.specs.Sign.{largest, signedInt}
 use Rattle.record.specs.declared.types.Signed.{Signed}

@@ -1,7 +1,7 @@
 -- What must stand next, on plain states.
 -- Assumes nothing.
 use mathlib.Core.Path.{_≡_}
-use mathlib.Core.Bool.{true, false}
+use mathlib.Core.Bool.{false}
 use Rattle.record.specs.LineKinds.{positionCorrelationKind}
 use Rattle.machine.specs.Next.{satelliteDone, afterPosition}
 use Rattle.machine.specs.declared.types.State.{State}

@@ -1,6 +1,6 @@
 -- The paper's number of each answer of the line reader, then which case it is (0 a fault, 1 the file goes on, 2 it ends, 3 no line), then its
 -- values. 0 is accepted so far; 1 is that no complete line is left.
-use mathlib.Core.Bool.{Bool, cond}
+use mathlib.Core.Bool.{cond}
 use mathlib.Core.List.{List, [], _∷_}
 use Prim.Native.Nat.{ℕ}
 use Rattle.machine.specs.declared.types.State.{State}

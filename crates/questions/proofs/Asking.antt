@@ -5,11 +5,10 @@ use mathlib.Core.Bool.{Bool, true, false, _&&_}
 use mathlib.Core.List.{List, [], _∷_, _++_, append-nil}
 use Prim.Native.Nat.{ℕ, _+_, _*_, _-_, _<_, _≤_, min}
 use native.Mathlib.Nat.{add-zero, sub-zero, mul-le-mul}
-use native.Mathlib.Decide.{decLt}
 use native.Mathlib.Omega.{arith}
 use borrow.Author.Tests.{eq-eqb, ne-eqb, lt-ltb, le-ltb, ltb-true}
 use lib.Dec.{ltb}
-use lib.ListN.{length, getD, take, drop, length-append, length-drop, drop-of-length-le}
+use lib.ListN.{length, getD, take, drop, drop-of-length-le}
 use lib.Seq.{take-append-seam}
 use denote.Ref.{RefT, now}
 use Rattle.laws.specs.Places.{byteOf}
@@ -17,7 +16,7 @@ use Rattle.laws.proofs.Places.{in-front, in-part}
 use Rattle.layout.specs.Line.{trimmed}
 use Rattle.lines.specs.Lent.{laid}
 use Rattle.lines.proofs.Laying.{laid-fits}
-use Rattle.lines.specs.Lines.{linesOf, bytesIn, select, nth, beginsFrom}
+use Rattle.lines.specs.Lines.{linesOf, nth, beginsFrom}
 use Rattle.header.specs.Rules.{d, maxSatellites, maxEpochs}
 use Rattle.record.specs.LineKinds.{commentKind, positionKind}
 use Rattle.file.specs.Kinds.{isKind, ofKind}
@@ -38,8 +37,6 @@ use Rattle.questions.specs.declared.types.SatelliteAnswer.{SatelliteAnsw
 use Rattle.laws.proofs.Bools.{both-true}
 use Rattle.laws.proofs.Lists.{rest-step, rest-none, rest-part}
 use Rattle.layout.proofs.Lines.{trimmed-front, trimmed-shorter}
-use Rattle.lines.proofs.Picking.{nth-past, spot-past, placed}
-use Rattle.lines.proofs.Split.{bytes-in, parted, first}
 use Rattle.scan_laws.proofs.Files.{front-plain}
 use Rattle.scan_laws.proofs.Local.{whole-ends}
 use Rattle.file_laws.proofs.Selected.{satellites, epochs, kind-1}

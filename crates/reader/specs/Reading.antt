@@ -17,7 +17,6 @@ use Rattle.record.specs.Rows.{rowWidth}
 use Rattle.file.specs.Kinds.{ofKind}
 use Rattle.file.specs.Table.{countOf, headerIn, slotsIn, commentsIn, rowLines, rowsIn}
 use Rattle.scan.specs.Run.{scanOf, wholeFront}
-use Rattle.header.specs.declared.types.Header.{Header}
 use Rattle.header.specs.declared.types.Rules.{Rules}
 use Rattle.scan.specs.declared.Tally.{Tally}
 use Rattle.scan.specs.declared.Front.{Front}

@@ -5,7 +5,6 @@ use mathlib.Core.List.{List, [], _∷_}
 use Prim.Native.Nat.{ℕ}
 use lib.ListN.{getD}
 use Rattle.scan.specs.Told.{toldFront}
-use Rattle.scan.specs.declared.Tally.{Tally}
 use Rattle.scan.specs.declared.Front.{Front}
 use Rattle.scan.specs.declared.Front.the-variants as front
 

@@ -2,30 +2,22 @@
 -- refused exactly when it earns one. Assumes nothing.
 use mathlib.Core.Path.{_≡_, refl, sym, ap, _∙_, subst}
 use mathlib.Core.Logic.{_⊎_, inl, inr, _↔_}
-use mathlib.Core.Bool.{Bool, true, false, cond, not, false≢true}
-use mathlib.Core.List.{List, [], _∷_, _++_, map}
+use mathlib.Core.Bool.{Bool, true, false, false≢true}
+use mathlib.Core.List.{List, [], _∷_, _++_}
 use Prim.Native.Nat.{ℕ, _+_, _≤_, _<_}
 use native.Mathlib.Omega.{arith}
 use borrow.Author.Tests.{eqb-true, eqb-false}
 use lib.Dec.{eqb, leb}
-use lib.ListN.{length, take}
+use lib.ListN.{length}
 use Rattle.laws.specs.Texts.{every, isPrintable}
-use Rattle.layout.specs.Fault.{clean, keyed, keyNumber, columnOf, lowerOf}
-use Rattle.layout.specs.Kind.{unless, identifierCode}
-use Rattle.layout.specs.Layout.{Item, faultAt, faultOf}
+use Rattle.layout.specs.Fault.{clean, keyNumber, columnOf, lowerOf}
+use Rattle.layout.specs.Layout.{faultOf}
 use Rattle.layout.specs.Line.{padded}
-use Rattle.record.specs.LineKinds.{kindOf, longest}
-use Rattle.record.specs.Times.{dateFault}
-use Rattle.record.specs.Opening.{firstItems, firstOf, secondItems, secondOf, epochItems, epochOf}
-use Rattle.record.specs.SlotLines.{satelliteItems, countIn, moreItems}
-use Rattle.record.specs.Descriptors.{descriptorItems, descriptorOf, characterItems, baseItems, floatItems, integerItems}
-use Rattle.record.specs.Plain.{commentItems, correlationItems, endItems}
-use Rattle.record.specs.Rows.{rowItems, cut}
+use Rattle.record.specs.LineKinds.{longest}
 use Rattle.header.specs.declared.types.Rules.{Rules}
 use Rattle.record.specs.declared.types.LineKind.{LineKind}
 use Rattle.record.specs.declared.types.LineKind.the-variants as kind
-use Rattle.record.specs.Agrees.{instantIn, secondAgrees, repeats, typeAgrees}
-use Rattle.machine.specs.State.{stands, knownIdentifiers, identifierDue, isFirst, identifiersIn}
+use Rattle.machine.specs.State.{stands, isFirst}
 use Rattle.machine.specs.Faults.{firstUnprintable, secondFault, satellitesFault, charactersFault, floatsFault, epochFault, namedFault, recordFault, standingFault}
 use Rattle.machine.specs.Next.{nextOf}
 use Rattle.machine.specs.Step.{onKey, judgedLine, printedLine, stepOf}

@@ -22,7 +22,7 @@ use Rattle.record.specs.Agrees.{repeats}
 use Rattle.machine.specs.State.{seen, knownIdentifiers, isFirst, identifiersIn, hasRoom}
 use Rattle.machine.specs.Faults.{recordFault, satellitesFault}
 use Rattle.machine.specs.Next.{lineLess, afterFirst, afterSecond, afterCount, afterIdentifiers, afterSatellites, afterAccuracies, commentsDue, afterIntegers, afterEpoch, satelliteDone, afterPosition, nextOf}
-use Rattle.machine.specs.Step.{stepOf, identifiersBrought, ifRoom, findsRoom, stepWithin}
+use Rattle.machine.specs.Step.{stepOf, ifRoom, findsRoom, stepWithin}
 use Rattle.machine.proofs.Stepping.{brought-length}
 use Rattle.machine.specs.declared.types.State.{State}
 use Rattle.machine.specs.declared.types.Verdict.{Verdict}

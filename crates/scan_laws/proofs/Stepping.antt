@@ -6,7 +6,7 @@ use Prim.Native.Nat.{ℕ, zero, suc, _+_, _≤_, _<_}
 use native.Mathlib.Nat.{le-of-suc-le-suc, not-suc-le-zero}
 use native.Mathlib.Omega.{arith}
 use lib.ListN.{length, take, drop, take-append-drop, drop-of-length-le}
-use Rattle.lines.specs.Lines.{linesOf, joinLines, bytesIn, nth}
+use Rattle.lines.specs.Lines.{linesOf, bytesIn, nth}
 use Rattle.lines.proofs.Split.{parted, bytes-in}
 use Rattle.header.specs.declared.types.Rules.{Rules}
 use Rattle.machine.specs.Step.{stepOf, identifiersBrought, identifiersKept, stepWithin, readAs, readFirst, identifiersFirst, lineRead, lineIdentifiers}

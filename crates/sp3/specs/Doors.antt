@@ -6,7 +6,6 @@ use Prim.Native.Nat.{ℕ}
 use lib.Dec.{eqb}
 use lib.IntN.{ℤ, negsuc}
 use lib.ListN.{getD}
-use Rattle.header.specs.declared.types.Moment.{Moment}
 use Rattle.calendar.specs.declared.types.Clock.{Clock}
 use Rattle.stored_row.specs.declared.types.Place.{Place}
 use Rattle.stored_row.specs.declared.types.Place.the-variants as place

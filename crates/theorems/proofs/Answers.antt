@@ -1,13 +1,13 @@
 -- Each number of the answers exactly when: judging, reading, the questions, the beginning of a walk and dividing; the file's own refusal first.
 -- Assumes nothing.
-use mathlib.Core.Path.{_≡_, refl, sym, ap, _∙_, subst}
-use mathlib.Core.Bool.{Bool, true, false, cond, _&&_, false≢true}
+use mathlib.Core.Path.{_≡_, refl, sym, ap, _∙_}
+use mathlib.Core.Bool.{Bool, true, false, cond, _&&_}
 use mathlib.Core.Logic.{_⊎_, inl, inr, _↔_}
 use mathlib.Core.List.{List, [], _∷_, _++_}
 use Prim.Native.Nat.{ℕ, zero, suc, _+_, _/_, _≤_, _<_}
 use native.Mathlib.Decide.{decLe, decLt}
 use native.Mathlib.Omega.{arith}
-use borrow.Author.Tests.{lt-ltb, le-ltb, ltb-true, ltb-false, eqb-true, eq-eqb, ne-eqb}
+use borrow.Author.Tests.{lt-ltb, le-ltb, ltb-true, ltb-false, eqb-true, eq-eqb}
 use lib.Dec.{eqb, ltb, leb}
 use lib.IntN.{ℤ, natAbs}
 use lib.ListN.{length, getD, take, drop, length-append, length-drop, take-append-drop}
@@ -15,7 +15,7 @@ use Rattle.header.specs.Rules.{d}
 use Rattle.lines.specs.Lines.{linesOf}
 use Rattle.file.specs.Kinds.{ofKind}
 use Rattle.scan.specs.Run.{wholeFront, IsFile}
-use Rattle.reader.specs.Reading.{refusedWith, linesTo, acceptedAs, frontOf, fileOf, judged, delivered, roomFor, identifiersOf}
+use Rattle.reader.specs.Reading.{refusedWith, linesTo, frontOf, fileOf, judged, delivered, identifiersOf}
 use Rattle.questions.specs.Questions.{textIn, noComment, commentLine, commentAnswer, commentWords, indexOf, noSatellite, satelliteIn, satelliteAnswer}
 use Rattle.field.specs.Sign.{isNegative}
 use Rattle.record.specs.Absence.{clockAbsent, isUnknown, isTooLarge}
@@ -23,18 +23,16 @@ use Rattle.stored_row.specs.Stored.{isThere, numberAt, isPlaceAbsent, placeIn, 
 use Rattle.scan_laws.proofs.Files.{file-plain, whole-taken}
 use Rattle.scan_laws.proofs.Local.{whole-ends}
 use Rattle.scan_laws.proofs.Used.{accepted-front}
-use Rattle.file_laws.proofs.Different.{one-of-each}
 use Rattle.file_laws.proofs.Selected.{kind-8}
 use Rattle.theorems.specs.Files.{header, identifier, There}
 use Rattle.theorems.specs.Room.{foundIn, answer, Room, Short}
-use Rattle.theorems.specs.Asked.{asked, rowFound, rowRefused}
+use Rattle.theorems.specs.Asked.{asked}
 use Rattle.theorems.specs.Walked.{begun}
-use Rattle.theorems.proofs.Accepting.{says-comments, says-satellites}
+use Rattle.theorems.proofs.Accepting.{says-comments}
 use Rattle.theorems.proofs.Judging.{refused-numbers, whole-refused, file-then-anything, front-whole}
-use Rattle.theorems.proofs.Room.{headerTo, found-numbered, short-refused, room-accepted, room-or-short}
+use Rattle.theorems.proofs.Room.{headerTo, short-refused, room-accepted, room-or-short}
 use Rattle.theorems.proofs.Floats.{row-asked, row-not-there, row-refused}
 use Rattle.theorems.proofs.Beginning.{begin-accepts, begin-short, begin-refused}
-use Rattle.header.specs.declared.types.Header.{Header}
 use Rattle.reader.specs.declared.types.Reading.{Reading}
 use Rattle.questions.specs.declared.types.CommentAnswer.{CommentAnswer}
 use Rattle.questions.specs.declared.types.SatelliteAnswer.{SatelliteAnswer}
@@ -164,13 +162,6 @@ reading-never-13 whole bytes i x c r = go (foundIn whole bytes) refl
     go (front.Refused number line column) e thirteen =
         let n : 13 ≡ number = sym thirteen ∙ ap (λ (a : Reading). a .refusal) (refused-whatever-room whole bytes number line column e i x c r) in
         omega (arith, found-few whole bytes number line column e)
-
--- a refused file is not an accepted one
-not-both : (bytes : List ℕ) (number line column : ℕ) → fileOf d bytes ≡ front.Refused number line column → IsFile d bytes → ⊥
-not-both bytes number line column refused (t, accepted) = go (sym accepted ∙ refused)
-  where
-    go : front.File t ≡ front.Refused number line column → ⊥
-    go both = let z : _≡_ {A = ℕ} 0 1 = cc in omega arith
 
 -- THE ROW QUESTION answers 13 exactly for an epoch or satellite that an accepted file does not have.
 pub row-thirteen : (bytes : List ℕ) (k j : ℕ) → (asked bytes k j .refusal ≡ 13) ↔ (IsFile d bytes × (There bytes k j → ⊥))

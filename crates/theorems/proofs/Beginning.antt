@@ -20,7 +20,6 @@ use Rattle.questions.proofs.Asking.{identifiers-counted}
 use Rattle.theorems.specs.Files.{header}
 use Rattle.theorems.proofs.Room.{found-numbered}
 use Rattle.theorems.specs.Walked.{Identified}
-use Rattle.reader.specs.declared.types.Reading.{Reading}
 use Rattle.scan.specs.declared.Tally.{Tally}
 use Rattle.scan.specs.declared.Front.the-variants as front
 use Rattle.theorems.specs.Walked.{begun, begunList}

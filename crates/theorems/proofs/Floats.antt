@@ -19,7 +19,7 @@ use Rattle.file.proofs.Finding.{line-at-place}
 use Rattle.scan.specs.Run.{IsFile}
 use Rattle.reader.specs.Reading.{fileOf}
 use Rattle.questions.specs.Questions.{rowBegins}
-use Rattle.float_row.specs.Floats.{floatRow, absentRow, rowAnswer}
+use Rattle.float_row.specs.Floats.{floatRow, rowAnswer}
 use Rattle.scan_laws.proofs.Files.{whole-taken}
 use Rattle.float_row.specs.Floats.{Exactly}
 use Rattle.float_row.proofs.Theorems.{place-float, clock-float, place-absent-exactly, clock-absent-exactly}
@@ -31,7 +31,6 @@ use Rattle.theorems.proofs.Room.{found-numbered}
 use Rattle.theorems.proofs.Reading.{the-row}
 use Rattle.theorems.specs.Files.{header, identifier, rowLinesOf, rowAt, There}
 use Rattle.record.specs.declared.types.Row.{Row}
-use Rattle.float_row.specs.declared.FloatRow.{FloatRow}
 use Rattle.float_row.specs.declared.RowAnswer.{RowAnswer}
 use Rattle.scan.specs.declared.Front.the-variants as front
 use Rattle.theorems.specs.Asked.{asked, rowFound, rowRefused}

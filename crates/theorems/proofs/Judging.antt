@@ -13,25 +13,23 @@ use lib.Dec.{ltb}
 use lib.ListN.{length, take}
 use lib.Seq.{take-append-le, length-take-le}
 use Rattle.header.specs.Rules.{d}
-use Rattle.lines.specs.Lines.{linesOf, joinLines, nth}
+use Rattle.lines.specs.Lines.{linesOf, nth}
 use Rattle.file.specs.Plain.{Accepted}
 use Rattle.machine.specs.Step.{stepOf, lineRead}
-use Rattle.scan.specs.Run.{wholeFront, IsFile, Going, atFirst}
-use Rattle.reader.specs.Reading.{linesTo, frontOf, fileOf, linesIn, judged, enough, delivered, filled}
+use Rattle.scan.specs.Run.{wholeFront, IsFile}
+use Rattle.reader.specs.Reading.{frontOf, fileOf, linesIn, judged, enough, delivered, filled}
 use Rattle.scan_laws.proofs.Files.{d-sound, d-exactly}
 use Rattle.scan_laws.proofs.Local as local
 use Rattle.scan_laws.proofs.Lowest.{lowest, none}
-use Rattle.scan_laws.specs.Earned.{Earns}
 use Rattle.scan_laws.proofs.Refused as stop
 use Rattle.scan_laws.proofs.Refused.{EndsAfter, accepted-steps, reads-end, refusal-numbered}
 use Rattle.scan_laws.proofs.Stepping.{stands-behind}
-use Rattle.scan_laws.specs.Lines.{GoesOn, GoOn, behind, Stands}
+use Rattle.scan_laws.specs.Lines.{Stands}
 use Rattle.scan_laws.proofs.Used.{accepted-front}
 use Rattle.machine.specs.declared.types.State.{State}
 use Rattle.machine.specs.declared.types.Verdict.{Verdict}
 use Rattle.machine.specs.declared.types.Verdict.the-variants as verdict
 use Rattle.machine.specs.declared.types.LineRead.the-variants as found
-use Rattle.reader.specs.declared.types.Reading.{Reading}
 use Rattle.scan.specs.declared.Tally.{Tally}
 use Rattle.scan.specs.declared.Front.{Front}
 use Rattle.scan.specs.declared.Front.the-variants as front

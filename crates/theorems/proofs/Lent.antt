@@ -15,7 +15,7 @@ use Rattle.lines.specs.Lines.{linesOf, nth}
 use Rattle.record.specs.Absence.{placeAbsent, clockAbsent}
 use Rattle.layout.specs.Layout.{valuesOf}
 use Rattle.layout.specs.Line.{padded}
-use Rattle.record.specs.Rows.{rowOf, rowFrom, rowItems}
+use Rattle.record.specs.Rows.{rowFrom, rowItems}
 use Rattle.file.specs.Plain.{isRowLine}
 use Rattle.file.specs.Table.{rowNumbers, rowsIn}
 use Rattle.scan.specs.Run.{IsFile}

@@ -1,6 +1,6 @@
 -- The room of the line reader: 12 exactly at a line that brings more identifiers than fit into the lent list.
 -- Assumes nothing.
-use mathlib.Core.Path.{_≡_, refl, sym, ap, _∙_}
+use mathlib.Core.Path.{_≡_, refl, sym, _∙_}
 use mathlib.Core.Bool.{Bool, true, false, cond}
 use mathlib.Core.Logic.{_↔_}
 use mathlib.Core.List.{List, [], _∷_}
@@ -25,7 +25,6 @@ use Rattle.header.specs.declared.types.Rules.{Rules}
 use Rattle.machine.specs.declared.types.State.{State}
 use Rattle.machine.specs.declared.types.Verdict.{Verdict}
 use Rattle.machine.specs.declared.types.Verdict.the-variants as verdict
-use Rattle.machine.specs.declared.types.LineRead.{LineRead}
 use Rattle.machine.specs.declared.types.LineRead.the-variants as found
 
 module _ (rules : Rules) (bytes : List ℕ) (at : ℕ) (s : State) (identifiers : List ℕ) where

@@ -7,28 +7,24 @@ use mathlib.Core.List.{List, _∷_, _++_, []}
 use Prim.Native.Nat.{ℕ, _+_, _*_, _<_, _≤_}
 use native.Mathlib.Nat.{le-trans}
 use native.Mathlib.Omega.{arith}
-use lib.ListN.{length, getD, take, drop}
+use lib.ListN.{length, take, drop}
 use Rattle.header.specs.Rules.{d}
 use Rattle.lines.specs.Lines.{linesOf, select, nth}
 use Rattle.record.specs.Rows.{rowOf}
-use Rattle.file.specs.Kinds.{ofKind}
-use Rattle.file.specs.Plain.{isEpochLine, isRowLine, Plain}
-use Rattle.file.specs.Table.{headerIn, rowLines, rowsIn}
+use Rattle.file.specs.Plain.{Plain}
+use Rattle.file.specs.Table.{rowLines, rowsIn}
 use Rattle.scan.specs.Run.{IsFile}
-use Rattle.reader.specs.Reading.{identifiersOf}
 use Rattle.file.proofs.Finding.{lines-within}
 use Rattle.scan_laws.proofs.Files.{file-plain}
 use Rattle.file_laws.proofs.Bytes.{bytes-enough}
 use Rattle.file_laws.proofs.Counts.{identifiers-are, rows-many, rows-many-both, places-known-and-absent}
 use Rattle.file_laws.proofs.Different.{one-of-each}
 use Rattle.file.specs.Exact.{exactNumbers}
-use Rattle.file.specs.Kinds.{rowNumber}
 use Rattle.file_laws.proofs.Rule.{InOrder, EpochAt, the-rule, absentIn, places-many, motions-many, no-motions}
-use Rattle.file_laws.proofs.Selected.{satellites, epochs, start8, interval8}
+use Rattle.file_laws.proofs.Selected.{satellites, epochs}
 use Rattle.file_laws.proofs.Stored.{place-stored, place-stored-both, motion-stored}
 use Rattle.theorems.proofs.Accepting.{says-satellites, says-epochs, says-start, says-interval, says-velocity, says-comments}
-use Rattle.header.specs.declared.types.Header.{Header}
-use Rattle.theorems.specs.Files.{header, identifier, rowLinesOf, rowAt, There, RowOf, lineAsked}
+use Rattle.theorems.specs.Files.{header, rowLinesOf, rowAt, There, RowOf}
 
 module _ (bytes : List ℕ) (accepted : IsFile d bytes) where
   abbrev p : Plain d (linesOf bytes)

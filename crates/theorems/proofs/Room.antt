@@ -19,16 +19,15 @@ use Rattle.record.specs.Plain.{commentWidth}
 use Rattle.record.specs.Rows.{rowWidth}
 use Rattle.file.specs.Plain.{Plain}
 use Rattle.file.specs.Table.{countOf, headerIn, commentsIn, rowLines, rowsIn}
-use Rattle.reader.specs.Reading.{refusedWith, linesTo, acceptedAs, frontOf, fileOf, roomFor, enough, delivered, filled, identifiersOf, exponentsOf}
+use Rattle.reader.specs.Reading.{refusedWith, linesTo, acceptedAs, frontOf, roomFor, enough, delivered, filled, identifiersOf, exponentsOf}
 use Rattle.scan_laws.proofs.Files.{front-plain}
 use Rattle.scan_laws.proofs.Local.{whole-ends}
 use Rattle.scan_laws.proofs.Used.{accepted-front}
 use Rattle.file_laws.proofs.Counts.{count-is, rows-many, rows-many-both, identifiers-room, exponents-room, comments-room, places-room, motions-room}
-use Rattle.file_laws.proofs.Selected.{satellites, epochs, kind-8}
+use Rattle.file_laws.proofs.Selected.{satellites, kind-8}
 use Rattle.theorems.proofs.Accepting.{says-satellites, says-epochs, says-velocity, says-comments}
 use Rattle.theorems.proofs.Judging.{refused-numbers, whole-refused}
 use Rattle.header.specs.declared.types.Header.{Header}
-use Rattle.reader.specs.declared.types.Reading.{Reading}
 use Rattle.scan.specs.declared.Tally.{Tally}
 use Rattle.scan.specs.declared.Front.{Front}
 use Rattle.scan.specs.declared.Front.the-variants as front

@@ -10,7 +10,7 @@ use native.Mathlib.Nat.{le-of-suc-le-suc, add-zero, mod-eq-of-lt, div-eq-of-lt, 
 use native.Mathlib.Omega.{arith}
 use borrow.Author.Tests.{ne-eqb}
 use lib.Dec.{eqb, leb}
-use lib.ListN.{length, take, drop, drop-of-length-le}
+use lib.ListN.{length, drop, drop-of-length-le}
 use Rattle.laws.specs.Texts.{every, isPrintable}
 use Rattle.layout.specs.Line.{padded}
 use Rattle.header.specs.Rules.{d}
@@ -22,7 +22,7 @@ use Rattle.machine.specs.Faults.{standingFault}
 use Rattle.machine.specs.Next.{nextOf}
 use Rattle.machine.specs.Step.{onKey, judgedLine, printedLine, stepOf, readFirst}
 use Rattle.float_row.specs.Floats.{floatRow, lineFrom}
-use Rattle.reader.specs.Reading.{frontOf, fileOf, identifiersOf}
+use Rattle.reader.specs.Reading.{frontOf, fileOf}
 use Rattle.file.specs.Table.{countOf, headerIn}
 use Rattle.scan.specs.Run.{steppedOver, atFirst}
 use Rattle.questions.proofs.Asking.{bounded}

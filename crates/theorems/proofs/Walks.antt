@@ -12,7 +12,7 @@ use Rattle.header.specs.Rules.{d}
 use Rattle.lines.specs.Lines.{linesOf, nth}
 use Rattle.lines.proofs.Lined.{lined}
 use Rattle.machine.specs.State.{noIdentifiers}
-use Rattle.machine.specs.Step.{identifiersBrought, stepWithin, readFirst, identifiersFirst, lineIdentifiers, Overfull}
+use Rattle.machine.specs.Step.{readFirst, identifiersFirst, lineIdentifiers, Overfull}
 use Rattle.machine.proofs.Stepping.{kept-within}
 use Rattle.file.specs.Plain.{Sound}
 use Rattle.scan.specs.Run.{Going, stepped, steppedOver, atFirst}

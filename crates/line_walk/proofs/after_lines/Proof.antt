@@ -2,7 +2,7 @@
 -- The loop's invariant: the walker w holds the file that was passed, and so many lines from its spot, with the identifiers as they are now, lead where all the lines from the first spot lead, in spot and names. The variant is the number of lines left.
 -- In each turn the identifiers are lent again, for a lifetime of the call, and come back at the list that `moved` leaves.
 -- Assumes nothing.
-use Rattle.line_walk.proofs.Walking.{_≡_, refl, ap, ap₂, sym, subst, _∙_, ℕ, _-_, _<_, _^_, lt-of-le-of-lt, arith, WellFounded, InvImage·wf, List, [], _∷_, ltb, ltb→lt, nltb→le, length, Nat·lt-wfRel, fullShare, URA, Ty, Body, named, erased, imm, mut, w8, w64, tyInt, tyBool, tyRef, place, field, deref, addrOf, aggregate, unsigned, copy, int, skipᴹ, seq, assign, block, loop, cond, exit, call, return, rvOpd, op2, subᴹ, lt, Val, vint, SProp, ent, sep, emp, via, fst∗, snd∗, exE, ex, id⊢, Lft, Share, GName, Fml, ftrue, fat, froom, fdies, flft, Memory, Routine, Heap, Out, Env, afterSeq, afterBlock, afterTurn, Calls, Loops, Wp, atReturn, WpFn, Tables, Atoms, sem, Lfts, Fun, fact, givenOf, tables, tablesOf, Given, Item, ‵, raw, _⊛_, ⋆, some, later, runs, lft-new, lft-end, anyQ, atRet, Sq, _$_, _∵_, !, qed, by, move, drop, use1, use2, use3, rewrite, split, join, pick, fsplit, fjoin, feqL, suffices, frame, await, done, look, look-in, whole, sub, agg, store, init, forget, stop, hop, fld, from, load, addr, lit, of-opd, bin, and-then, no-more, assigns, assigns-last, land, first, skips, jumps, blocks, branches, returns, enter, alloc1, alloc0, params1, pass1, pass0, free1, free0, exec, Below, again, loops, FmC, fmOf, WpFn-mono, RattleType, owns, Is, shows, uint-vals, uint-tells, u8, u64, usize, RefT, NamedLft, now, plain, namedLft, sliceTy, sliceVal, ShrSlice, MutSlice, Room, finally, mut-slice-tells, slice-vals, shr-slice-tells, shr-slice-lawful, shr-slice-copy, only, peeks, heard, nothing, Contract, Triple, calls-at, Vals, onEntry, Meets, tripleOf, entered, cited, Stays, stay-none, stay-none-slice, stay-slice, walkOf, goes-none, goes-none-slice, goes-slice, Walks, ends-at, walked, walk-meets, yes, ensured, lasts}
+use Rattle.line_walk.proofs.Walking.{_≡_, refl, ap, ap₂, sym, subst, _∙_, ℕ, _-_, _<_, _^_, lt-of-le-of-lt, arith, WellFounded, InvImage·wf, List, [], _∷_, ltb→lt, nltb→le, length, Nat·lt-wfRel, fullShare, URA, Ty, Body, named, erased, imm, mut, w8, w64, tyInt, tyBool, tyRef, place, field, deref, addrOf, aggregate, unsigned, copy, int, skipᴹ, seq, assign, block, loop, cond, exit, call, return, rvOpd, op2, subᴹ, lt, Val, vint, SProp, ent, sep, emp, via, fst∗, snd∗, exE, ex, id⊢, Lft, Share, GName, Fml, ftrue, fat, froom, fdies, flft, Memory, Routine, Heap, Out, Env, afterSeq, afterBlock, afterTurn, Calls, Loops, Wp, atReturn, WpFn, Tables, Atoms, sem, Lfts, Fun, fact, givenOf, tables, tablesOf, Given, Item, ‵, raw, _⊛_, ⋆, some, later, runs, lft-new, lft-end, anyQ, atRet, Sq, _$_, _∵_, !, qed, by, move, drop, use1, use2, use3, rewrite, split, join, pick, fsplit, fjoin, feqL, suffices, frame, await, done, look, look-in, whole, sub, agg, store, init, forget, stop, hop, fld, from, load, addr, lit, of-opd, bin, and-then, no-more, assigns, assigns-last, land, first, skips, jumps, blocks, branches, returns, enter, alloc1, alloc0, params1, pass1, pass0, free1, free0, exec, Below, again, loops, FmC, fmOf, WpFn-mono, RattleType, owns, Is, shows, uint-vals, uint-tells, u8, u64, usize, RefT, NamedLft, now, plain, namedLft, sliceTy, sliceVal, ShrSlice, MutSlice, Room, finally, mut-slice-tells, slice-vals, shr-slice-tells, shr-slice-lawful, shr-slice-copy, only, peeks, heard, nothing, Contract, Triple, calls-at, Vals, onEntry, Meets, tripleOf, entered, cited, Stays, stay-none, stay-none-slice, stay-slice, walkOf, goes-none, goes-none-slice, goes-slice, Walks, ends-at, walked, walk-meets, yes, ensured, lasts}
 use Rattle.line_walk.proofs.Saying.{says-both}
 use Rattle.line_walk.proofs.Again.{LentAgain, lends-again, comes-back}
 use denote.Struct.Laws as LL

@@ -3,7 +3,6 @@
 use mathlib.Core.Path.{_≡_, sym, ap, _∙_}
 use Prim.Native.Nat.{_+_}
 use borrow.Author.Needs.{needs}
-use lib.ListN.{take, drop}
 use Rattle.machine.specs.Step.{stepOf, readAs, lineKnown}
 use Rattle.machine.specs.Told.{toldRead}
 use Rattle.machine.specs.declared.types.Verdict.{Verdict}

@@ -4,7 +4,7 @@ use Prim.Native.Nat.{ℕ}
 use native.Mathlib.Omega.{arith}
 use borrow.Author.Needs.{needs}
 use lib.IntN.{ℤ, pos}
-use lib.ListN.{length, replicate, length-replicate}
+use lib.ListN.{replicate, length-replicate}
 use Rattle.header.specs.Rules.{d, maxSatellites}
 use Rattle.reader.specs.Reading.{fileOf}
 use Rattle.rewrite.specs.Printed.{answered}
