@@ -71,9 +71,11 @@ build_oracle() {
 
 build() {
     mkdir -p "$made"
-    "$root/tests/archive.sh"
-    build_driver
+    "$root/tests/archive.sh" &
+    proving=$!
     for oracle in files forms divide dates; do build_oracle "$oracle"; done
+    wait "$proving"
+    build_driver
 }
 
 run() {

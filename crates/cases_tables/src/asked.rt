@@ -45,7 +45,7 @@ fn clock(row: FloatRow) {
 
 // The row of an epoch and a satellite.
 pub(crate) fn row(file: &[u8], epoch: u64, satellite: u64) {
-    let answer = float_row::row(file, epoch, satellite);
+    let answer = questions::row(file, epoch, satellite);
     let row = answer.row;
     print::text(b"row");
     print::refusal(answer.refusal, answer.line);

@@ -4,20 +4,16 @@
 use mathlib.Core.Bool.{Bool, true, false, cond}
 use mathlib.Core.List.{List}
 use Prim.Native.Nat.{ℕ, suc}
-use lib.Dec.{eqb}
 use lib.IntN.{ℤ, pos, negsuc}
 use lib.Ieee.{Float, nan, ofInt, binary64}
 use lib.Ieee.Exact.{HasValue}
 use lib.ListN.{drop}
 use Rattle.lines.specs.Lines.{linesOf, nth}
 use Rattle.record.specs.Absence.{placeAbsent, clockAbsent}
-use Rattle.record.specs.Rows.{rowOf}
 use Rattle.file.specs.Table.{storedSigned}
 use Rattle.record.specs.declared.types.Signed.{Signed}
 use Rattle.record.specs.declared.types.Row.{Row}
-use Rattle.questions.specs.declared.types.RowBegins.{RowBegins}
 use Rattle.float_row.specs.declared.FloatRow.{FloatRow}
-use Rattle.float_row.specs.declared.RowAnswer.{RowAnswer}
 
 -- a whole number as a float, or no number where it is absent
 unfoldable pub floatUnless : Bool → Signed → Float
@@ -47,13 +43,6 @@ absentRow = record { x = nan; y = nan; z = nan; clock = nan; «place_absent» = 
 -- the line that begins at a byte
 abbrev pub lineFrom : ℕ → List ℕ → List ℕ
 lineFrom at bytes = nth 0 (linesOf (drop at bytes))
-
--- the row of the P line that begins at a byte, or the refusal
-unfoldable pub rowAnswer : List ℕ → RowBegins → RowAnswer
-rowAnswer bytes place =
-    cond (eqb (place .refusal) 0)
-    (record { refusal = 0; line = 0; row = floatRow (rowOf false (lineFrom (place .at) bytes)) })
-    (record { refusal = place .refusal; line = place .line; row = absentRow })
 
 -- a float is exactly a whole number: its sign and its size
 abbrev pub Exactly : Float → ℤ → Type 0

@@ -1,11 +1,8 @@
-// The row question of the adjustment: three coordinates and the clock as floats, or absent for either.
+// The row of the adjustment: three coordinates and the clock as floats, or absent for either.
 ghost use mathlib.Core.Path.{_≡_};
 ghost use lib.Ieee.{nan, ofInt, binary64};
 ghost use Rattle.file.specs.Table.{storedSigned};
-ghost use Rattle.header.specs.Rules.{d};
-ghost use Rattle.reader.specs.Reading.{fileOf};
-ghost use Rattle.questions.specs.Questions.{rowBegins};
-ghost use Rattle.float_row.specs.Floats.{floatUnless, floatRow, absentRow, rowAnswer};
+ghost use Rattle.float_row.specs.Floats.{floatUnless, floatRow, absentRow};
 use record::Row;
 use record::Signed;
 
@@ -19,14 +16,6 @@ pub struct FloatRow {
     pub clock: f64,
     pub place_absent: bool,
     pub clock_absent: bool,
-}
-
-// The answer of the row question: the refusal (0 accepted) and its line (0 for none); beside a refusal both are absent.
-#[repr(C)]
-pub struct RowAnswer {
-    pub refusal: usize,
-    pub line: u64,
-    pub row: FloatRow,
 }
 
 // No number at all.
@@ -74,8 +63,8 @@ pub fn float_row(row: Row) -> FloatRow
 }
 
 // What stands beside a refusal: both absent.
-fn absent_row() -> FloatRow
-    ensures { λ r. ⌜ r ≡ absentRow ⌝ }
+pub fn absent_row() -> FloatRow
+    ensures result { λ r. ⌜ r ≡ absentRow ⌝ }
 {
     let none = no_number();
     FloatRow {
@@ -85,26 +74,5 @@ fn absent_row() -> FloatRow
         clock: none,
         place_absent: true,
         clock_absent: true,
-    }
-}
-
-// The P row of an epoch and a satellite of a file, each counted from 0, in mode V too: the file's own refusal, then 13 with line 0 where it has
-// no such row.
-pub fn row(file: &[u8], epoch: u64, satellite: u64) -> RowAnswer
-    ensures result { λ r. ⌜ r ≡ rowAnswer (now (file .entry)) (rowBegins d (now (file .entry)) (fileOf d (now (file .entry))) epoch satellite) ⌝ }
-{
-    let place = questions::row_begins(file, epoch, satellite);
-    if place.refusal != 0 {
-        return RowAnswer {
-            refusal: place.refusal,
-            line: place.line,
-            row: absent_row(),
-        };
-    }
-    let line = file::line_at(file, place.at);
-    RowAnswer {
-        refusal: 0,
-        line: 0,
-        row: float_row(record::rows::row_of(line, false)),
     }
 }

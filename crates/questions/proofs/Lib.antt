@@ -1,3 +1,4 @@
 pub mod Asking
+pub mod RowAnswers
 pub mod Theorems
 pub mod Determined

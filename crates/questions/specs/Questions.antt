@@ -10,15 +10,18 @@ use Rattle.layout.specs.Line.{trimmed}
 use Rattle.layout.specs.Kind.{named, identifierNumber, identifierCode}
 use Rattle.lines.specs.Lines.{nth, beginsFrom}
 use Rattle.record.specs.LineKinds.{commentKind, positionKind}
+use Rattle.record.specs.Rows.{rowOf}
 use Rattle.file.specs.Kinds.{isKind, ofKind}
 use Rattle.file.specs.Table.{firstIn, countOf}
 use Rattle.header.specs.declared.types.Rules.{Rules}
 use Rattle.scan.specs.declared.Front.{Front}
 use Rattle.scan.specs.declared.Front.the-variants as front
 use Rattle.reader.specs.Reading.{linesTo, identifiersOf}
+use Rattle.float_row.specs.Floats.{floatRow, absentRow, lineFrom}
 use Rattle.questions.specs.declared.types.CommentAnswer.{CommentAnswer}
 use Rattle.questions.specs.declared.types.SatelliteAnswer.{SatelliteAnswer}
 use Rattle.questions.specs.declared.types.RowBegins.{RowBegins}
+use Rattle.questions.specs.declared.types.RowAnswer.{RowAnswer}
 
 -- the text of a comment's line: from column 4 on, without trailing blanks
 abbrev pub textIn : List ℕ → List ℕ
@@ -95,3 +98,10 @@ rowAt rules lines epoch satellite =
 unfoldable pub rowBegins : Rules → List ℕ → Front → ℕ → ℕ → RowBegins
 rowBegins rules bytes (front.File t) epoch satellite = rowAt rules (linesTo (t .end) bytes) epoch satellite
 rowBegins rules bytes (front.Refused number line column) epoch satellite = noRow number line
+
+-- its row as floats, or the refusal with both absent
+unfoldable pub rowAnswer : List ℕ → RowBegins → RowAnswer
+rowAnswer bytes found =
+    cond (eqb (found .refusal) 0)
+    (record { refusal = 0; line = 0; row = floatRow (rowOf false (lineFrom (found .at) bytes)) })
+    (record { refusal = found .refusal; line = found .line; row = absentRow })

@@ -5,7 +5,8 @@ ghost use Rattle.lines.specs.Lines.{linesOf};
 ghost use Rattle.header.specs.Rules.{d, maxSatellites, maxEpochs};
 ghost use Rattle.file.specs.Table.{countOf};
 ghost use Rattle.reader.specs.Reading.{fileOf};
-ghost use Rattle.questions.specs.Questions.{epochsOf, noRow, rowAt, rowBegins};
+ghost use Rattle.questions.specs.Questions.{epochsOf, noRow, rowAt, rowBegins, rowAnswer};
+use crate::types::RowAnswer;
 use crate::types::RowBegins;
 use header::Rules;
 use record::kind::POSITION_KIND;
@@ -54,5 +55,25 @@ pub fn row_begins(file: &[u8], epoch: u64, satellite: u64) -> RowBegins
             let end = tally.end;
             row_at(rules, &file[0..end], epoch, satellite)
         }
+    }
+}
+
+// The P row of an epoch and a satellite of a file as floats: the file's own refusal, then 13 with line 0 where it has no such row.
+pub fn row(file: &[u8], epoch: u64, satellite: u64) -> RowAnswer
+    ensures result { λ r. ⌜ r ≡ rowAnswer (now (file .entry)) (rowBegins d (now (file .entry)) (fileOf d (now (file .entry))) epoch satellite) ⌝ }
+{
+    let found = row_begins(file, epoch, satellite);
+    if found.refusal != 0 {
+        return RowAnswer {
+            refusal: found.refusal,
+            line: found.line,
+            row: float_row::absent_row(),
+        };
+    }
+    let line = file::line_at(file, found.at);
+    RowAnswer {
+        refusal: 0,
+        line: 0,
+        row: float_row::float_row(record::rows::row_of(line, false)),
     }
 }

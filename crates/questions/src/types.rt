@@ -1,3 +1,5 @@
+use float_row::FloatRow;
+
 // Where the text of a comment lies in its file: first byte and length, both 0 beside a refusal.
 #[repr(C)]
 pub struct CommentAnswer {
@@ -21,4 +23,12 @@ pub struct RowBegins {
     pub refusal: usize,
     pub line: u64,
     pub at: usize,
+}
+
+// The row of the adjustment; beside a refusal both place and clock are absent.
+#[repr(C)]
+pub struct RowAnswer {
+    pub refusal: usize,
+    pub line: u64,
+    pub row: FloatRow,
 }

@@ -5,8 +5,7 @@ ghost use Rattle.header.specs.Header.{headerOf};
 ghost use Rattle.calendar.specs.Clock.{clockOf};
 ghost use Rattle.calendar.specs.Gregorian.{toldDate, dateAnswer, toldNamed, civilAnswer};
 ghost use Rattle.reader.specs.Reading.{fileOf};
-ghost use Rattle.questions.specs.Questions.{identifierNamed, commentAnswer, satelliteAnswer, rowBegins};
-ghost use Rattle.float_row.specs.Floats.{rowAnswer};
+ghost use Rattle.questions.specs.Questions.{identifierNamed, commentAnswer, satelliteAnswer, rowBegins, rowAnswer};
 ghost use Rattle.sp3.specs.Doors.{dateDoor, momentDoor};
 use crate::types::DateAnswer;
 use crate::types::HeaderParts;
@@ -14,11 +13,11 @@ use crate::types::MomentAnswer;
 use calendar::Clock;
 use calendar::Dated;
 use calendar::Named;
-use float_row::RowAnswer;
 use header::Header;
 use header::HeaderAnswer;
 use header::Moment;
 use questions::CommentAnswer;
+use questions::RowAnswer;
 use questions::SatelliteAnswer;
 
 // Where the text of the k-th comment of a file lies.
@@ -50,7 +49,7 @@ pub extern "C" fn sp3_satellite_of(file: &[u8], identifier: u64) -> SatelliteAns
 pub extern "C" fn sp3_row(file: &[u8], epoch: u64, satellite: u64) -> RowAnswer
     ensures result { λ r. ⌜ r ≡ rowAnswer (now (file .entry)) (rowBegins d (now (file .entry)) (fileOf d (now (file .entry))) epoch satellite) ⌝ }
 {
-    float_row::row(file, epoch, satellite)
+    questions::row(file, epoch, satellite)
 }
 
 // What a date names, for C.

@@ -36,7 +36,7 @@ use Rattle.theorems.proofs.Beginning.{begin-accepts, begin-short, begin
 use Rattle.reader.specs.declared.types.Reading.{Reading}
 use Rattle.questions.specs.declared.types.CommentAnswer.{CommentAnswer}
 use Rattle.questions.specs.declared.types.SatelliteAnswer.{SatelliteAnswer}
-use Rattle.float_row.specs.declared.RowAnswer.{RowAnswer}
+use Rattle.questions.specs.declared.types.RowAnswer.{RowAnswer}
 use Rattle.stored_row.specs.declared.types.Place.the-variants as place
 use Rattle.stored_row.specs.declared.types.ClockRead.the-variants as clock
 use Rattle.stored_row.specs.declared.types.Deviation.the-variants as deviation

@@ -18,8 +18,8 @@ use Rattle.file.specs.Table.{headerIn}
 use Rattle.file.proofs.Finding.{line-at-place}
 use Rattle.scan.specs.Run.{IsFile}
 use Rattle.reader.specs.Reading.{fileOf}
-use Rattle.questions.specs.Questions.{rowBegins}
-use Rattle.float_row.specs.Floats.{floatRow, rowAnswer}
+use Rattle.questions.specs.Questions.{rowBegins, rowAnswer}
+use Rattle.float_row.specs.Floats.{floatRow}
 use Rattle.scan_laws.proofs.Files.{whole-taken}
 use Rattle.float_row.specs.Floats.{Exactly}
 use Rattle.float_row.proofs.Theorems.{place-float, clock-float, place-absent-exactly, clock-absent-exactly}
@@ -31,7 +31,7 @@ use Rattle.theorems.proofs.Room.{found-numbered}
 use Rattle.theorems.proofs.Reading.{the-row}
 use Rattle.theorems.specs.Files.{header, identifier, rowLinesOf, rowAt, There}
 use Rattle.record.specs.declared.types.Row.{Row}
-use Rattle.float_row.specs.declared.RowAnswer.{RowAnswer}
+use Rattle.questions.specs.declared.types.RowAnswer.{RowAnswer}
 use Rattle.scan.specs.declared.Front.the-variants as front
 use Rattle.theorems.specs.Asked.{asked, rowFound, rowRefused}
 use Rattle.theorems.specs.Files.{lineAsked, held}

@@ -48,7 +48,7 @@ use Rattle.machine.specs.declared.types.State.{State}
 use Rattle.machine.specs.declared.types.Verdict.{Verdict}
 use Rattle.machine.specs.declared.types.Verdict.the-variants as verdict
 use Rattle.float_row.specs.declared.FloatRow.{FloatRow}
-use Rattle.float_row.specs.declared.RowAnswer.{RowAnswer}
+use Rattle.questions.specs.declared.types.RowAnswer.{RowAnswer}
 use Rattle.scan.specs.declared.Tally.{Tally}
 use Rattle.scan.specs.declared.Front.the-variants as front
 use Rattle.line_walk.specs.declared.Spot.{Spot}

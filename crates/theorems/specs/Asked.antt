@@ -4,10 +4,10 @@ use mathlib.Core.List.{List}
 use Prim.Native.Nat.{ℕ}
 use Rattle.header.specs.Rules.{d}
 use Rattle.reader.specs.Reading.{fileOf}
-use Rattle.questions.specs.Questions.{rowBegins}
-use Rattle.float_row.specs.Floats.{absentRow, rowAnswer}
+use Rattle.questions.specs.Questions.{rowBegins, rowAnswer}
+use Rattle.float_row.specs.Floats.{absentRow}
 use Rattle.float_row.specs.declared.FloatRow.{FloatRow}
-use Rattle.float_row.specs.declared.RowAnswer.{RowAnswer}
+use Rattle.questions.specs.declared.types.RowAnswer.{RowAnswer}
 
 -- what `row` answers for epoch k and satellite j of some bytes
 abbrev pub asked : List ℕ → ℕ → ℕ → RowAnswer

@@ -4,8 +4,7 @@
 pub use Rattle.reader.proofs.Determined.{judge-determined, judge-front-determined, read-determined, read-front-determined}
 pub use Rattle.writer.proofs.Determined.{write-determined}
 pub use Rattle.divide.proofs.Determined.{divide-determined}
-pub use Rattle.questions.proofs.Determined.{comment-determined, comment-answer-determined, satellite-of-determined}
-pub use Rattle.float_row.proofs.Determined.{row-determined}
+pub use Rattle.questions.proofs.Determined.{comment-determined, comment-answer-determined, satellite-of-determined, row-determined}
 pub use Rattle.calendar.proofs.Determined.{date-determined}
 pub use Rattle.header.proofs.Determined.{header-new-determined}
 pub use Rattle.stored_row.proofs.Determined.{place-of-determined, clock-of-determined, exponent-of-determined, flag-of-determined}

@@ -1,9 +1,9 @@
--- `float_row::row` meets its contract: the row of the line at the place that `questions::row_begins` gives, or its refusal.
+-- `questions::rows::row` meets its contract: the row of the line that begins where `row_begins` says, or its refusal.
 -- Assumes nothing.
 use borrow.Author.Needs.{needs}
-use Rattle.float_row.proofs.Floating.{refused-as, answered-as}
-use Rattle.float_row.proofs.row.Statement.{statement}
-use Rattle.float_row.proofs.row.Tie as tie
+use Rattle.questions.proofs.RowAnswers.{refused-as, answered-as}
+use Rattle.questions.proofs.rows.row.Statement.{statement}
+use Rattle.questions.proofs.rows.row.Tie as tie
 
 returns : tie.Need-returns
 returns c =
