@@ -42,7 +42,7 @@
 //! kept                          every lent place past them holds the mark
 //! (the rest only where WALK is 1)
 //! begin R LINE LENGTH SATELLITES EPOCHS
-//! name G07                      each identifier
+//! identifier G07                each identifier
 //! kept
 //! row E S at X Y Z CLOCK        each P row; `absent` in place of `at X Y Z`
 //! row E S absent CLOCK          or of CLOCK
@@ -50,7 +50,7 @@
 //! spot K AT  DUE LEFT EPOCHS    after K lines, or as many as may be passed
 //! then K AT DUE LEFT EPOCHS     the same after half of the lines and the others
 //! short K AT DUE LEFT EPOCHS    after all lines, with room for I identifiers
-//! name G07                      each identifier that they left there
+//! identifier G07                each identifier that they left there
 //! kept
 //! (and this only where WALK is 2)
 //! line K AT DUE LEFT EPOCHS     after line K, each that is without fault
@@ -368,7 +368,7 @@ fn show_read(bytes: &[u8], room: usize) -> String {
 
 /// Identifiers that were left in a list; its other places are as they were.
 fn show_identifiers(identifiers: &[u64]) -> String {
-    let shown = identifiers.iter().map(|&number| format!("name {}\n", files::show_code(number)));
+    let shown = identifiers.iter().map(|&number| format!("identifier {}\n", files::show_code(number)));
     shown.collect::<String>() + "kept\n"
 }
 
@@ -600,7 +600,7 @@ const WALKED: &[Walked] = &[
         &[],
         &[
             "begin 0 0 1215 1 1",
-            "name G07",
+            "identifier G07",
             "kept",
             "row 0 0 at 5000000001 -500000 0 absent",
             "end",
@@ -612,7 +612,7 @@ const WALKED: &[Walked] = &[
             "spot 25 1211 14 0 0",
             "spot 30 1211 14 0 0",
             "short 25 1211 14 0 0",
-            "name G07",
+            "identifier G07",
             "kept",
         ],
     ),
@@ -623,8 +623,8 @@ const WALKED: &[Walked] = &[
         &[],
         &[
             "begin 0 0 1636 2 3",
-            "name G07",
-            "name R24",
+            "identifier G07",
+            "identifier R24",
             "kept",
             "row 0 0 at 15000000000 -20000500000 0 123456789",
             "row 0 1 absent absent",
@@ -646,8 +646,8 @@ const WALKED: &[Walked] = &[
         &[],
         &[
             "begin 0 0 1605 2 1",
-            "name G01",
-            "name G02",
+            "identifier G01",
+            "identifier G02",
             "kept",
             "row 0 0 at -11044805800 -10475672350 21929418200 189163300",
             "row 0 1 at -12593593500 10170327650 -20354534400 -55976000",
@@ -728,8 +728,8 @@ const WALKED: &[Walked] = &[
             "kept",
         ],
     ),
-    (Night, &[], 2, &[], &["end", "short 32 1632 14 0 0", "name G07", "name R24", "kept"]),
-    (Night, &[], 3, &[], &["end", "short 32 1632 14 0 0", "name G07", "name R24", "kept"]),
+    (Night, &[], 2, &[], &["end", "short 32 1632 14 0 0", "identifier G07", "identifier R24", "kept"]),
+    (Night, &[], 3, &[], &["end", "short 32 1632 14 0 0", "identifier G07", "identifier R24", "kept"]),
     (
         Paper,
         &[],
@@ -763,25 +763,25 @@ const WALKED: &[Walked] = &[
             "kept",
             "spot 42 2248 14 0 0",
             "short 42 183 3 1 1",
-            "name G01",
-            "name G17",
+            "identifier G01",
+            "identifier G17",
             "kept",
         ],
     ),
-    (ManyFile(18), &[], 18, &[], &["short 42 2248 14 0 0", "name G17", "name G18", "kept"]),
+    (ManyFile(18), &[], 18, &[], &["short 42 2248 14 0 0", "identifier G17", "identifier G18", "kept"]),
     (
         ManyFile(40),
         &[Keep(5)],
         20,
         &[],
-        &["then 5 305 3 0 1", "short 5 183 3 23 1", "name G17", "kept"],
+        &["then 5 305 3 0 1", "short 5 183 3 23 1", "identifier G17", "kept"],
     ),
     (
         ManyFile(40),
         &[Keep(5), Put(4, 10, "G01")],
         20,
         &[],
-        &["begin 8 4 0 0 0", "then 5 183 3 23 1", "short 5 183 3 23 1", "name G17", "kept"],
+        &["begin 8 4 0 0 0", "then 5 183 3 23 1", "short 5 183 3 23 1", "identifier G17", "kept"],
     ),
     (Paper, &[Join(25)], 0, &[7107], &["begin 1 25 0 0 0", "kept", "refused 1 line 25"]),
     // No bytes, a byte, an empty line.
@@ -1004,7 +1004,7 @@ const WALKED: &[Walked] = &[
         &[],
         &[
             "begin 0 0 2374 20 1",
-            "name G18",
+            "identifier G18",
             "row 0 19 at 19000001 -500000 0 1000000",
             "spot 3 183 3 3 1",
         ],
@@ -1028,7 +1028,7 @@ const WALKED: &[Walked] = &[
         &[],
         255,
         &[],
-        &["begin 0 0 17929 255 1", "name E57", "row 0 254 at 254000001 -500000 0 1000000", "end"],
+        &["begin 0 0 17929 255 1", "identifier E57", "row 0 254 at 254000001 -500000 0 1000000", "end"],
     ),
     (
         ManyFile(255),

@@ -118,7 +118,7 @@ static void spots_out(bytes_t file, identifiers_t own) {
 static void identifiers_out(const uint64_t *list, size_t count, size_t room) {
     size_t filled = count <= room ? count : room;
     for (size_t i = 0; i < filled; i++) {
-        fputs("name ", stdout);
+        fputs("identifier ", stdout);
         identifier_out(list[i]);
         putchar('\n');
     }

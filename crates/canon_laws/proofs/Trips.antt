@@ -21,7 +21,7 @@ use Rattle.record.specs.declared.types.BaseLine.{BaseLine}
 use Rattle.file.specs.Table.{headerFrom, headerIn, countOf, slotsIn, commentsIn, rowsIn, slotNumbers, commentText, numbersOfRows}
 use Rattle.file.specs.Plain.{Plain, Accepted}
 use Rattle.file_laws.proofs.Counts as plain
-use Rattle.file_laws.proofs.Selected.{satellites, kind-4, kind-8, kind-rows}
+use Rattle.file_laws.proofs.Selected.{satellites, kind-accuracies, kind-comments, kind-rows}
 use Rattle.scan_laws.proofs.Files.{plain-lines}
 use Rattle.canon.specs.Table as table
 use Rattle.canon.specs.Table.{Table}
@@ -139,14 +139,14 @@ module _ (rules : Rules) (proper : Proper rules) (t : Table) (ok : valid rules t
   exponents-same : slotsIn rules true (h .satellites) bare ≡ table.exponentsOf t
   unfolding slotsIn form-plain
   exponents-same =
-      ap (λ (ls : List (List ℕ)). take (h .satellites) (flat (map (slotNumbers true) ls))) (kind-4 its-plain)
+      ap (λ (ls : List (List ℕ)). take (h .satellites) (flat (map (slotNumbers true) ls))) (kind-accuracies its-plain)
       ∙ ap (λ (n : ℕ). take n (flat (map (slotNumbers true) (its-plain .accuracies)))) (sym (v .exponents-many))
       ∙ slots-hold true (slotLines (h .satellites)) (table.exponentsOf t) (v .exponents) (omega (arith, v .exponents-many, room-all (h .satellites)))
 
   comments-same : commentsIn rules bare ≡ table.commentsOf t
   unfolding commentsIn form-plain
   comments-same =
-      ap (λ (ls : List (List ℕ)). flat (map commentText ls)) (kind-8 its-plain)
+      ap (λ (ls : List (List ℕ)). flat (map commentText ls)) (kind-comments its-plain)
       ∙ comment.comments-back rules proper (h .comments) (table.commentsOf t) (v .comments-many) (v .comments)
 
   rows-same : rowsIn rules bare ≡ table.rowsOf t

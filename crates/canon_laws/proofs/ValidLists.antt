@@ -35,7 +35,7 @@ use Rattle.laws.proofs.Bools.{and-left, and-right, and-both}
 use Rattle.laws.proofs.Lists.{one-less, every-replicate}
 use Rattle.layout.proofs.Again.{item-clean}
 use Rattle.file_laws.proofs.Clean.{record-clean}
-use Rattle.file_laws.proofs.Selected.{satellites, identifiers, kind-4, kind-8}
+use Rattle.file_laws.proofs.Selected.{satellites, identifiers, kind-accuracies, kind-comments}
 use Rattle.file_laws.proofs.Slots.{slots-wide}
 use Rattle.file_laws.proofs.Counts.{comment-wide}
 use Rattle.canon.proofs.Parted.{every-take, every-drop}
@@ -208,12 +208,12 @@ module _ {rules : Rules} {lines : List (List ℕ)} (p : Plain rules lines) where
   pub exponents-valid : exponentsValid (slotsIn rules true (satellites p) lines) ≡ true
   unfolding exponentsValid slotsIn
   exponents-valid =
-      ap (λ (ls : List (List ℕ)). every (slotValid true) (take (satellites p) (flat (map (slotNumbers true) ls)))) (kind-4 p)
+      ap (λ (ls : List (List ℕ)). every (slotValid true) (take (satellites p) (flat (map (slotNumbers true) ls)))) (kind-accuracies p)
       ∙ slots-valid rules true (satellites p) (p .accuracies) (p .are-accuracies)
 
   -- EVERY COMMENT IS VALID.
   pub comments-valid : commentsValid rules (length (p .comments)) (commentsIn rules lines) ≡ true
   unfolding commentsIn
   comments-valid =
-      ap (λ (ls : List (List ℕ)). commentsValid rules (length (p .comments)) (flat (map commentText ls))) (kind-8 p)
+      ap (λ (ls : List (List ℕ)). commentsValid rules (length (p .comments)) (flat (map commentText ls))) (kind-comments p)
       ∙ lines-valid rules (p .comments) (p .are-comments)

@@ -7,7 +7,7 @@ pub(crate) const MARK: u64 = 7777;
 // A filled number: the length of a file, or a satellite's identifier.
 fn one(named: bool, n: u64) {
     if named {
-        print::name(n);
+        print::identifier(n);
     } else {
         print::text(b"length");
         print::value(n);

@@ -13,9 +13,9 @@ pub(crate) fn value(n: u64) {
 }
 
 // A satellite's identifier: 7107 is G07.
-pub(crate) fn name(n: u64) {
+pub(crate) fn identifier(n: u64) {
     let letter = [(n / 100 % 256) as u8];
-    text(b"name ");
+    text(b"identifier ");
     text(&letter);
     io::print_decimal(STDOUT_FILENO, n % 100 / 10);
     io::print_decimal(STDOUT_FILENO, n % 10);

@@ -29,7 +29,7 @@ use Rattle.layout.proofs.Again.{lower-clean}
 use Rattle.lines.proofs.Each.{Each}
 use Rattle.lines.proofs.Split.{bytes-in}
 use Rattle.file_laws.proofs.Sorting.{row-record, row-kind, epoch-record, epoch-kind, comment-kind}
-use Rattle.file_laws.proofs.Selected.{kind-8, epochs}
+use Rattle.file_laws.proofs.Selected.{kind-comments, epochs}
 use Rattle.file_laws.proofs.Rule.{epochs-many}
 use Rattle.file_laws.proofs.Clean.{record-clean, item-at}
 use Rattle.file_laws.proofs.Reach.{decimal-reaches, symbol-reaches}
@@ -125,7 +125,7 @@ module _ {rules : Rules} {lines : List (List ℕ)} (p : Plain rules lines) where
   -- 61 bytes for each row, 32 for each epoch and 3 for each comment are in the file
   pub bytes-enough : 61 * length (rowLines rules lines) + 32 * epochs p + 3 * length (p .comments) ≤ bytesIn lines
   bytes-enough =
-      omega (arith, counted rules lines (every-line rules (Long rules) (lengths rules) lines p), epochs-many p, ap length (kind-8 p))
+      omega (arith, counted rules lines (every-line rules (Long rules) (lengths rules) lines p), epochs-many p, ap length (kind-comments p))
 
 -- the same of the bytes of an accepted file
 pub file-bytes : {rules : Rules} {bytes : List ℕ} (a : Accepted rules bytes)

@@ -36,7 +36,7 @@ use Rattle.layout.proofs.Lines.{padded-length}
 use Rattle.lines.proofs.Each.{each-map}
 use Rattle.lines.proofs.Picking.{length-flat}
 use Rattle.file_laws.proofs.Sorting.{both-selected}
-use Rattle.file_laws.proofs.Selected.{satellites, identifiers, velocities, interval8, epochs, by-epochs, kind-1, kind-2, kind-3, kind-5, kind-6, kind-8, kind-rows}
+use Rattle.file_laws.proofs.Selected.{satellites, identifiers, velocities, interval8, epochs, by-epochs, kind-first, kind-second, kind-satellites, kind-characters, kind-floats, kind-comments, kind-rows}
 use Rattle.file_laws.proofs.Slots.{identifiers-many, identifiers-in, accuracies-many}
 use Rattle.file_laws.proofs.Places as place
 use Rattle.file_laws.proofs.Rule.{places-many, rows-are-places, absentIn}
@@ -54,7 +54,7 @@ module _ {rules : Rules} {lines : List (List ℕ)} (p : Plain rules lines) where
   -- the table's number of satellites is the header's
   pub count-is : countOf rules lines ≡ satellites p
   unfolding nth
-  count-is = rw (kind-3 p)
+  count-is = rw (kind-satellites p)
 
   -- and the identifiers by that number are the header's
   pub identifiers-are : slotsIn rules false (countOf rules lines) lines ≡ identifiers p
@@ -70,7 +70,7 @@ module _ {rules : Rules} {lines : List (List ℕ)} (p : Plain rules lines) where
       (baseOf (padded (p .bases)))
       (length (p .comments))
   unfolding headerIn nth
-  header-is = rw (kind-1 p, kind-2 p, kind-3 p, kind-5 p, kind-6 p, kind-8 p)
+  header-is = rw (kind-first p, kind-second p, kind-satellites p, kind-characters p, kind-floats p, kind-comments p)
 
   -- from 1 to the most satellites that the version allows, and from 1 to 100,000 epochs
   pub satellites-bounds : (1 ≤ satellites p) × (satellites p ≤ rules .«most_satellites»)
@@ -105,7 +105,7 @@ module _ {rules : Rules} {lines : List (List ℕ)} (p : Plain rules lines) where
   pub comments-room : length (commentsIn rules lines) ≡ commentWidth * length (p .comments)
   unfolding commentsIn
   comments-room =
-      ap (λ (ls : List (List ℕ)). length (flat (map commentText ls))) (kind-8 p)
+      ap (λ (ls : List (List ℕ)). length (flat (map commentText ls))) (kind-comments p)
       ∙ length-flat commentWidth (map commentText (p .comments)) (each-map (λ (part : List ℕ). length part ≡ commentWidth) commentText comment-wide (p .comments))
       ∙ omega (arith, length-map (p .comments) commentText)
 

@@ -19,7 +19,7 @@ use Rattle.lines.proofs.Picking.{select-append}
 use Rattle.file_laws.proofs.Parted.{before}
 use Rattle.file_laws.proofs.Body.{Block, by-satellite, ByEpoch, blockAt, blockIs, rows-many, block-picked, body-many, body-nth, body-before, no-lines}
 use Rattle.file_laws.proofs.Sorting.{Of}
-use Rattle.file_laws.proofs.Selected.{first-kind, second-kind, identifiers-kind, accuracies-kind, characters-kind, floats-kind, integers-kind, comments-kind, kind-9}
+use Rattle.file_laws.proofs.Selected.{first-kind, second-kind, identifiers-kind, accuracies-kind, characters-kind, floats-kind, integers-kind, comments-kind, kind-epochs}
 
 abbrev isEpochKind : ℕ → Bool
 isEpochKind n = eqb n epochKind
@@ -126,4 +126,4 @@ module _ {rules : Rules} {lines : List (List ℕ)} (p : Plain rules lines) where
       let more : length (ofKind rules epochKind rest) ≡ length (ofKind rules epochKind (p .epochs)) + length (ofKind rules epochKind (p .last ∷ [])) =
       ap length (select-append (isKind rules epochKind) (p .epochs) (p .last ∷ []))
       ∙ length-append (ofKind rules epochKind (p .epochs)) (ofKind rules epochKind (p .last ∷ [])) in
-      no-lines (ofKind rules epochKind header) (omega (arith, all, more, ap length (kind-9 p)))
+      no-lines (ofKind rules epochKind header) (omega (arith, all, more, ap length (kind-epochs p)))

@@ -20,7 +20,7 @@ use Rattle.lines.proofs.Picking.{select-append}
 use Rattle.file_laws.proofs.Sorting.{both-selected}
 use Rattle.file_laws.proofs.Parted.{partAt, before, after, split}
 use Rattle.file_laws.proofs.Body.{blockAt, blockIs}
-use Rattle.file_laws.proofs.Selected.{satellites, identifiers, velocities, start8, interval8, epochs, by-epochs, kind-9, kind-10, kind-11, kind-rows}
+use Rattle.file_laws.proofs.Selected.{satellites, identifiers, velocities, start8, interval8, epochs, by-epochs, kind-epochs, kind-positions, kind-velocities, kind-rows}
 use Rattle.file_laws.proofs.Slots.{identifiers-many}
 use Rattle.file_laws.proofs.Places as place
 use Rattle.file_laws.proofs.Places.{Has, one-row, ownIn}
@@ -55,8 +55,8 @@ module _ {rules : Rules} {lines : List (List ℕ)} (p : Plain rules lines) where
   body = p .epochs
 
   of-kind : (v : Bool) → ofKind rules (rowNumber v) lines ≡ ofKind rules (rowNumber v) body
-  of-kind true = kind-11 p
-  of-kind false = kind-10 p
+  of-kind true = kind-velocities p
+  of-kind false = kind-positions p
 
   -- P lines, and with velocities V lines, number n * E
   rows-many : (v : Bool) → Has (velocities p) v → length (ofKind rules (rowNumber v) lines) ≡ satellites p * epochs p
@@ -74,7 +74,7 @@ module _ {rules : Rules} {lines : List (List ℕ)} (p : Plain rules lines) where
 
   -- there are E epoch lines
   pub epochs-many : length (ofKind rules epochKind lines) ≡ epochs p
-  epochs-many = ap length (kind-9 p) ∙ instant.epochs-many (by-epochs p)
+  epochs-many = ap length (kind-epochs p) ∙ instant.epochs-many (by-epochs p)
 
   in-order : (v : Bool) → Has (velocities p) v → (k : ℕ) → k < epochs p → InOrder p v k (blockAt (by-epochs p) k)
   in-order v has k h =
@@ -138,19 +138,19 @@ module _ {rules : Rules} {lines : List (List ℕ)} (p : Plain rules lines) where
   pub instant-at : (k : ℕ) → k < epochs p → isEpochLine rules (start8 p + k * interval8 p) (nth k (ofKind rules epochKind lines)) ≡ true
   instant-at k h =
       ap (isEpochLine rules (start8 p + k * interval8 p))
-      (ap (nth k) (kind-9 p) ∙ epochs-nth (by-epochs p) k h)
+      (ap (nth k) (kind-epochs p) ∙ epochs-nth (by-epochs p) k h)
       ∙ blockIs (by-epochs p) k h .is-epoch
 
   -- without velocities there is no V line, and the rows of the table are the P lines
   module _ (alone : velocities p ≡ false) where
     pub no-motions : ofKind rules velocityKind lines ≡ []
-    no-motions = kind-11 p ∙ place.no-motion (by-epochs p) alone
+    no-motions = kind-velocities p ∙ place.no-motion (by-epochs p) alone
 
     pub rows-are-places : rowLines rules lines ≡ ofKind rules positionKind lines
     rows-are-places =
         kind-rows p
         ∙ place.rows-are-places (by-epochs p) alone
-        ∙ sym (kind-10 p)
+        ∙ sym (kind-positions p)
 
   -- with velocities they are P and V in turn: the P line of epoch k and satellite j is row 2 * (k * n + j), its V line the row after
   module _ (both : velocities p ≡ true) (k j : ℕ) (hk : k < epochs p) (hj : j < satellites p) where

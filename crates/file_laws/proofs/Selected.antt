@@ -131,54 +131,54 @@ module _ {rules : Rules} {lines : List (List ℕ)} (p : Plain rules lines) where
       other i t = ne-eqb i k (λ e. false≢true (sym h ∙ ap (within epochKind velocityCorrelationKind) (sym e) ∙ t))
 
   -- THE KINDS: what each selection gives. In words: the first line is the only one of its kind, and so on.
-  pub kind-1 : ofKind rules firstKind lines ≡ p .first ∷ []
-  kind-1 = whole-picked (λ (n : ℕ). eqb n firstKind) ∙ rw (none-among firstKind refl)
+  pub kind-first : ofKind rules firstKind lines ≡ p .first ∷ []
+  kind-first = whole-picked (λ (n : ℕ). eqb n firstKind) ∙ rw (none-among firstKind refl)
 
-  pub kind-2 : ofKind rules secondKind lines ≡ p .second ∷ []
-  kind-2 = whole-picked (λ (n : ℕ). eqb n secondKind) ∙ rw (none-among secondKind refl)
+  pub kind-second : ofKind rules secondKind lines ≡ p .second ∷ []
+  kind-second = whole-picked (λ (n : ℕ). eqb n secondKind) ∙ rw (none-among secondKind refl)
 
-  pub kind-3 : ofKind rules satellitesKind lines ≡ p .count ∷ p .slots
-  kind-3 =
+  pub kind-satellites : ofKind rules satellitesKind lines ≡ p .count ∷ p .slots
+  kind-satellites =
       whole-picked (λ (n : ℕ). eqb n satellitesKind)
       ∙ rw (none-among satellitesKind refl) (append-nil (p .count ∷ p .slots))
 
-  pub kind-4 : ofKind rules accuraciesKind lines ≡ p .accuracies
-  kind-4 =
+  pub kind-accuracies : ofKind rules accuraciesKind lines ≡ p .accuracies
+  kind-accuracies =
       whole-picked (λ (n : ℕ). eqb n accuraciesKind)
       ∙ rw (none-among accuraciesKind refl) (append-nil (p .accuracies))
 
-  pub kind-5 : ofKind rules charactersKind lines ≡ p .descriptor ∷ p .characters ∷ []
-  kind-5 = whole-picked (λ (n : ℕ). eqb n charactersKind) ∙ rw (none-among charactersKind refl)
+  pub kind-characters : ofKind rules charactersKind lines ≡ p .descriptor ∷ p .characters ∷ []
+  kind-characters = whole-picked (λ (n : ℕ). eqb n charactersKind) ∙ rw (none-among charactersKind refl)
 
-  pub kind-6 : ofKind rules floatsKind lines ≡ p .bases ∷ p .floats ∷ []
-  kind-6 = whole-picked (λ (n : ℕ). eqb n floatsKind) ∙ rw (none-among floatsKind refl)
+  pub kind-floats : ofKind rules floatsKind lines ≡ p .bases ∷ p .floats ∷ []
+  kind-floats = whole-picked (λ (n : ℕ). eqb n floatsKind) ∙ rw (none-among floatsKind refl)
 
-  pub kind-7 : ofKind rules integersKind lines ≡ p .integers ∷ p .integers′ ∷ []
-  kind-7 = whole-picked (λ (n : ℕ). eqb n integersKind) ∙ rw (none-among integersKind refl)
+  pub kind-integers : ofKind rules integersKind lines ≡ p .integers ∷ p .integers′ ∷ []
+  kind-integers = whole-picked (λ (n : ℕ). eqb n integersKind) ∙ rw (none-among integersKind refl)
 
-  pub kind-8 : ofKind rules commentKind lines ≡ p .comments
-  kind-8 =
+  pub kind-comments : ofKind rules commentKind lines ≡ p .comments
+  kind-comments =
       whole-picked (λ (n : ℕ). eqb n commentKind)
       ∙ rw (none-among commentKind refl) (append-nil (p .comments))
 
-  pub kind-14 : ofKind rules endKind lines ≡ p .last ∷ []
-  kind-14 = whole-picked (λ (n : ℕ). eqb n endKind) ∙ rw (none-among endKind refl)
+  pub kind-end : ofKind rules endKind lines ≡ p .last ∷ []
+  kind-end = whole-picked (λ (n : ℕ). eqb n endKind) ∙ rw (none-among endKind refl)
 
   -- epochs, P, V, EP and EV stand in the part of the epochs alone
-  pub kind-9 : ofKind rules epochKind lines ≡ ofKind rules epochKind (p .epochs)
-  kind-9 = whole-picked (λ (n : ℕ). eqb n epochKind) ∙ append-nil (ofKind rules epochKind (p .epochs))
+  pub kind-epochs : ofKind rules epochKind lines ≡ ofKind rules epochKind (p .epochs)
+  kind-epochs = whole-picked (λ (n : ℕ). eqb n epochKind) ∙ append-nil (ofKind rules epochKind (p .epochs))
 
-  pub kind-10 : ofKind rules positionKind lines ≡ ofKind rules positionKind (p .epochs)
-  kind-10 = whole-picked (λ (n : ℕ). eqb n positionKind) ∙ append-nil (ofKind rules positionKind (p .epochs))
+  pub kind-positions : ofKind rules positionKind lines ≡ ofKind rules positionKind (p .epochs)
+  kind-positions = whole-picked (λ (n : ℕ). eqb n positionKind) ∙ append-nil (ofKind rules positionKind (p .epochs))
 
-  pub kind-11 : ofKind rules velocityKind lines ≡ ofKind rules velocityKind (p .epochs)
-  kind-11 = whole-picked (λ (n : ℕ). eqb n velocityKind) ∙ append-nil (ofKind rules velocityKind (p .epochs))
+  pub kind-velocities : ofKind rules velocityKind lines ≡ ofKind rules velocityKind (p .epochs)
+  kind-velocities = whole-picked (λ (n : ℕ). eqb n velocityKind) ∙ append-nil (ofKind rules velocityKind (p .epochs))
 
-  pub kind-12 : ofKind rules positionCorrelationKind lines ≡ ofKind rules positionCorrelationKind (p .epochs)
-  kind-12 = whole-picked (λ (n : ℕ). eqb n positionCorrelationKind) ∙ append-nil (ofKind rules positionCorrelationKind (p .epochs))
+  pub kind-position-correlations : ofKind rules positionCorrelationKind lines ≡ ofKind rules positionCorrelationKind (p .epochs)
+  kind-position-correlations = whole-picked (λ (n : ℕ). eqb n positionCorrelationKind) ∙ append-nil (ofKind rules positionCorrelationKind (p .epochs))
 
-  pub kind-13 : ofKind rules velocityCorrelationKind lines ≡ ofKind rules velocityCorrelationKind (p .epochs)
-  kind-13 = whole-picked (λ (n : ℕ). eqb n velocityCorrelationKind) ∙ append-nil (ofKind rules velocityCorrelationKind (p .epochs))
+  pub kind-velocity-correlations : ofKind rules velocityCorrelationKind lines ≡ ofKind rules velocityCorrelationKind (p .epochs)
+  kind-velocity-correlations = whole-picked (λ (n : ℕ). eqb n velocityCorrelationKind) ∙ append-nil (ofKind rules velocityCorrelationKind (p .epochs))
 
   pub kind-rows : rowLines rules lines ≡ rowLines rules (p .epochs)
   kind-rows = whole-picked (λ (n : ℕ). eqb n positionKind || eqb n velocityKind) ∙ append-nil (rowLines rules (p .epochs))

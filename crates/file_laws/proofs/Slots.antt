@@ -15,7 +15,7 @@ use Rattle.file.specs.Plain.{Plain}
 use Rattle.file.specs.Table.{slotNumbers, slotsIn}
 use Rattle.lines.proofs.Each.{Each, each-map}
 use Rattle.lines.proofs.Picking.{length-flat}
-use Rattle.file_laws.proofs.Selected.{satellites, identifiers, kind-3, kind-4}
+use Rattle.file_laws.proofs.Selected.{satellites, identifiers, kind-satellites, kind-accuracies}
 
 -- a line has seventeen
 pub slots-wide : (accuracies : Bool) (l : List ℕ) → length (slotNumbers accuracies l) ≡ 17
@@ -44,11 +44,11 @@ module _ {rules : Rules} {lines : List (List ℕ)} (p : Plain rules lines) where
   -- the table has these identifiers
   pub identifiers-in : slotsIn rules false (satellites p) lines ≡ identifiers p
   unfolding slotsIn
-  identifiers-in = ap (λ (ls : List (List ℕ)). take (satellites p) (flat (map (slotNumbers false) ls))) (kind-3 p)
+  identifiers-in = ap (λ (ls : List (List ℕ)). take (satellites p) (flat (map (slotNumbers false) ls))) (kind-satellites p)
 
   -- and as many accuracy exponents
   pub accuracies-many : length (slotsIn rules true (satellites p) lines) ≡ satellites p
   unfolding slotsIn
   accuracies-many =
-      ap (λ (ls : List (List ℕ)). length (take (satellites p) (flat (map (slotNumbers true) ls)))) (kind-4 p)
+      ap (λ (ls : List (List ℕ)). length (take (satellites p) (flat (map (slotNumbers true) ls)))) (kind-accuracies p)
       ∙ slots-many true (satellites p) (p .accuracies) (p .accuracies-many)

@@ -39,7 +39,7 @@ use Rattle.laws.proofs.Lists.{rest-step, rest-none, rest-part}
 use Rattle.layout.proofs.Lines.{trimmed-front, trimmed-shorter}
 use Rattle.scan_laws.proofs.Files.{front-plain}
 use Rattle.scan_laws.proofs.Local.{whole-ends}
-use Rattle.file_laws.proofs.Selected.{satellites, epochs, kind-1}
+use Rattle.file_laws.proofs.Selected.{satellites, epochs, kind-first}
 use Rattle.file_laws.proofs.Counts.{count-is, satellites-bounds, epochs-bounds, identifiers-room}
 
 -- a comment's text by the length that is told of what stands from column 4 on
@@ -80,7 +80,7 @@ text-within rules bytes k place indent line p l i = omega (arith, ap length l, l
 
 pub epochs-are : {rules : Rules} {lines : List (List ℕ)} (p : Plain rules lines) → epochsOf rules lines ≡ epochs p
 unfolding nth
-epochs-are p = rw (kind-1 p)
+epochs-are p = rw (kind-first p)
 
 -- an accepted file has at most 100,000 epochs and 255 satellites
 module _ (bytes : List ℕ) (t : Tally) (e : wholeFront (length bytes) (scanOf d bytes) ≡ front.File t) where

@@ -43,7 +43,7 @@ passed-on false v n c t t′ more e = absurd (not-refused n (t .lines) c t′ e)
 -- a kind that may stand here, and its record without fault
 pub placed : (here : Bool) (fault : ℕ) → cond here fault (keyed 4 0) ≡ 0 → (here ≡ true) × (fault ≡ 0)
 placed true fault e = (refl, e)
-placed false fault e = let z : _≡_ {A = ℕ} 512 0 = e in absurd (omega arith)
+placed false fault e = let z : keyed 4 0 ≡ 0 = e in absurd (omega arith)
 
 or-true : (b : Bool) → (b || true) ≡ true
 or-true true = refl
@@ -144,7 +144,7 @@ module _ (rules : Rules) where
       other : (a : LineKind) → toldKind a ≡ noKind → recordFault a rules s identifiers (padded l) ≡ 0 → ⊥
       other a none clean =
           let is : a ≡ kind.Other = toldKind-one a kind.Other none in
-          let z : _≡_ {A = ℕ} 512 0 = rw is at clean in
+          let z : keyed 4 0 ≡ 0 = rw is at clean in
           omega arith
 
       go : (b : Bool) → eqb (toldKind (kindHere l)) (s .due) ≡ b → (b || eqb (toldKind (kindHere l)) (s .also)) ≡ true

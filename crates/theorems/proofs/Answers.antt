@@ -23,7 +23,7 @@ use Rattle.stored_row.specs.Stored.{isThere, numberAt, isPlaceAbsent, placeIn, 
 use Rattle.scan_laws.proofs.Files.{file-plain, whole-taken}
 use Rattle.scan_laws.proofs.Local.{whole-ends}
 use Rattle.scan_laws.proofs.Used.{accepted-front}
-use Rattle.file_laws.proofs.Selected.{kind-8}
+use Rattle.file_laws.proofs.Selected.{kind-comments}
 use Rattle.theorems.specs.Files.{header, identifier, There}
 use Rattle.theorems.specs.Room.{foundIn, answer, Room, Short}
 use Rattle.theorems.specs.Asked.{asked}
@@ -191,7 +191,7 @@ module _ (bytes : List ℕ) (accepted : IsFile d bytes) where
       let p = file-plain bytes accepted in
       accepted-front d bytes t (whole-ends d bytes t (accepted .1) .0) .comments
       ∙ ap (λ (s : List ℕ). length (comments-in s)) (whole-taken bytes t (accepted .1))
-      ∙ ap length (kind-8 p)
+      ∙ ap length (kind-comments p)
       ∙ sym (says-comments p)
     where
       comments-in : List ℕ → List (List ℕ)

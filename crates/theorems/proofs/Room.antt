@@ -24,7 +24,7 @@ use Rattle.scan_laws.proofs.Files.{front-plain}
 use Rattle.scan_laws.proofs.Local.{whole-ends}
 use Rattle.scan_laws.proofs.Used.{accepted-front}
 use Rattle.file_laws.proofs.Counts.{count-is, rows-many, rows-many-both, identifiers-room, exponents-room, comments-room, places-room, motions-room}
-use Rattle.file_laws.proofs.Selected.{satellites, kind-8}
+use Rattle.file_laws.proofs.Selected.{satellites, kind-comments}
 use Rattle.theorems.proofs.Accepting.{says-satellites, says-epochs, says-velocity, says-comments}
 use Rattle.theorems.proofs.Judging.{refused-numbers, whole-refused}
 use Rattle.header.specs.declared.types.Header.{Header}
@@ -61,7 +61,7 @@ module _ (bytes : List ℕ) (t : Tally) (front-is : frontOf d bytes ≡ front.Fi
 
   -- the counts are those of the header
   comments-are : t .comments ≡ h .comments
-  comments-are = accepted-front d bytes t front-is .comments ∙ ap length (kind-8 p) ∙ sym (says-comments p)
+  comments-are = accepted-front d bytes t front-is .comments ∙ ap length (kind-comments p) ∙ sym (says-comments p)
 
   rows-are : rowWidth * t .rows ≡ rowsNeeded h
   rows-are = ap (λ (n : ℕ). rowWidth * n) (accepted-front d bytes t front-is .rows) ∙ go (h .velocity) refl
