@@ -1,7 +1,7 @@
 -- Questions about one file, which is read whole: its own refusal comes first, then 13 with line 0. 01: "Epochs, satellites of the header and
 -- comments are asked for by number from 0"; "When a comment is asked for by its number, a comment's text is handed back as that stretch of the
 -- file, without its trailing blanks, empty on a refusal"; 13 "what is asked by number isn't there".
-use mathlib.Core.Bool.{Bool, cond, not, _&&_}
+use mathlib.Core.Bool.{Bool, false, cond, not, _&&_}
 use mathlib.Core.List.{List, [], _∷_}
 use Prim.Native.Nat.{ℕ, suc, _+_, _*_, min}
 use lib.Dec.{eqb, ltb}
