@@ -1,7 +1,7 @@
 // What must stand after a line without fault.
 ghost use mathlib.Core.Path.{_≡_};
 ghost use Prim.Native.Nat.{_-_};
-ghost use Rattle.machine.specs.Next.{expect, lineLess, afterFirst, afterSecond, afterCount, afterIdentifiers, afterSatellites, afterAccuracies, commentsDue, afterIntegers, afterEpoch, rowDue, satelliteDone, afterPosition, nextOf};
+ghost use Rattle.machine.specs.Next.{expect, allow, leave, lineLess, afterFirst, afterSecond, afterCount, afterIdentifiers, afterSatellites, afterAccuracies, commentsDue, afterIntegers, afterEpoch, rowDue, satelliteDone, afterPosition, nextOf};
 use crate::checks;
 use crate::types::State;
 use crate::types::Verdict;
@@ -43,6 +43,20 @@ fn expected(due: u64, lines: u64, state: State) -> State
         lines,
         ..state
     }
+}
+
+// This kind may stand as well.
+fn with_also(also: u64, state: State) -> State
+    ensures { λ r. ⌜ r ≡ allow also state ⌝ }
+{
+    State { also, ..state }
+}
+
+// Of so many satellites a slot or a row is still to come.
+fn with_left(left: u64, state: State) -> State
+    ensures { λ r. ⌜ r ≡ leave left state ⌝ }
+{
+    State { left, ..state }
 }
 
 // One line less of a kind, and after the last of them so many of the next kind.
@@ -106,54 +120,37 @@ fn after_identifiers(state: State) -> State
 {
     let lines = less(state.lines, 1);
     if lines == 0 {
-        return State {
-            due: ACCURACIES_KIND,
-            also: NO_KIND,
-            lines: header::slot_lines(state.satellites),
-            left: state.satellites,
-            ..state
-        };
+        let many = header::slot_lines(state.satellites);
+        return with_left(state.satellites, expected(ACCURACIES_KIND, many, state));
     }
-    State {
-        due: SATELLITES_KIND,
-        also: NO_KIND,
-        lines,
-        left: less(state.left, 17),
-        ..state
-    }
+    with_left(
+        less(state.left, 17),
+        expected(SATELLITES_KIND, lines, state),
+    )
 }
 
 // A `++` line: after the last two `%c`.
 fn after_accuracies(state: State) -> State
     ensures { λ r. ⌜ r ≡ afterAccuracies state ⌝ }
 {
-    let next = line_less(CHARACTERS_KIND, 2, state);
-    State {
-        left: less(state.left, 17),
-        ..next
-    }
+    with_left(less(state.left, 17), line_less(CHARACTERS_KIND, 2, state))
 }
 
 // So many comments must come, and so many may.
 fn comments_due(needed: u64, allowed: u64, state: State) -> State
     ensures { λ r. ⌜ r ≡ commentsDue needed allowed state ⌝ }
 {
-    if needed != 0 {
-        return State {
-            due: COMMENT_KIND,
-            also: NO_KIND,
-            lines: needed,
-            comments: allowed,
-            ..state
-        };
-    }
-    State {
-        due: EPOCH_KIND,
-        also: if allowed == 0 { NO_KIND } else { COMMENT_KIND },
-        lines: needed,
+    let next = State {
         comments: allowed,
         ..state
+    };
+    if needed != 0 {
+        return expected(COMMENT_KIND, needed, next);
     }
+    if allowed == 0 {
+        return expected(EPOCH_KIND, needed, next);
+    }
+    with_also(COMMENT_KIND, expected(EPOCH_KIND, needed, next))
 }
 
 // A `%i` line: after the second the comments.
@@ -240,14 +237,8 @@ pub(crate) fn after_line(kind: LineKind, rules: Rules, state: State, line: &[u8;
     match kind {
         LineKind::Position => Verdict::Next(after_position(state)),
         LineKind::Velocity => Verdict::Next(satellite_done(VELOCITY_CORRELATION_KIND, state)),
-        LineKind::PositionCorrelation => Verdict::Next(State {
-            also: NO_KIND,
-            ..state
-        }),
-        LineKind::VelocityCorrelation => Verdict::Next(State {
-            also: NO_KIND,
-            ..state
-        }),
+        LineKind::PositionCorrelation => Verdict::Next(with_also(NO_KIND, state)),
+        LineKind::VelocityCorrelation => Verdict::Next(with_also(NO_KIND, state)),
         LineKind::Epoch => {
             let epoch = record::opening::read_epoch(line);
             let moment = epoch.moment;
