@@ -97,8 +97,8 @@ not-flag : (t : Bool) → not t ≡ cond t false true
 not-flag true = refl
 not-flag false = refl
 
-pub flag-read : (v : ℤ) {n : ℕ} → Bounded v → n ≡ natAbs (toZ w64 (ofZ w64 v)) → not (eqb n 0) ≡ flagShown v
-flag-read v h e = ap (λ (k : ℕ). not (eqb k 0)) (magnitude-read v h e) ∙ not-flag (eqb (natAbs v) 0)
+pub flag-read : (v : ℤ) {n : ℕ} → n ≡ natAbs v → not (eqb n 0) ≡ flagShown v
+flag-read v e = ap (λ (k : ℕ). not (eqb k 0)) e ∙ not-flag (eqb (natAbs v) 0)
 
 pub row-read : (identifier : ℕ) (row : List ℤ) {x y z clock : Signed} {xe ye ze ce : ℕ} {event predicted maneuver orbit : Bool}
     → x ≡ signedShown (entry row 0) → y ≡ signedShown (entry row 1) → z ≡ signedShown (entry row 2) → clock ≡ signedShown (entry row 3)

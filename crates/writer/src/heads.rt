@@ -8,6 +8,7 @@ ghost use Rattle.lines.specs.Lent.{flat};
 ghost use Rattle.layout.specs.Line.{Lays};
 ghost use Rattle.record.specs.Opening.{firstLine, secondLine};
 ghost use Rattle.record.specs.SlotLines.{satellitesLine};
+ghost use Rattle.record.specs.Descriptors.{floatItems, integerItems, fixedLine};
 ghost use Rattle.record.specs.Plain.{commentWidth};
 ghost use Rattle.canon.specs.Valid.{isInstant};
 ghost use Rattle.canon.specs.Canonical.{firstShown, secondShown, satellitesShown, slotLinesOf, descriptorLines, commentLines};
@@ -57,6 +58,16 @@ pub(crate) fn put_slots(accuracies: bool, lines: u64, numbers: &[u64], out: &mut
     at
 }
 
+// The second `%f` line and both `%i` lines: placeholders of zero.
+fn put_zeros(out: &mut [u8]) -> usize
+    requires { ⌜ length (flat (fixedLine floatItems ∷ fixedLine integerItems ∷ fixedLine integerItems ∷ [])) ≤ length (now out) ⌝ }
+    ensures { λ r. ⌜ Lays (flat (fixedLine floatItems ∷ fixedLine integerItems ∷ fixedLine integerItems ∷ [])) (now (out .entry)) r (now (out .exit)) ⌝ }
+{
+    let mut at = draw::descriptors::write_floats(out);
+    at += draw::descriptors::write_integers(&mut out[at..]);
+    at + draw::descriptors::write_integers(&mut out[at..])
+}
+
 // Both `%c`, both `%f` and both `%i` lines.
 pub(crate) fn put_descriptors(h: Header, out: &mut [u8]) -> usize
     requires { ⌜ length (flat (descriptorLines h)) ≤ length (now out) ⌝ }
@@ -72,9 +83,7 @@ pub(crate) fn put_descriptors(h: Header, out: &mut [u8]) -> usize
     let mut at = draw::descriptors::write_descriptor(descriptor, out);
     at += draw::descriptors::write_characters(&mut out[at..]);
     at += draw::descriptors::write_bases(BaseLine { fault: 0, bases }, &mut out[at..]);
-    at += draw::descriptors::write_floats(&mut out[at..]);
-    at += draw::descriptors::write_integers(&mut out[at..]);
-    at + draw::descriptors::write_integers(&mut out[at..])
+    at + put_zeros(&mut out[at..])
 }
 
 // So many stored comments.

@@ -3,10 +3,11 @@ ghost use mathlib.Core.Path.{_≡_};
 ghost use mathlib.Core.Bool.{true};
 ghost use Prim.Native.Nat.{_+_, _*_, _/_, _<_, _≤_};
 ghost use lib.ListN.{length};
+ghost use lib.IntN.{natAbs};
 ghost use Rattle.calendar.specs.Clock.{dayUnits};
 ghost use Rattle.record.specs.Rows.{rowWidth};
 ghost use Rattle.canon.specs.Valid.{isInstant, entry};
-ghost use Rattle.canon.specs.Canonical.{momentOf, firstShown, secondShown, seventeen, signedShown, rowShown};
+ghost use Rattle.canon.specs.Canonical.{momentOf, firstShown, secondShown, seventeen, signedShown, flagShown, rowShown};
 use calendar::Fraction;
 use calendar::Named;
 use calendar::Week;
@@ -108,6 +109,22 @@ pub(crate) fn seventeen(numbers: &[u64]) -> [u64; 17]
     slots
 }
 
+// The magnitude of the number at a place of a row.
+fn magnitude_at(row: &[i64], i: usize) -> u64
+    requires { ⌜ i + 1 ≤ length (now row) ⌝ }
+    ensures { λ r. ⌜ r ≡ natAbs (entry (now (row .entry)) i) ⌝ }
+{
+    magnitude_of(row[i])
+}
+
+// The flag at a place of a row.
+fn flag_at(row: &[i64], i: usize) -> bool
+    requires { ⌜ i + 1 ≤ length (now row) ⌝ }
+    ensures { λ r. ⌜ r ≡ flagShown (entry (now (row .entry)) i) ⌝ }
+{
+    magnitude_at(row, i) != 0
+}
+
 // The number at a place of a row, as its sign and magnitude.
 fn signed_at(row: &[i64], i: usize) -> Signed
     requires { ⌜ i + 1 ≤ length (now row) ⌝ }
@@ -115,7 +132,7 @@ fn signed_at(row: &[i64], i: usize) -> Signed
 {
     Signed {
         negative: is_negative(row[i]),
-        magnitude: magnitude_of(row[i]),
+        magnitude: magnitude_at(row, i),
     }
 }
 
@@ -130,13 +147,13 @@ pub(crate) fn row_shown(identifier: u64, row: &[i64]) -> Row
         y: signed_at(row, 1),
         z: signed_at(row, 2),
         clock: signed_at(row, 3),
-        x_exponent: magnitude_of(row[4]),
-        y_exponent: magnitude_of(row[5]),
-        z_exponent: magnitude_of(row[6]),
-        clock_exponent: magnitude_of(row[7]),
-        event: magnitude_of(row[8]) != 0,
-        predicted: magnitude_of(row[9]) != 0,
-        maneuver: magnitude_of(row[10]) != 0,
-        orbit_predicted: magnitude_of(row[11]) != 0,
+        x_exponent: magnitude_at(row, 4),
+        y_exponent: magnitude_at(row, 5),
+        z_exponent: magnitude_at(row, 6),
+        clock_exponent: magnitude_at(row, 7),
+        event: flag_at(row, 8),
+        predicted: flag_at(row, 9),
+        maneuver: flag_at(row, 10),
+        orbit_predicted: flag_at(row, 11),
     }
 }
