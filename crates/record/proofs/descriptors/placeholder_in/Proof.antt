@@ -1,25 +1,19 @@
 -- `record::descriptors::placeholder_in` meets its contract: the placeholder is the first of five `c`.
 -- Assumes nothing.
-use mathlib.Core.Path.{_≡_, refl, sym, ap, _∙_}
+use mathlib.Core.Path.{sym, ap, _∙_}
 use mathlib.Core.List.{List, [], _∷_}
-use Prim.Native.Nat.{ℕ, zero, suc, _+_, _-_, _≤_}
-use native.Mathlib.Nat.{le-of-suc-le-suc, not-suc-le-zero}
+use Prim.Native.Nat.{ℕ, _+_, _-_, _≤_}
 use native.Mathlib.Omega.{arith}
 use borrow.Author.Needs.{needs}
-use lib.ListN.{take, replicate}
 use lib.Seq.{length-take-le}
 use Rattle.layout.specs.Fault.{lower}
 use Rattle.layout.specs.Kind.Kind.{unused, fixed}
 use Rattle.layout.specs.Layout.{column, columns, faultAt}
 use Rattle.record.specs.Descriptors.{cs}
 use Rattle.layout.proofs.Reading.{judged, judges, past}
+use Rattle.record.proofs.Placeholders.{first-of}
 use Rattle.record.proofs.descriptors.placeholder_in.Statement.{statement}
 use Rattle.record.proofs.descriptors.placeholder_in.Tie as tie
-
-first-of : (n m b : ℕ) → n ≤ m → take n (replicate m b) ≡ replicate n b
-first-of zero m b h = refl
-first-of (suc n) zero b h = absurd (not-suc-le-zero h)
-first-of (suc n) (suc m) b h = ap (λ (l : List ℕ). b ∷ l) (first-of n m b (le-of-suc-le-suc h))
 
 slice-aggregate-fixed-in : tie.Need-slice-aggregate-fixed-in
 slice-aggregate-fixed-in c = sym (length-take-le _ _ (omega arith))
