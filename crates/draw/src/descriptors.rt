@@ -40,7 +40,7 @@ pub fn write_descriptor(d: Descriptor, out: &mut [u8]) -> usize
     ensures lays { λ r. ⌜ Lays (descriptorLine d) (now (out .entry)) r (now (out .exit)) ⌝ }
 {
     let time_system = d.time_system;
-    let a = columns::with_fixed([b' '; 80], b"%c", 1, 2);
+    let a = columns::begun_by(b'%', b'c');
     let b = columns::with_letter(a, d.file_type, 4, 5);
     let c = with_placeholder(b, 7, 8);
     let e = columns::with_text(c, &time_system, 10, 12);
@@ -52,7 +52,7 @@ pub fn write_descriptor(d: Descriptor, out: &mut [u8]) -> usize
 pub fn write_characters(out: &mut [u8]) -> usize
     ensures lays { λ r. ⌜ Lays (fixedLine characterItems) (now (out .entry)) r (now (out .exit)) ⌝ }
 {
-    let a = columns::with_fixed([b' '; 80], b"%c", 1, 2);
+    let a = columns::begun_by(b'%', b'c');
     let b = with_placeholder(a, 4, 5);
     let c = with_placeholder(b, 7, 8);
     let d = with_placeholder(c, 10, 12);
@@ -73,7 +73,7 @@ pub fn write_bases(b: BaseLine, out: &mut [u8]) -> usize
     ensures lays { λ r. ⌜ Lays (baseLine b) (now (out .entry)) r (now (out .exit)) ⌝ }
 {
     let bases = b.bases;
-    let a = columns::with_fixed([b' '; 80], b"%f", 1, 2);
+    let a = columns::begun_by(b'%', b'f');
     let c = columns::with_decimal(a, 7, bases.place, 4, 13);
     let d = columns::with_decimal(c, 9, bases.clock, 15, 26);
     let line = with_later_floats(d);
@@ -84,7 +84,7 @@ pub fn write_bases(b: BaseLine, out: &mut [u8]) -> usize
 pub fn write_floats(out: &mut [u8]) -> usize
     ensures lays { λ r. ⌜ Lays (fixedLine floatItems) (now (out .entry)) r (now (out .exit)) ⌝ }
 {
-    let a = columns::with_fixed([b' '; 80], b"%f", 1, 2);
+    let a = columns::begun_by(b'%', b'f');
     let b = columns::with_decimal(a, 7, 0, 4, 13);
     let c = columns::with_decimal(b, 9, 0, 15, 26);
     let line = with_later_floats(c);
@@ -95,7 +95,7 @@ pub fn write_floats(out: &mut [u8]) -> usize
 pub fn write_integers(out: &mut [u8]) -> usize
     ensures lays { λ r. ⌜ Lays (fixedLine integerItems) (now (out .entry)) r (now (out .exit)) ⌝ }
 {
-    let a = columns::with_fixed([b' '; 80], b"%i", 1, 2);
+    let a = columns::begun_by(b'%', b'i');
     let b = columns::with_whole(a, 0, 4, 7);
     let c = columns::with_whole(b, 0, 9, 12);
     let d = columns::with_whole(c, 0, 14, 17);

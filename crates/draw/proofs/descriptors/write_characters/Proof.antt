@@ -12,7 +12,7 @@ use Rattle.draw.proofs.descriptors.write_characters.Tie as tie
 shown : (c : tie.After-with-later-characters) → c .with-later-characters .result ≡ showLine characterItems []
 shown c =
     shows characterItems [] refl
-    (draw (c .before .before .before .before .with-fixed .ensures) refl
+    (draw (c .before .before .before .before .begun-by .ensures) refl
     (leave refl
     (draw (c .before .before .before .with-placeholder .ensures) refl
     (leave refl
@@ -29,7 +29,6 @@ pub write-characters-spec : {M : Type 1} → statement M
 write-characters-spec =
     tie.close
     (tie.spec
-    (λ c. search needs)
     (λ c κs. search needs)
     (λ c κs. search needs)
     (λ c κs. search needs)
