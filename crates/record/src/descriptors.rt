@@ -114,24 +114,24 @@ pub fn floats_fault(line: &[u8; 80]) -> usize
 pub fn integers_fault(line: &[u8; 80]) -> usize
     ensures result { λ r. ⌜ r ≡ faultOf integerItems (now (line .entry)) ⌝ }
 {
-    let a = fields::fixed_in(0, line, 4, b"%i", 0, 1, 2);
-    let b = fields::unused_in(a, line, 3, 3);
-    let c = fields::zero_whole_in(b, line, 4, 7);
-    let d = fields::unused_in(c, line, 8, 8);
-    let e = fields::zero_whole_in(d, line, 9, 12);
-    let f = fields::unused_in(e, line, 13, 13);
-    let g = fields::zero_whole_in(f, line, 14, 17);
-    let h = fields::unused_in(g, line, 18, 18);
-    let i = fields::zero_whole_in(h, line, 19, 22);
-    let j = fields::unused_in(i, line, 23, 23);
-    let k = fields::zero_whole_in(j, line, 24, 29);
-    let l = fields::unused_in(k, line, 30, 30);
-    let m = fields::zero_whole_in(l, line, 31, 36);
-    let n = fields::unused_in(m, line, 37, 37);
-    let o = fields::zero_whole_in(n, line, 38, 43);
-    let p = fields::unused_in(o, line, 44, 44);
-    let q = fields::zero_whole_in(p, line, 45, 50);
-    let r = fields::unused_in(q, line, 51, 51);
-    let s = fields::zero_whole_in(r, line, 52, 60);
-    fields::unused_in(s, line, 61, 80)
+    let mut fault = fields::fixed_in(0, line, 4, b"%i", 0, 1, 2);
+    fault = fields::unused_in(fault, line, 3, 3);
+    fault = fields::zero_whole_in(fault, line, 4, 7);
+    fault = fields::unused_in(fault, line, 8, 8);
+    fault = fields::zero_whole_in(fault, line, 9, 12);
+    fault = fields::unused_in(fault, line, 13, 13);
+    fault = fields::zero_whole_in(fault, line, 14, 17);
+    fault = fields::unused_in(fault, line, 18, 18);
+    fault = fields::zero_whole_in(fault, line, 19, 22);
+    fault = fields::unused_in(fault, line, 23, 23);
+    fault = fields::zero_whole_in(fault, line, 24, 29);
+    fault = fields::unused_in(fault, line, 30, 30);
+    fault = fields::zero_whole_in(fault, line, 31, 36);
+    fault = fields::unused_in(fault, line, 37, 37);
+    fault = fields::zero_whole_in(fault, line, 38, 43);
+    fault = fields::unused_in(fault, line, 44, 44);
+    fault = fields::zero_whole_in(fault, line, 45, 50);
+    fault = fields::unused_in(fault, line, 51, 51);
+    fault = fields::zero_whole_in(fault, line, 52, 60);
+    fields::unused_in(fault, line, 61, 80)
 }
