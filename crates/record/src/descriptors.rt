@@ -42,7 +42,7 @@ fn later_characters_in(lowest: usize, line: &[u8; 80]) -> usize
 pub fn read_descriptor(line: &[u8; 80]) -> Descriptor
     ensures result { λ r. ⌜ r ≡ descriptorOf (now (line .entry)) ⌝ }
 {
-    let a = fields::fixed_in(0, line, 4, b"%c", 0, 1, 2);
+    let a = fields::symbols_in(line, b'%', b'c');
     let b = fields::unused_in(a, line, 3, 3);
     let file_type = fields::file_type_in(b, line);
     let c = placeholder_in(file_type.fault, line, 6, 8);
@@ -61,7 +61,7 @@ pub fn read_descriptor(line: &[u8; 80]) -> Descriptor
 pub fn characters_fault(line: &[u8; 80]) -> usize
     ensures result { λ r. ⌜ r ≡ faultOf characterItems (now (line .entry)) ⌝ }
 {
-    let a = fields::fixed_in(0, line, 4, b"%c", 0, 1, 2);
+    let a = fields::symbols_in(line, b'%', b'c');
     let b = placeholder_in(a, line, 3, 5);
     let c = placeholder_in(b, line, 6, 8);
     let d = placeholder_in(c, line, 9, 12);
@@ -83,7 +83,7 @@ fn later_floats_in(lowest: usize, line: &[u8; 80]) -> usize
 pub fn read_bases(line: &[u8; 80]) -> BaseLine
     ensures result { λ r. ⌜ r ≡ baseOf (now (line .entry)) ⌝ }
 {
-    let a = fields::fixed_in(0, line, 4, b"%f", 0, 1, 2);
+    let a = fields::symbols_in(line, b'%', b'f');
     let b = fields::unused_in(a, line, 3, 3);
     let place = fields::decimal_in(b, line, 7, 0, Header::MAX_PLACE_BASE, 4, 13);
     let c = fields::unused_in(place.fault, line, 14, 14);
@@ -102,7 +102,7 @@ pub fn read_bases(line: &[u8; 80]) -> BaseLine
 pub fn floats_fault(line: &[u8; 80]) -> usize
     ensures result { λ r. ⌜ r ≡ faultOf floatItems (now (line .entry)) ⌝ }
 {
-    let a = fields::fixed_in(0, line, 4, b"%f", 0, 1, 2);
+    let a = fields::symbols_in(line, b'%', b'f');
     let b = fields::unused_in(a, line, 3, 3);
     let c = fields::zero_decimal_in(b, line, 7, 4, 13);
     let d = fields::unused_in(c, line, 14, 14);
@@ -114,7 +114,7 @@ pub fn floats_fault(line: &[u8; 80]) -> usize
 pub fn integers_fault(line: &[u8; 80]) -> usize
     ensures result { λ r. ⌜ r ≡ faultOf integerItems (now (line .entry)) ⌝ }
 {
-    let mut fault = fields::fixed_in(0, line, 4, b"%i", 0, 1, 2);
+    let mut fault = fields::symbols_in(line, b'%', b'i');
     fault = fields::unused_in(fault, line, 3, 3);
     fault = fields::zero_whole_in(fault, line, 4, 7);
     fault = fields::unused_in(fault, line, 8, 8);

@@ -2,11 +2,12 @@
 // fault found before it, and what it gives is the lowest with its own.
 ghost use mathlib.Core.Path.{_≡_};
 ghost use mathlib.Core.Bool.{_&&_};
+ghost use mathlib.Core.List.{[], _∷_};
 ghost use Prim.Native.Nat.{_+_, _-_, _*_, _≤_};
 ghost use lib.ListN.{length};
 ghost use Rattle.field.specs.Digits.{isDigit};
 ghost use Rattle.laws.specs.Tests.{within};
-ghost use Rattle.layout.specs.Fault.{lower, keyed};
+ghost use Rattle.layout.specs.Fault.{clean, lower, keyed};
 ghost use Rattle.layout.specs.Kind.{unless, unusedFault, sameBytes, identifierCode};
 ghost use Rattle.layout.specs.Kind.Kind.{unused, fixed, whole, decimal, signed, clock, exponent, flag, letter, listed, identifier, zeroWhole, zeroDecimal, text};
 ghost use Rattle.layout.specs.Layout.{columns, column, partAt, partOf, faultAt};
@@ -98,6 +99,14 @@ pub(crate) fn fixed_in(
     let from = first - 1;
     let same = same_bytes(&s[from..last], these);
     fault_unless(lowest, same, number, blamed)
+}
+
+// The two symbols that a record begins with.
+pub(crate) fn symbols_in(line: &[u8; 80], first: u8, second: u8) -> usize
+    ensures { λ r. ⌜ r ≡ lower clean (faultAt (partAt 0 1 2 (fixed 4 (first ∷ second ∷ []))) (now (line .entry))) ⌝ }
+{
+    let symbols = [first, second];
+    fixed_in(0, line, 4, &symbols, 0, 1, 2)
 }
 
 // A whole number within its bounds.

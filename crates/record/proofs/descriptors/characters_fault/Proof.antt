@@ -10,8 +10,8 @@ use Rattle.record.proofs.descriptors.characters_fault.Tie as tie
 
 returns : tie.Need-returns
 returns c =
-    judges characterItems (c .before .before .before .before .before .before .args .line .now) clean
-    (past (c .before .before .before .before .fixed-in .ensures)
+    judges characterItems (c .before .before .before .before .before .args .line .now) clean
+    (past (c .before .before .before .before .symbols-in .ensures)
     (past refl (past (c .before .before .before .placeholder-in .ensures)
     (past refl (past (c .before .before .placeholder-in2 .ensures)
     (past refl (past (c .before .placeholder-in3 .ensures)
@@ -21,7 +21,6 @@ pub characters-fault-spec : {M : Type 1} → statement M
 characters-fault-spec =
     tie.close
     (tie.spec
-    (λ c. search needs)
     (λ c κs. search needs)
     (λ c κs. search needs)
     (λ c κs. search needs)

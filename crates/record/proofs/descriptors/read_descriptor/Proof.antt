@@ -10,8 +10,8 @@ use Rattle.record.proofs.descriptors.read_descriptor.Tie as tie
 
 returns : tie.Need-returns
 returns c =
-    made descriptorFrom descriptorItems (c .before .before .before .before .before .before .before .before .before .args .line .now)
-    (skip (c .before .before .before .before .before .before .before .fixed-in .ensures) refl
+    made descriptorFrom descriptorItems (c .before .before .before .before .before .before .before .before .args .line .now)
+    (skip (c .before .before .before .before .before .before .before .symbols-in .ensures) refl
     (skip (c .before .before .before .before .before .before .unused-in .ensures) refl
     (lettered (c .before .before .before .before .before .file-type-in .ensures) refl refl
     (skip refl refl (skip (c .before .before .before .before .placeholder-in .ensures) refl
@@ -23,7 +23,6 @@ pub read-descriptor-spec : {M : Type 1} → statement M
 read-descriptor-spec =
     tie.close
     (tie.spec
-    (λ c. search needs)
     (λ c κs. search needs)
     (λ c κs. search needs)
     (λ c κs. search needs)
