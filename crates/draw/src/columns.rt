@@ -4,6 +4,7 @@ ghost use mathlib.Core.Bool.{cond};
 ghost use mathlib.Core.List.{[], _∷_};
 ghost use Prim.Native.Nat.{_+_, _-_, _≤_};
 ghost use lib.ListN.{length};
+ghost use Rattle.laws.specs.Texts.{blanks};
 ghost use Rattle.layout.specs.Kind.{shownIn, shownText, showIdentifier};
 ghost use Rattle.layout.specs.Kind.Kind.{whole, decimal, signed, exponent, flag, identifier};
 ghost use Rattle.layout.specs.Kind.Held.{one, amount, mark};
@@ -59,6 +60,16 @@ pub(crate) fn put_identifier(out: &mut [u8], code: u64)
         48 + (code % 10) as u8,
     ];
     layout::copy_front(out, &text);
+}
+
+// A line of blanks that begins with a record's two symbols.
+pub(crate) fn begun_by(first: u8, second: u8) -> [u8; 80]
+    ensures { λ r. ⌜ r ≡ overlaid 1 2 (first ∷ second ∷ []) (blanks 80) ⌝ }
+{
+    let mut shown = [b' '; 80];
+    shown[0] = first;
+    shown[1] = second;
+    shown
 }
 
 // A line with a field in its columns: a symbol or a placeholder.

@@ -44,8 +44,7 @@ pub fn write_first(rules: Rules, f: First, out: &mut [u8]) -> usize
 {
     let start = f.start;
     let texts = f.texts;
-    let symbol = [b'#', rules.letter];
-    let a = columns::with_fixed([b' '; 80], &symbol, 1, 2);
+    let a = columns::begun_by(b'#', rules.letter);
     let b = columns::with_letter(a, f.mode, 3, 3);
     let c = with_moment(b, start);
     let d = columns::with_whole(c, f.epochs, 33, 39);
@@ -57,7 +56,7 @@ pub fn write_first(rules: Rules, f: First, out: &mut [u8]) -> usize
 pub fn write_second(s: Second, out: &mut [u8]) -> usize
     ensures lays { λ r. ⌜ Lays (secondLine s) (now (out .entry)) r (now (out .exit)) ⌝ }
 {
-    let a = columns::with_fixed([b' '; 80], b"##", 1, 2);
+    let a = columns::begun_by(b'#', b'#');
     let b = columns::with_whole(a, s.week, 4, 7);
     let c = columns::with_decimal(b, 8, s.seconds8, 9, 23);
     let d = columns::with_decimal(c, 8, s.interval8, 25, 38);
@@ -71,7 +70,7 @@ pub fn write_epoch(e: Epoch, out: &mut [u8]) -> usize
     ensures lays { λ r. ⌜ Lays (epochLine e) (now (out .entry)) r (now (out .exit)) ⌝ }
 {
     let moment = e.moment;
-    let a = columns::with_fixed([b' '; 80], b"* ", 1, 2);
+    let a = columns::begun_by(b'*', b' ');
     let line = with_moment(a, moment);
     layout::lay_line(&line, out)
 }

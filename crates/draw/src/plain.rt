@@ -11,7 +11,7 @@ use crate::columns;
 pub fn write_comment(text: &[u8], out: &mut [u8]) -> usize
     ensures lays { λ r. ⌜ Lays (commentLine (now (text .entry))) (now (out .entry)) r (now (out .exit)) ⌝ }
 {
-    let a = columns::with_fixed([b' '; 80], b"/*", 1, 2);
+    let a = columns::begun_by(b'/', b'*');
     let line = columns::with_text(a, text, 4, 80);
     layout::lay_line(&line, out)
 }
@@ -21,9 +21,9 @@ fn with_symbol(velocity: bool) -> [u8; 80]
     ensures { λ r. ⌜ r ≡ overlaid 1 2 (correlationSymbol velocity) (blanks 80) ⌝ }
 {
     if velocity {
-        return columns::with_fixed([b' '; 80], b"EV", 1, 2);
+        return columns::begun_by(b'E', b'V');
     }
-    columns::with_fixed([b' '; 80], b"EP", 1, 2)
+    columns::begun_by(b'E', b'P')
 }
 
 // The same of an EP line, or of an EV line where `velocity` says so, with this text after column 2.

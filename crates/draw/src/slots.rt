@@ -51,7 +51,7 @@ pub fn write_satellites(rules: Rules, s: Satellites, out: &mut [u8]) -> usize
     ensures lays { λ r. ⌜ Lays (satellitesLine rules s) (now (out .entry)) r (now (out .exit)) ⌝ }
 {
     let identifiers = s.identifiers;
-    let a = columns::with_fixed([b' '; 80], b"+ ", 1, 2);
+    let a = columns::begun_by(b'+', b' ');
     let b = columns::with_whole(a, s.count, 4, 6);
     let line = with_slots(b, false, s.count, &identifiers);
     layout::lay_line(&line, out)
@@ -62,9 +62,9 @@ fn with_symbol(accuracies: bool) -> [u8; 80]
     ensures { λ r. ⌜ r ≡ overlaid 1 2 (slotSymbol accuracies) (blanks 80) ⌝ }
 {
     if accuracies {
-        return columns::with_fixed([b' '; 80], b"++", 1, 2);
+        return columns::begun_by(b'+', b'+');
     }
-    columns::with_fixed([b' '; 80], b"+ ", 1, 2)
+    columns::begun_by(b'+', b' ')
 }
 
 // The same of a further `+ ` line, or of a `++` line where `accuracies` says so, of which the first `left` slots are of satellites.

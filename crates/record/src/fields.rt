@@ -2,17 +2,18 @@
 // fault found before it, and what it gives is the lowest with its own.
 ghost use mathlib.Core.Path.{_≡_};
 ghost use mathlib.Core.Bool.{_&&_};
+ghost use mathlib.Core.List.{[], _∷_};
 ghost use Prim.Native.Nat.{_+_, _-_, _*_, _≤_};
 ghost use lib.ListN.{length};
 ghost use Rattle.field.specs.Digits.{isDigit};
 ghost use Rattle.laws.specs.Tests.{within};
-ghost use Rattle.layout.specs.Fault.{lower, keyed};
-ghost use Rattle.layout.specs.Kind.{unless, unusedFault, sameBytes, isListed, faultIn, identifierCode};
+ghost use Rattle.layout.specs.Fault.{clean, lower, keyed};
+ghost use Rattle.layout.specs.Kind.{unless, unusedFault, sameBytes, identifierCode};
 ghost use Rattle.layout.specs.Kind.Kind.{unused, fixed, whole, decimal, signed, clock, exponent, flag, letter, listed, identifier, zeroWhole, zeroDecimal, text};
 ghost use Rattle.layout.specs.Layout.{columns, column, partAt, partOf, faultAt};
 ghost use Rattle.header.specs.Letters.{modes, fileTypes, timeSystems};
 ghost use Rattle.record.specs.Times.{dateFault};
-ghost use Rattle.record.specs.Steps.{judgedBy, judgedAt, letteredBy, letteredAt};
+ghost use Rattle.record.specs.Steps.{judgedBy, judgedAt, letteredAt};
 use crate::types::Judged;
 use crate::types::Lettered;
 use calendar::Dated;
@@ -98,6 +99,14 @@ pub(crate) fn fixed_in(
     let from = first - 1;
     let same = same_bytes(&s[from..last], these);
     fault_unless(lowest, same, number, blamed)
+}
+
+// The two symbols that a record begins with.
+pub(crate) fn symbols_in(line: &[u8; 80], first: u8, second: u8) -> usize
+    ensures { λ r. ⌜ r ≡ lower clean (faultAt (partAt 0 1 2 (fixed 4 (first ∷ second ∷ []))) (now (line .entry))) ⌝ }
+{
+    let symbols = [first, second];
+    fixed_in(0, line, 4, &symbols, 0, 1, 2)
 }
 
 // A whole number within its bounds.
@@ -211,11 +220,11 @@ pub(crate) fn dated(lowest: usize, m: Moment) -> usize
 }
 
 // The mode in column 3: P or V.
-fn read_mode(lowest: usize, bytes: &[u8]) -> Lettered
-    requires { ⌜ length (now bytes) ≡ 1 ⌝ }
-    ensures { λ r. ⌜ r ≡ letteredBy (letter modes) 3 lowest (now (bytes .entry)) ⌝ }
+pub(crate) fn mode_in(lowest: usize, line: &[u8; 80]) -> Lettered
+    ensures { λ r. ⌜ r ≡ letteredAt (column 3 (letter modes)) lowest (now (line .entry)) ⌝ }
 {
-    let letter = bytes[0];
+    let s = &line[..];
+    let letter = s[2];
     let listed = header::is_mode(letter);
     Lettered {
         fault: fault_unless(lowest, listed, 6, 3),
@@ -223,47 +232,26 @@ fn read_mode(lowest: usize, bytes: &[u8]) -> Lettered
     }
 }
 
-pub(crate) fn mode_in(lowest: usize, line: &[u8; 80]) -> Lettered
-    ensures { λ r. ⌜ r ≡ letteredAt (column 3 (letter modes)) lowest (now (line .entry)) ⌝ }
+// The file type in columns 4 and 5: a letter and a blank.
+pub(crate) fn file_type_in(lowest: usize, line: &[u8; 80]) -> Lettered
+    ensures { λ r. ⌜ r ≡ letteredAt (columns 4 5 (letter fileTypes)) lowest (now (line .entry)) ⌝ }
 {
     let s = &line[..];
-    read_mode(lowest, &s[2..3])
-}
-
-// The file type in columns 4 and 5: a letter and a blank.
-fn read_file_type(lowest: usize, bytes: &[u8]) -> Lettered
-    requires { ⌜ length (now bytes) ≡ 2 ⌝ }
-    ensures { λ r. ⌜ r ≡ letteredBy (letter fileTypes) 4 lowest (now (bytes .entry)) ⌝ }
-{
-    let letter = bytes[0];
-    let listed = header::is_file_type(letter) & (bytes[1] == b' ');
+    let letter = s[3];
+    let listed = header::is_file_type(letter) & (s[4] == b' ');
     Lettered {
         fault: fault_unless(lowest, listed, 6, 4),
         letter,
     }
 }
 
-pub(crate) fn file_type_in(lowest: usize, line: &[u8; 80]) -> Lettered
-    ensures { λ r. ⌜ r ≡ letteredAt (columns 4 5 (letter fileTypes)) lowest (now (line .entry)) ⌝ }
-{
-    let s = &line[..];
-    read_file_type(lowest, &s[3..5])
-}
-
 // The time system in columns 10 to 12: one of the words listed.
-fn read_time_system(lowest: usize, bytes: &[u8]) -> usize
-    requires { ⌜ length (now bytes) ≡ 3 ⌝ }
-    ensures { λ r. ⌜ r ≡ lower lowest (unless (isListed (now (bytes .entry)) timeSystems) 6 10) ⌝ }
-{
-    let listed = header::is_time_system(bytes[0], bytes[1], bytes[2]);
-    fault_unless(lowest, listed, 6, 10)
-}
-
 pub(crate) fn time_system_in(lowest: usize, line: &[u8; 80]) -> usize
     ensures { λ r. ⌜ r ≡ lower lowest (faultAt (columns 10 12 (listed timeSystems)) (now (line .entry))) ⌝ }
 {
     let s = &line[..];
-    read_time_system(lowest, &s[9..12])
+    let listed = header::is_time_system(s[9], s[10], s[11]);
+    fault_unless(lowest, listed, 6, 10)
 }
 
 // A text of three, four or five columns, as it stands.
@@ -412,19 +400,10 @@ pub(crate) fn exponent_in(lowest: usize, line: &[u8; 80], first: usize, last: us
 }
 
 // A flag: its letter or blank.
-fn read_flag(lowest: usize, bytes: &[u8], sign: u8, at: usize) -> usize
-    requires { ⌜ (length (now bytes) ≡ 1) × (at ≤ 80) ⌝ }
-    ensures { λ r. ⌜ r ≡ lower lowest (faultIn (flag sign) at (now (bytes .entry))) ⌝ }
-{
-    let b = bytes[0];
-    fault_unless(lowest, (b == sign) | (b == b' '), 6, at)
-}
-
 pub(crate) fn flag_in(lowest: usize, line: &[u8; 80], sign: u8, at: usize) -> usize
     requires { ⌜ (1 ≤ at) × (at ≤ 80) ⌝ }
     ensures { λ r. ⌜ r ≡ lower lowest (faultAt (column at (flag sign)) (now (line .entry))) ⌝ }
 {
-    let s = &line[..];
-    let from = at - 1;
-    read_flag(lowest, &s[from..at], sign, at)
+    let b = line[at - 1];
+    fault_unless(lowest, (b == sign) | (b == b' '), 6, at)
 }

@@ -59,8 +59,7 @@ fn texts_in(line: &[u8; 80]) -> Texts
 pub fn read_first(rules: Rules, line: &[u8; 80]) -> First
     ensures result { λ r. ⌜ r ≡ firstOf rules (now (line .entry)) ⌝ }
 {
-    let symbol = [b'#', rules.letter];
-    let a = fields::fixed_in(0, line, 4, &symbol, 0, 1, 2);
+    let a = fields::symbols_in(line, b'#', rules.letter);
     let mode = fields::mode_in(a, line);
     let start = moment_in(mode.fault, line);
     let moment = start.moment;
@@ -85,7 +84,7 @@ pub fn read_first(rules: Rules, line: &[u8; 80]) -> First
 pub fn read_second(line: &[u8; 80]) -> Second
     ensures result { λ r. ⌜ r ≡ secondOf (now (line .entry)) ⌝ }
 {
-    let a = fields::fixed_in(0, line, 4, b"##", 0, 1, 2);
+    let a = fields::symbols_in(line, b'#', b'#');
     let b = fields::unused_in(a, line, 3, 3);
     let week = fields::whole_in(b, line, 0, 9999, 4, 4, 7);
     let c = fields::unused_in(week.fault, line, 8, 8);
@@ -111,7 +110,7 @@ pub fn read_second(line: &[u8; 80]) -> Second
 pub fn read_epoch(line: &[u8; 80]) -> Epoch
     ensures result { λ r. ⌜ r ≡ epochOf (now (line .entry)) ⌝ }
 {
-    let a = fields::fixed_in(0, line, 4, b"* ", 0, 1, 2);
+    let a = fields::symbols_in(line, b'*', b' ');
     let b = fields::unused_in(a, line, 3, 3);
     let at = moment_in(b, line);
     let moment = at.moment;

@@ -11,7 +11,7 @@ pub const COMMENT_WIDTH: usize = 77;
 pub fn comment_fault(line: &[u8; 80]) -> usize
     ensures result { λ r. ⌜ r ≡ faultOf commentItems (now (line .entry)) ⌝ }
 {
-    let a = fields::fixed_in(0, line, 4, b"/*", 0, 1, 2);
+    let a = fields::symbols_in(line, b'/', b'*');
     fields::unused_in(a, line, 3, 3)
 }
 
@@ -20,9 +20,9 @@ pub fn correlation_fault(line: &[u8; 80], velocity: bool) -> usize
     ensures result { λ r. ⌜ r ≡ faultOf (correlationItems velocity) (now (line .entry)) ⌝ }
 {
     if velocity {
-        return fields::fixed_in(0, line, 4, b"EV", 0, 1, 2);
+        return fields::symbols_in(line, b'E', b'V');
     }
-    fields::fixed_in(0, line, 4, b"EP", 0, 1, 2)
+    fields::symbols_in(line, b'E', b'P')
 }
 
 // The end of the file: `EOFX` is 5 at column 4.

@@ -2,7 +2,6 @@
 ghost use mathlib.Core.Path.{_≡_};
 ghost use mathlib.Core.Bool.{true};
 ghost use Prim.Native.Nat.{_≤_};
-ghost use lib.ListN.{length};
 ghost use Rattle.layout.specs.Kind.{identifierCode};
 ghost use Rattle.layout.specs.Layout.{faultFrom};
 ghost use Rattle.record.specs.Rows.{bodyItems, flagItems, rowFault, cut, signedIn, exponentIn, flagIn, rowTaken, rowOf, rowWidth, bothWidth};
@@ -116,20 +115,11 @@ fn exponent_of(line: &[u8; 80], first: usize, last: usize) -> u64
 }
 
 // A flag of P: V has none.
-fn read_mark(bytes: &[u8], velocity: bool, sign: u8) -> bool
-    requires { ⌜ length (now bytes) ≡ 1 ⌝ }
-    ensures { λ r. ⌜ r ≡ flagIn velocity sign (now (bytes .entry)) ⌝ }
-{
-    (!velocity) & (bytes[0] == sign)
-}
-
 fn mark_of(line: &[u8; 80], velocity: bool, sign: u8, at: usize) -> bool
     requires { ⌜ (1 ≤ at) × (at ≤ 80) ⌝ }
     ensures { λ r. ⌜ r ≡ flagIn velocity sign (cut at at (now (line .entry))) ⌝ }
 {
-    let s = &line[..];
-    let from = at - 1;
-    read_mark(&s[from..at], velocity, sign)
+    (!velocity) & (line[at - 1] == sign)
 }
 
 // The identifier in columns 2 to 4 as one number: 7107 of `PG07`.

@@ -49,7 +49,7 @@ fn slots_in(lowest: usize, line: &[u8; 80], accuracies: bool, left: u64) -> Slot
 pub fn read_satellites(rules: Rules, line: &[u8; 80]) -> Satellites
     ensures result { λ r. ⌜ r ≡ satellitesOf rules (now (line .entry)) ⌝ }
 {
-    let a = fields::fixed_in(0, line, 4, b"+ ", 0, 1, 2);
+    let a = fields::symbols_in(line, b'+', b' ');
     let b = fields::unused_in(a, line, 3, 3);
     let count = fields::whole_in(b, line, 1, rules.most_satellites, 4, 4, 6);
     let c = fields::unused_in(count.fault, line, 7, 9);
@@ -68,9 +68,9 @@ fn symbol_in(line: &[u8; 80], accuracies: bool) -> usize
     ensures { λ r. ⌜ r ≡ symbolFault accuracies (now (line .entry)) ⌝ }
 {
     if accuracies {
-        return fields::fixed_in(0, line, 4, b"++", 0, 1, 2);
+        return fields::symbols_in(line, b'+', b'+');
     }
-    fields::fixed_in(0, line, 4, b"+ ", 0, 1, 2)
+    fields::symbols_in(line, b'+', b' ')
 }
 
 // A further `+ ` line, or a `++` line where `accuracies` says so, of which the first `left` slots are of satellites.

@@ -10,25 +10,25 @@ use Rattle.draw.proofs.descriptors.with_later_characters.Tie as tie
 
 returns : tie.Need-returns
 returns c =
-    draws laterCharacters [] (c .before .before .before .before .before .before .before .before .before .before .before .before .before .before .before .before .before .before .args .line)
+    draws laterCharacters [] (c .before .before .before .before .before .before .before .before .before .args .line)
     (leave refl
-    (draw (c .before .before .before .before .before .before .before .before .before .before .before .before .before .before .before .before .with-fixed .ensures) refl
+    (draw (c .before .before .before .before .before .before .before .before .with-placeholder .ensures) refl
     (leave refl
-    (draw (c .before .before .before .before .before .before .before .before .before .before .before .before .before .before .with-fixed2 .ensures) refl
+    (draw (c .before .before .before .before .before .before .before .with-placeholder2 .ensures) refl
     (leave refl
-    (draw (c .before .before .before .before .before .before .before .before .before .before .before .before .with-fixed3 .ensures) refl
+    (draw (c .before .before .before .before .before .before .with-placeholder3 .ensures) refl
     (leave refl
-    (draw (c .before .before .before .before .before .before .before .before .before .before .with-fixed4 .ensures) refl
+    (draw (c .before .before .before .before .before .with-placeholder4 .ensures) refl
     (leave refl
-    (draw (c .before .before .before .before .before .before .before .before .with-fixed5 .ensures) refl
+    (draw (c .before .before .before .before .with-placeholder5 .ensures) refl
     (leave refl
-    (draw (c .before .before .before .before .before .before .with-fixed6 .ensures) refl
+    (draw (c .before .before .before .with-placeholder6 .ensures) refl
     (leave refl
-    (draw (c .before .before .before .before .with-fixed7 .ensures) refl
+    (draw (c .before .before .with-placeholder7 .ensures) refl
     (leave refl
-    (draw (c .before .before .with-fixed8 .ensures) refl
+    (draw (c .before .with-placeholder8 .ensures) refl
     (leave refl
-    (draw (c .with-fixed9 .ensures) refl
+    (draw (c .with-placeholder9 .ensures) refl
     (leave refl
     drawn-all)))))))))))))))))))
 
@@ -36,22 +36,13 @@ pub with-later-characters-spec : {M : Type 1} → statement M
 with-later-characters-spec =
     tie.close
     (tie.spec
-    (λ c. search needs)
     (λ c κs. search needs)
-    (λ c. search needs)
     (λ c κs. search needs)
-    (λ c. search needs)
     (λ c κs. search needs)
-    (λ c. search needs)
     (λ c κs. search needs)
-    (λ c. search needs)
     (λ c κs. search needs)
-    (λ c. search needs)
     (λ c κs. search needs)
-    (λ c. search needs)
     (λ c κs. search needs)
-    (λ c. search needs)
     (λ c κs. search needs)
-    (λ c. search needs)
     (λ c κs. search needs)
     returns)

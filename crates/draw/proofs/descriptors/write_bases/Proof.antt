@@ -9,10 +9,10 @@ use Rattle.record.proofs.Tiled.{base-tiled}
 use Rattle.draw.proofs.descriptors.write_bases.Statement.{statement}
 use Rattle.draw.proofs.descriptors.write_bases.Tie as tie
 
-shown : (c : tie.After-with-later-floats) → c .with-later-floats .result ≡ showLine baseItems (baseValues (c .before .before .before .before .before .before .before .args .b))
+shown : (c : tie.After-with-later-floats) → c .with-later-floats .result ≡ showLine baseItems (baseValues (c .before .before .before .before .before .before .args .b))
 shown c =
-    shows baseItems (baseValues (c .before .before .before .before .before .before .before .args .b)) base-tiled
-    (draw (c .before .before .before .with-fixed .ensures) refl
+    shows baseItems (baseValues (c .before .before .before .before .before .before .args .b)) base-tiled
+    (draw (c .before .before .before .begun-by .ensures) refl
     (leave refl
     (draw (c .before .before .with-decimal .ensures) refl
     (leave refl
@@ -27,7 +27,6 @@ pub write-bases-spec : {M : Type 1} → statement M
 write-bases-spec =
     tie.close
     (tie.spec
-    (λ c. search needs)
     (λ c κs. search needs)
     (λ c κs. search needs)
     (λ c κs. search needs)

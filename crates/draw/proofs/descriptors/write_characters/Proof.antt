@@ -12,13 +12,13 @@ use Rattle.draw.proofs.descriptors.write_characters.Tie as tie
 shown : (c : tie.After-with-later-characters) → c .with-later-characters .result ≡ showLine characterItems []
 shown c =
     shows characterItems [] refl
-    (draw (c .before .before .before .before .before .before .before .with-fixed .ensures) refl
+    (draw (c .before .before .before .before .begun-by .ensures) refl
     (leave refl
-    (draw (c .before .before .before .before .before .with-fixed2 .ensures) refl
+    (draw (c .before .before .before .with-placeholder .ensures) refl
     (leave refl
-    (draw (c .before .before .before .with-fixed3 .ensures) refl
+    (draw (c .before .before .with-placeholder2 .ensures) refl
     (leave refl
-    (draw (c .before .with-fixed4 .ensures) refl
+    (draw (c .before .with-placeholder3 .ensures) refl
     (record { same = c .with-later-characters .ensures }))))))))
 
 returns : tie.Need-returns
@@ -29,13 +29,9 @@ pub write-characters-spec : {M : Type 1} → statement M
 write-characters-spec =
     tie.close
     (tie.spec
-    (λ c. search needs)
     (λ c κs. search needs)
-    (λ c. search needs)
     (λ c κs. search needs)
-    (λ c. search needs)
     (λ c κs. search needs)
-    (λ c. search needs)
     (λ c κs. search needs)
     (λ c κs. search needs)
     (λ c κs. search needs)

@@ -8,14 +8,14 @@ use Rattle.layout.proofs.Drawing.{draw, leave, shows}
 use Rattle.draw.proofs.descriptors.write_descriptor.Statement.{statement}
 use Rattle.draw.proofs.descriptors.write_descriptor.Tie as tie
 
-shown : (c : tie.After-with-later-characters) → c .with-later-characters .result ≡ showLine descriptorItems (descriptorValues (c .before .before .before .before .before .before .before .before .before .before .args .d))
+shown : (c : tie.After-with-later-characters) → c .with-later-characters .result ≡ showLine descriptorItems (descriptorValues (c .before .before .before .before .before .before .before .before .args .d))
 shown c =
-    shows descriptorItems (descriptorValues (c .before .before .before .before .before .before .before .before .before .before .args .d)) refl
-    (draw (c .before .before .before .before .before .before .with-fixed .ensures) refl
+    shows descriptorItems (descriptorValues (c .before .before .before .before .before .before .before .before .args .d)) refl
+    (draw (c .before .before .before .before .before .begun-by .ensures) refl
     (leave refl
-    (draw (c .before .before .before .before .before .with-letter .ensures) refl
+    (draw (c .before .before .before .before .with-letter .ensures) refl
     (leave refl
-    (draw (c .before .before .before .with-fixed2 .ensures) refl
+    (draw (c .before .before .before .with-placeholder .ensures) refl
     (leave refl
     (draw (c .before .with-text .ensures) refl
     (record { same = c .with-later-characters .ensures }))))))))
@@ -28,10 +28,8 @@ pub write-descriptor-spec : {M : Type 1} → statement M
 write-descriptor-spec =
     tie.close
     (tie.spec
-    (λ c. search needs)
     (λ c κs. search needs)
     (λ c κs. search needs)
-    (λ c. search needs)
     (λ c κs. search needs)
     (λ c. search needs)
     (λ c κs. search needs)

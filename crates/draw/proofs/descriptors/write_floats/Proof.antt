@@ -13,7 +13,7 @@ use Rattle.draw.proofs.descriptors.write_floats.Tie as tie
 shown : (c : tie.After-with-later-floats) → c .with-later-floats .result ≡ showLine floatItems []
 shown c =
     shows floatItems [] float-tiled
-    (draw (c .before .before .before .with-fixed .ensures) refl
+    (draw (c .before .before .before .begun-by .ensures) refl
     (leave refl
     (draw (c .before .before .with-decimal .ensures) refl
     (leave refl
@@ -28,7 +28,6 @@ pub write-floats-spec : {M : Type 1} → statement M
 write-floats-spec =
     tie.close
     (tie.spec
-    (λ c. search needs)
     (λ c κs. search needs)
     (λ c κs. search needs)
     (λ c κs. search needs)

@@ -13,7 +13,7 @@ use Rattle.draw.proofs.descriptors.write_integers.Tie as tie
 shown : (c : tie.After-with-whole9) → c .with-whole9 .result ≡ showLine integerItems []
 shown c =
     shows integerItems [] integer-tiled
-    (draw (c .before .before .before .before .before .before .before .before .before .with-fixed .ensures) refl
+    (draw (c .before .before .before .before .before .before .before .before .before .begun-by .ensures) refl
     (leave refl
     (draw (c .before .before .before .before .before .before .before .before .with-whole .ensures) refl
     (leave refl
@@ -43,7 +43,6 @@ pub write-integers-spec : {M : Type 1} → statement M
 write-integers-spec =
     tie.close
     (tie.spec
-    (λ c. search needs)
     (λ c κs. search needs)
     (λ c κs. search needs)
     (λ c κs. search needs)

@@ -9,10 +9,10 @@ use Rattle.layout.proofs.Drawing.{draw, draw-several, drawn-all, leave, shows}
 use Rattle.draw.proofs.opening.write_epoch.Statement.{statement}
 use Rattle.draw.proofs.opening.write_epoch.Tie as tie
 
-shown : (c : tie.After-with-moment) → c .with-moment .result ≡ showLine epochItems (epochValues (c .before .before .before .before .before .args .e))
+shown : (c : tie.After-with-moment) → c .with-moment .result ≡ showLine epochItems (epochValues (c .before .before .before .before .args .e))
 shown c =
-    shows epochItems (epochValues (c .before .before .before .before .before .args .e)) refl
-    (draw (c .before .with-fixed .ensures) refl
+    shows epochItems (epochValues (c .before .before .before .before .args .e)) refl
+    (draw (c .before .begun-by .ensures) refl
     (leave refl
     (draw-several timeItems (c .with-moment .ensures)
     (leave refl
@@ -26,7 +26,6 @@ pub write-epoch-spec : {M : Type 1} → statement M
 write-epoch-spec =
     tie.close
     (tie.spec
-    (λ c. search needs)
     (λ c κs. search needs)
     (λ c κs. search needs)
     (λ c κs. search needs)

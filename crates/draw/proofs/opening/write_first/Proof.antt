@@ -9,10 +9,10 @@ use Rattle.layout.proofs.Drawing.{draw, draw-several, leave, shows}
 use Rattle.draw.proofs.opening.write_first.Statement.{statement}
 use Rattle.draw.proofs.opening.write_first.Tie as tie
 
-shown : (c : tie.After-with-texts) → c .with-texts .result ≡ showLine (firstItems (c .before .before .before .before .before .before .before .before .before .args .rules)) (firstValues (c .before .before .before .before .before .before .before .before .before .args .f))
+shown : (c : tie.After-with-texts) → c .with-texts .result ≡ showLine (firstItems (c .before .before .before .before .before .before .before .before .args .rules)) (firstValues (c .before .before .before .before .before .before .before .before .args .f))
 shown c =
-    shows (firstItems (c .before .before .before .before .before .before .before .before .before .args .rules)) (firstValues (c .before .before .before .before .before .before .before .before .before .args .f)) refl
-    (draw (c .before .before .before .before .with-fixed .ensures) refl
+    shows (firstItems (c .before .before .before .before .before .before .before .before .args .rules)) (firstValues (c .before .before .before .before .before .before .before .before .args .f)) refl
+    (draw (c .before .before .before .before .begun-by .ensures) refl
     (draw (c .before .before .before .with-letter .ensures) refl
     (draw-several timeItems (c .before .before .with-moment .ensures)
     (leave refl
@@ -28,7 +28,6 @@ pub write-first-spec : {M : Type 1} → statement M
 write-first-spec =
     tie.close
     (tie.spec
-    (λ c. search needs)
     (λ c κs. search needs)
     (λ c κs. search needs)
     (λ c κs. search needs)

@@ -8,10 +8,10 @@ use Rattle.layout.proofs.Drawing.{draw, drawn-all, leave, shows}
 use Rattle.draw.proofs.opening.write_second.Statement.{statement}
 use Rattle.draw.proofs.opening.write_second.Tie as tie
 
-shown : (c : tie.After-with-decimal3) → c .with-decimal3 .result ≡ showLine secondItems (secondValues (c .before .before .before .before .before .before .before .before .args .s))
+shown : (c : tie.After-with-decimal3) → c .with-decimal3 .result ≡ showLine secondItems (secondValues (c .before .before .before .before .before .before .before .args .s))
 shown c =
-    shows secondItems (secondValues (c .before .before .before .before .before .before .before .before .args .s)) refl
-    (draw (c .before .before .before .before .before .with-fixed .ensures) refl
+    shows secondItems (secondValues (c .before .before .before .before .before .before .before .args .s)) refl
+    (draw (c .before .before .before .before .before .begun-by .ensures) refl
     (leave refl
     (draw (c .before .before .before .before .with-whole .ensures) refl
     (leave refl
@@ -33,7 +33,6 @@ pub write-second-spec : {M : Type 1} → statement M
 write-second-spec =
     tie.close
     (tie.spec
-    (λ c. search needs)
     (λ c κs. search needs)
     (λ c κs. search needs)
     (λ c κs. search needs)

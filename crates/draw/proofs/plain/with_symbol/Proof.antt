@@ -5,18 +5,16 @@ use Rattle.draw.proofs.plain.with_symbol.Statement.{statement}
 use Rattle.draw.proofs.plain.with_symbol.Tie as tie
 
 returns : tie.Need-returns
-returns c = rw (c .before .before .if1 .taken) (c .with-fixed .ensures)
+returns c = rw (c .before .if1 .taken) (c .begun-by .ensures)
 
 returns-2 : tie.Need-returns-2
-returns-2 c = rw (c .before .before .if1 .left) (c .with-fixed2 .ensures)
+returns-2 c = rw (c .before .if1 .left) (c .begun-by2 .ensures)
 
 pub with-symbol-spec : {M : Type 1} → statement M
 with-symbol-spec =
     tie.close
     (tie.spec
-    (λ c. search needs)
     (λ c κs. search needs)
     returns
-    (λ c. search needs)
     (λ c κs. search needs)
     returns-2)

@@ -10,10 +10,10 @@ use Rattle.layout.proofs.Drawing.{draw, drawn-all, leave, shows}
 use Rattle.draw.proofs.plain.write_comment.Statement.{statement}
 use Rattle.draw.proofs.plain.write_comment.Tie as tie
 
-shown : (c : tie.After-with-text) → c .with-text .result ≡ showLine commentItems (words (c .before .before .before .before .before .args .text .now) ∷ [])
+shown : (c : tie.After-with-text) → c .with-text .result ≡ showLine commentItems (words (c .before .before .before .before .args .text .now) ∷ [])
 shown c =
-    shows commentItems (words (c .before .before .before .before .before .args .text .now) ∷ []) refl
-    (draw (c .before .with-fixed .ensures) refl
+    shows commentItems (words (c .before .before .before .before .args .text .now) ∷ []) refl
+    (draw (c .before .begun-by .ensures) refl
     (leave refl
     (draw (c .with-text .ensures) refl
     drawn-all)))
@@ -26,7 +26,6 @@ pub write-comment-spec : {M : Type 1} → statement M
 write-comment-spec =
     tie.close
     (tie.spec
-    (λ c. search needs)
     (λ c κs. search needs)
     (λ c κs. search needs)
     (λ c κs. search needs)

@@ -10,14 +10,14 @@ use Rattle.record.proofs.Tiled.{satellites-tiled}
 use Rattle.draw.proofs.slots.write_satellites.Statement.{statement}
 use Rattle.draw.proofs.slots.write_satellites.Tie as tie
 
-shown : (c : tie.After-with-slots) → c .with-slots .result ≡ showLine (satelliteItems (c .before .before .before .before .before .before .before .args .rules) (c .before .before .before .before .before .before .before .args .s .count)) (satellitesValues (c .before .before .before .before .before .before .before .args .s))
+shown : (c : tie.After-with-slots) → c .with-slots .result ≡ showLine (satelliteItems (c .before .before .before .before .before .before .args .rules) (c .before .before .before .before .before .before .args .s .count)) (satellitesValues (c .before .before .before .before .before .before .args .s))
 shown c =
-    shows (satelliteItems (c .before .before .before .before .before .before .before .args .rules) (c .before .before .before .before .before .before .before .args .s .count)) (satellitesValues (c .before .before .before .before .before .before .before .args .s)) (satellites-tiled (c .before .before .before .before .before .before .before .args .rules) (c .before .before .before .before .before .before .before .args .s .count))
-    (draw (c .before .before .before .with-fixed .ensures) refl
+    shows (satelliteItems (c .before .before .before .before .before .before .args .rules) (c .before .before .before .before .before .before .args .s .count)) (satellitesValues (c .before .before .before .before .before .before .args .s)) (satellites-tiled (c .before .before .before .before .before .before .args .rules) (c .before .before .before .before .before .before .args .s .count))
+    (draw (c .before .before .before .begun-by .ensures) refl
     (leave refl
     (draw (c .before .before .with-whole .ensures) refl
     (leave refl
-    (draw-several (slotItems false (c .before .before .before .before .before .before .before .args .s .count)) (c .with-slots .ensures)
+    (draw-several (slotItems false (c .before .before .before .before .before .before .args .s .count)) (c .with-slots .ensures)
     (leave refl
     drawn-all))))))
 
@@ -29,7 +29,6 @@ pub write-satellites-spec : {M : Type 1} → statement M
 write-satellites-spec =
     tie.close
     (tie.spec
-    (λ c. search needs)
     (λ c κs. search needs)
     (λ c κs. search needs)
     (λ c κs. search needs)

@@ -9,8 +9,8 @@ use Rattle.record.proofs.descriptors.floats_fault.Tie as tie
 
 returns : tie.Need-returns
 returns c =
-    judges floatItems (c .before .before .before .before .before .before .before .args .line .now) clean
-    (past (c .before .before .before .before .before .fixed-in .ensures)
+    judges floatItems (c .before .before .before .before .before .before .args .line .now) clean
+    (past (c .before .before .before .before .before .symbols-in .ensures)
     (past (c .before .before .before .before .unused-in .ensures)
     (past (c .before .before .before .zero-decimal-in .ensures)
     (past (c .before .before .unused-in2 .ensures)
@@ -21,7 +21,6 @@ pub floats-fault-spec : {M : Type 1} → statement M
 floats-fault-spec =
     tie.close
     (tie.spec
-    (λ c. search needs)
     (λ c κs. search needs)
     (λ c κs. search needs)
     (λ c κs. search needs)

@@ -9,8 +9,8 @@ use Rattle.record.proofs.descriptors.integers_fault.Tie as tie
 
 returns : tie.Need-returns
 returns c =
-    judges integerItems (c .before .before .before .before .before .before .before .before .before .before .before .before .before .before .before .before .before .before .before .before .before .args .line .now) clean
-    (past (c .before .before .before .before .before .before .before .before .before .before .before .before .before .before .before .before .before .before .before .fixed-in .ensures)
+    judges integerItems (c .before .before .before .before .before .before .before .before .before .before .before .before .before .before .before .before .before .before .before .before .args .line .now) clean
+    (past (c .before .before .before .before .before .before .before .before .before .before .before .before .before .before .before .before .before .before .before .symbols-in .ensures)
     (past (c .before .before .before .before .before .before .before .before .before .before .before .before .before .before .before .before .before .before .unused-in .ensures)
     (past (c .before .before .before .before .before .before .before .before .before .before .before .before .before .before .before .before .before .zero-whole-in .ensures)
     (past (c .before .before .before .before .before .before .before .before .before .before .before .before .before .before .before .before .unused-in2 .ensures)
@@ -36,7 +36,6 @@ pub integers-fault-spec : {M : Type 1} → statement M
 integers-fault-spec =
     tie.close
     (tie.spec
-    (λ c. search needs)
     (λ c κs. search needs)
     (λ c κs. search needs)
     (λ c κs. search needs)

@@ -10,8 +10,8 @@ use Rattle.record.proofs.descriptors.read_bases.Tie as tie
 
 returns : tie.Need-returns
 returns c =
-    made baseFrom baseItems (c .before .before .before .before .before .before .before .args .line .now)
-    (skip (c .before .before .before .before .before .fixed-in .ensures) refl
+    made baseFrom baseItems (c .before .before .before .before .before .before .args .line .now)
+    (skip (c .before .before .before .before .before .symbols-in .ensures) refl
     (skip (c .before .before .before .before .unused-in .ensures) refl
     (number (c .before .before .before .decimal-in .ensures) refl refl
     (skip (c .before .before .unused-in2 .ensures) refl
@@ -22,7 +22,6 @@ pub read-bases-spec : {M : Type 1} → statement M
 read-bases-spec =
     tie.close
     (tie.spec
-    (λ c. search needs)
     (λ c κs. search needs)
     (λ c κs. search needs)
     (λ c κs. search needs)

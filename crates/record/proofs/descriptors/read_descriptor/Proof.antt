@@ -10,13 +10,12 @@ use Rattle.record.proofs.descriptors.read_descriptor.Tie as tie
 
 returns : tie.Need-returns
 returns c =
-    made descriptorFrom descriptorItems (c .before .before .before .before .before .before .before .before .before .before .before .args .line .now)
-    (skip (c .before .before .before .before .before .before .before .before .before .fixed-in .ensures) refl
-    (skip (c .before .before .before .before .before .before .before .before .unused-in .ensures) refl
-    (lettered (c .before .before .before .before .before .before .before .file-type-in .ensures) refl refl
-    (skip (c .before .before .before .before .before .before .unused-in2 .ensures) refl
-    (skip (c .before .before .before .before .fixed-in2 .ensures) refl
-    (skip (c .before .before .before .unused-in3 .ensures) refl
+    made descriptorFrom descriptorItems (c .before .before .before .before .before .before .before .before .args .line .now)
+    (skip (c .before .before .before .before .before .before .before .symbols-in .ensures) refl
+    (skip (c .before .before .before .before .before .before .unused-in .ensures) refl
+    (lettered (c .before .before .before .before .before .file-type-in .ensures) refl refl
+    (skip refl refl (skip (c .before .before .before .before .placeholder-in .ensures) refl
+    (skip (c .before .before .before .unused-in2 .ensures) refl
     (words-judged (c .before .before .time-system-in .ensures) (c .text3 .ensures) refl refl
     (record { at-fault = c .before .later-characters-in .ensures; values = refl }))))))))
 
@@ -24,12 +23,9 @@ pub read-descriptor-spec : {M : Type 1} → statement M
 read-descriptor-spec =
     tie.close
     (tie.spec
-    (λ c. search needs)
     (λ c κs. search needs)
     (λ c κs. search needs)
     (λ c κs. search needs)
-    (λ c κs. search needs)
-    (λ c. search needs)
     (λ c κs. search needs)
     (λ c κs. search needs)
     (λ c κs. search needs)

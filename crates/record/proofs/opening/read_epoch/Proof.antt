@@ -11,8 +11,8 @@ use Rattle.record.proofs.opening.read_epoch.Tie as tie
 returns : tie.Need-returns
 returns c =
     rw (c .dated .ensures)
-    (made epochFrom epochItems (c .before .before .before .before .before .before .before .args .line .now)
-    (skip (c .before .before .before .before .before .fixed-in .ensures) refl
+    (made epochFrom epochItems (c .before .before .before .before .before .before .args .line .now)
+    (skip (c .before .before .before .before .before .symbols-in .ensures) refl
     (skip (c .before .before .before .before .unused-in .ensures) refl
     (moment (c .before .before .before .moment-in .ensures)
     (skip (c .before .unused-in2 .ensures) refl
@@ -22,7 +22,6 @@ pub read-epoch-spec : {M : Type 1} → statement M
 read-epoch-spec =
     tie.close
     (tie.spec
-    (λ c. search needs)
     (λ c κs. search needs)
     (λ c κs. search needs)
     (λ c κs. search needs)

@@ -12,8 +12,8 @@ use Rattle.record.proofs.opening.read_first.Tie as tie
 returns : tie.Need-returns
 returns c =
     rw (c .dated .ensures)
-    (made firstFrom (firstItems (c .before .before .before .before .before .before .before .before .before .before .before .before .before .before .args .rules)) (c .before .before .before .before .before .before .before .before .before .before .before .before .before .before .args .line .now)
-    (skip (c .before .before .before .before .before .before .before .before .before .before .before .before .fixed-in .ensures) refl
+    (made firstFrom (firstItems (c .before .before .before .before .before .before .before .before .before .before .before .before .before .args .rules)) (c .before .before .before .before .before .before .before .before .before .before .before .before .before .args .line .now)
+    (skip (c .before .before .before .before .before .before .before .before .before .before .before .before .symbols-in .ensures) refl
     (lettered (c .before .before .before .before .before .before .before .before .before .before .before .mode-in .ensures) refl refl
     (moment (c .before .before .before .before .before .before .before .before .before .before .moment-in .ensures)
     (skip (c .before .before .before .before .before .before .before .before .unused-in .ensures) refl
@@ -33,7 +33,6 @@ pub read-first-spec : {M : Type 1} → statement M
 read-first-spec =
     tie.close
     (tie.spec
-    (λ c. search needs)
     (λ c κs. search needs)
     (λ c κs. search needs)
     (λ c κs. search needs)

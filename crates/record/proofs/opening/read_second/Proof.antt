@@ -10,8 +10,8 @@ use Rattle.record.proofs.opening.read_second.Tie as tie
 
 returns : tie.Need-returns
 returns c =
-    made secondFrom secondItems (c .before .before .before .before .before .before .before .before .before .before .before .before .before .args .line .now)
-    (skip (c .before .before .before .before .before .before .before .before .before .before .before .fixed-in .ensures) refl
+    made secondFrom secondItems (c .before .before .before .before .before .before .before .before .before .before .before .before .args .line .now)
+    (skip (c .before .before .before .before .before .before .before .before .before .before .before .symbols-in .ensures) refl
     (skip (c .before .before .before .before .before .before .before .before .before .before .unused-in .ensures) refl
     (number (c .before .before .before .before .before .before .before .before .before .whole-in .ensures) refl refl
     (skip (c .before .before .before .before .before .before .before .before .unused-in2 .ensures) refl
@@ -29,7 +29,6 @@ pub read-second-spec : {M : Type 1} → statement M
 read-second-spec =
     tie.close
     (tie.spec
-    (λ c. search needs)
     (λ c κs. search needs)
     (λ c κs. search needs)
     (λ c κs. search needs)

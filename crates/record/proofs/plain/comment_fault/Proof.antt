@@ -10,8 +10,8 @@ use Rattle.record.proofs.plain.comment_fault.Tie as tie
 
 returns : tie.Need-returns
 returns c =
-    judges commentItems (c .before .before .before .args .line .now) clean
-    (past (c .before .fixed-in .ensures)
+    judges commentItems (c .before .before .args .line .now) clean
+    (past (c .before .symbols-in .ensures)
     (past (c .unused-in .ensures)
     (past refl
     judged)))
@@ -20,7 +20,6 @@ pub comment-fault-spec : {M : Type 1} → statement M
 comment-fault-spec =
     tie.close
     (tie.spec
-    (λ c. search needs)
     (λ c κs. search needs)
     (λ c κs. search needs)
     returns)

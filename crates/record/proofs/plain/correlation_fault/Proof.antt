@@ -11,17 +11,17 @@ use Rattle.record.proofs.plain.correlation_fault.Tie as tie
 
 returns : tie.Need-returns
 returns c =
-    rw (c .before .before .if1 .taken)
-    (judges (correlationItems true) (c .before .before .before .args .line .now) clean
-    (past (c .fixed-in .ensures)
+    rw (c .before .if1 .taken)
+    (judges (correlationItems true) (c .before .before .args .line .now) clean
+    (past (c .symbols-in .ensures)
     (past refl
     judged)))
 
 returns-2 : tie.Need-returns-2
 returns-2 c =
-    rw (c .before .before .if1 .left)
-    (judges (correlationItems false) (c .before .before .before .args .line .now) clean
-    (past (c .fixed-in2 .ensures)
+    rw (c .before .if1 .left)
+    (judges (correlationItems false) (c .before .before .args .line .now) clean
+    (past (c .symbols-in2 .ensures)
     (past refl
     judged)))
 
@@ -29,9 +29,7 @@ pub correlation-fault-spec : {M : Type 1} → statement M
 correlation-fault-spec =
     tie.close
     (tie.spec
-    (λ c. search needs)
     (λ c κs. search needs)
     returns
-    (λ c. search needs)
     (λ c κs. search needs)
     returns-2)

@@ -17,7 +17,7 @@ use Rattle.record.proofs.slots.read_satellites.Tie as tie
 
 returns : tie.Need-returns
 returns c =
-    let start = c .before .before .before .before .before .before .before .before .args in
+    let start = c .before .before .before .before .before .before .before .args in
     let line = start .line .now in
     let count = c .before .before .before .before .whole-in in
     let items = slotItems false (count .result .value) in
@@ -25,7 +25,7 @@ returns c =
     ap {B = Satellites} (λ (identifiers : List ℕ). record { fault = c .unused-in3 .result; count = count .result .value; identifiers = identifiers })
     (ap (λ (s : Slots). s .values) slots ∙ ap numbersOf (sym (append-nil (valuesOf items line))))
     ∙ made satellitesFrom (satelliteItems (start .rules) (count .result .value)) line
-    (skip (c .before .before .before .before .before .before .fixed-in .ensures) refl
+    (skip (c .before .before .before .before .before .before .symbols-in .ensures) refl
     (skip (c .before .before .before .before .before .unused-in .ensures) refl
     (number (count .ensures) refl refl
     (skip (c .before .before .before .unused-in2 .ensures) refl
@@ -38,7 +38,6 @@ pub read-satellites-spec : {M : Type 1} → statement M
 read-satellites-spec =
     tie.close
     (tie.spec
-    (λ c. search needs)
     (λ c κs. search needs)
     (λ c κs. search needs)
     (λ c κs. search needs)

@@ -5,18 +5,16 @@ use Rattle.record.proofs.slots.symbol_in.Statement.{statement}
 use Rattle.record.proofs.slots.symbol_in.Tie as tie
 
 returns : tie.Need-returns
-returns c = rw (c .before .before .if1 .taken) (c .fixed-in .ensures)
+returns c = rw (c .before .if1 .taken) (c .symbols-in .ensures)
 
 returns-2 : tie.Need-returns-2
-returns-2 c = rw (c .before .before .if1 .left) (c .fixed-in2 .ensures)
+returns-2 c = rw (c .before .if1 .left) (c .symbols-in2 .ensures)
 
 pub symbol-in-spec : {M : Type 1} → statement M
 symbol-in-spec =
     tie.close
     (tie.spec
-    (λ c. search needs)
     (λ c κs. search needs)
     returns
-    (λ c. search needs)
     (λ c κs. search needs)
     returns-2)
