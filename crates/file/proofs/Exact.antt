@@ -4,7 +4,6 @@ use mathlib.Core.Path.{_≡_}
 use mathlib.Core.Bool.{Bool}
 use Prim.Native.Nat.{ℕ, _≤_}
 use borrow.Author.Tests.{le-leb}
-use lib.IntN.{ℤ}
 use Rattle.field.specs.Sign.{largest, signedInt}
 use Rattle.file.specs.Table.{storedInt}
 
