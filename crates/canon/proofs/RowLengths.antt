@@ -12,8 +12,8 @@ use lib.ListN.{length, take, drop}
 use Rattle.laws.specs.Texts.{blanks}
 use Rattle.field.specs.Sign.{largest, isNegative}
 use Rattle.field.specs.Show.{fitsWhole, putWhole, putDecimal}
-use Rattle.layout.specs.Kind.{unknown, shownIn}
-use Rattle.layout.specs.Kind.Kind.{unused, exponent}
+use Rattle.layout.specs.Kind.{unknown, shownIn, exponent}
+use Rattle.layout.specs.Kind.Kind.{unused}
 use Rattle.layout.specs.Kind.Held.{one, amount}
 use Rattle.layout.specs.Layout.{Item, Values, columns}
 use Rattle.layout.specs.Line.{trimmed}

@@ -1,6 +1,7 @@
--- The canonical form of a table. 01, "The canonical form": "Its form has no EP or EV, no leading zeros but one digit before a point, two digits in
--- identifiers, F as 125·S / 108 rounded to the nearest with halves upward, trailing blanks cut from each line. Each canonical line stands
--- directly after the one before in the lent output." How a record is shown in its line, with its LF, `record` defines.
+-- The canonical form of a table. 01, "The canonical form": "no leading zeros but one digit before a point, two digits in identifiers, F as
+-- 125·S / 108 rounded to the nearest with halves upward, trailing blanks cut from each line. Each canonical line stands directly after the one before
+-- in the lent output." 02, Ask 1: "the canonical form writes it there, even when all its fields are blank", an EP or EV record after its row.
+-- How a record is shown in its line, with its LF, `record` defines.
 use mathlib.Core.Bool.{Bool, true, false, cond}
 use mathlib.Core.List.{List, [], _∷_, _++_}
 use Prim.Native.Nat.{ℕ, zero, suc, _+_, _-_, _*_, _/_, _%_}
@@ -16,7 +17,8 @@ use Rattle.record.specs.Opening.{firstLine, secondLine, epochLine}
 use Rattle.record.specs.SlotLines.{satellitesLine, moreLine}
 use Rattle.record.specs.Descriptors.{descriptorLine, characterItems, baseLine, floatItems, integerItems, fixedLine}
 use Rattle.record.specs.Plain.{commentLine, endItems, commentWidth}
-use Rattle.record.specs.Rows.{rowLine, rowWidth}
+use Rattle.record.specs.Rows.{rowLine, bareWidth, rowWidth}
+use Rattle.record.specs.Notes.{noteLine}
 use Rattle.header.specs.declared.types.Rules.{Rules}
 use Rattle.header.specs.declared.types.Header.{Header}
 use Rattle.header.specs.declared.types.Moment.{Moment}
@@ -29,8 +31,9 @@ use Rattle.record.specs.declared.types.Descriptor.{Descriptor}
 use Rattle.record.specs.declared.types.BaseLine.{BaseLine}
 use Rattle.record.specs.declared.types.Signed.{Signed}
 use Rattle.record.specs.declared.types.Row.{Row}
+use Rattle.record.specs.declared.types.Note.{Note}
 use Rattle.canon.specs.Table.{Table, cellWidth, tableIdentifiers, exponentsOf, commentsOf, rowsOf}
-use Rattle.canon.specs.Valid.{entry}
+use Rattle.canon.specs.Valid.{entry, isNoted}
 
 -- the date and time of an instant in 10^-8 s since MJD 0
 unfoldable pub momentOf : ℕ → Moment
@@ -124,7 +127,7 @@ signedShown v = record { negative = isNegative v; magnitude = natAbs v }
 abbrev pub flagShown : ℤ → Bool
 flagShown v = cond (eqb (natAbs v) 0) false true
 
--- the row of a satellite of twelve stored numbers
+-- the row of a satellite of its stored numbers
 unfoldable pub rowShown : ℕ → List ℤ → Row
 rowShown identifier row = record {
   satellite = identifier;
@@ -142,10 +145,33 @@ rowShown identifier row = record {
   «orbit_predicted» = flagShown (entry row 11);
 }
 
+-- a note of its stored numbers, after its mark
+unfoldable pub noteShown : List ℤ → Note
+noteShown note = record {
+  «x_deviation» = natAbs (entry note 1);
+  «y_deviation» = natAbs (entry note 2);
+  «z_deviation» = natAbs (entry note 3);
+  «clock_deviation» = natAbs (entry note 4);
+  xy = signedShown (entry note 5);
+  xz = signedShown (entry note 6);
+  xc = signedShown (entry note 7);
+  yz = signedShown (entry note 8);
+  yc = signedShown (entry note 9);
+  zc = signedShown (entry note 10);
+}
+
+-- its line, where it stood
+unfoldable pub noteLines : Bool → List ℤ → List (List ℕ)
+noteLines velocity note = cond (isNoted note) (noteLine velocity (noteShown note) ∷ []) []
+
+-- a P line and its EP line, or a V line and its EV line
+unfoldable pub notedLines : Bool → ℕ → List ℤ → List (List ℕ)
+notedLines velocity identifier row = rowLine velocity (rowShown identifier row) ∷ noteLines velocity (drop bareWidth row)
+
 -- the lines of one satellite in one epoch: P, in mode V then V
 unfoldable pub cellLines : Bool → ℕ → List ℤ → List (List ℕ)
-cellLines true identifier cell = rowLine false (rowShown identifier (take rowWidth cell)) ∷ rowLine true (rowShown identifier (drop rowWidth cell)) ∷ []
-cellLines false identifier cell = rowLine false (rowShown identifier cell) ∷ []
+cellLines true identifier cell = notedLines false identifier (take rowWidth cell) ++ notedLines true identifier (drop rowWidth cell)
+cellLines false identifier cell = notedLines false identifier cell
 
 -- those of each satellite, in header order
 unfoldable pub cellsLines : Bool → List ℕ → List ℤ → List (List ℕ)

@@ -6,16 +6,16 @@ use Prim.Native.Nat.{ℕ, zero, suc, _+_, _*_}
 use lib.Dec.{eqb, leb}
 use lib.IntN.{ℤ, natAbs}
 use lib.ListN.{length, take, drop}
-use Rattle.layout.specs.Kind.{unknown}
+use Rattle.layout.specs.Kind.{unknown, unnoted}
 use Rattle.layout.specs.Line.{trimmed}
 use Rattle.header.specs.Rules.{slotLines}
 use Rattle.record.specs.Plain.{commentWidth}
-use Rattle.record.specs.Rows.{rowWidth}
+use Rattle.record.specs.Rows.{bareWidth, rowWidth}
 use Rattle.header.specs.declared.types.Rules.{Rules}
 use Rattle.header.specs.declared.types.Header.{Header}
 use Rattle.header.specs.declared.types.Texts.{Texts}
 use Rattle.canon.specs.Table.{Table, cellWidth, cellsIn, commentsOf, rowsOf}
-use Rattle.canon.specs.Valid.{entry, valid}
+use Rattle.canon.specs.Valid.{entry, isNoted, valid}
 use Rattle.canon.specs.Canonical.{canonical}
 use Rattle.canon.specs.declared.types.Measured.{Measured}
 
@@ -57,10 +57,30 @@ unfoldable pub rowLength : List ℤ → ℕ
 rowLength row =
     flagEnd 80 (entry row 11) (flagEnd 79 (entry row 10) (flagEnd 76 (entry row 9) (flagEnd 75 (entry row 8) (exponentsEnd row)))) + 1
 
+-- an EP or EV line ends with its last number that is known, or in column 2
+abbrev pub notedEnd : ℕ → ℤ → ℕ → ℕ
+notedEnd column v earlier = cond (eqb (natAbs v) unnoted) earlier column
+
+unfoldable pub deviationsEnd : List ℤ → ℕ
+deviationsEnd note =
+    notedEnd 26 (entry note 4) (notedEnd 18 (entry note 3) (notedEnd 13 (entry note 2) (notedEnd 8 (entry note 1) 2)))
+
+unfoldable pub correlationsEnd : List ℤ → ℕ
+correlationsEnd note =
+    notedEnd 80 (entry note 10)
+    (notedEnd 71 (entry note 9)
+    (notedEnd 62 (entry note 8) (notedEnd 53 (entry note 7) (notedEnd 44 (entry note 6) (notedEnd 35 (entry note 5) (deviationsEnd note))))))
+
+unfoldable pub noteLength : List ℤ → ℕ
+noteLength note = cond (isNoted note) (correlationsEnd note + 1) 0
+
+unfoldable pub notedLength : List ℤ → ℕ
+notedLength row = rowLength row + noteLength (drop bareWidth row)
+
 -- the lines of one satellite in one epoch, and of so many
 unfoldable pub cellLength : Bool → List ℤ → ℕ
-cellLength true cell = rowLength (take rowWidth cell) + rowLength (drop rowWidth cell)
-cellLength false cell = rowLength cell
+cellLength true cell = notedLength (take rowWidth cell) + notedLength (drop rowWidth cell)
+cellLength false cell = notedLength cell
 
 unfoldable pub rowsLength : Bool → ℕ → List ℤ → ℕ
 rowsLength velocity zero rows = 0

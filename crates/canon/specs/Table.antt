@@ -21,7 +21,7 @@ abbrev pub tableOf : Header → List ℕ → List ℕ → List ℕ → List ℤ 
 tableOf h identifiers exponents comments rows =
     record { header = h; identifiers = identifiers; exponents = exponents; comments = comments; rows = rows }
 
--- the numbers of one satellite in one epoch: a P row of twelve, in mode V a V row after it
+-- the numbers of one satellite in one epoch: a P row with its note, in mode V a V row with its own after it
 abbrev pub cellWidth : Bool → ℕ
 cellWidth true = bothWidth
 cellWidth false = rowWidth

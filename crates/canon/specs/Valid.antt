@@ -1,6 +1,6 @@
 -- Which tables are valid, over the rules of a version. 01, "The canonical form": "A table is valid exactly when some accepted file has it; lists
 -- shorter than its counts make it invalid". Said here by the bounds of 01 one by one; that it is the same is a theorem.
-use mathlib.Core.Bool.{Bool, true, false, not, _&&_, _||_}
+use mathlib.Core.Bool.{Bool, true, false, cond, not, _&&_, _||_}
 use mathlib.Core.List.{List, []}
 use Prim.Native.Nat.{ℕ, zero, suc, _+_, _-_, _*_, _/_, min}
 use lib.Dec.{eqb, leb}
@@ -11,7 +11,7 @@ use Rattle.laws.specs.Texts.{every}
 use Rattle.calendar.specs.Gregorian.{firstMjd, lastMjd}
 use Rattle.calendar.specs.Clock.{dayUnits}
 use Rattle.field.specs.Sign.{largest, isNegative}
-use Rattle.layout.specs.Kind.{isOneOf, isListed, isIdentifier, printable, unknown}
+use Rattle.layout.specs.Kind.{isOneOf, isListed, isIdentifier, printable, unknown, unnoted}
 use Rattle.layout.specs.Line.{trimmed}
 use Rattle.header.specs.Rules.{maxEpochs}
 use Rattle.header.specs.Header.{maxInterval, maxPlaceBase, maxClockBase}
@@ -19,7 +19,8 @@ use Rattle.header.specs.Letters.{fileTypes, timeSystems}
 use Rattle.record.specs.Absence.{largestExponent}
 use Rattle.record.specs.Agrees.{repeats, typeAgrees}
 use Rattle.record.specs.Plain.{commentWidth}
-use Rattle.record.specs.Rows.{rowWidth}
+use Rattle.record.specs.Rows.{bareWidth, rowWidth}
+use Rattle.record.specs.Notes.{largestDeviation, largestCorrelation}
 use Rattle.header.specs.declared.types.Rules.{Rules}
 use Rattle.header.specs.declared.types.Header.{Header}
 use Rattle.header.specs.declared.types.Texts.{Texts}
@@ -111,16 +112,49 @@ abbrev pub fourValid : (ℤ → Bool) → (ℤ → Bool) → ℕ → List ℤ �
 fourValid test last at row =
     (test (entry row at) && test (entry row (at + 1))) && (test (entry row (at + 2)) && last (entry row (at + 3)))
 
--- a P row, or a V row
+-- the numbers of a P line, or of a V line
 unfoldable pub rowValid : Bool → List ℤ → Bool
 rowValid velocity row =
     fourValid amountValid amountValid 0 row
     && (fourValid (exponentValid false) (exponentValid true) 4 row && fourValid (flagValid velocity) (flagValid velocity) 8 row)
 
+-- of a note: a deviation is 0 to 9999, of the clock to 9999999, or unknown
+abbrev pub deviationValid : Bool → ℤ → Bool
+deviationValid clock v = not (isNegative v) && (leb (natAbs v) (largestDeviation clock) || eqb (natAbs v) unnoted)
+
+-- a correlation is −9999999 to 9999999, or unknown
+abbrev pub isUnnoted : ℤ → Bool
+isUnnoted v = not (isNegative v) && eqb (natAbs v) unnoted
+
+abbrev pub correlationValid : ℤ → Bool
+correlationValid v = leb (natAbs v) largestCorrelation || isUnnoted v
+
+-- the four deviations and the six correlations
+abbrev pub tenValid : (ℤ → Bool) → (ℤ → Bool) → (ℤ → Bool) → List ℤ → Bool
+tenValid deviation clock correlation note =
+    fourValid deviation clock 1 note
+    && (fourValid correlation correlation 5 note && (correlation (entry note 9) && correlation (entry note 10)))
+
+-- whether a record stood there: its mark is not 0
+abbrev pub isNoted : List ℤ → Bool
+isNoted note = cond (eqb (natAbs (entry note 0)) 0) false true
+
+-- the mark is 1 or 0; where it is 0 all ten are unknown
+unfoldable pub noteValid : List ℤ → Bool
+noteValid note =
+    flagValid false (entry note 0)
+    && cond (isNoted note)
+    (tenValid (deviationValid false) (deviationValid true) correlationValid note)
+    (tenValid isUnnoted isUnnoted isUnnoted note)
+
+-- a P row with its note, or a V row with its own
+unfoldable pub notedValid : Bool → List ℤ → Bool
+notedValid velocity row = rowValid velocity row && noteValid (drop bareWidth row)
+
 -- the rows of one satellite in one epoch
 unfoldable pub cellValid : Bool → List ℤ → Bool
-cellValid true cell = rowValid false (take rowWidth cell) && rowValid true (drop rowWidth cell)
-cellValid false cell = rowValid false cell
+cellValid true cell = notedValid false (take rowWidth cell) && notedValid true (drop rowWidth cell)
+cellValid false cell = notedValid false cell
 
 -- and of so many
 unfoldable pub rowsValid : Bool → ℕ → List ℤ → Bool

@@ -5,7 +5,7 @@ use Prim.Native.Nat.{ℕ}
 use lib.Dec.{eqb}
 use Rattle.layout.specs.Line.{padded}
 use Rattle.lines.specs.Lines.{select, nth}
-use Rattle.record.specs.LineKinds.{positionKind, velocityKind, toldKind, kindOf}
+use Rattle.record.specs.LineKinds.{positionKind, velocityKind, positionCorrelationKind, velocityCorrelationKind, toldKind, kindOf}
 use Rattle.header.specs.declared.types.Rules.{Rules}
 
 -- the number of its kind
@@ -18,6 +18,10 @@ isKind rules kind line = eqb (kindIn rules line) kind
 -- P and V
 abbrev pub isRow : Rules → List ℕ → Bool
 isRow rules line = isKind rules positionKind line || isKind rules velocityKind line
+
+-- EP and EV
+abbrev pub isNote : Rules → List ℕ → Bool
+isNote rules line = isKind rules positionCorrelationKind line || isKind rules velocityCorrelationKind line
 
 -- the lines of a kind, in their order
 abbrev pub ofKind : Rules → ℕ → List (List ℕ) → List (List ℕ)

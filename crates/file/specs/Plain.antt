@@ -19,6 +19,7 @@ use Rattle.record.specs.SlotLines.{satellitesOf, moreOf}
 use Rattle.record.specs.Descriptors.{descriptorOf, characterItems, baseOf, floatItems, integerItems}
 use Rattle.record.specs.Plain.{commentItems, endItems}
 use Rattle.record.specs.Rows.{rowFault, cut}
+use Rattle.record.specs.Notes.{noteFault}
 use Rattle.record.specs.Agrees.{instantIn, secondAgrees, repeats, typeAgrees}
 use Rattle.header.specs.declared.types.Rules.{Rules}
 use Rattle.record.specs.declared.types.LineKind.{LineKind}
@@ -102,21 +103,29 @@ abbrev pub isRowLine : Rules → Bool → ℕ → List ℕ → Bool
 isRowLine rules velocity identifier l =
     isRecord rules (rowKind velocity) (rowFault velocity (padded l)) l && eqb (identifierCode (cut 2 4 (padded l))) identifier
 
--- one correlation record of a kind at most
-abbrev pub areNotes : Rules → LineKind → List (List ℕ) → Bool
-areNotes rules kind ls = leb (length ls) 1 && everyLine (isLine rules kind) ls
+-- an EP line, or an EV line
+abbrev pub noteKind : Bool → LineKind
+noteKind true = kind.VelocityCorrelation
+noteKind false = kind.PositionCorrelation
+
+abbrev pub isNoteLine : Rules → Bool → List ℕ → Bool
+isNoteLine rules velocity l = isRecord rules (noteKind velocity) (noteFault velocity (padded l)) l
+
+-- one of them at most
+abbrev pub areNotes : Rules → Bool → List (List ℕ) → Bool
+areNotes rules velocity ls = leb (length ls) 1 && everyLine (isNoteLine rules velocity) ls
 
 -- P or V with what may stand after it
-pub record Noted (rules : Rules) (velocity : Bool) (note : LineKind) (identifier : ℕ) (lines : List (List ℕ)) : Type 0 where
+pub record Noted (rules : Rules) (velocity : Bool) (identifier : ℕ) (lines : List (List ℕ)) : Type 0 where
   pub row : List ℕ
   pub notes : List (List ℕ)
   pub lines-are : lines ≡ row ∷ notes
   pub is-row : isRowLine rules velocity identifier row ≡ true
-  pub are-notes : areNotes rules note notes ≡ true
+  pub are-notes : areNotes rules velocity notes ≡ true
 
 -- what follows in mode V: V; in mode P nothing
 abbrev pub Rest : Rules → Bool → ℕ → List (List ℕ) → Type 0
-Rest rules true identifier lines = Noted rules true kind.VelocityCorrelation identifier lines
+Rest rules true identifier lines = Noted rules true identifier lines
 Rest rules false identifier lines = lines ≡ []
 
 -- the lines of one satellite in an epoch: P; in mode V then V
@@ -124,7 +133,7 @@ pub record Satellite (rules : Rules) (velocity : Bool) (identifier : ℕ) (lines
   pub position : List (List ℕ)
   pub rest : List (List ℕ)
   pub lines-are : lines ≡ position ++ rest
-  pub is-position : Noted rules false kind.PositionCorrelation identifier position
+  pub is-position : Noted rules false identifier position
   pub is-rest : Rest rules velocity identifier rest
 
 -- the lines of each satellite in header order

@@ -1,23 +1,26 @@
 -- The table that the lines of a file hold, by selecting lines, whatever the machine says. 01, "What the build covers": "A table holds the mode,
 -- start, number of epochs, interval, four texts, identifiers with their exponents, file type, time system, two bases, the comments without
--- trailing blanks, and the rows in file order: numbers or absence, exponents, flags."
+-- trailing blanks, and the rows in file order: numbers or absence, exponents, flags." 02, Ask 1: "A row now says whether such a record stood there".
 use mathlib.Core.Bool.{Bool, true, false, cond}
 use mathlib.Core.List.{List, [], _∷_, map}
 use Prim.Native.Nat.{ℕ}
 use lib.Dec.{leb}
 use lib.IntN.{ℤ, pos}
-use lib.ListN.{length, take}
+use lib.ListN.{length, take, replicate}
 use Rattle.field.specs.Sign.{largest, signedInt}
 use Rattle.header.specs.Header.{headerMade}
+use Rattle.layout.specs.Kind.{unnoted}
 use Rattle.layout.specs.Line.{padded}
 use Rattle.lines.specs.Lent.{flat}
 use Rattle.lines.specs.Lines.{select}
+use Rattle.lines.specs.Noted.{rowParts}
 use Rattle.record.specs.LineKinds.{firstKind, secondKind, satellitesKind, accuraciesKind, charactersKind, floatsKind, commentKind, velocityKind}
 use Rattle.record.specs.Opening.{firstOf, secondOf}
 use Rattle.record.specs.SlotLines.{satellitesOf, moreOf}
 use Rattle.record.specs.Descriptors.{descriptorOf, baseOf}
 use Rattle.record.specs.Plain.{commentOf}
 use Rattle.record.specs.Rows.{rowOf}
+use Rattle.record.specs.Notes.{noteOf}
 use Rattle.record.specs.Agrees.{instantIn}
 use Rattle.header.specs.declared.types.Rules.{Rules}
 use Rattle.header.specs.declared.types.Header.{Header}
@@ -26,7 +29,8 @@ use Rattle.record.specs.declared.types.Descriptor.{Descriptor}
 use Rattle.record.specs.declared.types.BaseLine.{BaseLine}
 use Rattle.record.specs.declared.types.Signed.{Signed}
 use Rattle.record.specs.declared.types.Row.{Row}
-use Rattle.file.specs.Kinds.{isKind, isRow, ofKind, firstOfKind}
+use Rattle.record.specs.declared.types.Note.{Note}
+use Rattle.file.specs.Kinds.{isKind, isRow, isNote, ofKind, firstOfKind}
 
 -- the header of its first `#d`, `##`, `+ `, `%c` and `%f` lines, and the number of its comments
 abbrev pub headerFrom : First → ℕ → ℕ → Descriptor → BaseLine → ℕ → Header
@@ -98,7 +102,7 @@ markNumber set = cond set 1 0
 abbrev pub storedMark : Bool → ℤ
 storedMark set = storedCount (markNumber set)
 
--- the twelve numbers of a stored row: x, y, z, clock, their exponents, and the flags of columns 75, 76, 79 and 80
+-- the numbers of a P or V line: x, y, z, clock, their exponents, and the flags of columns 75, 76, 79 and 80
 unfoldable pub rowNumbers : Row → List ℤ
 rowNumbers p =
     storedSigned (p .x)
@@ -115,12 +119,33 @@ rowNumbers p =
     ∷ storedMark (p .«orbit_predicted»)
     ∷ []
 
--- the numbers of some P and V lines, in file order
-unfoldable pub numbersOfRows : Rules → List (List ℕ) → List ℤ
-numbersOfRows rules lines = flat (map (λ line. rowNumbers (rowIn rules line)) lines)
+-- the numbers of an EP or EV line: 1, since it stands there, the deviations of x, y, z and clock, and the correlations xy, xz, xc, yz, yc and zc
+unfoldable pub noteNumbers : Note → List ℤ
+noteNumbers n =
+    storedMark true
+    ∷ storedCount (n .«x_deviation»)
+    ∷ storedCount (n .«y_deviation»)
+    ∷ storedCount (n .«z_deviation»)
+    ∷ storedCount (n .«clock_deviation»)
+    ∷ storedSigned (n .xy)
+    ∷ storedSigned (n .xz)
+    ∷ storedSigned (n .xc)
+    ∷ storedSigned (n .yz)
+    ∷ storedSigned (n .yc)
+    ∷ storedSigned (n .zc)
+    ∷ []
+
+-- where none stands: 0, and all ten unknown
+unfoldable pub noNote : List ℤ
+noNote = storedMark false ∷ replicate 10 (storedCount unnoted)
 
 abbrev pub rowLines : Rules → List (List ℕ) → List (List ℕ)
 rowLines rules lines = select (isRow rules) lines
 
+-- the rows of some lines, in file order: the numbers of each P or V line, and of the EP or EV line directly after it
+unfoldable pub rowsOfLines : Rules → List (List ℕ) → List (List ℤ)
+rowsOfLines rules lines =
+    rowParts (isRow rules) (isNote rules) (λ line. rowNumbers (rowIn rules line)) (λ line. noteNumbers (noteOf line)) noNote lines
+
 abbrev pub rowsIn : Rules → List (List ℕ) → List ℤ
-rowsIn rules lines = numbersOfRows rules (rowLines rules lines)
+rowsIn rules lines = flat (rowsOfLines rules lines)

@@ -5,19 +5,19 @@ use mathlib.Core.Bool.{Bool, true, false, cond, not, _&&_, _||_}
 use mathlib.Core.List.{List, [], _∷_}
 use Prim.Native.Nat.{ℕ, zero, suc, _-_, min, _<_, _≤_}
 use native.Mathlib.Omega.{arith}
-use borrow.Author.Tests.{eqb-true, eqb-false, eq-eqb, ltb-true}
+use borrow.Author.Tests.{eqb-true, eqb-false, eq-eqb, ltb-true, ne-eqb, leb-true}
 use lib.Dec.{leb, ltb, eqb}
 use lib.ListN.{length, getD, take, drop, length-drop}
 use lib.Seq.{length-take-le}
 use Rattle.laws.specs.Tests.{within}
 use Rattle.laws.specs.Texts.{every, isPrintable}
-use Rattle.field.specs.Read.{wholeOf, exponentOf, decimalOf, minusFirst}
-use Rattle.field.specs.Show.{fitsWhole, fitsDecimal}
+use Rattle.field.specs.Read.{wholeOf, exponentOf, decimalOf, minusFirst, signedWholeOf}
+use Rattle.field.specs.Show.{fitsWhole, fitsDecimal, fitsSigned}
 use Rattle.field.specs.Sign.{largest}
 use Rattle.layout.specs.Fault.{clean, keyed, lower, lowerOf, lowerUnless}
-use Rattle.layout.specs.Kind.{Kind, silent, unknown, sameBytes, isOneOf, isListed, isBlank, isLettered, isIdentifier, named, identifierCode, identifierNumber, canAmount, unless, boundFault, wholeFault, amountFault, exponentFault, faultIn, heldIn, wholeHeld, amountHeld, signHeld, exponentHeld, fitsIn, holdsIn, printable}
-use Rattle.layout.specs.Kind.Kind.{unused, fixed, whole, decimal, signed, clock, exponent, flag, letter, listed, identifier, filler, zeroWhole, zeroDecimal, text}
-use Rattle.layout.specs.Kind.Held.{nothing}
+use Rattle.layout.specs.Kind.{Kind, silent, sameBytes, isOneOf, isListed, isBlank, isLettered, isIdentifier, named, identifierCode, identifierNumber, canAmount, unless, boundFault, wholeFault, amountFault, exponentFault, faultIn, heldIn, wholeHeld, amountHeld, signHeld, fitsIn, holdsIn, printable, canSigned, amountWith, heldAmount, maybeHeld}
+use Rattle.layout.specs.Kind.Kind.{unused, fixed, whole, decimal, signed, clock, flag, letter, listed, identifier, filler, zeroWhole, zeroDecimal, text, maybe, maybeSigned}
+use Rattle.layout.specs.Kind.Held.{nothing, amount}
 use Rattle.layout.specs.Layout.{hasOwn, ownOf, othersOf, Item, Values, widthOf, partOf, faultAt, tiledFrom, tiled, faultFrom, faultOf, valuesOf, canShow, entered}
 use Rattle.field.specs.declared.Whole.{Whole}
 use Rattle.field.specs.declared.Whole.the-variants as wholes
@@ -26,8 +26,8 @@ use Rattle.field.specs.declared.Exponent.the-variants as exponents
 use Rattle.field.specs.declared.Amount.{Amount}
 use Rattle.field.specs.declared.Amount.the-variants as amounts
 use Rattle.laws.proofs.Bools.{and-left, and-right, and-both}
-use Rattle.field.proofs.Accepted.{decimal-taken, integer-minus}
-use Rattle.field.proofs.Again.{whole-again, exponent-again, decimal-again}
+use Rattle.field.proofs.Accepted.{decimal-taken, integer-minus, signed-whole-taken}
+use Rattle.field.proofs.Again.{whole-again, exponent-again, decimal-again, signed-again}
 use Rattle.layout.proofs.Identifiers.{identifier-again}
 use Rattle.layout.proofs.Fields.{not-false-true, same-one}
 use Rattle.layout.proofs.Layouts.{stands, start-bound}
@@ -76,9 +76,22 @@ holds-signed places column bs (amounts.Value n m) e f =
     (and-both (fitsDecimal (length bs) places n m) _ (decimal-again bs places true n m e) (settled-sign (c .minus) n m (c .sign)))
 holds-signed places column bs amounts.Malformed e f = absurd (no-key 6 column (omega arith) f)
 
-holds-exponent : (column : ℕ) (bs : List ℕ) (a : Exponent) → exponentOf bs ≡ a → exponentFault column a ≡ clean
-    → (eqb (exponentHeld a) unknown || fitsWhole (length bs) (exponentHeld a)) ≡ true
-holds-exponent column bs (exponents.Value n) e f = either (eqb n unknown) (exponent-again bs (exponents.Value n) (λ q. value-good q) e)
+-- a number that may be unknown, with a minus or none
+holds-noted : (none high column : ℕ) (bs : List ℕ) → high < none → (t : Bool) → every isBlank bs ≡ t → (a : Amount) → signedWholeOf bs ≡ a
+    → cond t clean (amountFault column 0 high a) ≡ clean → amountWith (canSigned (length bs) none high) (cond t (amount false none) (heldAmount a)) ≡ true
+holds-noted none high column bs apart true q a e f = rw (eq-eqb none none refl)
+holds-noted none high column bs apart false q (amounts.Value n m) e f =
+    let c = signed-whole-taken bs n m e .1 in
+    let bound = and-right (leb 0 m) (leb m high) (bound-passed column 0 high m f) in
+    let other = ne-eqb m none (λ same. omega (arith, leb-true m high bound)) in
+    rw other
+    (and-both (leb m high) _ bound
+    (and-both (fitsSigned (length bs) n m) _ (signed-again bs n m e) (settled-sign (c .minus) n m (c .sign))))
+holds-noted none high column bs apart false q amounts.Malformed e f = absurd (no-key 6 column (omega arith) f)
+
+holds-maybe : (none column : ℕ) (bs : List ℕ) (a : Exponent) → exponentOf bs ≡ a → exponentFault column a ≡ clean
+    → (eqb (maybeHeld none a) none || fitsWhole (length bs) (maybeHeld none a)) ≡ true
+holds-maybe none column bs (exponents.Value n) e f = either (eqb n none) (exponent-again bs (exponents.Value n) (λ q. value-good q) e)
   where
     either : (t : Bool) → fitsWhole (length bs) n ≡ true → (t || fitsWhole (length bs) n) ≡ true
     either true h = refl
@@ -86,8 +99,8 @@ holds-exponent column bs (exponents.Value n) e f = either (eqb n unknown) (expon
 
     value-good : exponents.Value n ≡ exponents.Malformed → ⊥
     value-good q = let z : _≡_ {A = ℕ} 0 1 = cc in omega arith
-holds-exponent column bs exponents.Unknown e f = refl
-holds-exponent column bs exponents.Malformed e f = absurd (no-key 6 column (omega arith) f)
+holds-maybe none column bs exponents.Unknown e f = rw (eq-eqb none none refl)
+holds-maybe none column bs exponents.Malformed e f = absurd (no-key 6 column (omega arith) f)
 
 holds-identifier : (column : ℕ) (bs : List ℕ) (t : Bool) → named bs ≡ t → cond t (boundFault column 1 99 (identifierNumber bs)) (keyed 6 column) ≡ clean
     → isIdentifier (cond t (identifierCode bs) 0) ≡ true
@@ -104,7 +117,9 @@ holds-again (whole low high) column bs w p f = holds-whole low high column bs (w
 holds-again (decimal places low high) column bs w p f = holds-decimal places low high column bs (decimalOf bs places false) refl f
 holds-again (signed places) column bs w p f = holds-signed places column bs (decimalOf bs places true) refl f
 holds-again (clock places) column bs w p f = holds-signed places column bs (decimalOf bs places true) refl f
-holds-again exponent column bs w p f = holds-exponent column bs (exponentOf bs) refl f
+holds-again (maybe none) column bs w p f = holds-maybe none column bs (exponentOf bs) refl f
+holds-again (maybeSigned none high) column bs w p f =
+    holds-noted none high column bs (ltb-true high none (and-right (leb (length bs) 18) (ltb high none) w)) (every isBlank bs) refl (signedWholeOf bs) refl f
 holds-again (flag sign) column bs w p f = refl
 holds-again (letter these) column bs w p f =
     and-left (isOneOf (getD bs 0 0) these) (every isBlank (drop 1 bs)) (passed (isLettered bs these) 6 column (omega arith) f)
@@ -123,7 +138,8 @@ silent-held (whole low high) bs s = absurd (not-false-true s)
 silent-held (decimal places low high) bs s = absurd (not-false-true s)
 silent-held (signed places) bs s = absurd (not-false-true s)
 silent-held (clock places) bs s = absurd (not-false-true s)
-silent-held exponent bs s = absurd (not-false-true s)
+silent-held (maybe none) bs s = absurd (not-false-true s)
+silent-held (maybeSigned none high) bs s = absurd (not-false-true s)
 silent-held (flag sign) bs s = absurd (not-false-true s)
 silent-held (letter these) bs s = absurd (not-false-true s)
 silent-held (listed these) bs s = absurd (not-false-true s)

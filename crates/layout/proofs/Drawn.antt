@@ -11,7 +11,7 @@ use lib.Seq.{take-at, drop-at}
 use Rattle.layout.specs.Kind.{Kind, Held, shownIn, isUnused}
 use Rattle.laws.specs.Texts.{blanks}
 use Rattle.layout.specs.Layout.{Item, Values, widthOf, tiledFrom, tiled, showLine, overlaid, bytesOf, leftOf, drawn}
-use Rattle.layout.specs.Kind.Kind.{unused, fixed, whole, decimal, signed, clock, exponent, flag, letter, listed, identifier, filler, zeroWhole, zeroDecimal, text}
+use Rattle.layout.specs.Kind.Kind.{unused, fixed, whole, decimal, signed, clock, maybe, maybeSigned, flag, letter, listed, identifier, filler, zeroWhole, zeroDecimal, text}
 use Rattle.layout.proofs.Fields.{not-false-true}
 use Rattle.layout.proofs.Lines.{blanks-split, drop-blanks}
 use Rattle.layout.proofs.Layouts.{start-bound, placed, grown, further}
@@ -23,7 +23,8 @@ blank-bytes (whole low high) w v h = absurd (not-false-true h)
 blank-bytes (decimal places low high) w v h = absurd (not-false-true h)
 blank-bytes (signed places) w v h = absurd (not-false-true h)
 blank-bytes (clock places) w v h = absurd (not-false-true h)
-blank-bytes exponent w v h = absurd (not-false-true h)
+blank-bytes (maybe none) w v h = absurd (not-false-true h)
+blank-bytes (maybeSigned none high) w v h = absurd (not-false-true h)
 blank-bytes (flag sign) w v h = absurd (not-false-true h)
 blank-bytes (letter these) w v h = absurd (not-false-true h)
 blank-bytes (listed these) w v h = absurd (not-false-true h)

@@ -3,25 +3,25 @@
 use mathlib.Core.Path.{_≡_, refl, sym, ap, _∙_}
 use mathlib.Core.Bool.{Bool, true, false, cond, not, _&&_, _||_}
 use mathlib.Core.List.{List, [], _∷_}
-use Prim.Native.Nat.{ℕ, zero, suc, _<_, _≤_}
+use Prim.Native.Nat.{ℕ, zero, suc, _<_, _≤_, _^_}
 use native.Mathlib.Omega.{arith}
-use borrow.Author.Tests.{le-leb, leb-true, ltb-true, eqb-true, eq-eqb, ne-eqb}
+use borrow.Author.Tests.{le-leb, leb-true, ltb-true, eqb-true, eq-eqb, ne-eqb, not-true}
 use lib.Dec.{leb, ltb, eqb}
 use lib.ListN.{length, take}
 use Rattle.laws.specs.Tests.{within}
 use Rattle.laws.specs.Texts.{isPrintable, blanks}
-use Rattle.field.specs.Show.{fitsWhole, putWhole, fitsDecimal, shownNegative}
+use Rattle.field.specs.Show.{fitsWhole, putWhole, fitsDecimal, shownNegative, fitsSigned, putSigned}
 use Rattle.field.specs.Sign.{largest}
 use Rattle.layout.specs.Fault.{clean}
-use Rattle.layout.specs.Kind.{Kind, Held, numberIn, negativeIn, magnitudeIn, wordsIn, unknown, sameBytes, isOneOf, isListed, isIdentifier, canAmount, faultIn, heldIn, shownIn, fitsIn, wordsFit, holdsIn, printable, isNothing, numberWith, amountWith, isMark, wordsWith}
-use Rattle.layout.specs.Kind.Kind.{unused, fixed, whole, decimal, signed, clock, exponent, flag, letter, listed, identifier, filler, zeroWhole, zeroDecimal, text}
+use Rattle.layout.specs.Kind.{Kind, Held, numberIn, negativeIn, magnitudeIn, wordsIn, sameBytes, isOneOf, isListed, isIdentifier, canAmount, faultIn, heldIn, shownIn, fitsIn, wordsFit, holdsIn, printable, isNothing, numberWith, amountWith, isMark, wordsWith, canSigned}
+use Rattle.layout.specs.Kind.Kind.{unused, fixed, whole, decimal, signed, clock, flag, letter, listed, identifier, filler, zeroWhole, zeroDecimal, text, maybe, maybeSigned}
 use Rattle.layout.specs.Kind.Held.{nothing, one, amount, mark, words}
 use Rattle.field.specs.declared.Exponent.the-variants as exponents
 use Rattle.laws.proofs.Bools.{and-left, and-right}
-use Rattle.field.proofs.Back.{whole-back, exponent-back, decimal-back}
+use Rattle.field.proofs.Back.{whole-back, exponent-back, decimal-back, signed-back}
 use Rattle.field.proofs.Shown.{integer-printable, decimal-printable}
 use Rattle.layout.proofs.Lines.{blanks-length}
-use Rattle.layout.proofs.Shown.{whole-put, whole-wide, places-put, places-wide, printable-byte, blanks-clean, blanks-printable, blanks-blank, text-wide, text-whole}
+use Rattle.layout.proofs.Shown.{whole-put, whole-wide, places-put, places-wide, printable-byte, blanks-clean, blanks-printable, blanks-blank, text-wide, text-whole, signed-put, signed-wide, signed-inked}
 use Rattle.layout.proofs.Identifiers.{identifier-named, identifier-bounds, identifier-code, identifier-printable}
 
 pub not-false-true : false ≡ true → ⊥
@@ -35,7 +35,12 @@ wide (whole low high) w v f = whole-wide w (numberIn v)
 wide (decimal places low high) w v f = places-wide w places false (numberIn v)
 wide (signed places) w v f = places-wide w places (negativeIn v) (magnitudeIn v)
 wide (clock places) w v f = places-wide w places (negativeIn v) (magnitudeIn v)
-wide exponent w v f = go (eqb (numberIn v) unknown)
+wide (maybeSigned none high) w v f = go (eqb (magnitudeIn v) none)
+  where
+    go : (t : Bool) → length (cond t (blanks w) (putSigned (negativeIn v) (magnitudeIn v) (blanks w))) ≡ w
+    go true = blanks-length w
+    go false = signed-wide w (negativeIn v) (magnitudeIn v)
+wide (maybe none) w v f = go (eqb (numberIn v) none)
   where
     go : (t : Bool) → length (cond t (blanks w) (putWhole (numberIn v) (blanks w))) ≡ w
     go true = blanks-length w
@@ -154,13 +159,41 @@ module _ (places w : ℕ) (negative : Bool) (m : ℕ) (h : canAmount w places ne
   keeps-clock : Keeps (clock places) w (amount negative m)
   keeps-clock = record { plain = keeps-signed .plain; sound = keeps-signed .sound; back = keeps-signed .back }
 
-keeps-exponent : (w n : ℕ) → w ≤ 3 → (eqb n unknown || fitsWhole w n) ≡ true → Keeps exponent w (one n)
-keeps-exponent w n narrow h = go (eqb n unknown) refl h
+-- unknown, or a number, with a minus or none
+keeps-noted : (w none high : ℕ) (negative : Bool) (m : ℕ) → canSigned w none high negative m ≡ true
+    → Keeps (maybeSigned none high) w (amount negative m)
+keeps-noted w none high negative m h = go (eqb m none) refl h
   where
-    go : (t : Bool) → eqb n unknown ≡ t → (t || fitsWhole w n) ≡ true → Keeps exponent w (one n)
+    go : (t : Bool) → eqb m none ≡ t → cond t (not negative) (leb m high && (fitsSigned w negative m && (not negative || ltb 0 m))) ≡ true
+        → Keeps (maybeSigned none high) w (amount negative m)
+    go true e k =
+        let plus : negative ≡ false = not-true negative k in
+        record {
+          plain = rw e (blanks-printable w);
+          sound = λ column. rw (e, blanks-blank w);
+          back = rw (e, blanks-blank w, plus, eqb-true m none e);
+        }
+    go false e k =
+        let bound = and-left (leb m high) (fitsSigned w negative m && (not negative || ltb 0 m)) k in
+        let rest = and-right (leb m high) (fitsSigned w negative m && (not negative || ltb 0 m)) k in
+        let fits = and-left (fitsSigned w negative m) (not negative || ltb 0 m) rest in
+        let sign = sign-shown negative m (and-right (fitsSigned w negative m) (not negative || ltb 0 m) rest) in
+        let put = signed-put w negative m fits in
+        let read = signed-back w negative m fits in
+        let ink = signed-inked w negative m fits in
+        record {
+          plain = rw (e, put) (integer-printable w (shownNegative negative m) m);
+          sound = λ column. rw (e, put, ink, read, le-leb 0 m (omega arith), bound);
+          back = rw (e, put, ink, read, sign);
+        }
+
+keeps-maybe : (none w n : ℕ) → w ≤ 18 → (eqb n none || fitsWhole w n) ≡ true → Keeps (maybe none) w (one n)
+keeps-maybe none w n narrow h = go (eqb n none) refl h
+  where
+    go : (t : Bool) → eqb n none ≡ t → (t || fitsWhole w n) ≡ true → Keeps (maybe none) w (one n)
     go true e k =
         let read = exponent-back w exponents.Unknown (le-leb w 18 (omega arith)) in
-        record { plain = rw e (blanks-printable w); sound = λ column. rw (e, read); back = rw (e, read, eqb-true n unknown e) }
+        record { plain = rw e (blanks-printable w); sound = λ column. rw (e, read); back = rw (e, read, eqb-true n none e) }
     go false e k =
         let put = whole-put w n k in
         let read = exponent-back w (exponents.Value n) k in
@@ -256,9 +289,12 @@ keeps (signed places) w v f h =
 keeps (clock places) w v f h =
     let it = an-amount (canAmount w places) v h in
     rw (it .2) (keeps-clock places w (it .0) (it .1) (it .3))
-keeps exponent w v f h =
-    let one = a-number (λ n. eqb n unknown || fitsWhole w n) v h in
-    rw (one .1) (keeps-exponent w (one .0) (leb-true w 3 f) (one .2))
+keeps (maybe none) w v f h =
+    let one = a-number (λ n. eqb n none || fitsWhole w n) v h in
+    rw (one .1) (keeps-maybe none w (one .0) (leb-true w 18 (and-left (leb w 18) (leb (10 ^ w) none) f)) (one .2))
+keeps (maybeSigned none high) w v f h =
+    let it = an-amount (canSigned w none high) v h in
+    rw (it .2) (keeps-noted w none high (it .0) (it .1) (it .3))
 keeps (flag sign) w v f h =
     let one = a-mark v h in
     let signs = and-right (eqb w 1) (ltb 32 sign && leb sign 126) f in

@@ -9,7 +9,8 @@ use lib.Dec.{eqb}
 use lib.ListN.{length, getD}
 use Rattle.laws.specs.Tests.{within}
 use Rattle.laws.proofs.Bounds.{within-true}
-use Rattle.field.specs.Read.{wholeOf, exponentOf, decimalOf}
+use Rattle.laws.specs.Texts.{every}
+use Rattle.field.specs.Read.{wholeOf, exponentOf, signedWholeOf, decimalOf}
 use Rattle.field.specs.Sign.{largest}
 use Rattle.field.specs.declared.Whole.{Whole}
 use Rattle.field.specs.declared.Whole.the-variants as wholes
@@ -18,8 +19,8 @@ use Rattle.field.specs.declared.Exponent.the-variants as exponents
 use Rattle.field.specs.declared.Amount.{Amount}
 use Rattle.field.specs.declared.Amount.the-variants as amounts
 use Rattle.layout.specs.Fault.{clean, keyed, keyNumber}
-use Rattle.layout.specs.Kind.{Kind, unusedFault, sameBytes, isListed, isLettered, unless, boundFault, wholeFault, amountFault, exponentFault, isZero, isZeros, named, identifierNumber, zeroSlot, faultIn}
-use Rattle.layout.specs.Kind.Kind.{unused, fixed, whole, decimal, signed, clock, exponent, flag, letter, listed, identifier, filler, zeroWhole, zeroDecimal, text}
+use Rattle.layout.specs.Kind.{Kind, unusedFault, sameBytes, isListed, isLettered, unless, boundFault, wholeFault, amountFault, exponentFault, isZero, isZeros, named, identifierNumber, zeroSlot, faultIn, isBlank}
+use Rattle.layout.specs.Kind.Kind.{unused, fixed, whole, decimal, signed, clock, flag, letter, listed, identifier, filler, zeroWhole, zeroDecimal, text, maybe, maybeSigned}
 
 -- what the document fixes has its own number; every other kind of field has one of 5 to 8
 abbrev pub isNumbered : Kind → Bool
@@ -29,7 +30,8 @@ isNumbered (whole low high) = true
 isNumbered (decimal places low high) = true
 isNumbered (signed places) = true
 isNumbered (clock places) = true
-isNumbered exponent = true
+isNumbered (maybe none) = true
+isNumbered (maybeSigned none high) = true
 isNumbered (flag sign) = true
 isNumbered (letter these) = true
 isNumbered (listed these) = true
@@ -95,7 +97,12 @@ fault-numbered (whole low high) column bs e c = of-whole column (omega arith) lo
 fault-numbered (decimal places low high) column bs e c = of-amount column (omega arith) low high (decimalOf bs places false)
 fault-numbered (signed places) column bs e c = of-amount column (omega arith) 0 largest (decimalOf bs places true)
 fault-numbered (clock places) column bs e c = of-amount column (omega arith) 0 largest (decimalOf bs places true)
-fault-numbered exponent column bs e c = of-exponent column (omega arith) (exponentOf bs)
+fault-numbered (maybe none) column bs e c = of-exponent column (omega arith) (exponentOf bs)
+fault-numbered (maybeSigned none high) column bs e c = go (every isBlank bs)
+  where
+    go : (t : Bool) → Numbered (cond t clean (amountFault column 0 high (signedWholeOf bs)))
+    go true = numbered-clean
+    go false = of-amount column (omega arith) 0 high (signedWholeOf bs)
 fault-numbered (flag sign) column bs e c = numbered-unless (eqb (getD bs 0 0) sign || eqb (getD bs 0 0) 32) 6 column (omega arith) (omega arith) (omega arith)
 fault-numbered (letter these) column bs e c = numbered-unless (isLettered bs these) 6 column (omega arith) (omega arith) (omega arith)
 fault-numbered (listed these) column bs e c = numbered-unless (isListed bs these) 6 column (omega arith) (omega arith) (omega arith)

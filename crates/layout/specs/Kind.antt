@@ -5,14 +5,14 @@
 -- 8 "a slot after n isn't `  0`".
 use mathlib.Core.Bool.{Bool, true, false, cond, not, _&&_, _||_}
 use mathlib.Core.List.{List, [], _∷_, _++_}
-use Prim.Native.Nat.{ℕ, suc, _+_, _-_, _*_, _/_, _%_}
+use Prim.Native.Nat.{ℕ, suc, _+_, _-_, _*_, _/_, _%_, _^_}
 use lib.ListN.{length, getD, take, drop}
 use lib.Dec.{leb, ltb, eqb}
 use Rattle.laws.specs.Tests.{within}
 use Rattle.laws.specs.Texts.{every, isPrintable, blanks}
 use Rattle.field.specs.Digits.{isDigit}
-use Rattle.field.specs.Read.{wholeOf, exponentOf, decimalOf}
-use Rattle.field.specs.Show.{fitsWhole, putWhole, fitsDecimal, putDecimal}
+use Rattle.field.specs.Read.{wholeOf, exponentOf, signedWholeOf, decimalOf}
+use Rattle.field.specs.Show.{fitsWhole, putWhole, fitsSigned, putSigned, fitsDecimal, putDecimal}
 use Rattle.field.specs.Sign.{largest}
 use Rattle.layout.specs.Fault.{clean, keyed}
 use Rattle.field.specs.declared.Whole.{Whole}
@@ -36,8 +36,10 @@ pub data Kind : Type 0 where
   signed : (places : ℕ) → Kind
   -- the clock and its rate: such a decimal too
   clock : (places : ℕ) → Kind
-  -- a whole number, or blank for unknown
-  exponent : Kind
+  -- a whole number, or blank for unknown, which is held as this number
+  maybe : (none : ℕ) → Kind
+  -- a whole number that may have a minus, of a magnitude up to this, or blank for unknown, which is held as this magnitude
+  maybeSigned : (none high : ℕ) → Kind
   -- one column: this letter or blank
   flag : (sign : ℕ) → Kind
   -- one of these letters, and blanks after it
@@ -113,6 +115,14 @@ isNothing (words bytes) = false
 -- the number that stands for an unknown exponent: no exponent of three columns has it
 abbrev pub unknown : ℕ
 unknown = 1000
+
+-- an exponent of a row
+abbrev pub exponent : Kind
+exponent = maybe unknown
+
+-- the number that stands for an unknown deviation or correlation: no field of eight columns has it
+abbrev pub unnoted : ℕ
+unnoted = 100_000_000
 
 -- every byte is 32 to 126
 abbrev pub printable : List ℕ → Bool
@@ -207,7 +217,8 @@ faultIn (whole low high) column bs = wholeFault column low high (wholeOf bs)
 faultIn (decimal places low high) column bs = amountFault column low high (decimalOf bs places false)
 faultIn (signed places) column bs = amountFault column 0 largest (decimalOf bs places true)
 faultIn (clock places) column bs = amountFault column 0 largest (decimalOf bs places true)
-faultIn exponent column bs = exponentFault column (exponentOf bs)
+faultIn (maybe none) column bs = exponentFault column (exponentOf bs)
+faultIn (maybeSigned none high) column bs = cond (every isBlank bs) clean (amountFault column 0 high (signedWholeOf bs))
 faultIn (flag sign) column bs = unless (eqb (getD bs 0 0) sign || eqb (getD bs 0 0) 32) 6 column
 faultIn (letter these) column bs = unless (isLettered bs these) 6 column
 faultIn (listed these) column bs = unless (isListed bs these) 6 column
@@ -231,10 +242,13 @@ abbrev pub signHeld : Amount → Bool
 signHeld (amounts.Value negative m) = negative
 signHeld amounts.Malformed = false
 
+abbrev pub maybeHeld : ℕ → Exponent → ℕ
+maybeHeld none (exponents.Value n) = n
+maybeHeld none exponents.Unknown = none
+maybeHeld none exponents.Malformed = 0
+
 abbrev pub exponentHeld : Exponent → ℕ
-exponentHeld (exponents.Value n) = n
-exponentHeld exponents.Unknown = unknown
-exponentHeld exponents.Malformed = 0
+exponentHeld e = maybeHeld unknown e
 
 -- a sign and a magnitude
 abbrev pub heldAmount : Amount → Held
@@ -248,7 +262,8 @@ heldIn (whole low high) bs = one (wholeHeld (wholeOf bs))
 heldIn (decimal places low high) bs = one (amountHeld (decimalOf bs places false))
 heldIn (signed places) bs = heldAmount (decimalOf bs places true)
 heldIn (clock places) bs = heldAmount (decimalOf bs places true)
-heldIn exponent bs = one (exponentHeld (exponentOf bs))
+heldIn (maybe none) bs = one (maybeHeld none (exponentOf bs))
+heldIn (maybeSigned none high) bs = cond (every isBlank bs) (amount false none) (heldAmount (signedWholeOf bs))
 heldIn (flag sign) bs = mark (eqb (getD bs 0 0) sign)
 heldIn (letter these) bs = one (getD bs 0 0)
 heldIn (listed these) bs = words bs
@@ -278,7 +293,8 @@ shownIn (whole low high) w v = putWhole (numberIn v) (blanks w)
 shownIn (decimal places low high) w v = putDecimal places false (numberIn v) (blanks w)
 shownIn (signed places) w v = putDecimal places (negativeIn v) (magnitudeIn v) (blanks w)
 shownIn (clock places) w v = putDecimal places (negativeIn v) (magnitudeIn v) (blanks w)
-shownIn exponent w v = cond (eqb (numberIn v) unknown) (blanks w) (putWhole (numberIn v) (blanks w))
+shownIn (maybe none) w v = cond (eqb (numberIn v) none) (blanks w) (putWhole (numberIn v) (blanks w))
+shownIn (maybeSigned none high) w v = cond (eqb (magnitudeIn v) none) (blanks w) (putSigned (negativeIn v) (magnitudeIn v) (blanks w))
 shownIn (flag sign) w v = cond (markIn v) sign 32 ∷ []
 shownIn (letter these) w v = shownText w (numberIn v ∷ [])
 shownIn (listed these) w v = shownText w (wordsIn v)
@@ -301,7 +317,8 @@ fitsIn (whole low high) w = true
 fitsIn (decimal places low high) w = true
 fitsIn (signed places) w = true
 fitsIn (clock places) w = true
-fitsIn exponent w = leb w 3
+fitsIn (maybe none) w = leb w 18 && leb (10 ^ w) none
+fitsIn (maybeSigned none high) w = leb w 18 && ltb high none
 fitsIn (flag sign) w = eqb w 1 && (ltb 32 sign && leb sign 126)
 fitsIn (letter these) w = leb 1 w && printable these
 fitsIn (listed these) w = wordsFit w these
@@ -349,6 +366,10 @@ isIdentifier code = within 65 90 (code / 10 / 10) && ltb 0 (code / 10 % 10 * 10 
 abbrev pub canAmount : ℕ → ℕ → Bool → ℕ → Bool
 canAmount w places negative m = leb m largest && (fitsDecimal w places negative m && (not negative || ltb 0 m))
 
+-- unknown, or a magnitude within its bound that fits its columns, and no minus zero
+abbrev pub canSigned : ℕ → ℕ → ℕ → Bool → ℕ → Bool
+canSigned w none high negative m = cond (eqb m none) (not negative) (leb m high && (fitsSigned w negative m && (not negative || ltb 0 m)))
+
 -- what a field of w columns can hold
 abbrev pub holdsIn : Kind → ℕ → Held → Bool
 holdsIn unused w v = isNothing v
@@ -357,7 +378,8 @@ holdsIn (whole low high) w v = numberWith (λ n. within low high n && fitsWhole 
 holdsIn (decimal places low high) w v = numberWith (λ m. within low high m && fitsDecimal w places false m) v
 holdsIn (signed places) w v = amountWith (canAmount w places) v
 holdsIn (clock places) w v = amountWith (canAmount w places) v
-holdsIn exponent w v = numberWith (λ n. eqb n unknown || fitsWhole w n) v
+holdsIn (maybe none) w v = numberWith (λ n. eqb n none || fitsWhole w n) v
+holdsIn (maybeSigned none high) w v = amountWith (canSigned w none high) v
 holdsIn (flag sign) w v = isMark v
 holdsIn (letter these) w v = numberWith (λ b. isOneOf b these) v
 holdsIn (listed these) w v = wordsWith (λ bytes. isListed bytes these) v
@@ -375,7 +397,8 @@ isUnused (whole low high) = false
 isUnused (decimal places low high) = false
 isUnused (signed places) = false
 isUnused (clock places) = false
-isUnused exponent = false
+isUnused (maybe none) = false
+isUnused (maybeSigned none high) = false
 isUnused (flag sign) = false
 isUnused (letter these) = false
 isUnused (listed these) = false

@@ -5,3 +5,4 @@ pub mod Split
 pub mod Lined
 pub mod Picking
 pub mod Determined
+pub mod Noted

@@ -13,7 +13,8 @@ use Rattle.layout.specs.Layout.{faultOf}
 use Rattle.record.specs.Opening.{firstOf, secondOf, epochOf}
 use Rattle.record.specs.SlotLines.{satellitesOf, moreOf}
 use Rattle.record.specs.Descriptors.{descriptorOf, characterItems, baseOf, floatItems, integerItems}
-use Rattle.record.specs.Plain.{commentItems, correlationItems, endItems}
+use Rattle.record.specs.Plain.{commentItems, endItems}
+use Rattle.record.specs.Notes.{correlationItems}
 use Rattle.record.specs.Rows.{rowFault, cut}
 use Rattle.header.specs.declared.types.Rules.{Rules}
 use Rattle.record.specs.declared.types.LineKind.{LineKind}

@@ -170,8 +170,8 @@ fn record_fault(
     match kind {
         LineKind::Position => named_fault(false, state, identifiers, line),
         LineKind::Velocity => named_fault(true, state, identifiers, line),
-        LineKind::PositionCorrelation => record::plain::correlation_fault(line, false),
-        LineKind::VelocityCorrelation => record::plain::correlation_fault(line, true),
+        LineKind::PositionCorrelation => record::notes::correlation_fault(line, false),
+        LineKind::VelocityCorrelation => record::notes::correlation_fault(line, true),
         LineKind::Epoch => epoch_fault(state, line),
         LineKind::Comment => record::plain::comment_fault(line),
         LineKind::First => {

@@ -14,8 +14,8 @@ use Rattle.field.specs.Read.{wholeOf, exponentOf}
 use Rattle.field.specs.declared.Whole.the-variants as whole
 use Rattle.field.specs.declared.Exponent.the-variants as exponents
 use Rattle.layout.specs.Fault.{clean}
-use Rattle.layout.specs.Kind.{faultIn}
-use Rattle.layout.specs.Kind.Kind.{exponent, flag, identifier}
+use Rattle.layout.specs.Kind.{faultIn, exponent}
+use Rattle.layout.specs.Kind.Kind.{flag, identifier}
 use Rattle.picture.specs.Picture.{fitsColumn}
 use Rattle.picture.proofs.Integers.{no-blank, digits-number}
 

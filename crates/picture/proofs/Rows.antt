@@ -11,8 +11,8 @@ use Rattle.laws.specs.Tests.{everyBelow}
 use Rattle.laws.proofs.Bools.{and-left, and-right, and-both}
 use Rattle.field.specs.Digits.{isDigit, allDigits}
 use Rattle.layout.specs.Fault.{clean}
-use Rattle.layout.specs.Kind.{faultIn}
-use Rattle.layout.specs.Kind.Kind.{signed, clock, unused, exponent, flag, identifier, fixed}
+use Rattle.layout.specs.Kind.{faultIn, exponent}
+use Rattle.layout.specs.Kind.Kind.{signed, clock, unused, flag, identifier, fixed}
 use Rattle.layout.specs.Layout.{columns, column, partAt, faultAt}
 use Rattle.record.specs.Rows.{rowItems, rowFault}
 use Rattle.picture.specs.Picture.{fitsColumn, columnFits, usual}

@@ -8,7 +8,7 @@ use denote.Enum.Declared.{tagOf}
 use types.Run.{OneOf, miss}
 use Rattle.layout.specs.Fault.{clean}
 use Rattle.layout.specs.Kind.{exponentFault}
-use Rattle.field.specs.Read.{wholeOf, wholeAnswer, toldWhole, decimalOf, decimalAnswer, toldAmount, exponentOf, exponentAnswer, toldExponent}
+use Rattle.field.specs.Read.{wholeOf, wholeAnswer, toldWhole, decimalOf, decimalAnswer, signedWholeOf, signedAnswer, toldAmount, exponentOf, exponentAnswer, toldExponent}
 use Rattle.calendar.specs.Gregorian.{dateAnswer, toldDate, isDate}
 use Rattle.field.specs.declared.Exponent.the-variants as exponents
 use Rattle.field.specs.declared.Whole.{Whole}
@@ -25,6 +25,9 @@ whole-case bs r a e h = sym (toldWhole-one r (wholeOf bs) e) ∙ h
 
 pub decimal-case : (bs : List ℕ) (places : ℕ) (signed : Bool) (r a : Amount) → toldAmount r ≡ decimalAnswer bs places signed → r ≡ a → decimalOf bs places signed ≡ a
 decimal-case bs places signed r a e h = sym (toldAmount-one r (decimalOf bs places signed) e) ∙ h
+
+pub signed-case : (bs : List ℕ) (r a : Amount) → toldAmount r ≡ signedAnswer bs → r ≡ a → signedWholeOf bs ≡ a
+signed-case bs r a e h = sym (toldAmount-one r (signedWholeOf bs) e) ∙ h
 
 pub exponent-case : (bs : List ℕ) (r a : Exponent) → toldExponent r ≡ exponentAnswer bs → r ≡ a → exponentOf bs ≡ a
 exponent-case bs r a e h = sym (toldExponent-one r (exponentOf bs) e) ∙ h

@@ -26,10 +26,11 @@ use Rattle.record.proofs.descriptors.read_bases.Reads as read-bases
 use Rattle.record.proofs.descriptors.floats_fault.Reads as floats-fault
 use Rattle.record.proofs.descriptors.integers_fault.Reads as integers-fault
 use Rattle.record.proofs.plain.comment_fault.Reads as comment-fault
-use Rattle.record.proofs.plain.correlation_fault.Reads as correlation-fault
+use Rattle.record.proofs.notes.correlation_fault.Reads as correlation-fault
 use Rattle.record.proofs.plain.end_fault.Reads as end-fault
 use Rattle.record.proofs.rows.row_fault.Reads as row-fault
 use Rattle.record.proofs.rows.row_of.Reads as row-of
+use Rattle.record.proofs.notes.note_of.Reads as note-of
 use Rattle.record.proofs.rows.satellite_in.Reads as satellite-in
 
 -- the kinds in the order of their numbers
@@ -123,6 +124,9 @@ row-fault-determined κs a r r′ s s′ p q = p ∙ sym q
 
 pub row-of-determined : (κs : _) (a : _) (r r′ : _) (s s′ : _) → row-of.Post κs a r s → row-of.Post κs a r′ s′ → r ≡ r′
 row-of-determined κs a r r′ s s′ p q = p ∙ sym q
+
+pub note-of-determined : (κs : _) (a : _) (r r′ : _) (s s′ : _) → note-of.Post κs a r s → note-of.Post κs a r′ s′ → r ≡ r′
+note-of-determined κs a r r′ s s′ p q = p ∙ sym q
 
 pub place-absent-determined : (κs : _) (a : _) (r r′ : _) (s s′ : _) → place-absent.Post κs a r s → place-absent.Post κs a r′ s′ → r ≡ r′
 place-absent-determined κs a r r′ s s′ p q = p ∙ sym q

@@ -13,7 +13,8 @@ use Rattle.layout.specs.Line.{padded, lineOf, ended}
 use Rattle.record.specs.Opening.{firstItems, firstFrom, firstValues, firstOf, firstLine, secondItems, secondFrom, secondValues, secondOf, secondLine, epochItems, epochFrom, epochValues, epochOf, epochLine}
 use Rattle.record.specs.SlotLines.{satelliteItems, satellitesFrom, satellitesValues, satellitesOf, satellitesLine, countIn, moreItems, moreFrom, moreOf, moreLine}
 use Rattle.record.specs.Descriptors.{descriptorItems, descriptorFrom, descriptorValues, descriptorOf, descriptorLine, baseItems, baseFrom, baseValues, baseOf, baseLine, characterItems, floatItems, integerItems, fixedLine}
-use Rattle.record.specs.Plain.{commentItems, commentOf, commentLine, correlationItems, correlationLine, endItems}
+use Rattle.record.specs.Plain.{commentItems, commentOf, commentLine, endItems}
+use Rattle.record.specs.Notes.{correlationItems, noteFrom, noteValues, noteTaken, noteOf, noteFault, noteLine}
 use Rattle.record.specs.Rows.{rowItems, rowFrom, rowValues, rowFault, rowOf, rowLine}
 use Rattle.header.specs.declared.types.Rules.{Rules}
 use Rattle.header.specs.declared.types.Moment.{Moment}
@@ -25,6 +26,7 @@ use Rattle.record.specs.declared.types.Slots.{Slots}
 use Rattle.record.specs.declared.types.Descriptor.{Descriptor}
 use Rattle.record.specs.declared.types.BaseLine.{BaseLine}
 use Rattle.record.specs.declared.types.Row.{Row}
+use Rattle.record.specs.declared.types.Note.{Note}
 use Rattle.laws.proofs.Bools.{and-left, and-right}
 use Rattle.layout.proofs.ReadBack.{line-back}
 use Rattle.record.proofs.Tiled.{first-tiled, second-tiled, epoch-tiled, satellites-tiled, more-tiled, descriptor-tiled, character-tiled, base-tiled, float-tiled, integer-tiled, comment-tiled, correlation-tiled, end-tiled, rows-tiled}
@@ -100,18 +102,26 @@ integers-back rest = fixed-back integerItems rest integer-tiled refl
 pub end-back : (rest : List ℕ) → faultOf endItems (padded (lineOf (fixedLine endItems ++ rest))) ≡ clean
 end-back rest = fixed-back endItems rest end-tiled refl
 
--- a comment's text of 77 bytes, and a correlation line's of 78
+-- a comment's text of 77 bytes
 pub comment-back : (bytes rest : List ℕ) → canShow commentItems (words bytes ∷ []) ≡ true
     → (faultOf commentItems (padded (lineOf (commentLine bytes ++ rest))) ≡ clean) × (commentOf (padded (lineOf (commentLine bytes ++ rest))) ≡ bytes)
 unfolding commentLine
 comment-back bytes rest c =
     (line-back commentItems (λ fault vs. fault) (words bytes ∷ []) rest comment-tiled c, line-back commentItems (λ fault vs. wordsAt vs 0) (words bytes ∷ []) rest comment-tiled c)
 
-pub correlation-back : (velocity : Bool) (bytes rest : List ℕ) → canShow (correlationItems velocity) (words bytes ∷ []) ≡ true
-    → faultOf (correlationItems velocity) (padded (lineOf (correlationLine velocity bytes ++ rest))) ≡ clean
-unfolding correlationLine
-correlation-back velocity bytes rest c =
-    line-back (correlationItems velocity) (λ fault vs. fault) (words bytes ∷ []) rest (correlation-tiled velocity) c
+-- EP and EV: judged without fault, and the note taken is the note that was shown
+same-columns : (velocity : Bool) (line : List ℕ) → noteFrom (valuesOf (correlationItems false) line) ≡ noteFrom (valuesOf (correlationItems velocity) line)
+same-columns true line = refl
+same-columns false line = refl
+
+pub note-back : (velocity : Bool) (n : Note) (rest : List ℕ) → canShow (correlationItems velocity) (noteValues n) ≡ true
+    → (noteFault velocity (padded (lineOf (noteLine velocity n ++ rest))) ≡ clean) × (noteOf (lineOf (noteLine velocity n ++ rest)) ≡ n)
+unfolding noteLine noteTaken
+note-back velocity n rest c = (
+  line-back (correlationItems velocity) (λ fault vs. fault) (noteValues n) rest (correlation-tiled velocity) c,
+  same-columns velocity (padded (lineOf (ended (showLine (correlationItems velocity) (noteValues n)) ++ rest)))
+      ∙ line-back (correlationItems velocity) (λ fault vs. noteFrom vs) (noteValues n) rest (correlation-tiled velocity) c,
+)
 
 -- P and V: judged without fault, and the row taken is the row that was shown; a row of V has no flags
 abbrev pub flagless : Row → Bool

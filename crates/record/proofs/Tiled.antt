@@ -10,7 +10,8 @@ use Rattle.layout.specs.Layout.{columns, tiled}
 use Rattle.field.specs.Show.{fitsDecimal, fitsInteger}
 use Rattle.record.specs.Descriptors.{descriptorItems, characterItems, baseItems, floatItems, integerItems}
 use Rattle.record.specs.Opening.{firstItems, secondItems, epochItems}
-use Rattle.record.specs.Plain.{commentItems, correlationItems, endItems}
+use Rattle.record.specs.Plain.{commentItems, endItems}
+use Rattle.record.specs.Notes.{correlationItems}
 use Rattle.record.specs.Rows.{rowItems}
 use Rattle.record.specs.SlotLines.{slotKind, satelliteItems, moreItems}
 use Rattle.header.specs.declared.types.Rules.{Rules}

@@ -7,4 +7,5 @@ pub mod Descriptors
 pub mod Plain
 pub mod Absence
 pub mod Rows
+pub mod Notes
 pub mod Agrees

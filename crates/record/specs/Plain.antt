@@ -1,6 +1,4 @@
--- Comments, correlation lines and the end of the file. 01, "Records in order", 7, 9 and 10, and "EP and EV records are accepted in their
--- places and skipped".
-use mathlib.Core.Bool.{Bool, true, false}
+-- Comments and the end of the file. 01, "Records in order", 7 and 10.
 use mathlib.Core.List.{List, [], _∷_}
 use Prim.Native.Nat.{ℕ}
 use Rattle.layout.specs.Kind.Kind.{unused, fixed, text}
@@ -22,17 +20,6 @@ commentOf line = partOf (columns 4 80 text) line
 
 unfoldable pub commentLine : List ℕ → List ℕ
 commentLine bytes = ended (showLine commentItems (words bytes ∷ []))
-
--- EP and EV: Columns 1-2 Symbols A2; what follows is accepted as it stands
-abbrev pub correlationSymbol : Bool → List ℕ
-correlationSymbol true = 69 ∷ 86 ∷ []
-correlationSymbol false = 69 ∷ 80 ∷ []
-
-abbrev pub correlationItems : Bool → List Item
-correlationItems velocity = partAt 0 1 2 (fixed 4 (correlationSymbol velocity)) ∷ columns 3 80 text ∷ []
-
-unfoldable pub correlationLine : Bool → List ℕ → List ℕ
-correlationLine velocity bytes = ended (showLine (correlationItems velocity) (words bytes ∷ []))
 
 -- EOF: Columns 1-3 End of File A3; 4-80 blank
 abbrev pub endItems : List Item

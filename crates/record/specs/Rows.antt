@@ -3,13 +3,13 @@
 -- 000, line thirty three, and line twenty six in example 2. Numbers are whole: mm and ps in P, 10^-4 mm/s and 10^-16 s/s in V.
 use mathlib.Core.Bool.{Bool, true, false, not, _&&_}
 use mathlib.Core.List.{List, [], _∷_, _++_}
-use Prim.Native.Nat.{ℕ, _-_, _*_}
+use Prim.Native.Nat.{ℕ, _+_, _-_, _*_}
 use lib.Dec.{eqb}
 use lib.ListN.{getD, take, drop}
 use Rattle.field.specs.Read.{exponentOf}
 use Rattle.field.specs.Known.{knownMagnitude, knownNegative}
-use Rattle.layout.specs.Kind.{identifierCode, exponentHeld}
-use Rattle.layout.specs.Kind.Kind.{unused, fixed, signed, clock, exponent, flag, identifier}
+use Rattle.layout.specs.Kind.{identifierCode, exponentHeld, exponent}
+use Rattle.layout.specs.Kind.Kind.{unused, fixed, signed, clock, flag, identifier}
 use Rattle.layout.specs.Kind.Held.{one, amount, mark}
 use Rattle.layout.specs.Layout.{Item, Values, columns, column, partAt, numberAt, negativeAt, magnitudeAt, markAt, faultOf, showLine}
 use Rattle.layout.specs.Line.{padded, ended}
@@ -142,9 +142,16 @@ rowTaken velocity line = record {
 abbrev pub rowOf : Bool → List ℕ → Row
 rowOf velocity line = rowTaken velocity (padded line)
 
--- the numbers of a stored row: x, y, z, clock, their exponents, and four flags; and those of a P row with its V row
+-- the numbers of a stored row: those of its line alone (x, y, z, clock, their exponents, and four flags) and those of its note; and those of a P row
+-- with its V row
+abbrev pub bareWidth : ℕ
+bareWidth = 12
+
+abbrev pub noteWidth : ℕ
+noteWidth = 11
+
 abbrev pub rowWidth : ℕ
-rowWidth = 12
+rowWidth = bareWidth + noteWidth
 
 abbrev pub bothWidth : ℕ
 bothWidth = 2 * rowWidth

@@ -7,13 +7,16 @@ ghost use Prim.Native.Nat.{_+_, _-_, _*_, _≤_};
 ghost use lib.ListN.{length};
 ghost use Rattle.field.specs.Digits.{isDigit};
 ghost use Rattle.laws.specs.Tests.{within};
+ghost use Rattle.laws.specs.Texts.{every};
 ghost use Rattle.layout.specs.Fault.{clean, lower, keyed};
-ghost use Rattle.layout.specs.Kind.{unless, unusedFault, sameBytes, identifierCode};
-ghost use Rattle.layout.specs.Kind.Kind.{unused, fixed, whole, decimal, signed, clock, exponent, flag, letter, listed, identifier, zeroWhole, zeroDecimal, text};
+ghost use Rattle.layout.specs.Kind.{unless, unusedFault, sameBytes, isBlank, identifierCode, exponent};
+ghost use Rattle.layout.specs.Kind.Kind.{unused, fixed, whole, decimal, signed, clock, flag, letter, listed, identifier, zeroWhole, zeroDecimal, text};
 ghost use Rattle.layout.specs.Layout.{columns, column, partAt, partOf, faultAt};
 ghost use Rattle.header.specs.Letters.{modes, fileTypes, timeSystems};
 ghost use Rattle.record.specs.Times.{dateFault};
+ghost use Rattle.record.specs.Notes.{correlation};
 ghost use Rattle.record.specs.Steps.{judgedBy, judgedAt, letteredAt};
+use crate::notes::LARGEST_CORRELATION;
 use crate::types::Judged;
 use crate::types::Lettered;
 use calendar::Dated;
@@ -397,6 +400,41 @@ pub(crate) fn exponent_in(lowest: usize, line: &[u8; 80], first: usize, last: us
         return lowest;
     };
     fault_at(lowest, 6, first)
+}
+
+// Whether every byte is a blank.
+pub(crate) fn is_blank(bytes: &[u8]) -> bool
+    ensures { λ r. ⌜ r ≡ every isBlank (now (bytes .entry)) ⌝ }
+{
+    let mut blank = true;
+    let mut i = 0;
+    while i < bytes.len() {
+        blank = blank & (bytes[i] == b' ');
+        i += 1;
+    }
+    blank
+}
+
+// A correlation: a whole number that may have a minus, or blank.
+pub(crate) fn correlation_in(lowest: usize, line: &[u8; 80], first: usize, last: usize) -> usize
+    requires { ⌜ (1 ≤ first) × (first ≤ last) × (last ≤ 80) ⌝ }
+    ensures { λ r. ⌜ r ≡ lower lowest (faultAt (columns first last correlation) (now (line .entry))) ⌝ }
+{
+    let s = &line[..];
+    let from = first - 1;
+    let bytes = &s[from..last];
+    if is_blank(bytes) {
+        return lowest;
+    }
+    let Amount::Value {
+        negative: _,
+        magnitude,
+    } = field::read::signed_whole(bytes)
+    else {
+        return fault_at(lowest, 6, first);
+    };
+    let bounded = laws::within(0, LARGEST_CORRELATION, magnitude);
+    fault_unless(lowest, bounded, 7, first)
 }
 
 // A flag: its letter or blank.

@@ -1,7 +1,7 @@
-// Comments, correlation lines and the end of the file.
+// Comments and the end of the file.
 ghost use mathlib.Core.Path.{_≡_};
 ghost use Rattle.layout.specs.Layout.{faultOf};
-ghost use Rattle.record.specs.Plain.{commentItems, correlationItems, endItems};
+ghost use Rattle.record.specs.Plain.{commentItems, endItems};
 use crate::fields;
 
 // The bytes of a stored comment: columns 4 to 80 of its line.
@@ -13,16 +13,6 @@ pub fn comment_fault(line: &[u8; 80]) -> usize
 {
     let a = fields::symbols_in(line, b'/', b'*');
     fields::unused_in(a, line, 3, 3)
-}
-
-// An EP line, or an EV line where `velocity` says so: what follows column 2 is accepted as it stands.
-pub fn correlation_fault(line: &[u8; 80], velocity: bool) -> usize
-    ensures result { λ r. ⌜ r ≡ faultOf (correlationItems velocity) (now (line .entry)) ⌝ }
-{
-    if velocity {
-        return fields::symbols_in(line, b'E', b'V');
-    }
-    fields::symbols_in(line, b'E', b'P')
 }
 
 // The end of the file: `EOFX` is 5 at column 4.

@@ -2,11 +2,15 @@
 ghost use mathlib.Core.Path.{_≡_};
 ghost use mathlib.Core.Bool.{true};
 ghost use Prim.Native.Nat.{_≤_};
-ghost use Rattle.layout.specs.Kind.{identifierCode};
+ghost use Rattle.field.specs.Read.{exponentOf};
+ghost use Rattle.layout.specs.Kind.{identifierCode, maybeHeld, unnoted};
 ghost use Rattle.layout.specs.Layout.{faultFrom};
-ghost use Rattle.record.specs.Rows.{bodyItems, flagItems, rowFault, cut, signedIn, exponentIn, flagIn, rowTaken, rowOf, rowWidth, bothWidth};
+ghost use Rattle.record.specs.Rows.{bodyItems, flagItems, rowFault, cut, signedIn, flagIn, rowTaken, rowOf, bareWidth, noteWidth, rowWidth, bothWidth};
 ghost use Rattle.record.specs.Plain.{commentWidth};
+ghost use Rattle.record.specs.Notes.{largestCorrelation};
 use crate::fields;
+use crate::notes::LARGEST_CORRELATION;
+use crate::notes::UNNOTED;
 use crate::plain::COMMENT_WIDTH;
 use crate::types::Row;
 use crate::types::Signed;
@@ -15,17 +19,26 @@ use field::Exponent;
 // Stands for an unknown exponent: no exponent of three columns has it.
 pub const UNKNOWN: u64 = 1000;
 
-// The numbers of a stored row: x, y, z, clock, their four exponents, four flags; and those of a P row with its V row.
-pub const ROW_WIDTH: usize = 12;
+// The numbers of a stored row: those of its line alone (x, y, z, clock, their four exponents, four flags) and those of its note; and those of a
+// P row with its V row.
+pub const BARE_WIDTH: usize = 12;
+
+pub const NOTE_WIDTH: usize = 11;
+
+pub const ROW_WIDTH: usize = BARE_WIDTH + NOTE_WIDTH;
 
 pub const BOTH_WIDTH: usize = 2 * ROW_WIDTH;
 
-// The widths are those of the definitions.
+// The widths, and the bounds of a note, are those of the definitions.
 pub fn widths_hold() -> bool
     ensures result { λ r. ⌜ r ≡ true ⌝ }
+    ensures bare { λ r. do ⌜ (← ⟦BARE_WIDTH⟧ .entry) ≡ bareWidth ⌝ }
+    ensures note { λ r. do ⌜ (← ⟦NOTE_WIDTH⟧ .entry) ≡ noteWidth ⌝ }
     ensures row { λ r. do ⌜ (← ⟦ROW_WIDTH⟧ .entry) ≡ rowWidth ⌝ }
     ensures both { λ r. do ⌜ (← ⟦BOTH_WIDTH⟧ .entry) ≡ bothWidth ⌝ }
     ensures comment { λ r. do ⌜ (← ⟦COMMENT_WIDTH⟧ .entry) ≡ commentWidth ⌝ }
+    ensures unknown { λ r. do ⌜ (← ⟦UNNOTED⟧ .entry) ≡ unnoted ⌝ }
+    ensures largest { λ r. do ⌜ (← ⟦LARGEST_CORRELATION⟧ .entry) ≡ largestCorrelation ⌝ }
 {
     true
 }
@@ -91,27 +104,27 @@ fn signed_of(line: &[u8; 80], first: usize, last: usize) -> Signed
     }
 }
 
-// An exponent: its number, or UNKNOWN where it is blank.
-fn row_exponent(bytes: &[u8]) -> u64
-    ensures { λ r. ⌜ r ≡ exponentIn (now (bytes .entry)) ⌝ }
+// A whole number that may be blank: what stands for unknown, then.
+fn known_or(bytes: &[u8], unknown: u64) -> u64
+    ensures { λ r. ⌜ r ≡ maybeHeld unknown (exponentOf (now (bytes .entry))) ⌝ }
 {
     let answer = field::read::exponent(bytes);
     let Exponent::Value(n) = answer else {
         let Exponent::Unknown = answer else {
             return 0;
         };
-        return UNKNOWN;
+        return unknown;
     };
     n
 }
 
-fn exponent_of(line: &[u8; 80], first: usize, last: usize) -> u64
+pub(crate) fn known_of(line: &[u8; 80], first: usize, last: usize, unknown: u64) -> u64
     requires { ⌜ (1 ≤ first) × (first ≤ last) × (last ≤ 80) ⌝ }
-    ensures { λ r. ⌜ r ≡ exponentIn (cut first last (now (line .entry))) ⌝ }
+    ensures { λ r. ⌜ r ≡ maybeHeld unknown (exponentOf (cut first last (now (line .entry)))) ⌝ }
 {
     let s = &line[..];
     let from = first - 1;
-    row_exponent(&s[from..last])
+    known_or(&s[from..last], unknown)
 }
 
 // A flag of P: V has none.
@@ -134,10 +147,10 @@ pub fn satellite_in(line: &[u8; 80]) -> u64
 fn row_taken(line: &[u8; 80], velocity: bool) -> Row
     ensures { λ r. ⌜ r ≡ rowTaken velocity (now (line .entry)) ⌝ }
 {
-    let x_exponent = exponent_of(line, 62, 63);
-    let y_exponent = exponent_of(line, 65, 66);
-    let z_exponent = exponent_of(line, 68, 69);
-    let clock_exponent = exponent_of(line, 71, 73);
+    let x_exponent = known_of(line, 62, 63, UNKNOWN);
+    let y_exponent = known_of(line, 65, 66, UNKNOWN);
+    let z_exponent = known_of(line, 68, 69, UNKNOWN);
+    let clock_exponent = known_of(line, 71, 73, UNKNOWN);
     let x = signed_of(line, 5, 18);
     let y = signed_of(line, 19, 32);
     let z = signed_of(line, 33, 46);

@@ -107,3 +107,17 @@ pub struct Row {
     pub maneuver: bool,
     pub orbit_predicted: bool,
 }
+
+// An EP or EV line: deviations in mm and ps, or 10^-4 mm/s and 10^-4 ps/s; correlations in 10^-7. A magnitude of 100,000,000 is unknown.
+pub struct Note {
+    pub x_deviation: u64,
+    pub y_deviation: u64,
+    pub z_deviation: u64,
+    pub clock_deviation: u64,
+    pub xy: Signed,
+    pub xz: Signed,
+    pub xc: Signed,
+    pub yz: Signed,
+    pub yc: Signed,
+    pub zc: Signed,
+}

@@ -12,7 +12,7 @@ use Rattle.laws.proofs.Bools.{and-left}
 use Rattle.layout.specs.Layout.{faultOf}
 use Rattle.layout.specs.Line.{padded}
 use Rattle.record.specs.LineKinds.{noKind, satellitesKind, toldKind, kindOf, kindBy, starKind, eKind, plusKind, slashKind, percentKind, hashKind}
-use Rattle.record.specs.Plain.{correlationItems}
+use Rattle.record.specs.Notes.{correlationItems}
 use Rattle.record.proofs.Determined.{toldKind-one}
 use Rattle.header.specs.declared.types.Rules.{Rules}
 use Rattle.record.specs.declared.types.LineKind.{LineKind}

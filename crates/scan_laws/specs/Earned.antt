@@ -17,7 +17,8 @@ use Rattle.record.specs.Times.{dateFault}
 use Rattle.record.specs.Opening.{firstItems, firstOf, secondItems, secondOf, epochItems, epochOf}
 use Rattle.record.specs.SlotLines.{satelliteItems, countIn, moreItems}
 use Rattle.record.specs.Descriptors.{descriptorItems, descriptorOf, characterItems, baseItems, floatItems, integerItems}
-use Rattle.record.specs.Plain.{commentItems, correlationItems, endItems}
+use Rattle.record.specs.Plain.{commentItems, endItems}
+use Rattle.record.specs.Notes.{correlationItems}
 use Rattle.record.specs.Rows.{rowItems, cut}
 use Rattle.header.specs.declared.types.Rules.{Rules}
 use Rattle.record.specs.declared.types.LineKind.{LineKind}

@@ -26,3 +26,27 @@ pub enum Flag {
     NotSet,
     NotThere,
 }
+
+// Whether an EP or EV line stood directly after the row's own.
+pub enum NoteMark {
+    Stands,
+    NoRecord,
+    NotThere,
+}
+
+// A deviation of such a line: mm or ps, or 10^-4 mm/s or 10^-4 ps/s.
+pub enum NoteDeviation {
+    Value(u64),
+    Unknown,
+    TooLarge,
+    NoRecord,
+    NotThere,
+}
+
+// A correlation of such a line, in 10^-7.
+pub enum NoteCorrelation {
+    Value(i64),
+    Unknown,
+    NoRecord,
+    NotThere,
+}

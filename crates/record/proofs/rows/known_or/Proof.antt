@@ -1,9 +1,9 @@
--- `record::rows::row_exponent` meets its contract.
+-- `record::rows::known_or` meets its contract.
 -- Assumes nothing.
 use borrow.Author.Needs.{needs}
 use Rattle.record.proofs.Answers.{exponent-case, exponent-malformed}
-use Rattle.record.proofs.rows.row_exponent.Statement.{statement}
-use Rattle.record.proofs.rows.row_exponent.Tie as tie
+use Rattle.record.proofs.rows.known_or.Statement.{statement}
+use Rattle.record.proofs.rows.known_or.Tie as tie
 
 returns : tie.Need-returns
 returns c =
@@ -16,8 +16,8 @@ returns-2 c = rw (exponent-case (c .before .before .before .before .before .args
 returns-3 : tie.Need-returns-3
 returns-3 c = rw (exponent-case (c .before .before .before .before .before .args .bytes .now) _ _ (c .before .before .before .exponent .ensures) (c .before .answer .given .1))
 
-pub row-exponent-spec : {M : Type 1} → statement M
-row-exponent-spec =
+pub known-or-spec : {M : Type 1} → statement M
+known-or-spec =
     tie.close
     (tie.spec
     (λ c κs. search needs)
