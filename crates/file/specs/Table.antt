@@ -13,7 +13,7 @@ use Rattle.layout.specs.Kind.{unnoted}
 use Rattle.layout.specs.Line.{padded}
 use Rattle.lines.specs.Lent.{flat}
 use Rattle.lines.specs.Lines.{select}
-use Rattle.lines.specs.Noted.{rowParts}
+use Rattle.lines.specs.Noted.{noteAt, rowParts}
 use Rattle.record.specs.LineKinds.{firstKind, secondKind, satellitesKind, accuraciesKind, charactersKind, floatsKind, commentKind, velocityKind}
 use Rattle.record.specs.Opening.{firstOf, secondOf}
 use Rattle.record.specs.SlotLines.{satellitesOf, moreOf}
@@ -141,6 +141,10 @@ noNote = storedMark false ∷ replicate 10 (storedCount unnoted)
 
 abbrev pub rowLines : Rules → List (List ℕ) → List (List ℕ)
 rowLines rules lines = select (isRow rules) lines
+
+-- what stands directly after a P or V line: the numbers of an EP or EV line, or those of none
+unfoldable pub noteAfter : Rules → List (List ℕ) → List ℤ
+noteAfter rules lines = noteAt (isRow rules) (isNote rules) (λ line. rowNumbers (rowIn rules line)) (λ line. noteNumbers (noteOf line)) noNote lines
 
 -- the rows of some lines, in file order: the numbers of each P or V line, and of the EP or EV line directly after it
 unfoldable pub rowsOfLines : Rules → List (List ℕ) → List (List ℤ)

@@ -13,13 +13,10 @@ use Rattle.lines.specs.Lent.{flat}
 use Rattle.lines.specs.Lines.{nth}
 use Rattle.record.specs.LineKinds.{noKind, epochKind, positionKind, velocityKind, positionCorrelationKind, velocityCorrelationKind, toldKind}
 use Rattle.header.specs.declared.types.Rules.{Rules}
-use Rattle.record.specs.declared.types.LineKind.{LineKind}
-use Rattle.record.specs.declared.types.LineKind.the-variants as kind
 use Rattle.file.specs.Kinds.{kindIn}
-use Rattle.file.specs.Plain.{isLine, everyLine, isEpochLine, rowKind, Noted, Rest, Satellite, Rows, Epochs}
-use Rattle.laws.proofs.Bools.{and-right}
+use Rattle.file.specs.Plain.{isEpochLine, rowKind, noteKind, Noted, Rest, Satellite, Rows, Epochs}
 use Rattle.lines.proofs.Picking.{select-append}
-use Rattle.file_laws.proofs.Sorting.{row-kind, epoch-kind, lines-kind, Of, picked, picked-of, picked-part}
+use Rattle.file_laws.proofs.Sorting.{row-kind, epoch-kind, notes-kind, picked, picked-of, picked-part}
 use Rattle.file_laws.proofs.Parted.{Parted, partAt, before, before-many, all-many, nth-part}
 
 pub no-lines : (ls : List (List ℕ)) → length ls ≡ 0 → ls ≡ []
@@ -107,13 +104,11 @@ module _ (rules : Rules) (velocity : Bool) where
 
   -- A choice of kinds without EP and EV.
   module _ (pick : ℕ → Bool) (no-ep : pick positionCorrelationKind ≡ false) (no-ev : pick velocityCorrelationKind ≡ false) where
-    noted-picked : (v : Bool) (note : LineKind) (identifier : ℕ) (ls : List (List ℕ)) (s : Noted rules v note identifier ls) → pick (toldKind note) ≡ false
+    noted-picked : (v : Bool) (identifier : ℕ) (ls : List (List ℕ)) (s : Noted rules v identifier ls) → pick (toldKind (noteKind v)) ≡ false
         → picked rules pick ls ≡ cond (pick (toldKind (rowKind v))) (s .row ∷ []) []
-    noted-picked v note identifier ls s h =
-        let notes-are : Of rules (toldKind note) (s .notes) =
-        lines-kind rules note (s .notes) (and-right (leb (length (s .notes)) 1) (everyLine (isLine rules note) (s .notes)) (s .are-notes)) in
+    noted-picked v identifier ls s h =
         let none : picked rules pick (s .notes) ≡ [] =
-        picked-of rules pick (toldKind note) (s .notes) notes-are ∙ ap (λ (t : Bool). cond t (s .notes) []) h in
+        picked-of rules pick (toldKind (noteKind v)) (s .notes) (notes-kind rules v (s .notes) (s .are-notes)) ∙ ap (λ (t : Bool). cond t (s .notes) []) h in
         let one = cond (pick (toldKind (rowKind v))) (s .row ∷ []) [] in
         ap (picked rules pick) (s .lines-are)
         ∙ picked-part rules pick (toldKind (rowKind v)) (s .row ∷ []) (s .notes) (row-kind rules v identifier (s .row) (s .is-row), tt)
@@ -127,7 +122,7 @@ module _ (rules : Rules) (velocity : Bool) where
         let here = cond (pick positionKind) (s .is-position .row ∷ []) [] in
         ap (picked rules pick) (s .lines-are)
         ∙ select-append (λ (l : List ℕ). pick (kindIn rules l)) (s .position) (s .rest)
-        ∙ ap (λ (t : List (List ℕ)). t ++ picked rules pick (s .rest)) (noted-picked false kind.PositionCorrelation identifier (s .position) (s .is-position) no-ep)
+        ∙ ap (λ (t : List (List ℕ)). t ++ picked rules pick (s .rest)) (noted-picked false identifier (s .position) (s .is-position) no-ep)
         ∙ ap (λ (t : List (List ℕ)). here ++ t) (go velocity (s .is-rest))
       where
         none : (t : Bool) → _≡_ {A = List (List ℕ)} [] (cond t [] [])
@@ -135,7 +130,7 @@ module _ (rules : Rules) (velocity : Bool) where
         none false = refl
 
         go : (v : Bool) (r : Rest rules v identifier (s .rest)) → picked rules pick (s .rest) ≡ cond (pick velocityKind) (motionOf v identifier (s .rest) r) []
-        go true r = noted-picked true kind.VelocityCorrelation identifier (s .rest) r no-ev
+        go true r = noted-picked true identifier (s .rest) r no-ev
         go false r = ap (picked rules pick) r ∙ picked-of rules pick noKind [] tt ∙ sym (none (pick noKind)) ∙ none (pick velocityKind)
 
     -- how many that is

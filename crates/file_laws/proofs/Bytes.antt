@@ -23,12 +23,12 @@ use Rattle.record.specs.Times.{dateFault}
 use Rattle.header.specs.declared.types.Rules.{Rules}
 use Rattle.record.specs.declared.types.LineKind.the-variants as kind
 use Rattle.file.specs.Kinds.{kindIn, ofKind}
-use Rattle.file.specs.Plain.{isCommentLine, isEpochLine, rowKind, isRowLine, Plain, Accepted}
+use Rattle.file.specs.Plain.{isCommentLine, isEpochLine, rowKind, isRowLine, noteKind, Plain, Accepted}
 use Rattle.file.specs.Table.{rowLines}
 use Rattle.layout.proofs.Again.{lower-clean}
 use Rattle.lines.proofs.Each.{Each}
 use Rattle.lines.proofs.Split.{bytes-in}
-use Rattle.file_laws.proofs.Sorting.{row-record, row-kind, epoch-record, epoch-kind, comment-kind}
+use Rattle.file_laws.proofs.Sorting.{row-record, row-kind, epoch-record, epoch-kind, comment-kind, note-kind}
 use Rattle.file_laws.proofs.Selected.{kind-comments, epochs}
 use Rattle.file_laws.proofs.Rule.{epochs-many}
 use Rattle.file_laws.proofs.Clean.{record-clean, item-at}
@@ -80,9 +80,14 @@ module _ (rules : Rules) where
     row = λ v identifier l e. long (toldKind (rowKind v)) l (row-kind rules v identifier l e) (omega (arith, row-weight v, row-long rules v identifier l e));
     epoch = λ at8 l e. long 9 l (epoch-kind rules at8 l e) (omega (arith, epoch-long rules at8 l e));
     comment = λ l e. long 8 l (comment-kind rules l e) (omega (arith, comment-long rules l e));
+    note = λ v l e. long (toldKind (noteKind v)) l (note-kind rules v l e) (omega (arith, note-weight v));
     other = λ l e. omega (arith, other-weight (kindIn rules l) e);
   }
     where
+      note-weight : (v : Bool) → weight (toldKind (noteKind v)) ≡ 0
+      note-weight true = refl
+      note-weight false = refl
+
       row-weight : (v : Bool) → weight (toldKind (rowKind v)) ≡ 61
       row-weight true = refl
       row-weight false = refl

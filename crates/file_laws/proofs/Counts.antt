@@ -1,14 +1,14 @@
 -- The numbers of an accepted file: what its header lines say is what its table says and what its lines are counted to be. 01 names the room
--- that lent memory needs: n identifiers and n exponents, 77 bytes for a comment, 12 numbers for a row.
+-- that lent memory needs: n identifiers and n exponents, 77 bytes for a comment, and the numbers of a row with its note for a row.
 -- Assumes nothing.
 use mathlib.Core.Path.{_≡_, refl, ap, _∙_}
-use mathlib.Core.Bool.{true, false, not}
-use mathlib.Core.List.{List, map}
+use mathlib.Core.Bool.{Bool, true, false, cond, not}
+use mathlib.Core.List.{List, [], _∷_, _++_, map}
 use Prim.Native.Nat.{ℕ, _+_, _*_, _≤_}
 use native.Mathlib.Nat.{mul-comm}
 use native.Mathlib.Omega.{arith}
 use lib.IntN.{ℤ}
-use lib.ListN.{length, drop, length-map, length-drop}
+use lib.ListN.{length, drop, replicate, length-append, length-map, length-drop}
 use lib.Seq.{length-take-le}
 use Rattle.header.specs.Rules.{maxEpochs}
 use Rattle.layout.specs.Fault.{clean}
@@ -20,20 +20,22 @@ use Rattle.lines.specs.Lines.{select, nth}
 use Rattle.field.specs.Read.{wholeOf}
 use Rattle.record.specs.Descriptors.{descriptorOf, baseOf}
 use Rattle.record.specs.Opening.{firstItems, firstOf}
-use Rattle.record.specs.Rows.{cut, rowWidth}
+use Rattle.record.specs.Rows.{cut, noteWidth, rowWidth}
+use Rattle.record.specs.Notes.{noteOf}
 use Rattle.record.specs.SlotLines.{countItem, satelliteItems, satellitesOf}
 use Rattle.record.specs.Times.{dateFault}
 use Rattle.record.specs.LineKinds.{positionKind}
 use Rattle.record.specs.Plain.{commentWidth}
 use Rattle.header.specs.declared.types.Rules.{Rules}
 use Rattle.record.specs.declared.types.LineKind.the-variants as kind
-use Rattle.file.specs.Kinds.{ofKind}
+use Rattle.file.specs.Kinds.{isRow, isNote, ofKind}
 use Rattle.file.specs.Plain.{Plain}
-use Rattle.file.specs.Table.{headerFrom, countOf, headerIn, slotsIn, commentText, commentsIn, rowIn, rowNumbers, numbersOfRows, rowLines, rowsIn}
+use Rattle.file.specs.Table.{headerFrom, countOf, headerIn, slotsIn, commentText, commentsIn, rowIn, rowNumbers, noteNumbers, noNote, noteAfter, rowsOfLines, rowLines, rowsIn}
 use Rattle.laws.proofs.Bounds.{within-true}
 use Rattle.layout.proofs.Again.{lower-clean}
 use Rattle.layout.proofs.Lines.{padded-length}
-use Rattle.lines.proofs.Each.{each-map}
+use Rattle.lines.proofs.Each.{Each, each-map}
+use Rattle.lines.proofs.Noted.{parts-each, parts-many}
 use Rattle.lines.proofs.Picking.{length-flat}
 use Rattle.file_laws.proofs.Sorting.{both-selected}
 use Rattle.file_laws.proofs.Selected.{satellites, identifiers, velocities, interval8, epochs, by-epochs, kind-first, kind-second, kind-satellites, kind-characters, kind-floats, kind-comments, kind-rows}
@@ -42,13 +44,34 @@ use Rattle.file_laws.proofs.Places as place
 use Rattle.file_laws.proofs.Rule.{places-many, rows-are-places, absentIn}
 use Rattle.file_laws.proofs.Clean.{record-clean, item-at, whole-bounds}
 
--- a comment has 77 bytes, a row 12 numbers
+-- a comment has 77 bytes
 pub comment-wide : (l : List ℕ) → length (commentText l) ≡ commentWidth
 comment-wide l = length-take-le commentWidth (drop 3 (padded l)) (omega (arith, length-drop 3 (padded l), padded-length l))
 
-pub row-wide : (rules : Rules) (l : List ℕ) → length (rowNumbers (rowIn rules l)) ≡ rowWidth
+-- a row has its own numbers, and those of its note or of none
+pub note-wide : (rules : Rules) (ls : List (List ℕ)) → length (noteAfter rules ls) ≡ noteWidth
+unfolding noteAfter noteNumbers noNote replicate
+note-wide rules [] = refl
+note-wide rules (l ∷ ls) = go (isNote rules l)
+  where
+    go : (t : Bool) → length (cond t (noteNumbers (noteOf l)) noNote) ≡ noteWidth
+    go true = refl
+    go false = refl
+
+pub row-wide : (rules : Rules) (l : List ℕ) (ls : List (List ℕ)) → length (rowNumbers (rowIn rules l) ++ noteAfter rules ls) ≡ rowWidth
 unfolding rowNumbers
-row-wide rules l = refl
+row-wide rules l ls = omega (arith, length-append (rowNumbers (rowIn rules l)) (noteAfter rules ls), note-wide rules ls)
+
+pub rows-wide : (rules : Rules) (lines : List (List ℕ)) → Each (λ (part : List ℤ). length part ≡ rowWidth) (rowsOfLines rules lines)
+unfolding rowsOfLines noteAfter
+rows-wide rules lines =
+    parts-each (isRow rules) (isNote rules) (λ (l : List ℕ). rowNumbers (rowIn rules l)) (λ (l : List ℕ). noteNumbers (noteOf l)) noNote
+    (λ (part : List ℤ). length part ≡ rowWidth) (row-wide rules) lines
+
+pub rows-count : (rules : Rules) (lines : List (List ℕ)) → length (rowsOfLines rules lines) ≡ length (rowLines rules lines)
+unfolding rowsOfLines
+rows-count rules lines =
+    parts-many (isRow rules) (isNote rules) (λ (l : List ℕ). rowNumbers (rowIn rules l)) (λ (l : List ℕ). noteNumbers (noteOf l)) noNote lines
 
 module _ {rules : Rules} {lines : List (List ℕ)} (p : Plain rules lines) where
   -- the table's number of satellites is the header's
@@ -109,14 +132,10 @@ module _ {rules : Rules} {lines : List (List ℕ)} (p : Plain rules lines) where
       ∙ length-flat commentWidth (map commentText (p .comments)) (each-map (λ (part : List ℕ). length part ≡ commentWidth) commentText comment-wide (p .comments))
       ∙ omega (arith, length-map (p .comments) commentText)
 
-  -- 12 numbers for each row
+  -- so many numbers for each row
   rows-room : length (rowsIn rules lines) ≡ rowWidth * length (rowLines rules lines)
-  unfolding numbersOfRows
   rows-room =
-      let rows = rowLines rules lines in
-      length-flat rowWidth (map (λ (l : List ℕ). rowNumbers (rowIn rules l)) rows)
-      (each-map (λ (part : List ℤ). length part ≡ rowWidth) (λ (l : List ℕ). rowNumbers (rowIn rules l)) (row-wide rules) rows)
-      ∙ omega (arith, length-map rows (λ (l : List ℕ). rowNumbers (rowIn rules l)))
+      length-flat rowWidth (rowsOfLines rules lines) (rows-wide rules lines) ∙ omega (arith, rows-count rules lines)
 
   -- without velocities a row for each satellite and epoch, with velocities two
   pub rows-many : velocities p ≡ false → length (rowLines rules lines) ≡ satellites p * epochs p

@@ -1,46 +1,46 @@
--- Nothing is lost in storage: the magnitudes of a P or V line without fault are at most 999,999,999,999 and its exponents at most 1000, so each
--- stored number is the one that the line says.
+-- Nothing is lost in storage: the magnitudes of a P or V line without fault are at most 999,999,999,999 and its exponents at most 1000, those of an EP
+-- or EV line at most 100,000,000, so each stored number is the one that the line says.
 -- Assumes nothing.
-use mathlib.Core.Path.{_≡_, refl, sym, ap, ap₂, subst, _∙_}
-use mathlib.Core.Bool.{Bool, true, false, cond, _||_, false≢true}
-use mathlib.Core.List.{List, [], _∷_, map}
+use mathlib.Core.Path.{_≡_, refl, sym, ap, subst, _∙_}
+use mathlib.Core.Bool.{Bool, true, false, cond}
+use mathlib.Core.List.{List, [], _∷_, _++_}
 use Prim.Native.Nat.{ℕ, _-_, _^_, _<_, _≤_}
 use native.Mathlib.Omega.{arith}
 use borrow.Author.Tests.{ltb-true}
 use lib.Dec.{leb, ltb, eqb}
 use lib.IntN.{pos}
-use lib.ListN.{length, drop, length-drop}
+use lib.ListN.{length, getD, drop, replicate, length-drop}
 use lib.Seq.{length-take-le}
-use Rattle.field.specs.Read.{decimalOf, exponentOf}
+use Rattle.laws.specs.Texts.{every}
+use Rattle.field.specs.Read.{decimalOf, exponentOf, signedWholeOf}
 use Rattle.field.specs.Show.{fitsInteger}
 use Rattle.field.specs.Sign.{largest, signedInt}
-use Rattle.layout.specs.Fault.{clean}
-use Rattle.layout.specs.Kind.{exponentHeld}
-use Rattle.layout.specs.Kind.Kind.{signed, clock}
-use Rattle.layout.specs.Layout.{columns, valuesOf}
+use Rattle.layout.specs.Fault.{clean, lower}
+use Rattle.layout.specs.Kind.{unknown, unnoted, isBlank, maybeHeld, heldAmount, magnitudeIn, amountFault, faultIn}
+use Rattle.layout.specs.Kind.Kind.{unused, fixed, signed, clock}
+use Rattle.layout.specs.Kind.Held.{amount}
+use Rattle.layout.specs.Layout.{Item, columns, column, partAt, valuesOf, faultAt}
 use Rattle.layout.specs.Line.{padded}
-use Rattle.lines.specs.Lent.{flat}
-use Rattle.lines.specs.Lines.{select}
-use Rattle.record.specs.LineKinds.{commentKind, epochKind, positionKind, velocityKind, toldKind}
-use Rattle.record.specs.Rows.{rowItems, rowFrom, rowFault, rowTaken, rowOf, cut, exponentIn}
+use Rattle.record.specs.LineKinds.{velocityKind, toldKind}
+use Rattle.record.specs.Rows.{rowItems, rowFrom, rowFault, rowTaken, rowOf, cut}
+use Rattle.record.specs.Notes.{correlation, largestCorrelation, correlationSymbol, deviationItems, pairItems, correlationIn, noteTaken, noteOf, noteFault}
 use Rattle.header.specs.declared.types.Rules.{Rules}
 use Rattle.field.specs.declared.Exponent.{Exponent}
 use Rattle.field.specs.declared.Exponent.the-variants as exponents
+use Rattle.field.specs.declared.Amount.{Amount}
+use Rattle.field.specs.declared.Amount.the-variants as amounts
 use Rattle.record.specs.declared.types.Row.{Row}
-use Rattle.record.specs.declared.types.LineKind.the-variants as kind
-use Rattle.file.specs.Kinds.{kindIn, isRow}
-use Rattle.file.specs.Plain.{rowKind, isRowLine, Plain}
+use Rattle.record.specs.declared.types.Note.{Note}
+use Rattle.file.specs.Plain.{rowKind, isRowLine}
 use Rattle.file.proofs.Exact.{stored-exact}
-use Rattle.file.specs.Table.{rowIn, storedCount, markNumber, storedMark, rowNumbers, numbersOfRows, rowLines, rowsIn}
+use Rattle.file.specs.Table.{rowIn, storedCount, markNumber, storedMark, rowNumbers, noteNumbers, noNote}
 use Rattle.laws.proofs.Bools.{and-right}
 use Rattle.field.proofs.Again.{exponent-again}
-use Rattle.lines.proofs.Each.{Each}
 use Rattle.layout.proofs.Lines.{padded-length}
 use Rattle.record.proofs.Taking.{row-taken}
-use Rattle.file_laws.proofs.Sorting.{row-record, row-kind, epoch-kind, comment-kind}
+use Rattle.file_laws.proofs.Sorting.{row-record, row-kind}
 use Rattle.file_laws.proofs.Clean.{record-clean, item-at, amount-bounds}
-use Rattle.file_laws.proofs.Walk.{isOther, other-apart, Covers, every-line}
-use Rattle.file.specs.Exact.{exactNumbers}
+use Rattle.file.specs.Exact.{exactNumbers, exactNote, exactNone}
 
 -- a count within the bound is stored as it is
 pub count-exact : (n : ℕ) → n ≤ largest → storedCount n ≡ pos n
@@ -52,11 +52,11 @@ pub mark-exact : (set : Bool) → storedMark set ≡ pos (markNumber set)
 mark-exact true = count-exact 1 (omega arith)
 mark-exact false = count-exact 0 (omega arith)
 
--- an exponent of two or three columns is at most 999, and 1000 where it is unknown
-module _ (first last : ℕ) (l : List ℕ) (starts : 1 ≤ first) (ends : last ≤ 80) (narrow : 10 ^ (last - (first - 1) - 0) ≤ 1000) where
-  exponent-bounded : exponentIn (cut first last (padded l)) ≤ 1000
+-- a number that may be unknown is at most the one that stands for unknown, where its columns hold less
+module _ (none first last : ℕ) (l : List ℕ) (starts : 1 ≤ first) (ends : last ≤ 80) (narrow : 10 ^ (last - (first - 1) - 0) ≤ none) where
+  maybe-bounded : maybeHeld none (exponentOf (cut first last (padded l))) ≤ none
   unfolding fitsInteger
-  exponent-bounded = go (exponentOf bytes) refl
+  maybe-bounded = go (exponentOf bytes) refl
     where
       bytes : List ℕ
       bytes = cut first last (padded l)
@@ -67,7 +67,7 @@ module _ (first last : ℕ) (l : List ℕ) (starts : 1 ≤ first) (ends : last �
       value-good : (n : ℕ) → exponents.Value n ≡ exponents.Malformed → ⊥
       value-good n q = let z : _≡_ {A = ℕ} 0 1 = cc in omega arith
 
-      go : (a : Exponent) → exponentOf bytes ≡ a → exponentHeld a ≤ 1000
+      go : (a : Exponent) → exponentOf bytes ≡ a → maybeHeld none a ≤ none
       go (exponents.Value n) e =
           let fits = exponent-again bytes (exponents.Value n) (value-good n) e in
           let fewer : ltb n (10 ^ (length bytes - 0)) ≡ true = and-right (ltb 0 (length bytes)) _ (and-right (leb (length bytes) 18) _ fits) in
@@ -120,10 +120,10 @@ module _ (rules : Rules) (v : Bool) (identifier : ℕ) (l : List ℕ) (is : isRo
   pub exponents-bounded : (rowOf v l .«x_exponent» ≤ 1000) × (rowOf v l .«y_exponent» ≤ 1000) × (rowOf v l .«z_exponent» ≤ 1000) × (rowOf v l .«clock_exponent» ≤ 1000)
   unfolding rowTaken
   exponents-bounded = (
-    exponent-bounded 62 63 l (omega arith) (omega arith) (omega arith),
-    exponent-bounded 65 66 l (omega arith) (omega arith) (omega arith),
-    exponent-bounded 68 69 l (omega arith) (omega arith) (omega arith),
-    exponent-bounded 71 73 l (omega arith) (omega arith) (omega arith),
+    maybe-bounded unknown 62 63 l (omega arith) (omega arith) (omega arith),
+    maybe-bounded unknown 65 66 l (omega arith) (omega arith) (omega arith),
+    maybe-bounded unknown 68 69 l (omega arith) (omega arith) (omega arith),
+    maybe-bounded unknown 71 73 l (omega arith) (omega arith) (omega arith),
   )
 
   -- NOTHING IS LOST: the stored numbers of a P or V line are those of its row.
@@ -149,44 +149,74 @@ module _ (rules : Rules) (v : Bool) (identifier : ℕ) (l : List ℕ) (is : isRo
         mark-exact (p .«orbit_predicted»),
       )
 
--- So it is of every row of an accepted file.
-module _ {A : Type 0} (test : List ℕ → Bool) (f g : List ℕ → A) where
-  select-same : (ls : List (List ℕ)) → Each (λ (l : List ℕ). test l ≡ true → f l ≡ g l) ls → map f (select test ls) ≡ map g (select test ls)
-  unfolding select
-  select-same [] p = refl
-  select-same (l ∷ ls) p = go (test l) (p .0) (select-same ls (p .1))
+-- the four deviations of a note
+pub deviations-bounded : (l : List ℕ) → (noteOf l .«x_deviation» ≤ unnoted) × (noteOf l .«y_deviation» ≤ unnoted) × (noteOf l .«z_deviation» ≤ unnoted) × (noteOf l .«clock_deviation» ≤ unnoted)
+unfolding noteTaken
+deviations-bounded l = (
+  maybe-bounded unnoted 5 8 l (omega arith) (omega arith) (omega arith),
+  maybe-bounded unnoted 10 13 l (omega arith) (omega arith) (omega arith),
+  maybe-bounded unnoted 15 18 l (omega arith) (omega arith) (omega arith),
+  maybe-bounded unnoted 20 26 l (omega arith) (omega arith) (omega arith),
+)
+
+-- A correlation of a line without fault is within its bound, or unknown.
+module _ (column : ℕ) (bytes : List ℕ) (f : faultIn correlation column bytes ≡ clean) where
+  correlation-bounded : correlationIn bytes .magnitude ≤ unnoted
+  correlation-bounded = go (every isBlank bytes) (signedWholeOf bytes) f
     where
-      go : (t : Bool) → (t ≡ true → f l ≡ g l) → map f (select test ls) ≡ map g (select test ls)
-          → map f (cond t (l ∷ select test ls) (select test ls)) ≡ map g (cond t (l ∷ select test ls) (select test ls))
-      go true h more = ap₂ (λ (a : A) (rest : List A). a ∷ rest) (h refl) more
-      go false h more = more
+      go : (t : Bool) (a : Amount) → cond t clean (amountFault column 0 largestCorrelation a) ≡ clean → magnitudeIn (cond t (amount false unnoted) (heldAmount a)) ≤ unnoted
+      go true a h = omega arith
+      go false (amounts.Value n m) h = omega (arith, amount-bounds column 0 largestCorrelation (amounts.Value n m) h .1)
+      go false amounts.Malformed h = omega arith
 
-module _ (rules : Rules) where
-  Kept : List ℕ → Type 0
-  Kept l = isRow rules l ≡ true → rowNumbers (rowIn rules l) ≡ exactNumbers (rowIn rules l)
+-- the six magnitudes of a note
+pub record Noticed (n : Note) : Type 0 where
+  pub xy : n .xy .magnitude ≤ unnoted
+  pub xz : n .xz .magnitude ≤ unnoted
+  pub xc : n .xc .magnitude ≤ unnoted
+  pub yz : n .yz .magnitude ≤ unnoted
+  pub yc : n .yc .magnitude ≤ unnoted
+  pub zc : n .zc .magnitude ≤ unnoted
 
-  -- a line of another kind is no row
-  no-row : (k : ℕ) (l : List ℕ) → kindIn rules l ≡ k → (eqb k positionKind || eqb k velocityKind) ≡ false → Kept l
-  unfolding Kept
-  no-row k l e none is = absurd (false≢true (sym none ∙ ap (λ (n : ℕ). eqb n positionKind || eqb n velocityKind) (sym e) ∙ is))
+pub correlations-bounded : (v : Bool) (l : List ℕ) → noteFault v (padded l) ≡ clean → Noticed (noteOf l)
+unfolding noteTaken
+correlations-bounded v l f = record {
+  xy = correlation-bounded 28 (cut 28 35 (padded l)) (at 9 (omega arith));
+  xz = correlation-bounded 37 (cut 37 44 (padded l)) (at 11 (omega arith));
+  xc = correlation-bounded 46 (cut 46 53 (padded l)) (at 13 (omega arith));
+  yz = correlation-bounded 55 (cut 55 62 (padded l)) (at 15 (omega arith));
+  yc = correlation-bounded 64 (cut 64 71 (padded l)) (at 17 (omega arith));
+  zc = correlation-bounded 73 (cut 73 80 (padded l)) (at 19 (omega arith));
+}
+  where
+    none : Item
+    none = column 27 unused
 
-  kept : Covers rules Kept
-  unfolding Kept
-  kept = record {
-    row = λ v identifier l e is. row-exact rules v identifier l e ∙ ap exactNumbers (sym (row-in rules v identifier l e));
-    epoch = λ at8 l e. no-row epochKind l (epoch-kind rules at8 l e) refl;
-    comment = λ l e. no-row commentKind l (comment-kind rules l e) refl;
-    other = λ l e. no-row (kindIn rules l) l refl (apart (kindIn rules l) e);
-  }
-    where
-      apart : (k : ℕ) → isOther k ≡ true → (eqb k positionKind || eqb k velocityKind) ≡ false
-      apart k e = rw (other-apart k positionKind e refl, other-apart k velocityKind e refl)
+    -- the items after the symbol
+    at : (i : ℕ) → i < 20 → faultAt (getD (deviationItems ++ pairItems) i none) (padded l) ≡ clean
+    at i h = item-at (deviationItems ++ pairItems) i none (padded l) (lower clean (faultAt (partAt 0 1 2 (fixed 4 (correlationSymbol v))) (padded l))) h f
 
--- the stored rows of an accepted file are its rows
-pub rows-exact : {rules : Rules} {lines : List (List ℕ)} → Plain rules lines
-    → rowsIn rules lines ≡ flat (map (λ (l : List ℕ). exactNumbers (rowIn rules l)) (rowLines rules lines))
-unfolding numbersOfRows Kept
-rows-exact {rules} {lines} p =
-    ap flat
-    (select-same (isRow rules) (λ (l : List ℕ). rowNumbers (rowIn rules l)) (λ (l : List ℕ). exactNumbers (rowIn rules l)) lines
-    (every-line rules (Kept rules) (kept rules) lines p))
+-- NOTHING IS LOST: the stored numbers of an EP or EV line are those of its note.
+pub note-exact : (v : Bool) (l : List ℕ) → noteFault v (padded l) ≡ clean → noteNumbers (noteOf l) ≡ exactNote (noteOf l)
+unfolding noteNumbers exactNote
+note-exact v l f =
+    let n = noteOf l in
+    let b = correlations-bounded v l f in
+    let d = deviations-bounded l in
+    rw (
+      mark-exact true,
+      count-exact (n .«x_deviation») (omega arith),
+      count-exact (n .«y_deviation») (omega arith),
+      count-exact (n .«z_deviation») (omega arith),
+      count-exact (n .«clock_deviation») (omega arith),
+      stored-exact (n .xy .negative) (n .xy .magnitude) (omega (arith, b .xy)),
+      stored-exact (n .xz .negative) (n .xz .magnitude) (omega (arith, b .xz)),
+      stored-exact (n .xc .negative) (n .xc .magnitude) (omega (arith, b .xc)),
+      stored-exact (n .yz .negative) (n .yz .magnitude) (omega (arith, b .yz)),
+      stored-exact (n .yc .negative) (n .yc .magnitude) (omega (arith, b .yc)),
+      stored-exact (n .zc .negative) (n .zc .magnitude) (omega (arith, b .zc)),
+    )
+
+pub none-exact : noNote ≡ exactNone
+unfolding noNote exactNone replicate
+none-exact = rw (mark-exact false, count-exact unnoted (omega arith))

@@ -14,5 +14,6 @@ pub mod Reach
 pub mod Bytes
 pub mod Notes
 pub mod Skipped
+pub mod Following
 pub mod Exact
 pub mod Stored

@@ -11,15 +11,12 @@ use lib.ListN.{length}
 use Rattle.laws.specs.Tests.{within}
 use Rattle.record.specs.LineKinds.{firstKind, commentKind, positionCorrelationKind, velocityCorrelationKind, toldKind}
 use Rattle.header.specs.declared.types.Rules.{Rules}
-use Rattle.record.specs.declared.types.LineKind.{LineKind}
-use Rattle.record.specs.declared.types.LineKind.the-variants as kind
 use Rattle.file.specs.Kinds.{kindIn}
-use Rattle.file.specs.Plain.{isLine, everyLine, rowKind, isRowLine, Noted, Rest, Satellite, Rows, Epochs, Plain}
+use Rattle.file.specs.Plain.{everyLine, rowKind, isRowLine, isNoteLine, Noted, Rest, Satellite, Rows, Epochs, Plain}
 use Rattle.laws.proofs.Bools.{and-left, and-right, and-both}
 use Rattle.laws.proofs.Bounds.{within-true, below-within}
 use Rattle.lines.proofs.Each.{Each, each-weaken}
-use Rattle.record.proofs.Determined.{toldKind-one}
-use Rattle.file_laws.proofs.Sorting.{line-kind, row-kind, epoch-kind}
+use Rattle.file_laws.proofs.Sorting.{note-kind, row-kind, epoch-kind}
 use Rattle.file_laws.proofs.Selected.{velocities, identifiers, interval8, epochs, start8, last-kind}
 use Rattle.file_laws.proofs.Instants.{header, header-with, three-parts, header-kinds}
 use Rattle.file_laws.proofs.Notes.{beside-turned, SameLine, SameBut}
@@ -52,8 +49,8 @@ module _ (rules : Rules) where
 
   same-line : (l m : List ℕ) → Ordinary l → SameLine rules l m → l ≡ m
   same-line l m o (inl e) = e
-  same-line l m o (inr (inl both)) = absurd (false≢true (sym o ∙ ap (within positionCorrelationKind velocityCorrelationKind) (line-kind rules kind.PositionCorrelation l (both .0))))
-  same-line l m o (inr (inr both)) = absurd (false≢true (sym o ∙ ap (within positionCorrelationKind velocityCorrelationKind) (line-kind rules kind.VelocityCorrelation l (both .0))))
+  same-line l m o (inr (inl both)) = absurd (false≢true (sym o ∙ ap (within positionCorrelationKind velocityCorrelationKind) (note-kind rules false l (both .0))))
+  same-line l m o (inr (inr both)) = absurd (false≢true (sym o ∙ ap (within positionCorrelationKind velocityCorrelationKind) (note-kind rules true l (both .0))))
 
   same-lines : (a b : List (List ℕ)) → Each Ordinary a → SameBut rules a b → a ≡ b
   same-lines [] [] o s = refl
@@ -76,24 +73,22 @@ module _ (rules : Rules) where
   same-first l a (m ∷ b) o s = (b, ap (λ (x : List ℕ). x ∷ b) (sym (same-line l m o (s .0))), s .1)
 
   -- a note stays a note
-  note-line : (note : LineKind) (l m : List ℕ) → isLine rules note l ≡ true → SameLine rules l m → isLine rules note m ≡ true
-  note-line note l m h (inl e) = subst (λ (x : List ℕ). isLine rules note x ≡ true) e h
-  note-line note l m h (inr (inl both)) =
-      let same = toldKind-one note kind.PositionCorrelation (sym (line-kind rules note l h) ∙ line-kind rules kind.PositionCorrelation l (both .0)) in
-      subst (λ (k : LineKind). isLine rules k m ≡ true) (sym same) (both .1)
-  note-line note l m h (inr (inr both)) =
-      let same = toldKind-one note kind.VelocityCorrelation (sym (line-kind rules note l h) ∙ line-kind rules kind.VelocityCorrelation l (both .0)) in
-      subst (λ (k : LineKind). isLine rules k m ≡ true) (sym same) (both .1)
+  note-line : (v : Bool) (l m : List ℕ) → isNoteLine rules v l ≡ true → SameLine rules l m → isNoteLine rules v m ≡ true
+  note-line v l m h (inl e) = subst (λ (x : List ℕ). isNoteLine rules v x ≡ true) e h
+  note-line true l m h (inr (inl both)) = let z : _≡_ {A = ℕ} 13 12 = sym (note-kind rules true l h) ∙ note-kind rules false l (both .0) in absurd (omega arith)
+  note-line false l m h (inr (inl both)) = both .1
+  note-line true l m h (inr (inr both)) = both .1
+  note-line false l m h (inr (inr both)) = let z : _≡_ {A = ℕ} 12 13 = sym (note-kind rules false l h) ∙ note-kind rules true l (both .0) in absurd (omega arith)
 
-  note-lines : (note : LineKind) (a b : List (List ℕ)) → everyLine (isLine rules note) a ≡ true → SameBut rules a b → everyLine (isLine rules note) b ≡ true
+  note-lines : (v : Bool) (a b : List (List ℕ)) → everyLine (isNoteLine rules v) a ≡ true → SameBut rules a b → everyLine (isNoteLine rules v) b ≡ true
   unfolding everyLine
-  note-lines note [] [] h s = refl
-  note-lines note [] (m ∷ b) h s = absurd s
-  note-lines note (l ∷ a) [] h s = absurd s
-  note-lines note (l ∷ a) (m ∷ b) h s =
-      and-both (isLine rules note m) (everyLine (isLine rules note) b)
-      (note-line note l m (and-left (isLine rules note l) (everyLine (isLine rules note) a) h) (s .0))
-      (note-lines note a b (and-right (isLine rules note l) (everyLine (isLine rules note) a) h) (s .1))
+  note-lines v [] [] h s = refl
+  note-lines v [] (m ∷ b) h s = absurd s
+  note-lines v (l ∷ a) [] h s = absurd s
+  note-lines v (l ∷ a) (m ∷ b) h s =
+      and-both (isNoteLine rules v m) (everyLine (isNoteLine rules v) b)
+      (note-line v l m (and-left (isNoteLine rules v l) (everyLine (isNoteLine rules v) a) h) (s .0))
+      (note-lines v a b (and-right (isNoteLine rules v l) (everyLine (isNoteLine rules v) a) h) (s .1))
 
   -- so do the lines of a satellite, of an epoch and of all epochs
   row-ordinary : (v : Bool) (identifier : ℕ) (l : List ℕ) → isRowLine rules v identifier l ≡ true → Ordinary l
@@ -104,24 +99,24 @@ module _ (rules : Rules) where
       go true = refl
       go false = refl
 
-  same-noted : (v : Bool) (note : LineKind) (identifier : ℕ) (a b : List (List ℕ)) → Noted rules v note identifier a → SameBut rules a b → Noted rules v note identifier b
-  same-noted v note identifier a b n s =
+  same-noted : (v : Bool) (identifier : ℕ) (a b : List (List ℕ)) → Noted rules v identifier a → SameBut rules a b → Noted rules v identifier b
+  same-noted v identifier a b n s =
       let more = same-first (n .row) (n .notes) b (row-ordinary v identifier (n .row) (n .is-row)) (subst (λ (ls : List (List ℕ)). SameBut rules ls b) (n .lines-are) s) in
       let few : leb (length (more .0)) 1 ≡ true =
       ap (λ (k : ℕ). leb k 1) (sym (same-length (n .notes) (more .0) (more .2)))
-      ∙ and-left (leb (length (n .notes)) 1) (everyLine (isLine rules note) (n .notes)) (n .are-notes) in
+      ∙ and-left (leb (length (n .notes)) 1) (everyLine (isNoteLine rules v) (n .notes)) (n .are-notes) in
       record {
         row = n .row;
         notes = more .0;
         lines-are = more .1;
         is-row = n .is-row;
         are-notes =
-            and-both (leb (length (more .0)) 1) (everyLine (isLine rules note) (more .0)) few
-            (note-lines note (n .notes) (more .0) (and-right (leb (length (n .notes)) 1) (everyLine (isLine rules note) (n .notes)) (n .are-notes)) (more .2));
+            and-both (leb (length (more .0)) 1) (everyLine (isNoteLine rules v) (more .0)) few
+            (note-lines v (n .notes) (more .0) (and-right (leb (length (n .notes)) 1) (everyLine (isNoteLine rules v) (n .notes)) (n .are-notes)) (more .2));
       }
 
   same-rest : (v : Bool) (identifier : ℕ) (a b : List (List ℕ)) → Rest rules v identifier a → SameBut rules a b → Rest rules v identifier b
-  same-rest true identifier a b r s = same-noted true kind.VelocityCorrelation identifier a b r s
+  same-rest true identifier a b r s = same-noted true identifier a b r s
   same-rest false identifier a b r s = no-more b (subst (λ (ls : List (List ℕ)). SameBut rules ls b) r s)
 
   same-satellite : (v : Bool) (identifier : ℕ) (a b : List (List ℕ)) → Satellite rules v identifier a → SameBut rules a b → Satellite rules v identifier b
@@ -131,7 +126,7 @@ module _ (rules : Rules) where
         position = d .front;
         rest = d .back;
         lines-are = d .lines-are;
-        is-position = same-noted false kind.PositionCorrelation identifier (t .position) (d .front) (t .is-position) (d .same-front);
+        is-position = same-noted false identifier (t .position) (d .front) (t .is-position) (d .same-front);
         is-rest = same-rest v identifier (t .rest) (d .back) (t .is-rest) (d .same-back);
       }
 

@@ -18,12 +18,13 @@ use Rattle.record.specs.LineKinds.{toldKind, longest, commentKind, epochKind}
 use Rattle.record.specs.Opening.{epochOf}
 use Rattle.record.specs.Plain.{commentItems}
 use Rattle.record.specs.Rows.{rowFault, cut}
+use Rattle.record.specs.Notes.{noteFault}
 use Rattle.record.specs.SlotLines.{moreOf}
 use Rattle.header.specs.declared.types.Rules.{Rules}
 use Rattle.record.specs.declared.types.LineKind.{LineKind}
 use Rattle.record.specs.declared.types.LineKind.the-variants as kind
 use Rattle.file.specs.Kinds.{kindIn, isKind}
-use Rattle.file.specs.Plain.{isLine, isRecord, everyLine, isCommentLine, isEpochLine, rowKind, isRowLine, slotsOfKind, areSlots}
+use Rattle.file.specs.Plain.{isLine, isRecord, everyLine, isCommentLine, isEpochLine, rowKind, isRowLine, noteKind, isNoteLine, areNotes, slotsOfKind, areSlots}
 use Rattle.laws.proofs.Bools.{and-left, and-right}
 use Rattle.lines.proofs.Each.{Each}
 use Rattle.lines.proofs.Picking.{select-append}
@@ -99,20 +100,15 @@ module _ (rules : Rules) where
   pub epoch-kind : (at8 : ℕ) (l : List ℕ) → isEpochLine rules at8 l ≡ true → kindIn rules l ≡ epochKind
   epoch-kind at8 l e = record-kind kind.Epoch (epochOf (padded l) .fault) l (epoch-record at8 l e)
 
+  pub note-kind : (v : Bool) (l : List ℕ) → isNoteLine rules v l ≡ true → kindIn rules l ≡ toldKind (noteKind v)
+  note-kind v l e = record-kind (noteKind v) (noteFault v (padded l)) l e
+
   pub comment-kind : (l : List ℕ) → isCommentLine rules l ≡ true → kindIn rules l ≡ commentKind
   comment-kind l e = record-kind kind.Comment (faultOf commentItems (padded l)) l e
 
   -- lines that are all of one kind
   abbrev pub Of : ℕ → List (List ℕ) → Type 0
   Of k ls = Each (λ (l : List ℕ). kindIn rules l ≡ k) ls
-
-  pub lines-kind : (kind : LineKind) (ls : List (List ℕ)) → everyLine (isLine rules kind) ls ≡ true → Of (toldKind kind) ls
-  unfolding everyLine
-  lines-kind kind [] e = tt
-  lines-kind kind (l ∷ ls) e = (
-    line-kind kind l (and-left (isLine rules kind l) _ e),
-    lines-kind kind ls (and-right (isLine rules kind l) _ e),
-  )
 
   pub records-kind : (kind : LineKind) (fault : List ℕ → ℕ) (ls : List (List ℕ)) → everyLine (λ (l : List ℕ). isRecord rules kind (fault l) l) ls ≡ true
       → Of (toldKind kind) ls
@@ -122,6 +118,10 @@ module _ (rules : Rules) where
     record-kind kind (fault l) l (and-left (isRecord rules kind (fault l) l) _ e),
     records-kind kind fault ls (and-right (isRecord rules kind (fault l) l) _ e),
   )
+
+  -- what stands after a row is EP or EV
+  pub notes-kind : (v : Bool) (ls : List (List ℕ)) → areNotes rules v ls ≡ true → Of (toldKind (noteKind v)) ls
+  notes-kind v ls e = records-kind (noteKind v) (λ (l : List ℕ). noteFault v (padded l)) ls (and-right (leb (length ls) 1) (everyLine (isNoteLine rules v) ls) e)
 
   pub slots-kind : (accuracies : Bool) (left : ℕ) (ls : List (List ℕ)) → areSlots rules accuracies left ls ≡ true
       → Of (toldKind (slotsOfKind accuracies)) ls

@@ -9,20 +9,18 @@ use borrow.Author.Tests.{ne-eqb}
 use lib.Dec.{leb, eqb}
 use lib.ListN.{length}
 use Rattle.laws.specs.Tests.{within}
-use Rattle.record.specs.LineKinds.{firstKind, secondKind, satellitesKind, accuraciesKind, charactersKind, floatsKind, integersKind, positionCorrelationKind, endKind, toldKind}
+use Rattle.record.specs.LineKinds.{firstKind, secondKind, satellitesKind, accuraciesKind, charactersKind, floatsKind, integersKind, endKind}
 use Rattle.header.specs.declared.types.Rules.{Rules}
-use Rattle.record.specs.declared.types.LineKind.{LineKind}
-use Rattle.record.specs.declared.types.LineKind.the-variants as kind
 use Rattle.file.specs.Kinds.{kindIn}
-use Rattle.file.specs.Plain.{isLine, everyLine, isCommentLine, isEpochLine, isRowLine, Noted, Rest, Rows, Epochs, Plain}
+use Rattle.file.specs.Plain.{everyLine, isCommentLine, isEpochLine, isRowLine, isNoteLine, Noted, Rest, Rows, Epochs, Plain}
 use Rattle.laws.proofs.Bools.{and-left, and-right}
 use Rattle.lines.proofs.Each.{Each, each-append, each-weaken}
-use Rattle.file_laws.proofs.Sorting.{lines-kind, Of}
+use Rattle.file_laws.proofs.Sorting.{Of}
 use Rattle.file_laws.proofs.Selected.{velocities, identifiers, interval8, epochs, start8, first-kind, second-kind, identifiers-kind, accuracies-kind, characters-kind, floats-kind, integers-kind, last-kind}
 
--- the kinds of the other lines: the header without its comments, EP and EV, EOF
+-- the kinds of the other lines: the header without its comments, EOF
 abbrev pub isOther : ℕ → Bool
-isOther k = within firstKind integersKind k || within positionCorrelationKind endKind k
+isOther k = within firstKind integersKind k || eqb k endKind
 
 pub other-apart : (k i : ℕ) → isOther k ≡ true → isOther i ≡ false → eqb k i ≡ false
 other-apart k i e t = ne-eqb k i (λ same. false≢true (sym t ∙ ap isOther (sym same) ∙ e))
@@ -30,6 +28,7 @@ other-apart k i e t = ne-eqb k i (λ same. false≢true (sym t ∙ ap isOther (s
 -- what holds of each line that may stand in an accepted file
 pub record Covers (rules : Rules) (holds : List ℕ → Type 0) : Type 0 where
   pub row : (v : Bool) (identifier : ℕ) (l : List ℕ) → isRowLine rules v identifier l ≡ true → holds l
+  pub note : (v : Bool) (l : List ℕ) → isNoteLine rules v l ≡ true → holds l
   pub epoch : (at8 : ℕ) (l : List ℕ) → isEpochLine rules at8 l ≡ true → holds l
   pub comment : (l : List ℕ) → isCommentLine rules l ≡ true → holds l
   pub other : (l : List ℕ) → isOther (kindIn rules l) ≡ true → holds l
@@ -46,14 +45,22 @@ module _ (rules : Rules) (holds : List ℕ → Type 0) (c : Covers rules holds) 
     comments-hold ls (and-right (isCommentLine rules l) (everyLine (isCommentLine rules) ls) e),
   )
 
-  noted-hold : (v : Bool) (note : LineKind) (identifier : ℕ) (ls : List (List ℕ)) → isOther (toldKind note) ≡ true → Noted rules v note identifier ls → Each holds ls
-  noted-hold v note identifier ls t s =
-      let notes = lines-kind rules note (s .notes) (and-right (leb (length (s .notes)) 1) (everyLine (isLine rules note) (s .notes)) (s .are-notes)) in
-      let both : Each holds (s .row ∷ s .notes) = (c .row v identifier (s .row) (s .is-row), of-other (toldKind note) (s .notes) t notes) in
+  notes-hold : (v : Bool) (ls : List (List ℕ)) → everyLine (isNoteLine rules v) ls ≡ true → Each holds ls
+  unfolding everyLine
+  notes-hold v [] e = tt
+  notes-hold v (l ∷ ls) e = (
+    c .note v l (and-left (isNoteLine rules v l) (everyLine (isNoteLine rules v) ls) e),
+    notes-hold v ls (and-right (isNoteLine rules v l) (everyLine (isNoteLine rules v) ls) e),
+  )
+
+  noted-hold : (v : Bool) (identifier : ℕ) (ls : List (List ℕ)) → Noted rules v identifier ls → Each holds ls
+  noted-hold v identifier ls s =
+      let notes = notes-hold v (s .notes) (and-right (leb (length (s .notes)) 1) (everyLine (isNoteLine rules v) (s .notes)) (s .are-notes)) in
+      let both : Each holds (s .row ∷ s .notes) = (c .row v identifier (s .row) (s .is-row), notes) in
       subst (Each holds) (sym (s .lines-are)) both
 
   rest-hold : (v : Bool) (identifier : ℕ) (ls : List (List ℕ)) → Rest rules v identifier ls → Each holds ls
-  rest-hold true identifier ls r = noted-hold true kind.VelocityCorrelation identifier ls refl r
+  rest-hold true identifier ls r = noted-hold true identifier ls r
   rest-hold false identifier ls r = subst (Each holds) (sym r) tt
 
   rows-hold : (velocity : Bool) (identifiers : List ℕ) (ls : List (List ℕ)) → Rows rules velocity identifiers ls → Each holds ls
@@ -62,7 +69,7 @@ module _ (rules : Rules) (holds : List ℕ → Type 0) (c : Covers rules holds) 
       let s = r .3 in
       let own : Each holds (s .position ++ s .rest) =
       each-append holds (s .position) (s .rest)
-      (noted-hold false kind.PositionCorrelation identifier (s .position) refl (s .is-position))
+      (noted-hold false identifier (s .position) (s .is-position))
       (rest-hold velocity identifier (s .rest) (s .is-rest)) in
       let more = rows-hold velocity identifiers (r .1) (r .4) in
       subst (Each holds) (sym (r .2)) (each-append holds (r .0) (r .1) (subst (Each holds) (sym (s .lines-are)) own) more)

@@ -1,16 +1,15 @@
 -- Lines of which some are rows, and a note may stand directly after a row: the part of each row, with what its note says or with what stands for none.
 -- Assumes nothing.
 use mathlib.Core.Path.{_≡_, refl, sym, ap, _∙_}
-use mathlib.Core.Logic.{_⊎_, inl, inr}
 use mathlib.Core.Bool.{Bool, true, false, cond}
 use mathlib.Core.List.{List, [], _∷_, _++_}
 use Prim.Native.Nat.{ℕ, zero, suc, _<_}
 use native.Mathlib.Nat.{le-of-suc-le-suc, not-suc-le-zero}
 use native.Mathlib.Omega.{arith}
-use lib.ListN.{length, getD, take, drop}
-use lib.Seq.{take-at, drop-at}
-use Rattle.lines.specs.Lines.{select, nth}
+use lib.ListN.{length, getD}
+use Rattle.lines.specs.Lines.{select, nth, afterNth}
 use Rattle.lines.specs.Noted as noted
+use Rattle.lines.proofs.Each.{Each}
 
 module _ {A : Type 0} (isRow isNote : List ℕ → Bool) (row note : List ℕ → List A) (none : List A) where
   abbrev noteAt : List (List ℕ) → List A
@@ -44,38 +43,58 @@ module _ {A : Type 0} (isRow isNote : List ℕ → Bool) (row note : List ℕ �
       go true e f = rw (e, f)
       go false e f = e
 
-  -- the part of the r-th row begins with that row
-  module _ (w : ℕ) (wide : (l : List ℕ) → length (row l) ≡ w) where
-    pub part-row : (ls : List (List ℕ)) (r : ℕ) → r < length (select isRow ls) → take w (getD (rowParts ls) r []) ≡ row (nth r (select isRow ls))
-    unfolding select nth
-    part-row [] r h = absurd (not-suc-le-zero h)
-    part-row (l ∷ ls) r h = go (isRow l) r h (part-row ls)
-      where
-        go : (t : Bool) (k : ℕ) → k < length (cond t (l ∷ select isRow ls) (select isRow ls))
-            → ((i : ℕ) → i < length (select isRow ls) → take w (getD (rowParts ls) i []) ≡ row (nth i (select isRow ls)))
-            → take w (getD (cond t ((row l ++ noteAt ls) ∷ rowParts ls) (rowParts ls)) k []) ≡ row (nth k (cond t (l ∷ select isRow ls) (select isRow ls)))
-        go true zero q later = take-at (row l) (noteAt ls) w (wide l)
-        go true (suc k) q later = later k (le-of-suc-le-suc q)
-        go false k q later = later k q
+  -- what holds of every row with what stands after it holds of every part
+  pub parts-each : (holds : List A → Type 0) → ((l : List ℕ) (ls : List (List ℕ)) → holds (row l ++ noteAt ls)) → (ls : List (List ℕ)) → Each holds (rowParts ls)
+  parts-each holds each [] = tt
+  parts-each holds each (l ∷ ls) = go (isRow l) (parts-each holds each ls)
+    where
+      go : (t : Bool) → Each holds (rowParts ls) → Each holds (cond t ((row l ++ noteAt ls) ∷ rowParts ls) (rowParts ls))
+      go true more = (each l ls, more)
+      go false more = more
 
-    -- and ends with none, or with a note of the lines
-    pub part-note : (holds : List A → Type 0) → holds none → (ls : List (List ℕ)) → ((k : ℕ) → k < length ls → isNote (nth k ls) ≡ true → holds (note (nth k ls)))
-        → (r : ℕ) → r < length (select isRow ls) → holds (drop w (getD (rowParts ls) r []))
-    unfolding select nth
-    part-note holds z [] each r h = absurd (not-suc-le-zero h)
-    part-note holds z (l ∷ ls) each r h = go (isRow l) r h (part-note holds z ls (λ k q. each (suc k) (omega arith)))
-      where
-        after : (ms : List (List ℕ)) → ((k : ℕ) → k < length ms → isNote (nth k ms) ≡ true → holds (note (nth k ms))) → holds (noteAt ms)
-        after [] e = z
-        after (m ∷ ms) e = by (isNote m) refl
-          where
-            by : (t : Bool) → isNote m ≡ t → holds (cond t (note m) none)
-            by true is = e 0 (omega arith) is
-            by false is = z
+  -- the part of the r-th row is that row, with what stands directly after it
+  pub part-at : (ls : List (List ℕ)) (r : ℕ) → r < length (select isRow ls)
+      → getD (rowParts ls) r [] ≡ row (nth r (select isRow ls)) ++ noteAt (afterNth isRow r ls)
+  unfolding select nth afterNth
+  part-at [] r h = absurd (not-suc-le-zero h)
+  part-at (l ∷ ls) zero h = go (isRow l) h (part-at ls 0)
+    where
+      go : (t : Bool) → 0 < length (cond t (l ∷ select isRow ls) (select isRow ls))
+          → (0 < length (select isRow ls) → getD (rowParts ls) 0 [] ≡ row (nth 0 (select isRow ls)) ++ noteAt (afterNth isRow 0 ls))
+          → getD (cond t ((row l ++ noteAt ls) ∷ rowParts ls) (rowParts ls)) 0 []
+          ≡ row (nth 0 (cond t (l ∷ select isRow ls) (select isRow ls))) ++ noteAt (cond t ls (afterNth isRow 0 ls))
+      go true q later = refl
+      go false q later = later q
+  part-at (l ∷ ls) (suc r) h = go (isRow l) h (part-at ls r) (part-at ls (suc r))
+    where
+      go : (t : Bool) → suc r < length (cond t (l ∷ select isRow ls) (select isRow ls))
+          → (r < length (select isRow ls) → getD (rowParts ls) r [] ≡ row (nth r (select isRow ls)) ++ noteAt (afterNth isRow r ls))
+          → (suc r < length (select isRow ls) → getD (rowParts ls) (suc r) [] ≡ row (nth (suc r) (select isRow ls)) ++ noteAt (afterNth isRow (suc r) ls))
+          → getD (cond t ((row l ++ noteAt ls) ∷ rowParts ls) (rowParts ls)) (suc r) []
+          ≡ row (nth (suc r) (cond t (l ∷ select isRow ls) (select isRow ls))) ++ noteAt (cond t (afterNth isRow r ls) (afterNth isRow (suc r) ls))
+      go true q here later = here (le-of-suc-le-suc q)
+      go false q here later = later q
 
-        go : (t : Bool) (k : ℕ) → k < length (cond t (l ∷ select isRow ls) (select isRow ls))
-            → ((i : ℕ) → i < length (select isRow ls) → holds (drop w (getD (rowParts ls) i [])))
-            → holds (drop w (getD (cond t ((row l ++ noteAt ls) ∷ rowParts ls) (rowParts ls)) k []))
-        go true zero q later = rw (drop-at (row l) (noteAt ls) w (wide l)) (after ls (λ k q. each (suc k) (omega arith)))
-        go true (suc k) q later = later k (le-of-suc-le-suc q)
-        go false k q later = later k q
+  -- what stands after a row is none, or a note of the lines
+  module _ (holds : List A → Type 0) (z : holds none) where
+    abbrev Notes : List (List ℕ) → Type 0
+    Notes ls = Each (λ (l : List ℕ). isNote l ≡ true → holds (note l)) ls
+
+    first-note : (ls : List (List ℕ)) → Notes ls → holds (noteAt ls)
+    first-note [] each = z
+    first-note (l ∷ ls) each = go (isNote l) (each .0)
+      where
+        go : (t : Bool) → (t ≡ true → holds (note l)) → holds (cond t (note l) none)
+        go true h = h refl
+        go false h = z
+
+    either : (t : Bool) (a b : List (List ℕ)) → holds (noteAt a) → holds (noteAt b) → holds (noteAt (cond t a b))
+    either true a b p q = p
+    either false a b p q = q
+
+    pub note-holds : (ls : List (List ℕ)) → Notes ls → (r : ℕ) → holds (noteAt (afterNth isRow r ls))
+    unfolding afterNth
+    note-holds [] each r = z
+    note-holds (l ∷ ls) each zero = either (isRow l) ls (afterNth isRow 0 ls) (first-note ls (each .1)) (note-holds ls (each .1) 0)
+    note-holds (l ∷ ls) each (suc r) =
+        either (isRow l) (afterNth isRow r ls) (afterNth isRow (suc r) ls) (note-holds ls (each .1) r) (note-holds ls (each .1) (suc r))

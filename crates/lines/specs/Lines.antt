@@ -54,6 +54,12 @@ nth k [] = []
 nth zero (l ∷ ls) = l
 nth (suc k) (l ∷ ls) = nth k ls
 
+-- the lines after the k-th that passes a test
+unfoldable pub afterNth : (List ℕ → Bool) → ℕ → List (List ℕ) → List (List ℕ)
+afterNth test k [] = []
+afterNth test zero (l ∷ ls) = cond (test l) ls (afterNth test zero ls)
+afterNth test (suc k) (l ∷ ls) = cond (test l) (afterNth test k ls) (afterNth test (suc k) ls)
+
 -- the k-th line that passes a test is met here, where `here` stands for it, or later
 abbrev pub metAt : ℕ → ℕ → (ℕ → ℕ) → ℕ
 metAt zero here later = here
