@@ -25,12 +25,12 @@ use Rattle.machine.specs.Next.{expect, allow, leave, rowDue, satelliteDone, aft
 use Rattle.machine.specs.Step.{identifiersBrought}
 use Rattle.machine.specs.declared.types.State.{State}
 use Rattle.machine.specs.declared.types.Verdict.the-variants as verdict
-use Rattle.file.specs.Plain.{isLine, isRecord, rowKind, isRowLine, Noted, Satellite, Rows}
+use Rattle.file.specs.Plain.{isLine, isRecord, rowKind, isRowLine, noteKind, Noted, Satellite, Rows}
 use Rattle.scan.specs.Run.{run, counted}
 use Rattle.scan.specs.declared.Tally.{Tally}
 use Rattle.scan.specs.declared.Front.the-variants as front
 use Rattle.scan_laws.proofs.Reaching.{countedOver, Reach, reach-none, reach-append, reach-one, identifiers-kept, due-line, Read, split-on, goes-on}
-use Rattle.scan_laws.proofs.Notes.{noteKind, notes-reach, notes-read}
+use Rattle.scan_laws.proofs.Notes.{notes-reach, notes-read}
 
 -- where so many satellites have their rows still to come
 abbrev pub rowsLeft : ℕ → ℕ → State → State
@@ -88,7 +88,7 @@ module _ (rules : Rules) (identifiers : List ℕ) where
         reach-one rules (rowKind velocity) s next identifiers identifiers l due (and-left (isLine rules (rowKind velocity) l) _ whole)
         (row-fault velocity rules s identifiers p ∙ named-clean velocity s identifiers p fault (ap (eqb (identifierCode (cut 2 4 p))) identifier-due ∙ named)) (nexts p) (kept l)
 
-    pub noted-reach : (ls : List (List ℕ)) → Noted rules velocity (noteKind velocity) identifier ls → (a : ℕ) × Reach rules s identifiers ls (allow a next) identifiers
+    pub noted-reach : (ls : List (List ℕ)) → Noted rules velocity identifier ls → (a : ℕ) × Reach rules s identifiers ls (allow a next) identifiers
     noted-reach ls n =
         let after = notes-reach rules next identifiers velocity (n .notes) also other (n .are-notes) in (
           after .0,
@@ -98,7 +98,7 @@ module _ (rules : Rules) (identifiers : List ℕ) where
 
     -- and what a run to a file has read
     pub noted-read : (t t′ : Tally) (ls : List (List ℕ)) → s .also ≡ noKind → run rules s identifiers t ls ≡ front.File t′
-        → Read rules (Noted rules velocity (noteKind velocity) identifier) (allow noKind next) identifiers t t′ ls
+        → Read rules (Noted rules velocity identifier) (allow noKind next) identifiers t t′ ls
     unfolding countedOver
     noted-read t t′ ls none e =
         let x = due-line rules (rowKind velocity) s identifiers t t′ ls due none e in
