@@ -2,11 +2,13 @@
 -- on. So the row of epoch k and satellite j is found by its number alone, its note after it.
 -- Assumes nothing.
 use mathlib.Core.Path.{_≡_, refl, sym, ap, _∙_}
-use mathlib.Core.Bool.{Bool, true, false}
-use mathlib.Core.List.{List, [], _∷_, _++_, map}
+use mathlib.Core.Bool.{Bool, true, false, _||_}
+use mathlib.Core.List.{List, [], _∷_, _++_, map, append-nil}
 use Prim.Native.Nat.{ℕ, zero, suc, _+_, _*_, _<_}
 use native.Mathlib.Nat.{zero-mul, suc-mul, mul-comm, mul-le-mul, le-refl, le-of-suc-le-suc, not-suc-le-zero}
 use native.Mathlib.Omega.{arith}
+use borrow.Author.Tests.{ne-eqb}
+use lib.Dec.{eqb}
 use lib.IntN.{ℤ}
 use lib.ListN.{length, getD, take, drop, length-map}
 use lib.Seq.{take-at, drop-append-add, getD-take, getD-drop}
@@ -14,15 +16,18 @@ use Rattle.lines.specs.Lent.{flat}
 use Rattle.lines.specs.Lines.{nth, afterNth}
 use Rattle.record.specs.Rows.{rowOf, rowWidth}
 use Rattle.record.specs.Notes.{noteOf}
-use Rattle.record.specs.LineKinds.{commentKind, positionKind, velocityKind}
+use Rattle.laws.specs.Tests.{within}
+use Rattle.laws.proofs.Bounds.{within-true}
+use Rattle.record.specs.LineKinds.{firstKind, commentKind, positionKind, velocityKind, positionCorrelationKind, velocityCorrelationKind}
 use Rattle.record.specs.Plain.{commentWidth}
 use Rattle.header.specs.declared.types.Rules.{Rules}
-use Rattle.file.specs.Kinds.{isRow, isNote, ofKind}
-use Rattle.lines.proofs.Each.{Each, each-map}
-use Rattle.lines.proofs.Noted.{part-at}
+use Rattle.file.specs.Kinds.{kindIn, isRow, isNote, ofKind}
+use Rattle.lines.proofs.Each.{Each, each-map, each-weaken}
+use Rattle.lines.proofs.Noted.{part-at, parts-skip, parts-append}
 use Rattle.file.specs.Plain.{Plain}
 use Rattle.file.specs.Table.{slotNumbers, slotLineKind, slotsIn, commentText, commentsIn, rowIn, rowNumbers, noteNumbers, noNote, noteAfter, rowsOfLines, rowLines, rowsIn}
-use Rattle.file_laws.proofs.Selected.{satellites, identifiers, velocities, epochs}
+use Rattle.file_laws.proofs.Selected.{satellites, identifiers, velocities, epochs, last-kind}
+use Rattle.file_laws.proofs.Instants.{header, three-parts, header-kinds}
 use Rattle.file_laws.proofs.Slots.{slots-wide}
 use Rattle.file_laws.proofs.Rule.{place-at, motion-at, rows-are-places, row-begins, row-motion}
 use Rattle.file_laws.proofs.Counts.{comment-wide, rows-wide, rows-count, rows-many, rows-many-both}
@@ -123,3 +128,31 @@ module _ {rules : Rules} {lines : List (List ℕ)} (p : Plain rules lines) (k j 
         row-stored rules lines (2 * rowAt + 1) (omega (arith, rows-many-both p both, below k (epochs p) (satellites p) j hk hj))
         ∙ ap (λ (l : List ℕ). rowNumbers (rowIn rules l) ++ noteAt rules lines (2 * rowAt + 1)) (row-motion p both k j hk hj)
         ∙ ap (λ (s : List ℤ). s ++ noteAt rules lines (2 * rowAt + 1)) (row-exact rules true (getD (identifiers p) j 0) motionLine (motion-at p both k j hk hj))
+
+-- The rows of a file are those of its epochs: no line before them or after them is a row, and EOF is no note.
+pub epochs-rows : {rules : Rules} {lines : List (List ℕ)} (p : Plain rules lines) → rowsOfLines rules lines ≡ rowsOfLines rules (p .epochs)
+unfolding rowsOfLines
+epochs-rows {rules} {lines} p =
+    let row : List ℕ → List ℤ = λ (l : List ℕ). rowNumbers (rowIn rules l) in
+    let note : List ℕ → List ℤ = λ (l : List ℕ). noteNumbers (noteOf l) in
+    ap (rowsOfLines rules) (three-parts p)
+    ∙ parts-skip (isRow rules) (isNote rules) row note noNote (header p) (p .epochs ++ (p .last ∷ [])) before
+    ∙ parts-append (isRow rules) (isNote rules) row note noNote (p .epochs) (p .last ∷ []) (rw (ap noteIs (last-kind p .0)))
+    ∙ ap (λ (more : List (List ℤ)). rowsOfLines rules (p .epochs) ++ more) (parts-skip (isRow rules) (isNote rules) row note noNote (p .last ∷ []) [] (ap rowIs (last-kind p .0), tt))
+    ∙ append-nil (rowsOfLines rules (p .epochs))
+  where
+    rowIs : ℕ → Bool
+    rowIs k = eqb k positionKind || eqb k velocityKind
+
+    noteIs : ℕ → Bool
+    noteIs k = eqb k positionCorrelationKind || eqb k velocityCorrelationKind
+
+    apart : (k : ℕ) → within firstKind commentKind k ≡ true → rowIs k ≡ false
+    apart k e =
+        let b = within-true firstKind commentKind k e in
+        rw (ne-eqb k positionKind (λ q. omega (arith, b)), ne-eqb k velocityKind (λ q. omega (arith, b)))
+
+    before : Each (λ (l : List ℕ). isRow rules l ≡ false) (header p)
+    before =
+        each-weaken (λ (l : List ℕ). within firstKind commentKind (kindIn rules l) ≡ true) (λ (l : List ℕ). isRow rules l ≡ false)
+        (λ l e. apart (kindIn rules l) e) (header p) (header-kinds p)

@@ -43,6 +43,11 @@ module _ {A : Type 0} (isRow isNote : List ℕ → Bool) (row note : List ℕ �
       go true e f = rw (e, f)
       go false e f = e
 
+  -- lines of which none is a row, and others after them
+  pub parts-skip : (a b : List (List ℕ)) → Each (λ (l : List ℕ). isRow l ≡ false) a → rowParts (a ++ b) ≡ rowParts b
+  parts-skip [] b none = refl
+  parts-skip (l ∷ a) b none = rw (none .0) (parts-skip a b (none .1))
+
   -- what holds of every row with what stands after it holds of every part
   pub parts-each : (holds : List A → Type 0) → ((l : List ℕ) (ls : List (List ℕ)) → holds (row l ++ noteAt ls)) → (ls : List (List ℕ)) → Each holds (rowParts ls)
   parts-each holds each [] = tt
