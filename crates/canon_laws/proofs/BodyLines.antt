@@ -2,7 +2,7 @@
 -- rows, and each ends in its LF.
 -- Assumes nothing.
 use mathlib.Core.Path.{_≡_, refl, sym, ap, ap₂, subst, _∙_}
-use mathlib.Core.Bool.{Bool, true, false, _&&_, _||_}
+use mathlib.Core.Bool.{Bool, true, false, cond, _&&_, _||_}
 use mathlib.Core.List.{List, [], _∷_, _++_, map, map-append, append-nil}
 use Prim.Native.Nat.{ℕ, zero, suc, _+_, _*_, _≤_}
 use native.Mathlib.Nat.{zero-mul, suc-mul, zero-add, suc-add}
@@ -15,39 +15,47 @@ use Rattle.laws.specs.Texts.{every}
 use Rattle.layout.specs.Kind.{isIdentifier}
 use Rattle.layout.specs.Line.{lineOf}
 use Rattle.lines.specs.Lent.{flat}
-use Rattle.lines.specs.Lines.{select}
-use Rattle.record.specs.LineKinds.{positionKind, velocityKind, toldKind}
+use Rattle.record.specs.LineKinds.{positionKind, velocityKind, positionCorrelationKind, velocityCorrelationKind, toldKind}
 use Rattle.record.specs.Opening.{epochLine}
-use Rattle.record.specs.Rows.{rowLine, rowWidth}
+use Rattle.record.specs.Rows.{bareWidth, noteWidth, rowWidth}
+use Rattle.record.specs.Notes.{noteOf, noteLine}
 use Rattle.header.specs.declared.types.Rules.{Rules}
-use Rattle.record.specs.declared.types.LineKind.{LineKind}
-use Rattle.record.specs.declared.types.LineKind.the-variants as kind
-use Rattle.file.specs.Kinds.{isRow}
-use Rattle.file.specs.Plain.{everyLine, isEpochLine, rowKind, Noted, Satellite, Rows, Epochs}
-use Rattle.file.specs.Table.{rowIn, rowNumbers, numbersOfRows, rowLines, rowsIn}
+use Rattle.file.specs.Kinds.{isRow, isNote}
+use Rattle.file.specs.Plain.{everyLine, isEpochLine, rowKind, noteKind, areNotes, Noted, Satellite, Rows, Epochs}
+use Rattle.file.specs.Table.{rowIn, rowNumbers, noteNumbers, noNote, noteAfter, rowsOfLines, rowsIn}
 use Rattle.canon.specs.Table.{cellWidth}
-use Rattle.canon.specs.Valid.{isInstant, rowValid, cellValid, rowsValid}
-use Rattle.canon.specs.Canonical.{rowShown, cellLines, cellsLines, epochShown, epochsLines}
+use Rattle.canon.specs.Valid.{isInstant, rowValid, isNoted, noteValid, notedValid, cellValid, rowsValid}
+use Rattle.canon.specs.Canonical.{noteShown, noteLines, notedLines, cellLines, cellsLines, epochShown, epochsLines}
 use Rattle.laws.proofs.Bools.{and-left, and-right}
 use Rattle.lines.proofs.Each.{Each, each-append}
-use Rattle.lines.proofs.Picking.{select-append, flat-append}
-use Rattle.file_laws.proofs.Sorting.{row-kind, epoch-kind}
+use Rattle.lines.proofs.Picking.{flat-append}
+use Rattle.lines.proofs.Noted.{parts-append}
+use Rattle.file_laws.proofs.Sorting.{row-kind, epoch-kind, note-kind}
 use Rattle.canon_laws.proofs.Bare.{EndsLine}
 use Rattle.canon_laws.proofs.RowLines.{rowText, row-ends, row-is, row-numbers}
+use Rattle.canon_laws.proofs.NoteLines.{noteText, none-kept, note-ends, note-is, note-numbers}
 use Rattle.canon_laws.proofs.EpochLines.{epochText, Instants, epoch-ends, epoch-is, first-instant, later-instants}
 
--- what is stored of lines is stored of each part
-rows-append : (rules : Rules) (a b : List (List ℕ)) → rowsIn rules (a ++ b) ≡ rowsIn rules a ++ rowsIn rules b
-unfolding numbersOfRows
-rows-append rules a b =
-    let f : List ℕ → List ℤ = λ (l : List ℕ). rowNumbers (rowIn rules l) in
-    ap (λ (ls : List (List ℕ)). flat (map f ls)) (select-append (isRow rules) a b)
-    ∙ ap flat (map-append f (rowLines rules a) (rowLines rules b))
-    ∙ flat-append (map f (rowLines rules a)) (map f (rowLines rules b))
+-- lines that begin with no note
+abbrev Quiet : Rules → List (List ℕ) → Type 0
+Quiet rules ls = noteAfter rules ls ≡ noNote
 
--- Lines, each with its LF, that are what is asked of them without it, and store these numbers.
+-- what is stored of lines is stored of each part, where the second begins with no note
+rows-append : (rules : Rules) (a b : List (List ℕ)) → Quiet rules b → rowsIn rules (a ++ b) ≡ rowsIn rules a ++ rowsIn rules b
+unfolding rowsOfLines noteAfter
+rows-append rules a b quiet =
+    ap flat (parts-append (isRow rules) (isNote rules) (λ (l : List ℕ). rowNumbers (rowIn rules l)) (λ (l : List ℕ). noteNumbers (noteOf l)) noNote a b quiet)
+    ∙ flat-append (rowsOfLines rules a) (rowsOfLines rules b)
+
+quiet-append : (rules : Rules) (a b : List (List ℕ)) → Quiet rules a → Quiet rules b → Quiet rules (a ++ b)
+unfolding noteAfter
+quiet-append rules [] b p q = q
+quiet-append rules (l ∷ a) b p q = p
+
+-- Lines, each with its LF, that are what is asked of them without it, begin with no note, and store these numbers.
 pub record Carries (rules : Rules) (Are : List (List ℕ) → Type 0) (numbers : List ℤ) (lines : List (List ℕ)) : Type 0 where
   pub are : Are (map lineOf lines)
+  pub quiet : Quiet rules (map lineOf lines)
   pub stored : rowsIn rules (map lineOf lines) ≡ numbers
   pub ends : Each EndsLine lines
 
@@ -77,7 +85,7 @@ module _ (rules : Rules) where
   -- said otherwise
   holds-as : {A B : List (List ℕ) → Type 0} {numbers : List ℤ} {lines : List (List ℕ)} → ((ls : List (List ℕ)) → A ls → B ls)
       → Carries rules A numbers lines → Carries rules B numbers lines
-  holds-as {A} {B} {numbers} {lines} turn h = record { are = turn (map lineOf lines) (h .are); stored = h .stored; ends = h .ends }
+  holds-as {A} {B} {numbers} {lines} turn h = record { are = turn (map lineOf lines) (h .are); quiet = h .quiet; stored = h .stored; ends = h .ends }
 
   -- some lines and others after them
   holds-both : {A B C : List (List ℕ) → Type 0} {first second numbers : List ℤ} {a b : List (List ℕ)}
@@ -85,30 +93,78 @@ module _ (rules : Rules) where
       → Carries rules A first a → Carries rules B second b → Carries rules C numbers (a ++ b)
   holds-both {A} {B} {C} {first} {second} {numbers} {a} {b} join sum p q = record {
     are = subst C (sym (map-append lineOf a b)) (join (map lineOf a) (map lineOf b) (p .are) (q .are));
+    quiet = ap (noteAfter rules) (map-append lineOf a b) ∙ quiet-append rules (map lineOf a) (map lineOf b) (p .quiet) (q .quiet);
     stored =
         ap (rowsIn rules) (map-append lineOf a b)
-        ∙ rows-append rules (map lineOf a) (map lineOf b)
+        ∙ rows-append rules (map lineOf a) (map lineOf b) (q .quiet)
         ∙ ap₂ (λ (x y : List ℤ). x ++ y) (p .stored) (q .stored)
         ∙ sum;
     ends = each-append EndsLine a b (p .ends) (q .ends);
   }
 
-  -- A row of a satellite: a line with nothing noted after it.
-  row-holds : (velocity : Bool) (note : LineKind) (identifier : ℕ) (row : List ℤ) → isIdentifier identifier ≡ true → rowValid velocity row ≡ true → length row ≡ rowWidth
-      → Carries rules (λ (ls : List (List ℕ)). Noted rules velocity note identifier ls) row (rowLine velocity (rowShown identifier row) ∷ [])
-  unfolding everyLine numbersOfRows select flat
-  row-holds velocity note identifier row named valid wide =
+  -- what stands after a row: its note, or nothing
+  module _ (velocity : Bool) (note : List ℤ) (valid : noteValid note ≡ true) (wide : length note ≡ noteWidth) where
+    record Noticed (lines : List (List ℕ)) : Type 0 where
+      are : areNotes rules velocity (map lineOf lines) ≡ true
+      no-rows : rowsOfLines rules (map lineOf lines) ≡ []
+      stored : noteAfter rules (map lineOf lines) ≡ note
+      ends : Each EndsLine lines
+
+    note-holds : Noticed (noteLines velocity note)
+    unfolding noteLines everyLine rowsOfLines noteAfter
+    note-holds = go (isNoted note) refl
+      where
+        row-kinds : (v : Bool) → (eqb (toldKind (noteKind v)) positionKind || eqb (toldKind (noteKind v)) velocityKind) ≡ false
+        row-kinds true = refl
+        row-kinds false = refl
+
+        note-kinds : (v : Bool) → (eqb (toldKind (noteKind v)) positionCorrelationKind || eqb (toldKind (noteKind v)) velocityCorrelationKind) ≡ true
+        note-kinds true = refl
+        note-kinds false = refl
+
+        go : (t : Bool) → isNoted note ≡ t → Noticed (cond t (noteLine velocity (noteShown note) ∷ []) [])
+        go true e =
+            let is = note-is note valid e velocity rules in
+            let kind = note-kind rules velocity (noteText velocity note) is in
+            record {
+              are = rw is;
+              no-rows = rw (ap (λ (k : ℕ). eqb k positionKind || eqb k velocityKind) kind ∙ row-kinds velocity);
+              stored =
+                  rw (ap (λ (k : ℕ). eqb k positionCorrelationKind || eqb k velocityCorrelationKind) kind ∙ note-kinds velocity)
+                  (note-numbers note valid e velocity (omega arith) ∙ take-all noteWidth note (omega arith));
+              ends = (note-ends note valid e velocity, tt);
+            }
+        go false e = record { are = refl; no-rows = refl; stored = none-kept note valid e (omega arith) ∙ take-all noteWidth note (omega arith); ends = tt }
+
+  -- A row of a satellite, and its note after it.
+  row-holds : (velocity : Bool) (identifier : ℕ) (row : List ℤ) → isIdentifier identifier ≡ true → notedValid velocity row ≡ true → length row ≡ rowWidth
+      → Carries rules (λ (ls : List (List ℕ)). Noted rules velocity identifier ls) row (notedLines velocity identifier row)
+  unfolding notedValid notedLines rowsOfLines noteAfter flat
+  row-holds velocity identifier row named both wide =
+      let valid = and-left (rowValid velocity row) _ both in
       let is = row-is velocity identifier row valid named rules in
-      let kept : isRow rules (rowText velocity identifier row) ≡ true = ap (λ (k : ℕ). eqb k 10 || eqb k 11) (row-kind rules velocity identifier (rowText velocity identifier row) is) ∙ told velocity in
+      let kind = row-kind rules velocity identifier (rowText velocity identifier row) is in
+      let kept : isRow rules (rowText velocity identifier row) ≡ true = ap (λ (k : ℕ). eqb k positionKind || eqb k velocityKind) kind ∙ told velocity in
+      let other : isNote rules (rowText velocity identifier row) ≡ false = ap (λ (k : ℕ). eqb k positionCorrelationKind || eqb k velocityCorrelationKind) kind ∙ apart velocity in
+      let n = note-holds velocity (drop bareWidth row) (and-right (rowValid velocity row) _ both) (omega (arith, length-drop bareWidth row)) in
       record {
-        are = record { row = rowText velocity identifier row; notes = []; lines-are = refl; is-row = is; are-notes = refl };
-        stored = rw kept (append-nil (rowNumbers (rowIn rules (rowText velocity identifier row))) ∙ row-numbers velocity identifier row valid named rules (omega arith) ∙ take-all rowWidth row (omega arith));
-        ends = (row-ends velocity identifier row valid named, tt);
+        are = record { row = rowText velocity identifier row; notes = map lineOf (noteLines velocity (drop bareWidth row)); lines-are = refl; is-row = is; are-notes = n .are };
+        quiet = rw other;
+        stored =
+            rw (kept, n .no-rows)
+            (append-nil (rowNumbers (rowIn rules (rowText velocity identifier row)) ++ noteAfter rules (map lineOf (noteLines velocity (drop bareWidth row))))
+            ∙ ap₂ (λ (a b : List ℤ). a ++ b) (row-numbers velocity identifier row valid named rules (omega arith)) (n .stored)
+            ∙ take-append-drop bareWidth row);
+        ends = (row-ends velocity identifier row valid named, n .ends);
       }
     where
       told : (v : Bool) → (eqb (toldKind (rowKind v)) positionKind || eqb (toldKind (rowKind v)) velocityKind) ≡ true
       told true = refl
       told false = refl
+
+      apart : (v : Bool) → (eqb (toldKind (rowKind v)) positionCorrelationKind || eqb (toldKind (rowKind v)) velocityCorrelationKind) ≡ false
+      apart true = refl
+      apart false = refl
 
   -- The lines of one satellite in an epoch.
   cell-holds : (velocity : Bool) (identifier : ℕ) (cell : List ℤ) → isIdentifier identifier ≡ true → cellValid velocity cell ≡ true → length cell ≡ cellWidth velocity
@@ -118,30 +174,32 @@ module _ (rules : Rules) where
       holds-both
       (λ ls ms p q. record { position = ls; rest = ms; lines-are = refl; is-position = p; is-rest = q })
       (take-append-drop rowWidth cell)
-      (row-holds false kind.PositionCorrelation identifier (take rowWidth cell) named (and-left (rowValid false (take rowWidth cell)) _ valid) (length-take-le rowWidth cell (omega arith)))
-      (row-holds true kind.VelocityCorrelation identifier (drop rowWidth cell) named (and-right (rowValid false (take rowWidth cell)) _ valid) (omega (arith, length-drop rowWidth cell)))
+      (row-holds false identifier (take rowWidth cell) named (and-left (notedValid false (take rowWidth cell)) _ valid) (length-take-le rowWidth cell (omega arith)))
+      (row-holds true identifier (drop rowWidth cell) named (and-right (notedValid false (take rowWidth cell)) _ valid) (omega (arith, length-drop rowWidth cell)))
   cell-holds false identifier cell named valid wide =
       holds-as
       (λ ls p. record { position = ls; rest = []; lines-are = sym (append-nil ls); is-position = p; is-rest = refl })
-      (row-holds false kind.PositionCorrelation identifier cell named valid wide)
+      (row-holds false identifier cell named valid wide)
 
   -- The line of an epoch.
   epoch-holds : (at8 : ℕ) → isInstant at8 ≡ true
       → Carries rules (λ (ls : List (List ℕ)). (l : List ℕ) × (ls ≡ l ∷ []) × (isEpochLine rules at8 l ≡ true)) [] (epochLine (epochShown at8) ∷ [])
-  unfolding numbersOfRows select flat
+  unfolding rowsOfLines noteAfter flat
   epoch-holds at8 bounded =
       let is = epoch-is at8 bounded rules in
-      let other : isRow rules (epochText at8) ≡ false = ap (λ (k : ℕ). eqb k 10 || eqb k 11) (epoch-kind rules at8 (epochText at8) is) in
-      record { are = (epochText at8, refl, is); stored = rw other; ends = (epoch-ends at8 bounded, tt) }
+      let kind = epoch-kind rules at8 (epochText at8) is in
+      let no-row : isRow rules (epochText at8) ≡ false = ap (λ (k : ℕ). eqb k positionKind || eqb k velocityKind) kind in
+      let no-note : isNote rules (epochText at8) ≡ false = ap (λ (k : ℕ). eqb k positionCorrelationKind || eqb k velocityCorrelationKind) kind in
+      record { are = (epochText at8, refl, is); quiet = rw no-note; stored = rw no-row; ends = (epoch-ends at8 bounded, tt) }
 
   module _ (velocity : Bool) where
     -- Those of each satellite.
     cells-hold : (identifiers : List ℕ) (rows : List ℤ) → every isIdentifier identifiers ≡ true → rowsValid velocity (length identifiers) rows ≡ true
         → length identifiers * cellWidth velocity ≤ length rows
         → Carries rules (λ (ls : List (List ℕ)). Rows rules velocity identifiers ls) (take (length identifiers * cellWidth velocity) rows) (cellsLines velocity identifiers rows)
-    unfolding rowsValid cellsLines numbersOfRows select flat
+    unfolding rowsValid cellsLines rowsOfLines noteAfter flat
     cells-hold [] rows named valid long =
-        record { are = refl; stored = ap (λ (k : ℕ). take k rows) (sym (zero-mul (cellWidth velocity))); ends = tt }
+        record { are = refl; quiet = refl; stored = ap (λ (k : ℕ). take k rows) (sym (zero-mul (cellWidth velocity))); ends = tt }
     cells-hold (identifier ∷ identifiers) rows named valid long =
         let w = cellWidth velocity in
         let own = cellValid velocity (take w rows) in
@@ -158,9 +216,9 @@ module _ (rules : Rules) where
           → epochs * (length identifiers * cellWidth velocity) ≤ length rows
           → Carries rules (λ (ls : List (List ℕ)). Epochs rules velocity identifiers interval8 epochs at8 ls) (take (epochs * (length identifiers * cellWidth velocity)) rows)
           (epochsLines velocity identifiers interval8 epochs at8 rows)
-      unfolding epochsLines numbersOfRows select flat
+      unfolding epochsLines rowsOfLines noteAfter flat
       epochs-hold zero at8 rows instants valid long =
-          record { are = refl; stored = ap (λ (k : ℕ). take k rows) (sym (zero-mul (length identifiers * cellWidth velocity))); ends = tt }
+          record { are = refl; quiet = refl; stored = ap (λ (k : ℕ). take k rows) (sym (zero-mul (length identifiers * cellWidth velocity))); ends = tt }
       epochs-hold (suc epochs) at8 rows instants valid long =
           let w = length identifiers * cellWidth velocity in
           let parts = rows-valid-parts velocity (length identifiers) (epochs * length identifiers) rows (ap (λ (k : ℕ). rowsValid velocity k rows) (omega (arith, suc-mul epochs (length identifiers))) ∙ valid) in
@@ -189,6 +247,7 @@ module _ (rules : Rules) where
           let h = epochs-hold epochs at8 rows instants valid (omega arith) in
           record {
             are = h .are;
+            quiet = h .quiet;
             stored = h .stored ∙ take-all (epochs * (length identifiers * cellWidth velocity)) rows (omega arith);
             ends = h .ends;
           }

@@ -8,6 +8,7 @@ pub mod CommentLines
 pub mod SlotsShown
 pub mod IdentifiersShown
 pub mod RowLines
+pub mod NoteLines
 pub mod EpochLines
 pub mod BodyLines
 pub mod TableLines

@@ -1,5 +1,5 @@
--- The line of a valid row: its columns can show the row, it is a P or V line of its satellite, and what is stored of it are the numbers of the
--- row.
+-- The line of a valid row: its columns can show the row, it is a P or V line of its satellite, and what is stored of it are the first numbers of
+-- the row.
 -- Assumes nothing.
 use mathlib.Core.Path.{_≡_, refl, ap, _∙_}
 use mathlib.Core.Bool.{Bool, true, false, cond, not, _&&_, _||_, false≢true}
@@ -11,7 +11,7 @@ use lib.Dec.{leb, eqb, ltb}
 use lib.IntN.{ℤ, pos, negsuc, natAbs}
 use lib.ListN.{length, take, drop}
 use lib.Seq.{drop-cons}
-use Rattle.field.specs.Show.{fitsInteger, fitsWhole, fitsDecimal}
+use Rattle.field.specs.Show.{fitsWhole, fitsDecimal}
 use Rattle.field.specs.Sign.{largest, isNegative, signedInt}
 use Rattle.layout.specs.Kind.{unknown, isIdentifier, canAmount, identifierCode}
 use Rattle.layout.specs.Fault.{clean}
@@ -20,7 +20,7 @@ use Rattle.layout.specs.Layout.{Item, Values, columns, canShow, showLine}
 use Rattle.layout.specs.Line.{padded, lineOf}
 use Rattle.record.specs.Absence.{largestExponent}
 use Rattle.record.specs.LineKinds.{kindOf, longest}
-use Rattle.record.specs.Rows.{bodyItems, flagItems, bodyValues, flagValues, rowItems, rowValues, rowFault, rowLine, rowTaken, rowOf, cut, rowWidth}
+use Rattle.record.specs.Rows.{bodyItems, flagItems, bodyValues, flagValues, rowItems, rowValues, rowFault, rowLine, rowTaken, rowOf, cut, bareWidth}
 use Rattle.header.specs.declared.types.Rules.{Rules}
 use Rattle.record.specs.declared.types.Row.{Row}
 use Rattle.file.specs.Plain.{rowKind, isRecord, isRowLine}
@@ -28,6 +28,7 @@ use Rattle.file.specs.Table.{rowIn, storedInt, storedCount, markNumber, storedM
 use Rattle.canon.specs.Valid.{entry, amountValid, exponentValid, mostFlag, flagValid, fourValid, rowValid}
 use Rattle.canon.specs.Canonical.{flagShown, rowShown}
 use Rattle.laws.proofs.Bools.{and-left, and-right, and-both}
+use Rattle.field.proofs.Fitting.{fits-true}
 use Rattle.record.proofs.Tiled.{rows-tiled}
 use Rattle.record.proofs.RoundTrips.{flagless, row-back}
 use Rattle.file.proofs.Exact.{stored-exact}
@@ -35,61 +36,72 @@ use Rattle.file_laws.proofs.Exact.{count-exact, mark-exact, row-in}
 use Rattle.canon.proofs.Inked as inked
 use Rattle.canon_laws.proofs.Bare.{EndsLine, bare-ended, bare-record}
 
+-- no number is minus zero
+pub no-minus-zero : (u : ℤ) → (not (isNegative u) || ltb 0 (natAbs u)) ≡ true
+no-minus-zero (pos n) = refl
+no-minus-zero (negsuc n) = lt-ltb 0 (suc n) (omega arith)
+
 -- One number. A place or clock within the bound fits its columns, and is stored as it is.
 pub amount-fits : (v : ℤ) → amountValid v ≡ true → canAmount 14 6 (isNegative v) (natAbs v) ≡ true
 amount-fits v e =
     and-both (leb (natAbs v) largest) _ e
     (and-both (fitsDecimal 14 6 (isNegative v) (natAbs v)) _ (inked.amount-fits (isNegative v) (natAbs v) (leb-true (natAbs v) largest e)) (no-minus-zero v))
-  where
-    no-minus-zero : (u : ℤ) → (not (isNegative u) || ltb 0 (natAbs u)) ≡ true
-    no-minus-zero (pos n) = refl
-    no-minus-zero (negsuc n) = lt-ltb 0 (suc n) (omega arith)
+
+pub within-stored : (v : ℤ) → natAbs v ≤ largest → storedInt (isNegative v) (natAbs v) ≡ v
+unfolding signedInt
+within-stored (pos n) h = stored-exact false n h
+within-stored (negsuc n) h = stored-exact true (suc n) h
 
 pub amount-stored : (v : ℤ) → amountValid v ≡ true → storedInt (isNegative v) (natAbs v) ≡ v
-unfolding signedInt
-amount-stored (pos n) e = stored-exact false n (leb-true n largest e)
-amount-stored (negsuc n) e = stored-exact true (suc n) (leb-true (suc n) largest e)
+amount-stored v e = within-stored v (leb-true (natAbs v) largest e)
 
 -- a number that is not negative is its magnitude
 plain-is : (v : ℤ) → not (isNegative v) ≡ true → pos (natAbs v) ≡ v
 plain-is (pos n) e = refl
 plain-is (negsuc n) e = absurd (false≢true e)
 
--- An exponent within its bound, or unknown: at most 1000, and in its columns or blank.
+-- A number within its bound, or the one that stands for unknown: in its columns or blank, and stored as it is.
+module _ (most none w : ℕ) (fits : (n : ℕ) → n ≤ most → fitsWhole w n ≡ true) (few : most ≤ largest) (little : none ≤ largest)
+    (v : ℤ) (valid : (not (isNegative v) && (leb (natAbs v) most || eqb (natAbs v) none)) ≡ true) where
+  either : (leb (natAbs v) most || eqb (natAbs v) none) ≡ true
+  either = and-right (not (isNegative v)) _ valid
+
+  pub known-fits : (eqb (natAbs v) none || fitsWhole w (natAbs v)) ≡ true
+  known-fits = go (leb (natAbs v) most) (eqb (natAbs v) none) refl either
+    where
+      go : (t u : Bool) → leb (natAbs v) most ≡ t → (t || u) ≡ true → (u || fitsWhole w (natAbs v)) ≡ true
+      go t true e h = refl
+      go true false e h = fits (natAbs v) (leb-true (natAbs v) most e)
+      go false false e h = absurd (false≢true h)
+
+  pub known-stored : storedCount (natAbs v) ≡ v
+  known-stored =
+      count-exact (natAbs v) (go (leb (natAbs v) most) (eqb (natAbs v) none) refl refl either) ∙ plain-is v (and-left (not (isNegative v)) _ valid)
+    where
+      go : (t u : Bool) → leb (natAbs v) most ≡ t → eqb (natAbs v) none ≡ u → (t || u) ≡ true → natAbs v ≤ largest
+      go true u e f h = omega (arith, leb-true (natAbs v) most e)
+      go false true e f h = omega (arith, eqb-true (natAbs v) none f)
+      go false false e f h = absurd (false≢true h)
+
+-- an exponent, of x, y, z in two columns, of the clock in three
 abbrev exponentWidth : Bool → ℕ
 exponentWidth true = 3
 exponentWidth false = 2
 
-exponent-columns : (clock : Bool) (n : ℕ) → leb n (largestExponent clock) ≡ true → fitsWhole (exponentWidth clock) n ≡ true
-unfolding fitsInteger
-exponent-columns true n e = lt-ltb n 1000 (omega (arith, leb-true n 999 e))
-exponent-columns false n e = lt-ltb n 100 (omega (arith, leb-true n 99 e))
+exponent-columns : (clock : Bool) (n : ℕ) → n ≤ largestExponent clock → fitsWhole (exponentWidth clock) n ≡ true
+exponent-columns true n h = fits-true 3 false n (omega arith) (omega arith) (omega arith)
+exponent-columns false n h = fits-true 2 false n (omega arith) (omega arith) (omega arith)
 
-exponent-most : (clock : Bool) (n : ℕ) → leb n (largestExponent clock) ≡ true → n ≤ 1000
-exponent-most true n e = omega (arith, leb-true n 999 e)
-exponent-most false n e = omega (arith, leb-true n 99 e)
+exponent-most : (clock : Bool) → largestExponent clock ≤ largest
+exponent-most true = omega arith
+exponent-most false = omega arith
 
 module _ (clock : Bool) (v : ℤ) (valid : exponentValid clock v ≡ true) where
-  either : (leb (natAbs v) (largestExponent clock) || eqb (natAbs v) unknown) ≡ true
-  either = and-right (not (isNegative v)) _ valid
-
   pub exponent-fits : (eqb (natAbs v) unknown || fitsWhole (exponentWidth clock) (natAbs v)) ≡ true
-  exponent-fits = go (leb (natAbs v) (largestExponent clock)) (eqb (natAbs v) unknown) refl either
-    where
-      go : (t u : Bool) → leb (natAbs v) (largestExponent clock) ≡ t → (t || u) ≡ true → (u || fitsWhole (exponentWidth clock) (natAbs v)) ≡ true
-      go t true e h = refl
-      go true false e h = exponent-columns clock (natAbs v) e
-      go false false e h = absurd (false≢true h)
+  exponent-fits = known-fits (largestExponent clock) unknown (exponentWidth clock) (exponent-columns clock) (exponent-most clock) (omega arith) v valid
 
   pub exponent-stored : storedCount (natAbs v) ≡ v
-  exponent-stored =
-      count-exact (natAbs v) (omega (arith, go (leb (natAbs v) (largestExponent clock)) (eqb (natAbs v) unknown) refl refl either))
-      ∙ plain-is v (and-left (not (isNegative v)) _ valid)
-    where
-      go : (t u : Bool) → leb (natAbs v) (largestExponent clock) ≡ t → eqb (natAbs v) unknown ≡ u → (t || u) ≡ true → natAbs v ≤ 1000
-      go true u e f h = exponent-most clock (natAbs v) e
-      go false true e f h = omega (arith, eqb-true (natAbs v) unknown f)
-      go false false e f h = absurd (false≢true h)
+  exponent-stored = known-stored (largestExponent clock) unknown (exponentWidth clock) (exponent-columns clock) (exponent-most clock) (omega arith) v valid
 
 -- A flag: 0, or in P 1.
 module _ (velocity : Bool) (v : ℤ) (valid : flagValid velocity v ≡ true) where
@@ -116,7 +128,7 @@ pub record Four (test last : ℤ → Bool) (at : ℕ) (row : List ℤ) : Type 0 
   pub third : test (entry row (at + 2)) ≡ true
   pub fourth : last (entry row (at + 3)) ≡ true
 
-four : (test last : ℤ → Bool) (at : ℕ) (row : List ℤ) → fourValid test last at row ≡ true → Four test last at row
+pub four : (test last : ℤ → Bool) (at : ℕ) (row : List ℤ) → fourValid test last at row ≡ true → Four test last at row
 four test last at row e =
     let front = and-left (test (entry row at) && test (entry row (at + 1))) _ e in
     let back = and-right (test (entry row at) && test (entry row (at + 1))) _ e in
@@ -128,11 +140,11 @@ four test last at row e =
     }
 
 -- numbers of a list from a place on, by its entries
-listed : ℕ → ℕ → List ℤ → List ℤ
+pub listed : ℕ → ℕ → List ℤ → List ℤ
 listed zero at row = []
 listed (suc n) at row = entry row at ∷ listed n (suc at) row
 
-by-entries : (n at : ℕ) (row : List ℤ) → at + n ≤ length row → listed n at row ≡ take n (drop at row)
+pub by-entries : (n at : ℕ) (row : List ℤ) → at + n ≤ length row → listed n at row ≡ take n (drop at row)
 unfolding listed
 by-entries zero at row h = refl
 by-entries (suc n) at row h =
@@ -196,7 +208,7 @@ module _ (velocity : Bool) (identifier : ℕ) (row : List ℤ) (valid : rowValid
       )
 
   -- what is stored of it are its numbers
-  pub row-stored : rowWidth ≤ length row → rowNumbers (rowShown identifier row) ≡ take rowWidth row
+  pub row-stored : bareWidth ≤ length row → rowNumbers (rowShown identifier row) ≡ take bareWidth row
   unfolding rowShown rowNumbers listed
   row-stored wide =
       let a = amounts in
@@ -216,7 +228,7 @@ module _ (velocity : Bool) (identifier : ℕ) (row : List ℤ) (valid : rowValid
         flag-stored velocity (entry row 10) (f .third),
         flag-stored velocity (entry row 11) (f .fourth),
       )
-      (by-entries rowWidth 0 row wide)
+      (by-entries bareWidth 0 row wide)
 
   -- its line is read as the row
   module _ (named : isIdentifier identifier ≡ true) where
@@ -257,5 +269,5 @@ module _ (velocity : Bool) (identifier : ℕ) (row : List ℤ) (valid : rowValid
           (eq-eqb (identifierCode (cut 2 4 (padded (rowText velocity identifier row)))) identifier (ap (λ (p : Row). p .satellite) row-of))
 
       -- and what is stored of it are the numbers of the row
-      pub row-numbers : rowWidth ≤ length row → rowNumbers (rowIn rules (rowText velocity identifier row)) ≡ take rowWidth row
+      pub row-numbers : bareWidth ≤ length row → rowNumbers (rowIn rules (rowText velocity identifier row)) ≡ take bareWidth row
       row-numbers wide = ap rowNumbers (row-in rules velocity identifier (rowText velocity identifier row) row-is ∙ row-of) ∙ row-stored wide

@@ -18,10 +18,11 @@ use Rattle.record.specs.Plain.{endItems}
 use Rattle.record.specs.declared.types.First.{First}
 use Rattle.record.specs.declared.types.Descriptor.{Descriptor}
 use Rattle.record.specs.declared.types.BaseLine.{BaseLine}
-use Rattle.file.specs.Table.{headerFrom, headerIn, countOf, slotsIn, commentsIn, rowsIn, slotNumbers, commentText, numbersOfRows}
+use Rattle.file.specs.Table.{headerFrom, headerIn, countOf, slotsIn, commentsIn, rowsIn, slotNumbers, commentText}
 use Rattle.file.specs.Plain.{Plain, Accepted}
 use Rattle.file_laws.proofs.Counts as plain
-use Rattle.file_laws.proofs.Selected.{satellites, kind-accuracies, kind-comments, kind-rows}
+use Rattle.file_laws.proofs.Selected.{satellites, kind-accuracies, kind-comments}
+use Rattle.file_laws.proofs.Stored.{epochs-rows}
 use Rattle.scan_laws.proofs.Files.{plain-lines}
 use Rattle.canon.specs.Table as table
 use Rattle.canon.specs.Table.{Table}
@@ -151,7 +152,7 @@ module _ (rules : Rules) (proper : Proper rules) (t : Table) (ok : valid rules t
 
   rows-same : rowsIn rules bare ≡ table.rowsOf t
   unfolding form-plain
-  rows-same = ap (numbersOfRows rules) (kind-rows its-plain) ∙ table-epochs rules t v .stored
+  rows-same = ap flat (epochs-rows its-plain) ∙ table-epochs rules t v .stored
 
   -- and hold exactly that table.
   pub form-holds : Holds rules (linesOf (canonical rules t)) t

@@ -178,23 +178,24 @@ pub record Noticed (n : Note) : Type 0 where
   pub yc : n .yc .magnitude ≤ unnoted
   pub zc : n .zc .magnitude ≤ unnoted
 
+-- the fields after the symbol have no fault
+abbrev lastColumn : Item
+lastColumn = column 80 unused
+
+pub field-clean : (v : Bool) (l : List ℕ) → noteFault v (padded l) ≡ clean → (i : ℕ) → i < 20 → faultAt (getD (deviationItems ++ pairItems) i lastColumn) (padded l) ≡ clean
+field-clean v l f i h =
+    item-at (deviationItems ++ pairItems) i lastColumn (padded l) (lower clean (faultAt (partAt 0 1 2 (fixed 4 (correlationSymbol v))) (padded l))) h f
+
 pub correlations-bounded : (v : Bool) (l : List ℕ) → noteFault v (padded l) ≡ clean → Noticed (noteOf l)
 unfolding noteTaken
 correlations-bounded v l f = record {
-  xy = correlation-bounded 28 (cut 28 35 (padded l)) (at 9 (omega arith));
-  xz = correlation-bounded 37 (cut 37 44 (padded l)) (at 11 (omega arith));
-  xc = correlation-bounded 46 (cut 46 53 (padded l)) (at 13 (omega arith));
-  yz = correlation-bounded 55 (cut 55 62 (padded l)) (at 15 (omega arith));
-  yc = correlation-bounded 64 (cut 64 71 (padded l)) (at 17 (omega arith));
-  zc = correlation-bounded 73 (cut 73 80 (padded l)) (at 19 (omega arith));
+  xy = correlation-bounded 28 (cut 28 35 (padded l)) (field-clean v l f 9 (omega arith));
+  xz = correlation-bounded 37 (cut 37 44 (padded l)) (field-clean v l f 11 (omega arith));
+  xc = correlation-bounded 46 (cut 46 53 (padded l)) (field-clean v l f 13 (omega arith));
+  yz = correlation-bounded 55 (cut 55 62 (padded l)) (field-clean v l f 15 (omega arith));
+  yc = correlation-bounded 64 (cut 64 71 (padded l)) (field-clean v l f 17 (omega arith));
+  zc = correlation-bounded 73 (cut 73 80 (padded l)) (field-clean v l f 19 (omega arith));
 }
-  where
-    none : Item
-    none = column 27 unused
-
-    -- the items after the symbol
-    at : (i : ℕ) → i < 20 → faultAt (getD (deviationItems ++ pairItems) i none) (padded l) ≡ clean
-    at i h = item-at (deviationItems ++ pairItems) i none (padded l) (lower clean (faultAt (partAt 0 1 2 (fixed 4 (correlationSymbol v))) (padded l))) h f
 
 -- NOTHING IS LOST: the stored numbers of an EP or EV line are those of its note.
 pub note-exact : (v : Bool) (l : List ℕ) → noteFault v (padded l) ≡ clean → noteNumbers (noteOf l) ≡ exactNote (noteOf l)
