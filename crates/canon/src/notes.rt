@@ -26,8 +26,10 @@ fn none_known(note: &[i64]) -> bool
     requires { ⌜ length (now note) ≡ noteWidth ⌝ }
     ensures { λ r. ⌜ r ≡ tenValid isUnnoted isUnnoted isUnnoted (now (note .entry)) ⌝ }
 {
-    let a = (is_unnoted(note, 1) & is_unnoted(note, 2)) & (is_unnoted(note, 3) & is_unnoted(note, 4));
-    let b = (is_unnoted(note, 5) & is_unnoted(note, 6)) & (is_unnoted(note, 7) & is_unnoted(note, 8));
+    let a = (is_unnoted(note, 1) & is_unnoted(note, 2))
+        & (is_unnoted(note, 3) & is_unnoted(note, 4));
+    let b = (is_unnoted(note, 5) & is_unnoted(note, 6))
+        & (is_unnoted(note, 7) & is_unnoted(note, 8));
     a & (b & (is_unnoted(note, 9) & is_unnoted(note, 10)))
 }
 
@@ -37,7 +39,8 @@ fn deviations_valid(note: &[i64]) -> bool
     ensures { λ r. ⌜ r ≡ fourValid (deviationValid false) (deviationValid true) 1 (now (note .entry)) ⌝ }
 {
     (numbers::known_valid(note, 1, 9_999, UNNOTED) & numbers::known_valid(note, 2, 9_999, UNNOTED))
-        & (numbers::known_valid(note, 3, 9_999, UNNOTED) & numbers::known_valid(note, 4, 9_999_999, UNNOTED))
+        & (numbers::known_valid(note, 3, 9_999, UNNOTED)
+            & numbers::known_valid(note, 4, 9_999_999, UNNOTED))
 }
 
 // Whether a number is a correlation.
