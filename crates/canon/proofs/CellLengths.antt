@@ -11,35 +11,49 @@ use lib.ListN.{length, take, drop, length-append}
 use lib.Seq.{drop-drop}
 use Rattle.lines.specs.Lent.{flat}
 use Rattle.record.specs.Opening.{epochLine}
-use Rattle.record.specs.Rows.{rowLine, rowWidth}
+use Rattle.record.specs.Rows.{rowLine, bareWidth, rowWidth}
 use Rattle.canon.specs.Table.{cellWidth}
-use Rattle.canon.specs.Valid.{rowValid, cellValid, rowsValid}
-use Rattle.canon.specs.Canonical.{rowShown, cellLines, cellsLines, epochShown, epochsLines}
-use Rattle.canon.specs.Measured.{cellLength, rowsLength}
+use Rattle.canon.specs.Valid.{rowValid, noteValid, notedValid, cellValid, rowsValid}
+use Rattle.canon.specs.Canonical.{rowShown, noteLines, notedLines, cellLines, cellsLines, epochShown, epochsLines}
+use Rattle.canon.specs.Measured.{notedLength, cellLength, rowsLength}
 use Rattle.lines.proofs.Picking.{flat-append}
 use Rattle.laws.proofs.Bools.{both-true}
 use Rattle.canon.proofs.FixedLengths.{epoch-length}
 use Rattle.canon.proofs.RowLengths.{row-length}
+use Rattle.canon.proofs.NoteLengths.{note-lines-length}
 
 -- lines one after another are as long as all of them
 pub flat-length : (a b : List (List ℕ)) → length (flat (a ++ b)) ≡ length (flat a) + length (flat b)
 flat-length a b = ap length (flat-append a b) ∙ length-append (flat a) (flat b)
 
-cell-length : (velocity : Bool) (identifier : ℕ) (cell : List ℤ) → cellValid velocity cell ≡ true
-    → length (flat (cellLines velocity identifier cell)) ≡ cellLength velocity cell
-unfolding flat cellLines cellValid cellLength
-cell-length true identifier cell e =
-    let p = rowLine false (rowShown identifier (take rowWidth cell)) in
-    let v = rowLine true (rowShown identifier (drop rowWidth cell)) in
-    let both = both-true (rowValid false (take rowWidth cell)) (rowValid true (drop rowWidth cell)) e in
+-- a row's line and its note's
+pub noted-length : (velocity : Bool) (identifier : ℕ) (row : List ℤ) → notedValid velocity row ≡ true
+    → length (flat (notedLines velocity identifier row)) ≡ notedLength row
+unfolding flat notedLines notedValid notedLength
+noted-length velocity identifier row e =
+    let note = drop bareWidth row in
+    let both = both-true (rowValid velocity row) (noteValid note) e in
     omega (
       arith,
-      length-append p (v ++ []),
-      length-append v [],
-      row-length false identifier (take rowWidth cell) (both .0),
-      row-length true identifier (drop rowWidth cell) (both .1),
+      length-append (rowLine velocity (rowShown identifier row)) (flat (noteLines velocity note)),
+      row-length velocity identifier row (both .0),
+      note-lines-length velocity note (both .1),
     )
-cell-length false identifier cell e = omega (arith, length-append (rowLine false (rowShown identifier cell)) [], row-length false identifier cell e)
+
+cell-length : (velocity : Bool) (identifier : ℕ) (cell : List ℤ) → cellValid velocity cell ≡ true
+    → length (flat (cellLines velocity identifier cell)) ≡ cellLength velocity cell
+unfolding cellLines cellValid cellLength
+cell-length true identifier cell e =
+    let p = take rowWidth cell in
+    let v = drop rowWidth cell in
+    let both = both-true (notedValid false p) (notedValid true v) e in
+    omega (
+      arith,
+      flat-length (notedLines false identifier p) (notedLines true identifier v),
+      noted-length false identifier p (both .0),
+      noted-length true identifier v (both .1),
+    )
+cell-length false identifier cell e = noted-length false identifier cell e
 
 module _ (velocity : Bool) where
   -- the satellites of an epoch, and the cells after them

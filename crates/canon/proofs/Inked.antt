@@ -10,13 +10,13 @@ use lib.Dec.{ltb}
 use lib.ListN.{length, length-append}
 use Rattle.laws.specs.Texts.{blanks}
 use Rattle.field.specs.Digits.{pointOf}
-use Rattle.field.specs.Show.{lastDigit, digitsIn, fixedDigits, minusText, signWidth, shownNegative, showInteger, fitsWhole, putWhole, showDecimal, fitsDecimal, putDecimal, pointText}
+use Rattle.field.specs.Show.{lastDigit, digitsIn, fixedDigits, minusText, signWidth, shownNegative, showInteger, fitsWhole, putWhole, fitsSigned, putSigned, showDecimal, fitsDecimal, putDecimal, pointText}
 use Rattle.field.specs.Sign.{largest}
 use Rattle.layout.specs.Kind.{showIdentifier}
 use Rattle.layout.specs.Line.{trimmed}
 use Rattle.field.proofs.Back.{integer-length, decimal-length}
 use Rattle.field.proofs.Fitting.{decimal-digits}
-use Rattle.layout.proofs.Shown.{whole-put, places-put}
+use Rattle.layout.proofs.Shown.{whole-put, signed-put, places-put}
 use Rattle.canon.proofs.Ends.{append-ends}
 
 -- nothing is cut from a text, and there is some
@@ -61,10 +61,16 @@ decimal-inked w n negative m =
     inked-after before (pointText (suc n) m)
     (inked-after (46 ∷ []) (fixedDigits (suc n) m) (inked-after (fixedDigits n (m / 10)) (lastDigit m ∷ []) (digit m)))
 
--- a whole number, and a decimal, that fit
+-- a whole number, one with a sign, and a decimal, that fit
 pub whole-ends : (n v : ℕ) → fitsWhole (suc n) v ≡ true → length (trimmed (putWhole v (blanks (suc n)))) ≡ suc n
 whole-ends n v fits =
     ap (λ (l : List ℕ). length (trimmed l)) (whole-put (suc n) v fits) ∙ integer-inked n false v .whole ∙ integer-length (suc n) false v fits
+
+pub signed-ends : (n : ℕ) (negative : Bool) (m : ℕ) → fitsSigned (suc n) negative m ≡ true → length (trimmed (putSigned negative m (blanks (suc n)))) ≡ suc n
+signed-ends n negative m fits =
+    ap (λ (l : List ℕ). length (trimmed l)) (signed-put (suc n) negative m fits)
+    ∙ integer-inked n (shownNegative negative m) m .whole
+    ∙ integer-length (suc n) (shownNegative negative m) m fits
 
 pub decimal-ends : (w n : ℕ) (negative : Bool) (m : ℕ) → fitsDecimal w (suc n) negative m ≡ true
     → length (trimmed (putDecimal (suc n) negative m (blanks w))) ≡ w

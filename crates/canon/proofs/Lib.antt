@@ -11,6 +11,7 @@ pub mod Inked
 pub mod FixedLengths
 pub mod SlotLengths
 pub mod RowLengths
+pub mod NoteLengths
 pub mod CellLengths
 pub mod Lengths
 pub mod Answers

@@ -1,4 +1,4 @@
--- How far a line can reach: no row ends past column 80, and line 1 in column 60 at most.
+-- How far a line can reach: no row and no note ends past column 80, and line 1 in column 60 at most.
 -- Assumes nothing.
 use mathlib.Core.Bool.{Bool, true, false, cond}
 use mathlib.Core.List.{List}
@@ -8,10 +8,10 @@ use native.Mathlib.Omega.{arith}
 use lib.Dec.{eqb, lit≤}
 use lib.IntN.{ℤ, natAbs}
 use lib.ListN.{length}
-use Rattle.layout.specs.Kind.{unknown}
+use Rattle.layout.specs.Kind.{unknown, unnoted}
 use Rattle.layout.specs.Line.{trimmed}
 use Rattle.canon.specs.Valid.{entry}
-use Rattle.canon.specs.Measured.{exponentsEnd, rowLength, textEnd, firstLength}
+use Rattle.canon.specs.Measured.{exponentsEnd, rowLength, deviationsEnd, correlationsEnd, textEnd, firstLength}
 use Rattle.header.specs.declared.types.Texts.{Texts}
 use Rattle.layout.proofs.Lines.{trimmed-shorter}
 
@@ -41,6 +41,26 @@ row-reach row =
     (either-within (eqb (natAbs (entry row 9)) 0) (either-within (eqb (natAbs (entry row 8)) 0) low (lit≤ tt)) (lit≤ tt))
     (lit≤ tt))
     (lit≤ tt))
+
+-- nor does a note
+deviations-reach : (note : List ℤ) → deviationsEnd note ≤ 26
+unfolding deviationsEnd
+deviations-reach note =
+    either-within (eqb (natAbs (entry note 4)) unnoted)
+    (either-within (eqb (natAbs (entry note 3)) unnoted)
+    (either-within (eqb (natAbs (entry note 2)) unnoted)
+    (either-within (eqb (natAbs (entry note 1)) unnoted) (lit≤ tt) (lit≤ tt)) (lit≤ tt)) (lit≤ tt)) (lit≤ tt)
+
+pub note-reach : (note : List ℤ) → correlationsEnd note ≤ 80
+unfolding correlationsEnd
+note-reach note =
+    let low : deviationsEnd note ≤ 80 = omega (arith, deviations-reach note) in
+    either-within (eqb (natAbs (entry note 10)) unnoted)
+    (either-within (eqb (natAbs (entry note 9)) unnoted)
+    (either-within (eqb (natAbs (entry note 8)) unnoted)
+    (either-within (eqb (natAbs (entry note 7)) unnoted)
+    (either-within (eqb (natAbs (entry note 6)) unnoted)
+    (either-within (eqb (natAbs (entry note 5)) unnoted) low (lit≤ tt)) (lit≤ tt)) (lit≤ tt)) (lit≤ tt)) (lit≤ tt)) (lit≤ tt)
 
 -- a text ends within its columns
 text-reach : (before most : ℕ) (text : List ℕ) {earlier : ℕ} → before + length text ≤ most → earlier ≤ most → textEnd before text earlier ≤ most

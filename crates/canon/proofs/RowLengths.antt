@@ -3,7 +3,7 @@
 use mathlib.Core.Bool.{Bool, true, false, cond, not, _&&_, _||_}
 use mathlib.Core.List.{List, [], _∷_, _++_}
 use mathlib.Core.Path.{_≡_, refl, ap, _∙_}
-use Prim.Native.Nat.{ℕ, zero, suc, _+_, _≤_}
+use Prim.Native.Nat.{ℕ, zero, suc, _+_, _-_, _^_, _≤_, _<_}
 use native.Mathlib.Omega.{arith}
 use borrow.Author.Tests.{leb-true, eq-eqb, ne-eqb}
 use lib.Dec.{eqb, leb}
@@ -11,8 +11,8 @@ use lib.IntN.{ℤ, natAbs}
 use lib.ListN.{length, take, drop}
 use Rattle.laws.specs.Texts.{blanks}
 use Rattle.field.specs.Sign.{largest, isNegative}
-use Rattle.field.specs.Show.{fitsWhole, putWhole, putDecimal}
-use Rattle.layout.specs.Kind.{unknown, shownIn, exponent}
+use Rattle.field.specs.Show.{putWhole, putDecimal}
+use Rattle.layout.specs.Kind.{unknown}
 use Rattle.layout.specs.Kind.Kind.{unused}
 use Rattle.layout.specs.Kind.Held.{one, amount}
 use Rattle.layout.specs.Layout.{Item, Values, columns}
@@ -37,14 +37,11 @@ amount-end : (before earlier : ℕ) (v : ℤ) → natAbs v ≤ largest
     → textEnd before (putDecimal 6 (isNegative v) (natAbs v) (blanks 14)) earlier ≡ before + 14
 amount-end before earlier v h = rw (decimal-ends 14 5 (isNegative v) (natAbs v) (amount-fits (isNegative v) (natAbs v) h))
 
--- an exponent, unless it is unknown
-exponent-end : (before k n : ℕ) {earlier other : ℕ} → (eqb n unknown ≡ false → fitsWhole (suc k) n ≡ true) → earlier ≡ other
-    → textEnd before (shownIn exponent (suc k) (one n)) earlier ≡ cond (eqb n unknown) other (before + suc k)
-exponent-end before k n {earlier} {other} fits e = go (eqb n unknown) refl
-  where
-    go : (t : Bool) → eqb n unknown ≡ t → textEnd before (cond t (blanks (suc k)) (putWhole n (blanks (suc k)))) earlier ≡ cond t other (before + suc k)
-    go true u = rw (blank-cut k, e)
-    go false u = rw (whole-ends k n (fits u), ne-eqb (suc k) 0 (λ z. omega arith))
+-- a field that may be unknown ends in its last column, unless it is: an exponent, a deviation, a correlation
+pub maybe-end : (before k : ℕ) (none : Bool) (text : List ℕ) {earlier other : ℕ} → (none ≡ false → length (trimmed text) ≡ suc k) → earlier ≡ other
+    → textEnd before (cond none (blanks (suc k)) text) earlier ≡ cond none other (before + suc k)
+maybe-end before k true text ends e = rw (blank-cut k, e)
+maybe-end before k false text ends e = rw (ends refl, ne-eqb (suc k) 0 (λ z. omega arith))
 
 -- a flag, if it is set
 flag-end : (before sign : ℕ) (v : ℤ) {earlier other : ℕ} → eqb sign 32 ≡ false → earlier ≡ other
@@ -67,7 +64,7 @@ record Fine (velocity : Bool) (row : List ℤ) : Type 0 where
   maneuver : natAbs (entry row 10) ≤ mostFlag velocity
   orbit : natAbs (entry row 11) ≤ mostFlag velocity
 
-four : (p q r s : Bool) → ((p && q) && (r && s)) ≡ true → (p ≡ true) × (q ≡ true) × (r ≡ true) × (s ≡ true)
+pub four : (p q r s : Bool) → ((p && q) && (r && s)) ≡ true → (p ≡ true) × (q ≡ true) × (r ≡ true) × (s ≡ true)
 four p q r s e =
     let front = both-true p q (and-left (p && q) (r && s) e) in
     let back = both-true r s (and-right (p && q) (r && s) e) in
@@ -99,19 +96,30 @@ fine velocity row e =
       orbit = leb-true (natAbs (entry row 11)) (mostFlag velocity) (and-right (not (isNegative (entry row 11))) _ (f .3));
     }
 
--- an exponent that is known has so many digits
-known : (n most : ℕ) → (leb n most || eqb n unknown) ≡ true → eqb n unknown ≡ false → n ≤ most
-known n most e u = leb-true n most (go (leb n most) (rw u at e))
+-- a number that is not the one for unknown is within its bound, and fills its last column
+pub known : (n most none : ℕ) → (leb n most || eqb n none) ≡ true → eqb n none ≡ false → n ≤ most
+known n most none e u = leb-true n most (go (leb n most) (rw u at e))
   where
     go : (t : Bool) → (t || false) ≡ true → t ≡ true
     go true h = refl
     go false h = h
 
-two : (n : ℕ) → (leb n 99 || eqb n unknown) ≡ true → eqb n unknown ≡ false → fitsWhole 2 n ≡ true
-two n e u = let h = known n 99 e u in fits-true 2 false n (omega arith) (omega arith) (omega arith)
+pub known-ends : (k most none n : ℕ) → suc k ≤ 18 → most < 10 ^ suc k → (leb n most || eqb n none) ≡ true → eqb n none ≡ false
+    → length (trimmed (putWhole n (blanks (suc k)))) ≡ suc k
+known-ends k most none n narrow room e u =
+    let h = known n most none e u in
+    let all : suc k - 0 ≡ suc k = omega arith in
+    whole-ends k n (fits-true (suc k) false n narrow (omega arith) (rw all (omega arith)))
 
-three : (n : ℕ) → (leb n 999 || eqb n unknown) ≡ true → eqb n unknown ≡ false → fitsWhole 3 n ≡ true
-three n e u = let h = known n 999 e u in fits-true 3 false n (omega arith) (omega arith) (omega arith)
+-- an exponent of two columns, and of three
+abbrev exponentText : ℕ → ℕ → List ℕ
+exponentText w n = putWhole n (blanks w)
+
+two : (n : ℕ) → (leb n 99 || eqb n unknown) ≡ true → eqb n unknown ≡ false → length (trimmed (exponentText 2 n)) ≡ 2
+two n = known-ends 1 99 unknown n (omega arith) (omega arith)
+
+three : (n : ℕ) → (leb n 999 || eqb n unknown) ≡ true → eqb n unknown ≡ false → length (trimmed (exponentText 3 n)) ≡ 3
+three n = known-ends 2 999 unknown n (omega arith) (omega arith)
 
 -- from the clock on a row ends as is measured
 abbrev lateValues : List ℤ → Values → Values
@@ -128,10 +136,10 @@ late-end : (velocity : Bool) (row : List ℤ) → Fine velocity row → (earlier
 unfolding exponentsEnd
 late-end velocity row f earlier after vs =
     ap (λ (n : ℕ). endFrom n after vs)
-    (exponent-end 70 2 (natAbs (entry row 7)) (three (natAbs (entry row 7)) (f .clock-exponent))
-    (exponent-end 67 1 (natAbs (entry row 6)) (two (natAbs (entry row 6)) (f .z-exponent))
-    (exponent-end 64 1 (natAbs (entry row 5)) (two (natAbs (entry row 5)) (f .y-exponent))
-    (exponent-end 61 1 (natAbs (entry row 4)) (two (natAbs (entry row 4)) (f .x-exponent)) (amount-end 46 earlier (entry row 3) (f .clock))))))
+    (maybe-end 70 2 (eqb (natAbs (entry row 7)) unknown) (exponentText 3 (natAbs (entry row 7))) (three (natAbs (entry row 7)) (f .clock-exponent))
+    (maybe-end 67 1 (eqb (natAbs (entry row 6)) unknown) (exponentText 2 (natAbs (entry row 6))) (two (natAbs (entry row 6)) (f .z-exponent))
+    (maybe-end 64 1 (eqb (natAbs (entry row 5)) unknown) (exponentText 2 (natAbs (entry row 5))) (two (natAbs (entry row 5)) (f .y-exponent))
+    (maybe-end 61 1 (eqb (natAbs (entry row 4)) unknown) (exponentText 2 (natAbs (entry row 4))) (two (natAbs (entry row 4)) (f .x-exponent)) (amount-end 46 earlier (entry row 3) (f .clock))))))
 
 -- V has no flags, and those of the row are 0
 unset : (v : ℤ) → natAbs v ≤ 0 → eqb (natAbs v) 0 ≡ true

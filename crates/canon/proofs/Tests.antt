@@ -1,11 +1,15 @@
 -- Tests that are one by their parts, and tests that end a chain.
 -- Assumes nothing.
-use mathlib.Core.Bool.{Bool, true, false, _&&_, false≢true}
+use mathlib.Core.Bool.{Bool, true, false, _&&_, _||_, false≢true}
 use mathlib.Core.Path.{_≡_, refl, sym}
 
 -- two tests, each by its own answer
 pub both : {s t s′ t′ : Bool} → s ≡ s′ → t ≡ t′ → (s && t) ≡ (s′ && t′)
 both p q = rw (p, q)
+
+-- one of two tests, each by its own answer
+pub one-of : {s t s′ t′ : Bool} → s ≡ s′ → t ≡ t′ → (s || t) ≡ (s′ || t′)
+one-of p q = rw (p, q)
 
 -- four tests in two pairs
 pub two-pairs : {s t u v s′ t′ u′ v′ : Bool} → s ≡ s′ → t ≡ t′ → u ≡ u′ → v ≡ v′ → ((s && t) && (u && v)) ≡ ((s′ && t′) && (u′ && v′))

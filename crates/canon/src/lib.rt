@@ -2,6 +2,7 @@
 mod bounds;
 mod lists;
 mod measuring;
+mod notes;
 mod numbers;
 mod types;
 

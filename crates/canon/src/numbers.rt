@@ -6,18 +6,20 @@ ghost use lib.Dec.{eqb, leb};
 ghost use lib.IntN.{natAbs};
 ghost use lib.ListN.{length};
 ghost use Rattle.field.specs.Sign.{isNegative};
-ghost use Rattle.layout.specs.Kind.{unknown};
 ghost use Rattle.record.specs.Rows.{rowWidth};
 ghost use Rattle.canon.specs.Table.{cellWidth};
-ghost use Rattle.canon.specs.Valid.{entry, amountValid, exponentValid, mostFlag, flagValid, fourValid, rowValid, cellValid, rowsValid};
-ghost use Rattle.canon.specs.Measured.{exponentsEnd, rowLength, cellLength, rowsLength};
+ghost use Rattle.canon.specs.Valid.{entry, amountValid, exponentValid, mostFlag, flagValid, fourValid, rowValid, notedValid, cellValid, rowsValid};
+ghost use Rattle.canon.specs.Measured.{exponentsEnd, rowLength, notedLength, cellLength, rowsLength};
 use crate::bounds;
 use crate::lists;
+use crate::notes;
 use crate::types::Spent;
 use field::sign::is_negative;
 use field::sign::magnitude_of;
+use record::rows::BARE_WIDTH;
 use record::rows::BOTH_WIDTH;
 use record::rows::ROW_WIDTH;
+use record::rows::UNKNOWN;
 
 // Whether a number is one of x, y, z or clock.
 fn amount_valid(row: &[i64], i: usize) -> bool
@@ -27,13 +29,13 @@ fn amount_valid(row: &[i64], i: usize) -> bool
     magnitude_of(row[i]) <= 999_999_999_999
 }
 
-// Whether a number is an exponent, of at most so much, or the one that stands for unknown.
-fn exponent_valid(row: &[i64], i: usize, most: u64) -> bool
+// Whether a number is at most so much, or the one that stands for unknown.
+pub(crate) fn known_valid(row: &[i64], i: usize, most: u64, unknown: u64) -> bool
     requires { ⌜ i + 1 ≤ length (now row) ⌝ }
     ensures { λ r. ⌜ r ≡ (not (isNegative (entry (now (row .entry)) i)) && (leb (natAbs (entry (now (row .entry)) i)) most || eqb (natAbs (entry (now (row .entry)) i)) unknown)) ⌝ }
 {
     let n = magnitude_of(row[i]);
-    !is_negative(row[i]) & ((n <= most) | (n == 1000))
+    !is_negative(row[i]) & ((n <= most) | (n == unknown))
 }
 
 // The largest flag: 1, in a V row 0.
@@ -44,7 +46,7 @@ fn most_flag(velocity: bool) -> u64
 }
 
 // Whether a number is a flag of at most so much.
-fn flag_valid(row: &[i64], i: usize, most: u64) -> bool
+pub(crate) fn flag_valid(row: &[i64], i: usize, most: u64) -> bool
     requires { ⌜ i + 1 ≤ length (now row) ⌝ }
     ensures { λ r. ⌜ r ≡ (not (isNegative (entry (now (row .entry)) i)) && leb (natAbs (entry (now (row .entry)) i)) most) ⌝ }
 {
@@ -60,15 +62,15 @@ fn amounts_valid(row: &[i64]) -> bool
 }
 
 // Whether the next four are their exponents.
-fn deviations_valid(row: &[i64]) -> bool
+fn exponents_valid(row: &[i64]) -> bool
     requires { ⌜ length (now row) ≡ rowWidth ⌝ }
     ensures { λ r. ⌜ r ≡ fourValid (exponentValid false) (exponentValid true) 4 (now (row .entry)) ⌝ }
 {
-    (exponent_valid(row, 4, 99) & exponent_valid(row, 5, 99))
-        & (exponent_valid(row, 6, 99) & exponent_valid(row, 7, 999))
+    (known_valid(row, 4, 99, UNKNOWN) & known_valid(row, 5, 99, UNKNOWN))
+        & (known_valid(row, 6, 99, UNKNOWN) & known_valid(row, 7, 999, UNKNOWN))
 }
 
-// Whether the last four are flags.
+// Whether the four after them are flags.
 fn flags_valid(row: &[i64], velocity: bool) -> bool
     requires { ⌜ length (now row) ≡ rowWidth ⌝ }
     ensures { λ r. ⌜ r ≡ fourValid (flagValid velocity) (flagValid velocity) 8 (now (row .entry)) ⌝ }
@@ -78,16 +80,16 @@ fn flags_valid(row: &[i64], velocity: bool) -> bool
         & (flag_valid(row, 10, most) & flag_valid(row, 11, most))
 }
 
-// Whether twelve numbers are a P row, or a V row where `velocity` says so.
+// Whether the first twelve numbers are a P row, or a V row where `velocity` says so.
 fn row_valid(row: &[i64], velocity: bool) -> bool
     requires { ⌜ length (now row) ≡ rowWidth ⌝ }
     ensures { λ r. ⌜ r ≡ rowValid velocity (now (row .entry)) ⌝ }
 {
-    amounts_valid(row) & (deviations_valid(row) & flags_valid(row, velocity))
+    amounts_valid(row) & (exponents_valid(row) & flags_valid(row, velocity))
 }
 
 // A column, where the number at i is not this one; else the column before.
-fn end_at(row: &[i64], i: usize, none: u64, column: usize, earlier: usize) -> usize
+pub(crate) fn end_at(row: &[i64], i: usize, none: u64, column: usize, earlier: usize) -> usize
     requires { ⌜ i + 1 ≤ length (now row) ⌝ }
     ensures { λ r. ⌜ r ≡ cond (eqb (natAbs (entry (now (row .entry)) i)) none) earlier column ⌝ }
 {
@@ -103,10 +105,10 @@ fn exponents_end(row: &[i64]) -> usize
     requires { ⌜ length (now row) ≡ rowWidth ⌝ }
     ensures { λ r. ⌜ r ≡ exponentsEnd (now (row .entry)) ⌝ }
 {
-    let x = end_at(row, 4, 1000, 63, 60);
-    let y = end_at(row, 5, 1000, 66, x);
-    let z = end_at(row, 6, 1000, 69, y);
-    end_at(row, 7, 1000, 73, z)
+    let x = end_at(row, 4, UNKNOWN, 63, 60);
+    let y = end_at(row, 5, UNKNOWN, 66, x);
+    let z = end_at(row, 6, UNKNOWN, 69, y);
+    end_at(row, 7, UNKNOWN, 73, z)
 }
 
 // The bytes of a row's line, with its LF.
@@ -122,14 +124,16 @@ fn row_length(row: &[i64]) -> usize
     end_at(row, 11, 0, 80, maneuver) + 1
 }
 
-// A row judged and measured.
+// A row and its note judged and measured.
 fn row_spent(row: &[i64], velocity: bool, left: usize) -> Spent
     requires { ⌜ length (now row) ≡ rowWidth ⌝ }
-    ensures { λ r. ⌜ (r .valid ≡ rowValid velocity (now (row .entry))) × (r .left ≡ left - rowLength (now (row .entry))) ⌝ }
+    ensures { λ r. ⌜ (r .valid ≡ notedValid velocity (now (row .entry))) × (r .left ≡ left - notedLength (now (row .entry))) ⌝ }
 {
+    let rest = lists::spend(left, row_length(row));
+    let note = notes::note_spent(&row[BARE_WIDTH..ROW_WIDTH], rest);
     Spent {
-        valid: row_valid(row, velocity),
-        left: lists::spend(left, row_length(row)),
+        valid: row_valid(row, velocity) & note.valid,
+        left: note.left,
     }
 }
 

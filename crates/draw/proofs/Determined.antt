@@ -14,9 +14,9 @@ use Rattle.draw.proofs.descriptors.write_bases.Reads as write-bases
 use Rattle.draw.proofs.descriptors.write_floats.Reads as write-floats
 use Rattle.draw.proofs.descriptors.write_integers.Reads as write-integers
 use Rattle.draw.proofs.plain.write_comment.Reads as write-comment
-use Rattle.draw.proofs.plain.write_correlation.Reads as write-correlation
 use Rattle.draw.proofs.plain.write_end.Reads as write-end
 use Rattle.draw.proofs.rows.write_row.Reads as write-row
+use Rattle.draw.proofs.notes.write_note.Reads as write-note
 
 pub write-first-determined : (κs : _) (a : _) (r r′ : _) (s s′ : _) → write-first.Post κs a r s → write-first.Post κs a r′ s′ → (r ≡ r′) × (now (s .1 .1 .0) ≡ now (s′ .1 .1 .0))
 write-first-determined κs a r r′ s s′ p q = lays-one _ _ r r′ _ _ p q
@@ -51,11 +51,11 @@ write-integers-determined κs a r r′ s s′ p q = lays-one _ _ r r′ _ _ p q
 pub write-comment-determined : (κs : _) (a : _) (r r′ : _) (s s′ : _) → write-comment.Post κs a r s → write-comment.Post κs a r′ s′ → (r ≡ r′) × (now (s .1 .0) ≡ now (s′ .1 .0))
 write-comment-determined κs a r r′ s s′ p q = lays-one _ _ r r′ _ _ p q
 
-pub write-correlation-determined : (κs : _) (a : _) (r r′ : _) (s s′ : _) → write-correlation.Post κs a r s → write-correlation.Post κs a r′ s′ → (r ≡ r′) × (now (s .1 .1 .0) ≡ now (s′ .1 .1 .0))
-write-correlation-determined κs a r r′ s s′ p q = lays-one _ _ r r′ _ _ p q
-
 pub write-end-determined : (κs : _) (a : _) (r r′ : _) (s s′ : _) → write-end.Post κs a r s → write-end.Post κs a r′ s′ → (r ≡ r′) × (now (s .0) ≡ now (s′ .0))
 write-end-determined κs a r r′ s s′ p q = lays-one _ _ r r′ _ _ p q
 
 pub write-row-determined : (κs : _) (a : _) (r r′ : _) (s s′ : _) → write-row.Post κs a r s → write-row.Post κs a r′ s′ → (r ≡ r′) × (now (s .1 .1 .0) ≡ now (s′ .1 .1 .0))
 write-row-determined κs a r r′ s s′ p q = lays-one _ _ r r′ _ _ p q
+
+pub write-note-determined : (κs : _) (a : _) (r r′ : _) (s s′ : _) → write-note.Post κs a r s → write-note.Post κs a r′ s′ → (r ≡ r′) × (now (s .1 .1 .0) ≡ now (s′ .1 .1 .0))
+write-note-determined κs a r r′ s s′ p q = lays-one _ _ r r′ _ _ p q

@@ -5,12 +5,14 @@ ghost use mathlib.Core.List.{[], _∷_};
 ghost use Prim.Native.Nat.{_+_, _-_, _≤_};
 ghost use lib.ListN.{length};
 ghost use Rattle.laws.specs.Texts.{blanks};
-ghost use Rattle.layout.specs.Kind.{shownIn, shownText, showIdentifier, exponent};
-ghost use Rattle.layout.specs.Kind.Kind.{whole, decimal, signed, flag, identifier};
+ghost use Rattle.field.specs.Show.{putSigned};
+ghost use Rattle.layout.specs.Kind.{shownIn, shownText, showIdentifier};
+ghost use Rattle.layout.specs.Kind.Kind.{whole, decimal, signed, maybe, flag, identifier};
 ghost use Rattle.layout.specs.Kind.Held.{one, amount, mark};
 ghost use Rattle.layout.specs.Layout.{overlaid};
+ghost use Rattle.record.specs.Notes.{correlation};
 use record::Signed;
-use record::rows::UNKNOWN;
+use record::notes::UNNOTED;
 
 // A whole number in all of `out`.
 pub(crate) fn put_number(out: &mut [u8], n: u64)
@@ -30,15 +32,35 @@ fn put_places(out: &mut [u8], places: usize, negative: bool, m: u64)
     }
 }
 
-// An exponent in all of `out`: blanks where it is unknown.
-fn put_exponent(out: &mut [u8], n: u64)
-    ensures { λ _. ⌜ now (out .exit) ≡ shownIn exponent (length (now (out .entry))) (one n) ⌝ }
+// A whole number that may be unknown, in all of `out`: blanks where it is the one that stands for unknown.
+fn put_known(out: &mut [u8], n: u64, unknown: u64)
+    ensures { λ _. ⌜ now (out .exit) ≡ shownIn (maybe unknown) (length (now (out .entry))) (one n) ⌝ }
 {
-    if n == UNKNOWN {
+    if n == unknown {
         laws::fill_blanks(out);
         return;
     }
     put_number(out, n);
+}
+
+// A whole number with a sign in all of `out`.
+fn put_signed(out: &mut [u8], negative: bool, m: u64)
+    ensures { λ _. ⌜ now (out .exit) ≡ putSigned negative m (blanks (length (now (out .entry)))) ⌝ }
+{
+    if !field::write::put_signed_whole(out, negative, m) {
+        laws::fill_blanks(out);
+    }
+}
+
+// A correlation in all of `out`: blanks where it is unknown.
+fn put_correlation(out: &mut [u8], negative: bool, m: u64)
+    ensures { λ _. ⌜ now (out .exit) ≡ shownIn correlation (length (now (out .entry))) (amount negative m) ⌝ }
+{
+    if m == UNNOTED {
+        laws::fill_blanks(out);
+        return;
+    }
+    put_signed(out, negative, m);
 }
 
 // A text in all of `out`.
@@ -140,13 +162,29 @@ pub(crate) fn with_signed(line: [u8; 80], n: Signed, first: usize, last: usize) 
     shown
 }
 
-pub(crate) fn with_exponent(line: [u8; 80], n: u64, first: usize, last: usize) -> [u8; 80]
+pub(crate) fn with_known(
+    line: [u8; 80],
+    n: u64,
+    unknown: u64,
+    first: usize,
+    last: usize,
+) -> [u8; 80]
     requires { ⌜ (1 ≤ first) × (first ≤ last) × (last ≤ 80) ⌝ }
-    ensures { λ r. ⌜ r ≡ overlaid first last (shownIn exponent (last - (first - 1)) (one n)) line ⌝ }
+    ensures { λ r. ⌜ r ≡ overlaid first last (shownIn (maybe unknown) (last - (first - 1)) (one n)) line ⌝ }
 {
     let mut shown = line;
     let from = first - 1;
-    put_exponent(&mut shown[from..last], n);
+    put_known(&mut shown[from..last], n, unknown);
+    shown
+}
+
+pub(crate) fn with_correlation(line: [u8; 80], n: Signed, first: usize, last: usize) -> [u8; 80]
+    requires { ⌜ (1 ≤ first) × (first ≤ last) × (last ≤ 80) ⌝ }
+    ensures { λ r. ⌜ r ≡ overlaid first last (shownIn correlation (last - (first - 1)) (amount (n .negative) (n .magnitude))) line ⌝ }
+{
+    let mut shown = line;
+    let from = first - 1;
+    put_correlation(&mut shown[from..last], n.negative, n.magnitude);
     shown
 }
 

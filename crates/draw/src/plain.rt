@@ -1,10 +1,7 @@
-// Comments, correlation lines and the end of the file, written.
-ghost use mathlib.Core.Path.{_≡_};
-ghost use Rattle.laws.specs.Texts.{blanks};
-ghost use Rattle.layout.specs.Layout.{overlaid};
+// Comments and the end of the file, written.
 ghost use Rattle.layout.specs.Line.{Lays};
 ghost use Rattle.record.specs.Descriptors.{fixedLine};
-ghost use Rattle.record.specs.Plain.{commentLine, correlationSymbol, correlationLine, endItems};
+ghost use Rattle.record.specs.Plain.{commentLine, endItems};
 use crate::columns;
 
 // A comment of this text laid at the front of `out`, where there is room, and its length in any case.
@@ -13,25 +10,6 @@ pub fn write_comment(text: &[u8], out: &mut [u8]) -> usize
 {
     let a = columns::begun_by(b'/', b'*');
     let line = columns::with_text(a, text, 4, 80);
-    layout::lay_line(&line, out)
-}
-
-// The symbol of a correlation line.
-fn with_symbol(velocity: bool) -> [u8; 80]
-    ensures { λ r. ⌜ r ≡ overlaid 1 2 (correlationSymbol velocity) (blanks 80) ⌝ }
-{
-    if velocity {
-        return columns::begun_by(b'E', b'V');
-    }
-    columns::begun_by(b'E', b'P')
-}
-
-// The same of an EP line, or of an EV line where `velocity` says so, with this text after column 2.
-pub fn write_correlation(text: &[u8], velocity: bool, out: &mut [u8]) -> usize
-    ensures lays { λ r. ⌜ Lays (correlationLine velocity (now (text .entry))) (now (out .entry)) r (now (out .exit)) ⌝ }
-{
-    let a = with_symbol(velocity);
-    let line = columns::with_text(a, text, 3, 80);
     layout::lay_line(&line, out)
 }
 

@@ -5,6 +5,7 @@ ghost use Rattle.layout.specs.Line.{Lays};
 ghost use Rattle.record.specs.Rows.{bodyItems, bodyValues, flagItems, flagValues, rowItems, rowValues, rowLine};
 use crate::columns;
 use record::Row;
+use record::rows::UNKNOWN;
 
 // Columns 2 to 73 of a line.
 fn with_body(line: [u8; 80], p: Row) -> [u8; 80]
@@ -19,10 +20,10 @@ fn with_body(line: [u8; 80], p: Row) -> [u8; 80]
     let c = columns::with_signed(b, y, 19, 32);
     let d = columns::with_signed(c, z, 33, 46);
     let e = columns::with_signed(d, clock, 47, 60);
-    let f = columns::with_exponent(e, p.x_exponent, 62, 63);
-    let g = columns::with_exponent(f, p.y_exponent, 65, 66);
-    let h = columns::with_exponent(g, p.z_exponent, 68, 69);
-    columns::with_exponent(h, p.clock_exponent, 71, 73)
+    let f = columns::with_known(e, p.x_exponent, UNKNOWN, 62, 63);
+    let g = columns::with_known(f, p.y_exponent, UNKNOWN, 65, 66);
+    let h = columns::with_known(g, p.z_exponent, UNKNOWN, 68, 69);
+    columns::with_known(h, p.clock_exponent, UNKNOWN, 71, 73)
 }
 
 // Columns 74 to 80 of P.

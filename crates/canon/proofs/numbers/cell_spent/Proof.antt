@@ -1,4 +1,4 @@
--- `canon::numbers::cell_spent` meets its contract: in mode V the first twelve numbers and the others, else all.
+-- `canon::numbers::cell_spent` meets its contract: in mode V the numbers of P and those of V, else all.
 -- Assumes nothing.
 use mathlib.Core.Path.{_≡_, ap, _∙_}
 use mathlib.Core.Bool.{true}
@@ -9,8 +9,8 @@ use lib.ListN.{length, drop, length-drop}
 use lib.Seq.{take-all}
 use Rattle.record.specs.Rows.{rowWidth, bothWidth}
 use Rattle.canon.specs.Table.{cellWidth}
-use Rattle.canon.specs.Valid.{rowValid, cellValid}
-use Rattle.canon.specs.Measured.{rowLength, cellLength}
+use Rattle.canon.specs.Valid.{notedValid, cellValid}
+use Rattle.canon.specs.Measured.{notedLength, cellLength}
 use Rattle.canon.proofs.Tests.{both}
 use Rattle.canon.proofs.numbers.cell_spent.Statement.{statement}
 use Rattle.canon.proofs.numbers.cell_spent.Tie as tie
@@ -34,8 +34,8 @@ returns-2 c =
     let cell = mode .before .args .cell .now in
     let second = take-all rowWidth (drop rowWidth cell) (omega (arith, length-drop rowWidth cell, long mode)) in
     rw (not-false (mode .before .args .velocity) (mode .if1 .left)) (
-      both (place .row-spent2 .ensures .0) (motion .row-spent3 .ensures .0 ∙ ap (rowValid true) second),
-      omega (arith, place .row-spent2 .ensures .1, motion .row-spent3 .ensures .1, ap rowLength second),
+      both (place .row-spent2 .ensures .0) (motion .row-spent3 .ensures .0 ∙ ap (notedValid true) second),
+      omega (arith, place .row-spent2 .ensures .1, motion .row-spent3 .ensures .1, ap notedLength second),
     )
 
 pub cell-spent-spec : {M : Type 1} → statement M

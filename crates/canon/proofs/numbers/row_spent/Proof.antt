@@ -1,16 +1,38 @@
--- `canon::numbers::row_spent` meets its contract.
+-- `canon::numbers::row_spent` meets its contract: the row, and its note directly after it.
 -- Assumes nothing.
 use mathlib.Core.Path.{ap, _∙_}
-use Prim.Native.Nat.{ℕ, _-_}
+use native.Mathlib.Omega.{arith}
 use borrow.Author.Needs.{needs}
+use lib.ListN.{drop, length-drop}
+use lib.Seq.{take-all}
+use Rattle.record.specs.Rows.{bareWidth, noteWidth}
+use Rattle.canon.specs.Valid.{noteValid, notedValid}
+use Rattle.canon.specs.Measured.{noteLength, notedLength}
+use Rattle.canon.proofs.Tests.{both}
 use Rattle.canon.proofs.numbers.row_spent.Statement.{statement}
 use Rattle.canon.proofs.numbers.row_spent.Tie as tie
 
 returns : tie.Need-returns
+unfolding notedValid notedLength
 returns c =
-    let long = c .before in
-    let left = long .before .before .args .left in
-    (long .before .row-valid .ensures, c .spend .ensures ∙ ap (λ (n : ℕ). left - n) (long .row-length .ensures .0))
+    let note = c .before .before in
+    let rest = note .before .before in
+    let start = rest .before .before in
+    let row = start .args .row .now in
+    let all = take-all noteWidth (drop bareWidth row) (omega (arith, length-drop bareWidth row, start .pre)) in (
+      both (c .before .row-valid .ensures) (note .note-spent .ensures .0 ∙ ap noteValid all),
+      omega (arith, note .note-spent .ensures .1, ap noteLength all, rest .spend .ensures, rest .before .row-length .ensures .0),
+    )
 
 pub row-spent-spec : {M : Type 1} → statement M
-row-spent-spec = tie.close (tie.spec (λ c κs. search needs) (λ c κs. search needs) (λ c κs. search needs) returns)
+row-spent-spec =
+    tie.close
+    (tie.spec
+    (λ c κs. search needs)
+    (λ c κs. search needs)
+    (λ c. search needs)
+    (λ c. search needs)
+    (λ c. search needs)
+    (λ c κs. search needs)
+    (λ c κs. search needs)
+    returns)

@@ -16,13 +16,13 @@ returns c =
     (draw (c .before .before .before .before .before .with-signed3 .ensures) refl
     (draw (c .before .before .before .before .with-signed4 .ensures) refl
     (leave refl
-    (draw (c .before .before .before .with-exponent .ensures) refl
+    (draw (c .before .before .before .with-known .ensures) refl
     (leave refl
-    (draw (c .before .before .with-exponent2 .ensures) refl
+    (draw (c .before .before .with-known2 .ensures) refl
     (leave refl
-    (draw (c .before .with-exponent3 .ensures) refl
+    (draw (c .before .with-known3 .ensures) refl
     (leave refl
-    (draw (c .with-exponent4 .ensures) refl
+    (draw (c .with-known4 .ensures) refl
     drawn-all)))))))))))))
 
 pub with-body-spec : {M : Type 1} → statement M

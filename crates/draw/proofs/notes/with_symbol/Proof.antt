@@ -1,8 +1,8 @@
--- `draw::plain::with_symbol` meets its contract.
+-- `draw::notes::with_symbol` meets its contract.
 -- Assumes nothing.
 use borrow.Author.Needs.{needs}
-use Rattle.draw.proofs.plain.with_symbol.Statement.{statement}
-use Rattle.draw.proofs.plain.with_symbol.Tie as tie
+use Rattle.draw.proofs.notes.with_symbol.Statement.{statement}
+use Rattle.draw.proofs.notes.with_symbol.Tie as tie
 
 returns : tie.Need-returns
 returns c = rw (c .before .if1 .taken) (c .begun-by .ensures)
