@@ -13,7 +13,7 @@ use Rattle.layout.specs.Kind.{unnoted}
 use Rattle.layout.specs.Line.{padded}
 use Rattle.lines.specs.Lent.{flat}
 use Rattle.lines.specs.Lines.{select}
-use Rattle.lines.specs.Noted.{rowParts}
+use Rattle.lines.specs.Noted.{noteAt, rowParts}
 use Rattle.record.specs.LineKinds.{firstKind, secondKind, satellitesKind, accuraciesKind, charactersKind, floatsKind, commentKind, velocityKind}
 use Rattle.record.specs.Opening.{firstOf, secondOf}
 use Rattle.record.specs.SlotLines.{satellitesOf, moreOf}
@@ -138,6 +138,11 @@ noteNumbers n =
 -- where none stands: 0, and all ten unknown
 unfoldable pub noNote : List ℤ
 noNote = storedMark false ∷ replicate 10 (storedCount unnoted)
+
+-- what the lines directly after a row say of it: the numbers of the EP or EV line that stands first, or those of none
+abbrev pub noteAfter : Rules → List (List ℕ) → List ℤ
+noteAfter rules lines =
+    noteAt (isRow rules) (isNote rules) (λ line. rowNumbers (rowIn rules line)) (λ line. noteNumbers (noteOf line)) noNote lines
 
 abbrev pub rowLines : Rules → List (List ℕ) → List (List ℕ)
 rowLines rules lines = select (isRow rules) lines
