@@ -63,7 +63,7 @@ module _ (before note more : List ℤ) (p : Row) (k : ℕ) (at : length before �
       let whole : length rows ≡ length before + length own = length-append before own in
       lt-ltb k (length rows / rowWidth) (omega arith)
 
-  number-back : (i : ℕ) → numberAt rows k i ≡ getD own i (pos 0)
+  pub number-back : (i : ℕ) → numberAt rows k i ≡ getD own i (pos 0)
   number-back i = ap (λ (n : ℕ). getD rows (n + i) (pos 0)) (sym at) ∙ getD-append-add before own i (pos 0)
 
   -- a signed number of the row, by its place
