@@ -1,3 +1,4 @@
 pub mod Exact
 pub mod Finding
 pub mod Determined
+pub mod Wide

@@ -1,8 +1,9 @@
 -- The kind of a line as it stands in a file, a short line being padded, and the lines of a kind.
-use mathlib.Core.Bool.{Bool, _||_, true, false}
+use mathlib.Core.Bool.{Bool, _&&_, _||_, true, false}
 use mathlib.Core.List.{List}
 use Prim.Native.Nat.{ℕ}
 use lib.Dec.{eqb}
+use lib.ListN.{getD}
 use Rattle.layout.specs.Line.{padded}
 use Rattle.lines.specs.Lines.{select, nth}
 use Rattle.record.specs.LineKinds.{positionKind, velocityKind, positionCorrelationKind, velocityCorrelationKind, toldKind, kindOf}
@@ -22,6 +23,10 @@ isRow rules line = isKind rules positionKind line || isKind rules velocityKind l
 -- EP and EV
 abbrev pub isNote : Rules → List ℕ → Bool
 isNote rules line = isKind rules positionCorrelationKind line || isKind rules velocityCorrelationKind line
+
+-- whether EP or EV stands first in some bytes
+abbrev pub beginsNote : List ℕ → Bool
+beginsNote bytes = eqb (getD bytes 0 0) 69 && (eqb (getD bytes 1 0) 80 || eqb (getD bytes 1 0) 86)
 
 -- the lines of a kind, in their order
 abbrev pub ofKind : Rules → ℕ → List (List ℕ) → List (List ℕ)

@@ -139,6 +139,11 @@ noteNumbers n =
 unfoldable pub noNote : List ℤ
 noNote = storedMark false ∷ replicate 10 (storedCount unnoted)
 
+-- what the lines directly after a row say of it: the numbers of the EP or EV line that stands first, or those of none
+abbrev pub noteAfter : Rules → List (List ℕ) → List ℤ
+noteAfter rules lines =
+    noteAt (isRow rules) (isNote rules) (λ line. rowNumbers (rowIn rules line)) (λ line. noteNumbers (noteOf line)) noNote lines
+
 abbrev pub rowLines : Rules → List (List ℕ) → List (List ℕ)
 rowLines rules lines = select (isRow rules) lines
 

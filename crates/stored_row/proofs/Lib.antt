@@ -1,4 +1,5 @@
 pub mod Storing
 pub mod Told
 pub mod Theorems
+pub mod Noted
 pub mod Determined

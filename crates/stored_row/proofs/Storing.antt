@@ -18,13 +18,18 @@ use Rattle.field.specs.declared.Number.{Number}
 use Rattle.field.specs.declared.Number.the-variants as number
 use Rattle.field.proofs.Told.{number-is}
 use Rattle.record.specs.Absence.{placeAbsent, clockAbsent, isUnknown, isTooLarge}
-use Rattle.record.specs.Rows.{rowWidth}
+use Rattle.layout.specs.Kind.{unnoted}
+use Rattle.record.specs.Notes.{largestDeviation}
+use Rattle.record.specs.Rows.{bareWidth, rowWidth}
 use Rattle.file.specs.Table.{storedInt}
-use Rattle.stored_row.specs.Stored.{isThere, numberAt, isPlaceAbsent, placeIn, clockIn, deviationOf, deviationIn, flagIn}
+use Rattle.stored_row.specs.Stored.{isThere, numberAt, isPlaceAbsent, placeIn, clockIn, deviationOf, deviationIn, flagIn, hasNote, noteIn, noteDeviationOf, noteDeviationIn, noteCorrelationOf, noteCorrelationIn}
 use Rattle.stored_row.specs.declared.types.Place.the-variants as place
 use Rattle.stored_row.specs.declared.types.ClockRead.the-variants as clock
 use Rattle.stored_row.specs.declared.types.Deviation.the-variants as deviation
 use Rattle.stored_row.specs.declared.types.Flag.the-variants as flag
+use Rattle.stored_row.specs.declared.types.NoteMark.the-variants as noteMark
+use Rattle.stored_row.specs.declared.types.NoteDeviation.the-variants as noteDeviation
+use Rattle.stored_row.specs.declared.types.NoteCorrelation.the-variants as noteCorrelation
 
 module _ (negative : Bool) (m : ℕ) (r : Number) (e : toldNumber r ≡ numberAnswer negative m) where
   -- the value that is answered
@@ -169,3 +174,72 @@ module _ (rows : List ℤ) (k : ℕ) where
         pub flag-is : (t : Bool) → eqb n 0 ≡ t → cond t flag.NotSet flag.Set ≡ flagIn rows k which
         unfolding flagIn
         flag-is t is = rw (there, abs-read (8 + which) f e, is)
+
+-- notes, by their tests
+module _ (rows : List ℤ) (k : ℕ) where
+  -- the size of a number
+  pub size-read : (i : ℕ) {m : ℕ} → Read rows k i → m ≡ natAbs (readAt rows k i) → m ≡ natAbs (numberAt rows k i)
+  size-read i h e = sym (abs-read rows k i h e)
+
+  -- a note stands where the mark is not 0
+  pub marked : (t : Bool) {m : ℕ} → m ≡ natAbs (numberAt rows k bareWidth) → eqb m 0 ≡ t → cond t false true ≡ hasNote rows k
+  marked t e is = rw (sym e, is)
+
+  pub no-mark : isThere rows k ≡ false → noteMark.NotThere ≡ noteIn rows k
+  unfolding noteIn
+  no-mark e = rw e refl
+
+  pub mark-is : isThere rows k ≡ true → (t : Bool) {has : Bool} → has ≡ hasNote rows k → has ≡ t → cond t noteMark.Stands noteMark.NoRecord ≡ noteIn rows k
+  unfolding noteIn
+  mark-is there t e is =
+      let test : hasNote rows k ≡ t = sym e ∙ is in
+      rw (there, test)
+
+  module _ (which : ℕ) where
+    pub no-note-deviation : (isThere rows k && leb which 3) ≡ false → noteDeviation.NotThere ≡ noteDeviationIn rows k which
+    unfolding noteDeviationIn
+    no-note-deviation e = rw e refl
+
+    module _ (there : (isThere rows k && leb which 3) ≡ true) {has : Bool} (e : has ≡ hasNote rows k) where
+      pub deviation-unrecorded : has ≡ false → noteDeviation.NoRecord ≡ noteDeviationIn rows k which
+      unfolding noteDeviationIn
+      deviation-unrecorded is =
+          let test : hasNote rows k ≡ false = sym e ∙ is in
+          rw (there, test)
+
+      module _ (is : has ≡ true) {n : ℕ} (size : n ≡ natAbs (numberAt rows k (13 + which))) where
+        deviation-told : noteDeviationOf which n ≡ noteDeviationIn rows k which
+        unfolding noteDeviationIn
+        deviation-told =
+            let test : hasNote rows k ≡ true = sym e ∙ is in
+            rw (there, test, size)
+
+        pub deviation-unknown : eqb n unnoted ≡ true → noteDeviation.Unknown ≡ noteDeviationIn rows k which
+        deviation-unknown u =
+            let shown : noteDeviation.Unknown ≡ noteDeviationOf which n = rw u refl in
+            shown ∙ deviation-told
+
+        pub deviation-known : (t : Bool) {large : Bool} → eqb n unnoted ≡ false → large ≡ eqb n (largestDeviation (eqb which 3)) → large ≡ t
+            → cond t noteDeviation.TooLarge (noteDeviation.Value n) ≡ noteDeviationIn rows k which
+        deviation-known t u l on =
+            let test : eqb n (largestDeviation (eqb which 3)) ≡ t = sym l ∙ on in
+            let shown : cond t noteDeviation.TooLarge (noteDeviation.Value n) ≡ noteDeviationOf which n = rw (u, test) refl in
+            shown ∙ deviation-told
+
+    pub no-note-correlation : (isThere rows k && leb which 5) ≡ false → noteCorrelation.NotThere ≡ noteCorrelationIn rows k which
+    unfolding noteCorrelationIn
+    no-note-correlation e = rw e refl
+
+    module _ (there : (isThere rows k && leb which 5) ≡ true) {has : Bool} (e : has ≡ hasNote rows k) where
+      pub correlation-unrecorded : has ≡ false → noteCorrelation.NoRecord ≡ noteCorrelationIn rows k which
+      unfolding noteCorrelationIn
+      correlation-unrecorded is =
+          let test : hasNote rows k ≡ false = sym e ∙ is in
+          rw (there, test)
+
+      pub correlation-told : has ≡ true → (t : Bool) {m : ℕ} → Read rows k (17 + which) → m ≡ natAbs (readAt rows k (17 + which)) → eqb m unnoted ≡ t
+          → cond t noteCorrelation.Unknown (noteCorrelation.Value (readAt rows k (17 + which))) ≡ noteCorrelationIn rows k which
+      unfolding noteCorrelationIn
+      correlation-told is t f size u =
+          let test : hasNote rows k ≡ true = sym e ∙ is in
+          rw (there, test, abs-read rows k (17 + which) f size, u, through-is (numberAt rows k (17 + which)) f)

@@ -2,7 +2,7 @@
 -- twelve nines with no minus, whatever the place.
 -- Assumes nothing.
 use mathlib.Core.Path.{_≡_, refl, sym, _∙_, ap}
-use mathlib.Core.List.{List, [], _++_}
+use mathlib.Core.List.{List, [], _++_, append-assoc}
 use mathlib.Core.Bool.{Bool, true, false, cond, not, _&&_}
 use Prim.Native.Nat.{ℕ, _+_, _*_, _/_, _<_, _≤_}
 use native.Mathlib.Omega.{arith}
@@ -15,7 +15,7 @@ use Rattle.field.specs.Sign.{largest, signedInt, isNegative}
 use Rattle.field.proofs.Signs.{magnitude-back, sign-back}
 use Rattle.lines.specs.Lent.{over}
 use Rattle.record.specs.Absence.{placeAbsent, clockAbsent}
-use Rattle.record.specs.Rows.{rowWidth}
+use Rattle.record.specs.Rows.{bareWidth, noteWidth, rowWidth}
 use Rattle.record.specs.declared.types.Row.{Row}
 use Rattle.record.specs.declared.types.Signed.{Signed}
 use Rattle.file.proofs.Exact.{stored-exact}
@@ -47,23 +47,27 @@ sign-kept true m = go (ltb 0 m) refl
         let apart : eqb m largest ≡ false = ne-eqb m largest (λ e. omega arith) in
         rw (h, apart) refl
 
--- the k-th row among the lent numbers, whatever stands before it and behind it
-module _ (before more : List ℤ) (p : Row) (k : ℕ) (at : length before ≡ k * rowWidth) where
+-- the k-th row among the lent numbers, with the numbers of its note or with what stands for none, whatever stands before it and behind it
+module _ (before note more : List ℤ) (p : Row) (k : ℕ) (at : length before ≡ k * rowWidth) (wide : length note ≡ noteWidth) where
+  abbrev own : List ℤ
+  own = rowNumbers p ++ (note ++ more)
+
   abbrev rows : List ℤ
-  rows = before ++ (rowNumbers p ++ more)
+  rows = before ++ own
 
   pub row-there : isThere rows k ≡ true
   unfolding rowNumbers
   row-there =
-      let size : length (rowNumbers p ++ more) ≡ rowWidth + length more = length-append (rowNumbers p) more in
-      let whole : length rows ≡ length before + length (rowNumbers p ++ more) = length-append before (rowNumbers p ++ more) in
+      let size : length own ≡ bareWidth + length (note ++ more) = length-append (rowNumbers p) (note ++ more) in
+      let noted : length (note ++ more) ≡ length note + length more = length-append note more in
+      let whole : length rows ≡ length before + length own = length-append before own in
       lt-ltb k (length rows / rowWidth) (omega arith)
 
-  number-back : (i : ℕ) → numberAt rows k i ≡ getD (rowNumbers p ++ more) i (pos 0)
-  number-back i = ap (λ (n : ℕ). getD rows (n + i) (pos 0)) (sym at) ∙ getD-append-add before (rowNumbers p ++ more) i (pos 0)
+  pub number-back : (i : ℕ) → numberAt rows k i ≡ getD own i (pos 0)
+  number-back i = ap (λ (n : ℕ). getD rows (n + i) (pos 0)) (sym at) ∙ getD-append-add before own i (pos 0)
 
   -- a signed number of the row, by its place
-  module _ (i : ℕ) (s : Signed) (is : getD (rowNumbers p ++ more) i (pos 0) ≡ storedSigned s) (h : Bounded s) where
+  module _ (i : ℕ) (s : Signed) (is : getD own i (pos 0) ≡ storedSigned s) (h : Bounded s) where
     value-back : numberAt rows k i ≡ signed s
     value-back = number-back i ∙ is ∙ stored-exact (s .negative) (s .magnitude) h
 
@@ -136,14 +140,14 @@ module _ (before more : List ℤ) (p : Row) (k : ℕ) (at : length before ≡ k 
         go false e = let z : _≡_ {A = ℕ} 0 1 = cc in absurd (omega arith)
 
   -- the exponents and the flags, by their places
-  deviation-back : (which n : ℕ) → leb which 3 ≡ true → getD (rowNumbers p ++ more) (4 + which) (pos 0) ≡ storedCount n → n ≤ largest
+  deviation-back : (which n : ℕ) → leb which 3 ≡ true → getD own (4 + which) (pos 0) ≡ storedCount n → n ≤ largest
       → deviationIn rows k which ≡ deviationOf which n
   unfolding deviationIn
   deviation-back which n w is h =
       let size : natAbs (numberAt rows k (4 + which)) ≡ n = ap natAbs (number-back (4 + which) ∙ is) ∙ stored-size false n h in
       rw (row-there, w, size)
 
-  flag-back : (which : ℕ) (set : Bool) → leb which 3 ≡ true → getD (rowNumbers p ++ more) (8 + which) (pos 0) ≡ storedMark set
+  flag-back : (which : ℕ) (set : Bool) → leb which 3 ≡ true → getD own (8 + which) (pos 0) ≡ storedMark set
       → flagIn rows k which ≡ cond set flag.Set flag.NotSet
   unfolding flagIn
   flag-back which set w is =
@@ -180,13 +184,20 @@ module _ (before more : List ℤ) (p : Row) (k : ℕ) (at : length before ≡ k 
     flag-back 3 (p .«orbit_predicted») refl refl,
   )
 
--- so of the row that is stored in the first twelve places
-module _ (p : Row) (old : List ℤ) where
+-- so of the row that is stored in the first places
+module _ (p : Row) (note old : List ℤ) (wide : length note ≡ noteWidth) where
+  abbrev first : List ℤ
+  first = over (rowNumbers p ++ note) old
+
+  first-is : first ≡ rowNumbers p ++ (note ++ drop (length (rowNumbers p ++ note)) old)
+  first-is = append-assoc (rowNumbers p) note (drop (length (rowNumbers p ++ note)) old)
+
   pub first-place : Bounded (p .x) → Bounded (p .y) → Bounded (p .z)
-      → placeIn (over (rowNumbers p) old) 0
+      → placeIn first 0
       ≡ cond (placeAbsent (p .x .magnitude) (p .y .magnitude) (p .z .magnitude)) place.Absent (place.At (signed (p .x)) (signed (p .y)) (signed (p .z)))
-  first-place hx hy hz = place-back [] (drop (length (rowNumbers p)) old) p 0 refl hx hy hz
+  first-place hx hy hz =
+      ap (λ (rows : List ℤ). placeIn rows 0) first-is ∙ place-back [] note (drop (length (rowNumbers p ++ note)) old) p 0 refl wide hx hy hz
 
   pub first-clock : Bounded (p .clock)
-      → clockIn (over (rowNumbers p) old) 0 ≡ cond (clockAbsent (p .clock .negative) (p .clock .magnitude)) clock.Absent (clock.At (signed (p .clock)))
-  first-clock h = clock-back [] (drop (length (rowNumbers p)) old) p 0 refl h
+      → clockIn first 0 ≡ cond (clockAbsent (p .clock .negative) (p .clock .magnitude)) clock.Absent (clock.At (signed (p .clock)))
+  first-clock h = ap (λ (rows : List ℤ). clockIn rows 0) first-is ∙ clock-back [] note (drop (length (rowNumbers p ++ note)) old) p 0 refl wide h

@@ -3,7 +3,7 @@
 use mathlib.Core.Path.{_≡_, refl}
 use lib.IntN.{ℤ, pos, negsuc, natAbs}
 use Rattle.field.specs.Sign.{isNegative}
-use Rattle.stored_row.specs.Stored.{signNumber, toldPlace, toldClock, toldDeviation, toldFlag}
+use Rattle.stored_row.specs.Stored.{signNumber, toldPlace, toldClock, toldDeviation, toldFlag, toldNote, toldNoteDeviation, toldNoteCorrelation}
 use Rattle.stored_row.specs.declared.types.Place.{Place}
 use Rattle.stored_row.specs.declared.types.Place.the-variants as place
 use Rattle.stored_row.specs.declared.types.ClockRead.{ClockRead}
@@ -12,6 +12,12 @@ use Rattle.stored_row.specs.declared.types.Deviation.{Deviation}
 use Rattle.stored_row.specs.declared.types.Deviation.the-variants as deviation
 use Rattle.stored_row.specs.declared.types.Flag.{Flag}
 use Rattle.stored_row.specs.declared.types.Flag.the-variants as flag
+use Rattle.stored_row.specs.declared.types.NoteMark.{NoteMark}
+use Rattle.stored_row.specs.declared.types.NoteMark.the-variants as noteMark
+use Rattle.stored_row.specs.declared.types.NoteDeviation.{NoteDeviation}
+use Rattle.stored_row.specs.declared.types.NoteDeviation.the-variants as noteDeviation
+use Rattle.stored_row.specs.declared.types.NoteCorrelation.{NoteCorrelation}
+use Rattle.stored_row.specs.declared.types.NoteCorrelation.the-variants as noteCorrelation
 
 -- a signed number is known by its sign and its magnitude
 int-one : (v u : ℤ) → signNumber (isNegative v) ≡ signNumber (isNegative u) → natAbs v ≡ natAbs u → v ≡ u
@@ -84,3 +90,63 @@ toldFlag-one flag.NotSet flag.NotThere e = cc
 toldFlag-one flag.NotThere flag.Set e = cc
 toldFlag-one flag.NotThere flag.NotSet e = cc
 toldFlag-one flag.NotThere flag.NotThere e = refl
+
+pub toldNote-one : (a b : NoteMark) → toldNote a ≡ toldNote b → a ≡ b
+toldNote-one noteMark.Stands noteMark.Stands e = refl
+toldNote-one noteMark.Stands noteMark.NoRecord e = cc
+toldNote-one noteMark.Stands noteMark.NotThere e = cc
+toldNote-one noteMark.NoRecord noteMark.Stands e = cc
+toldNote-one noteMark.NoRecord noteMark.NoRecord e = refl
+toldNote-one noteMark.NoRecord noteMark.NotThere e = cc
+toldNote-one noteMark.NotThere noteMark.Stands e = cc
+toldNote-one noteMark.NotThere noteMark.NoRecord e = cc
+toldNote-one noteMark.NotThere noteMark.NotThere e = refl
+
+pub toldNoteDeviation-one : (a b : NoteDeviation) → toldNoteDeviation a ≡ toldNoteDeviation b → a ≡ b
+toldNoteDeviation-one (noteDeviation.Value n) (noteDeviation.Value m) e = cc
+toldNoteDeviation-one (noteDeviation.Value n) noteDeviation.Unknown e = cc
+toldNoteDeviation-one (noteDeviation.Value n) noteDeviation.TooLarge e = cc
+toldNoteDeviation-one (noteDeviation.Value n) noteDeviation.NoRecord e = cc
+toldNoteDeviation-one (noteDeviation.Value n) noteDeviation.NotThere e = cc
+toldNoteDeviation-one noteDeviation.Unknown (noteDeviation.Value m) e = cc
+toldNoteDeviation-one noteDeviation.Unknown noteDeviation.Unknown e = refl
+toldNoteDeviation-one noteDeviation.Unknown noteDeviation.TooLarge e = cc
+toldNoteDeviation-one noteDeviation.Unknown noteDeviation.NoRecord e = cc
+toldNoteDeviation-one noteDeviation.Unknown noteDeviation.NotThere e = cc
+toldNoteDeviation-one noteDeviation.TooLarge (noteDeviation.Value m) e = cc
+toldNoteDeviation-one noteDeviation.TooLarge noteDeviation.Unknown e = cc
+toldNoteDeviation-one noteDeviation.TooLarge noteDeviation.TooLarge e = refl
+toldNoteDeviation-one noteDeviation.TooLarge noteDeviation.NoRecord e = cc
+toldNoteDeviation-one noteDeviation.TooLarge noteDeviation.NotThere e = cc
+toldNoteDeviation-one noteDeviation.NoRecord (noteDeviation.Value m) e = cc
+toldNoteDeviation-one noteDeviation.NoRecord noteDeviation.Unknown e = cc
+toldNoteDeviation-one noteDeviation.NoRecord noteDeviation.TooLarge e = cc
+toldNoteDeviation-one noteDeviation.NoRecord noteDeviation.NoRecord e = refl
+toldNoteDeviation-one noteDeviation.NoRecord noteDeviation.NotThere e = cc
+toldNoteDeviation-one noteDeviation.NotThere (noteDeviation.Value m) e = cc
+toldNoteDeviation-one noteDeviation.NotThere noteDeviation.Unknown e = cc
+toldNoteDeviation-one noteDeviation.NotThere noteDeviation.TooLarge e = cc
+toldNoteDeviation-one noteDeviation.NotThere noteDeviation.NoRecord e = cc
+toldNoteDeviation-one noteDeviation.NotThere noteDeviation.NotThere e = refl
+
+pub toldNoteCorrelation-one : (a b : NoteCorrelation) → toldNoteCorrelation a ≡ toldNoteCorrelation b → a ≡ b
+toldNoteCorrelation-one (noteCorrelation.Value v) (noteCorrelation.Value u) e =
+    let s : signNumber (isNegative v) ≡ signNumber (isNegative u) = cc in
+    let m : natAbs v ≡ natAbs u = cc in
+    let same : v ≡ u = int-one v u s m in
+    cc
+toldNoteCorrelation-one (noteCorrelation.Value v) noteCorrelation.Unknown e = cc
+toldNoteCorrelation-one (noteCorrelation.Value v) noteCorrelation.NoRecord e = cc
+toldNoteCorrelation-one (noteCorrelation.Value v) noteCorrelation.NotThere e = cc
+toldNoteCorrelation-one noteCorrelation.Unknown (noteCorrelation.Value u) e = cc
+toldNoteCorrelation-one noteCorrelation.Unknown noteCorrelation.Unknown e = refl
+toldNoteCorrelation-one noteCorrelation.Unknown noteCorrelation.NoRecord e = cc
+toldNoteCorrelation-one noteCorrelation.Unknown noteCorrelation.NotThere e = cc
+toldNoteCorrelation-one noteCorrelation.NoRecord (noteCorrelation.Value u) e = cc
+toldNoteCorrelation-one noteCorrelation.NoRecord noteCorrelation.Unknown e = cc
+toldNoteCorrelation-one noteCorrelation.NoRecord noteCorrelation.NoRecord e = refl
+toldNoteCorrelation-one noteCorrelation.NoRecord noteCorrelation.NotThere e = cc
+toldNoteCorrelation-one noteCorrelation.NotThere (noteCorrelation.Value u) e = cc
+toldNoteCorrelation-one noteCorrelation.NotThere noteCorrelation.Unknown e = cc
+toldNoteCorrelation-one noteCorrelation.NotThere noteCorrelation.NoRecord e = cc
+toldNoteCorrelation-one noteCorrelation.NotThere noteCorrelation.NotThere e = refl

@@ -1,4 +1,4 @@
-// A stored row: twelve numbers, asked for by name.
+// The row of a P or V line: the first twelve numbers of a stored row, asked for by name.
 ghost use mathlib.Core.Path.{_≡_};
 ghost use Rattle.file.specs.Table.{storedInt};
 ghost use Rattle.stored_row.specs.Stored.{isThere, placeIn, clockIn, deviationIn, flagIn, toldPlace, toldClock, toldDeviation, toldFlag};
@@ -20,7 +20,7 @@ pub fn stored_number(negative: bool, magnitude: u64) -> i64
 }
 
 // Whether the lent numbers have a k-th row.
-fn is_there(rows: &[i64], k: usize) -> bool
+pub(crate) fn is_there(rows: &[i64], k: usize) -> bool
     ensures { λ r. ⌜ r ≡ isThere (now (rows .entry)) k ⌝ }
 {
     k < rows.len() / ROW_WIDTH
