@@ -42,13 +42,12 @@ Quiet rules ls = noteAfter rules ls ≡ noNote
 
 -- what is stored of lines is stored of each part, where the second begins with no note
 rows-append : (rules : Rules) (a b : List (List ℕ)) → Quiet rules b → rowsIn rules (a ++ b) ≡ rowsIn rules a ++ rowsIn rules b
-unfolding rowsOfLines noteAfter
+unfolding rowsOfLines
 rows-append rules a b quiet =
     ap flat (parts-append (isRow rules) (isNote rules) (λ (l : List ℕ). rowNumbers (rowIn rules l)) (λ (l : List ℕ). noteNumbers (noteOf l)) noNote a b quiet)
     ∙ flat-append (rowsOfLines rules a) (rowsOfLines rules b)
 
 quiet-append : (rules : Rules) (a b : List (List ℕ)) → Quiet rules a → Quiet rules b → Quiet rules (a ++ b)
-unfolding noteAfter
 quiet-append rules [] b p q = q
 quiet-append rules (l ∷ a) b p q = p
 
@@ -111,7 +110,7 @@ module _ (rules : Rules) where
       ends : Each EndsLine lines
 
     note-holds : Noticed (noteLines velocity note)
-    unfolding noteLines everyLine rowsOfLines noteAfter
+    unfolding noteLines everyLine rowsOfLines
     note-holds = go (isNoted note) refl
       where
         row-kinds : (v : Bool) → (eqb (toldKind (noteKind v)) positionKind || eqb (toldKind (noteKind v)) velocityKind) ≡ false
@@ -139,7 +138,7 @@ module _ (rules : Rules) where
   -- A row of a satellite, and its note after it.
   row-holds : (velocity : Bool) (identifier : ℕ) (row : List ℤ) → isIdentifier identifier ≡ true → notedValid velocity row ≡ true → length row ≡ rowWidth
       → Carries rules (λ (ls : List (List ℕ)). Noted rules velocity identifier ls) row (notedLines velocity identifier row)
-  unfolding notedValid notedLines rowsOfLines noteAfter flat
+  unfolding notedValid notedLines rowsOfLines flat
   row-holds velocity identifier row named both wide =
       let valid = and-left (rowValid velocity row) _ both in
       let is = row-is velocity identifier row valid named rules in
@@ -184,7 +183,7 @@ module _ (rules : Rules) where
   -- The line of an epoch.
   epoch-holds : (at8 : ℕ) → isInstant at8 ≡ true
       → Carries rules (λ (ls : List (List ℕ)). (l : List ℕ) × (ls ≡ l ∷ []) × (isEpochLine rules at8 l ≡ true)) [] (epochLine (epochShown at8) ∷ [])
-  unfolding rowsOfLines noteAfter flat
+  unfolding rowsOfLines flat
   epoch-holds at8 bounded =
       let is = epoch-is at8 bounded rules in
       let kind = epoch-kind rules at8 (epochText at8) is in
@@ -197,7 +196,7 @@ module _ (rules : Rules) where
     cells-hold : (identifiers : List ℕ) (rows : List ℤ) → every isIdentifier identifiers ≡ true → rowsValid velocity (length identifiers) rows ≡ true
         → length identifiers * cellWidth velocity ≤ length rows
         → Carries rules (λ (ls : List (List ℕ)). Rows rules velocity identifiers ls) (take (length identifiers * cellWidth velocity) rows) (cellsLines velocity identifiers rows)
-    unfolding rowsValid cellsLines rowsOfLines noteAfter flat
+    unfolding rowsValid cellsLines rowsOfLines flat
     cells-hold [] rows named valid long =
         record { are = refl; quiet = refl; stored = ap (λ (k : ℕ). take k rows) (sym (zero-mul (cellWidth velocity))); ends = tt }
     cells-hold (identifier ∷ identifiers) rows named valid long =
@@ -216,7 +215,7 @@ module _ (rules : Rules) where
           → epochs * (length identifiers * cellWidth velocity) ≤ length rows
           → Carries rules (λ (ls : List (List ℕ)). Epochs rules velocity identifiers interval8 epochs at8 ls) (take (epochs * (length identifiers * cellWidth velocity)) rows)
           (epochsLines velocity identifiers interval8 epochs at8 rows)
-      unfolding epochsLines rowsOfLines noteAfter flat
+      unfolding epochsLines rowsOfLines flat
       epochs-hold zero at8 rows instants valid long =
           record { are = refl; quiet = refl; stored = ap (λ (k : ℕ). take k rows) (sym (zero-mul (length identifiers * cellWidth velocity))); ends = tt }
       epochs-hold (suc epochs) at8 rows instants valid long =

@@ -18,7 +18,7 @@ use Rattle.layout.specs.Layout.{canShow, showLine}
 use Rattle.layout.specs.Line.{padded, lineOf}
 use Rattle.record.specs.LineKinds.{kindOf, longest}
 use Rattle.record.specs.Rows.{noteWidth}
-use Rattle.record.specs.Notes.{largestDeviation, largestCorrelation, correlationItems, noteValues, noteFault, noteLine, noteOf}
+use Rattle.record.specs.Notes.{largestDeviation, largestCorrelation, deviationItems, pairItems, correlationItems, noteValues, noteFault, noteLine, noteOf}
 use Rattle.header.specs.declared.types.Rules.{Rules}
 use Rattle.record.specs.declared.types.Note.{Note}
 use Rattle.file.specs.Plain.{noteKind, isRecord, isNoteLine}
@@ -114,6 +114,10 @@ ten deviation clock correlation note e =
 abbrev pub noteText : Bool → List ℤ → List ℕ
 noteText velocity note = lineOf (noteLine velocity (noteShown note))
 
+-- lists of the same numbers
+next : {a b : ℤ} {more others : List ℤ} → a ≡ b → more ≡ others → a ∷ more ≡ b ∷ others
+next e f = ap₂ (λ (x : ℤ) (xs : List ℤ). x ∷ xs) e f
+
 module _ (note : List ℤ) (valid : noteValid note ≡ true) where
   the-mark : flagValid false (entry note 0) ≡ true
   unfolding noteValid
@@ -121,23 +125,24 @@ module _ (note : List ℤ) (valid : noteValid note ≡ true) where
 
   -- none stands there
   pub none-kept : isNoted note ≡ false → noteWidth ≤ length note → noNote ≡ take noteWidth note
-  unfolding noteValid noNote replicate listed
+  unfolding noteValid noNote listed
   none-kept none wide =
       let t = ten isUnnoted isUnnoted isUnnoted note (rw none at (and-right (flagValid false (entry note 0)) _ valid)) in
       let d = t .deviations in
       let c = t .correlations in
       let mark : storedMark false ≡ entry note 0 = ap storedMark (sym none) ∙ flag-stored false (entry note 0) the-mark in
-      ap₂ (λ (a : ℤ) (more : List ℤ). a ∷ more) mark
-      (ap₂ (λ (a : ℤ) (more : List ℤ). a ∷ more) (unnoted-stored (entry note 1) (d .first))
-      (ap₂ (λ (a : ℤ) (more : List ℤ). a ∷ more) (unnoted-stored (entry note 2) (d .second))
-      (ap₂ (λ (a : ℤ) (more : List ℤ). a ∷ more) (unnoted-stored (entry note 3) (d .third))
-      (ap₂ (λ (a : ℤ) (more : List ℤ). a ∷ more) (unnoted-stored (entry note 4) (d .fourth))
-      (ap₂ (λ (a : ℤ) (more : List ℤ). a ∷ more) (unnoted-stored (entry note 5) (c .first))
-      (ap₂ (λ (a : ℤ) (more : List ℤ). a ∷ more) (unnoted-stored (entry note 6) (c .second))
-      (ap₂ (λ (a : ℤ) (more : List ℤ). a ∷ more) (unnoted-stored (entry note 7) (c .third))
-      (ap₂ (λ (a : ℤ) (more : List ℤ). a ∷ more) (unnoted-stored (entry note 8) (c .fourth))
-      (ap₂ (λ (a : ℤ) (more : List ℤ). a ∷ more) (unnoted-stored (entry note 9) (t .ninth))
-      (ap (λ (a : ℤ). a ∷ []) (unnoted-stored (entry note 10) (t .tenth)))))))))))
+      next mark
+      (next (unnoted-stored (entry note 1) (d .first))
+      (next (unnoted-stored (entry note 2) (d .second))
+      (next (unnoted-stored (entry note 3) (d .third))
+      (next (unnoted-stored (entry note 4) (d .fourth))
+      (next (unnoted-stored (entry note 5) (c .first))
+      (next (unnoted-stored (entry note 6) (c .second))
+      (next (unnoted-stored (entry note 7) (c .third))
+      (next (unnoted-stored (entry note 8) (c .fourth))
+      (next (unnoted-stored (entry note 9) (t .ninth))
+      (next (unnoted-stored (entry note 10) (t .tenth))
+      refl))))))))))
       ∙ by-entries noteWidth 0 note wide
 
   -- one stands there
@@ -146,10 +151,10 @@ module _ (note : List ℤ) (valid : noteValid note ≡ true) where
     unfolding noteValid
     numbers = ten (deviationValid false) (deviationValid true) correlationValid note (rw noted at (and-right (flagValid false (entry note 0)) _ valid))
 
-    -- its columns can show it
-    can-show : (velocity : Bool) → canShow (correlationItems velocity) (noteValues (noteShown note)) ≡ true
+    -- its columns can show it, whatever symbol stands before them
+    shows : canShow (deviationItems ++ pairItems) (noteValues (noteShown note)) ≡ true
     unfolding noteShown
-    can-show velocity =
+    shows =
         let t = numbers in
         let d = t .deviations in
         let c = t .correlations in
@@ -165,6 +170,10 @@ module _ (note : List ℤ) (valid : noteValid note ≡ true) where
           correlation-fits (entry note 9) (t .ninth),
           correlation-fits (entry note 10) (t .tenth),
         )
+
+    can-show : (velocity : Bool) → canShow (correlationItems velocity) (noteValues (noteShown note)) ≡ true
+    can-show true = shows
+    can-show false = shows
 
     -- what is stored of it are its numbers
     note-stored : noteWidth ≤ length note → noteNumbers (noteShown note) ≡ take noteWidth note

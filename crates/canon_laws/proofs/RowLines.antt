@@ -140,7 +140,7 @@ four test last at row e =
     }
 
 -- numbers of a list from a place on, by its entries
-pub listed : ℕ → ℕ → List ℤ → List ℤ
+unfoldable pub listed : ℕ → ℕ → List ℤ → List ℤ
 listed zero at row = []
 listed (suc n) at row = entry row at ∷ listed n (suc at) row
 

@@ -10,7 +10,7 @@ use native.Mathlib.Omega.{arith}
 use borrow.Author.Tests.{le-leb, ltb-true, eq-eqb}
 use lib.Dec.{leb, ltb, eqb}
 use lib.IntN.{ℤ, pos}
-use lib.ListN.{length, getD, take, drop, replicate, length-append, length-drop}
+use lib.ListN.{length, getD, take, drop, length-append, length-drop}
 use lib.Seq.{length-take-le, drop-drop, take-add, take-at, drop-at}
 use Rattle.laws.specs.Texts.{every}
 use Rattle.field.specs.Read.{exponentOf, signedWholeOf}
@@ -40,7 +40,8 @@ use Rattle.field.proofs.Again.{exponent-again}
 use Rattle.layout.proofs.Lines.{padded-length}
 use Rattle.file_laws.proofs.Selected.{satellites, velocities, epochs}
 use Rattle.file_laws.proofs.Rule.{place-at, motion-at}
-use Rattle.file_laws.proofs.Counts.{satellites-bounds, note-wide}
+use Rattle.file_laws.proofs.Counts.{satellites-bounds}
+use Rattle.file.proofs.Wide.{after-wide}
 use Rattle.file_laws.proofs.Clean.{record-clean, amount-bounds}
 use Rattle.file_laws.proofs.Sorting.{row-kind, epoch-kind, comment-kind}
 use Rattle.file_laws.proofs.Walk.{isOther, other-apart, Covers, every-line}
@@ -139,7 +140,7 @@ note-valid v l f =
     )
 
 none-valid : noteValid noNote ≡ true
-unfolding noteValid exactNone replicate
+unfolding noteValid exactNone
 none-valid = ap noteValid none-exact
 
 -- what stands after any row of an accepted file
@@ -170,7 +171,7 @@ module _ {rules : Rules} {lines : List (List ℕ)} (p : Plain rules lines) where
       apart k e = rw (other-apart k positionCorrelationKind e refl, other-apart k velocityCorrelationKind e refl)
 
   note-at-valid : (r : ℕ) → noteValid (noteAt rules lines r) ≡ true
-  unfolding Sound noteAfter
+  unfolding Sound
   note-at-valid r =
       note-holds (isRow rules) (isNote rules) (λ (l : List ℕ). rowNumbers (rowIn rules l)) (λ (l : List ℕ). noteNumbers (noteOf l)) noNote
       (λ (note : List ℤ). noteValid note ≡ true) none-valid lines (every-line rules Sound sound lines p) r
@@ -228,7 +229,7 @@ module _ {rules : Rules} {lines : List (List ℕ)} (p : Plain rules lines) (i : 
       let after : rowWidth * (2 * at) + rowWidth ≡ rowWidth * (2 * at + 1) = omega arith in
       let place-row = exactNumbers (rowOf false (placeLine p k j hk hj)) ++ noteAt rules lines (2 * at) in
       let motion-row = exactNumbers (rowOf true (motionLine p k j hk hj)) ++ noteAt rules lines (2 * at + 1) in
-      let wide : length place-row ≡ rowWidth = omega (arith, length-append (exactNumbers (rowOf false (placeLine p k j hk hj))) (noteAt rules lines (2 * at)), note-wide rules (afterNth (isRow rules) (2 * at) lines)) in
+      let wide : length place-row ≡ rowWidth = omega (arith, length-append (exactNumbers (rowOf false (placeLine p k j hk hj))) (noteAt rules lines (2 * at)), after-wide rules (afterNth (isRow rules) (2 * at) lines)) in
       let cell : take bothWidth (drop (i * bothWidth) rows) ≡ place-row ++ motion-row =
       ap (λ (n : ℕ). take bothWidth (drop n rows)) place
       ∙ take-add rowWidth rowWidth (drop (rowWidth * (2 * at)) rows)

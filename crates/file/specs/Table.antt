@@ -147,10 +147,6 @@ noteAfter rules lines =
 abbrev pub rowLines : Rules → List (List ℕ) → List (List ℕ)
 rowLines rules lines = select (isRow rules) lines
 
--- what stands directly after a P or V line: the numbers of an EP or EV line, or those of none
-unfoldable pub noteAfter : Rules → List (List ℕ) → List ℤ
-noteAfter rules lines = noteAt (isRow rules) (isNote rules) (λ line. rowNumbers (rowIn rules line)) (λ line. noteNumbers (noteOf line)) noNote lines
-
 -- the rows of some lines, in file order: the numbers of each P or V line, and of the EP or EV line directly after it
 unfoldable pub rowsOfLines : Rules → List (List ℕ) → List (List ℤ)
 rowsOfLines rules lines =

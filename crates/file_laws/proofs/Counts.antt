@@ -2,13 +2,13 @@
 -- that lent memory needs: n identifiers and n exponents, 77 bytes for a comment, and the numbers of a row with its note for a row.
 -- Assumes nothing.
 use mathlib.Core.Path.{_≡_, refl, ap, _∙_}
-use mathlib.Core.Bool.{Bool, true, false, cond, not}
-use mathlib.Core.List.{List, [], _∷_, _++_, map}
+use mathlib.Core.Bool.{true, false, not}
+use mathlib.Core.List.{List, map}
 use Prim.Native.Nat.{ℕ, _+_, _*_, _≤_}
 use native.Mathlib.Nat.{mul-comm}
 use native.Mathlib.Omega.{arith}
 use lib.IntN.{ℤ}
-use lib.ListN.{length, drop, replicate, length-append, length-map, length-drop}
+use lib.ListN.{length, drop, length-map, length-drop}
 use lib.Seq.{length-take-le}
 use Rattle.header.specs.Rules.{maxEpochs}
 use Rattle.layout.specs.Fault.{clean}
@@ -20,22 +20,22 @@ use Rattle.lines.specs.Lines.{select, nth}
 use Rattle.field.specs.Read.{wholeOf}
 use Rattle.record.specs.Descriptors.{descriptorOf, baseOf}
 use Rattle.record.specs.Opening.{firstItems, firstOf}
-use Rattle.record.specs.Rows.{cut, noteWidth, rowWidth}
-use Rattle.record.specs.Notes.{noteOf}
+use Rattle.record.specs.Rows.{cut, rowWidth}
 use Rattle.record.specs.SlotLines.{countItem, satelliteItems, satellitesOf}
 use Rattle.record.specs.Times.{dateFault}
 use Rattle.record.specs.LineKinds.{positionKind}
 use Rattle.record.specs.Plain.{commentWidth}
 use Rattle.header.specs.declared.types.Rules.{Rules}
 use Rattle.record.specs.declared.types.LineKind.the-variants as kind
-use Rattle.file.specs.Kinds.{isRow, isNote, ofKind}
+use Rattle.file.specs.Kinds.{ofKind}
 use Rattle.file.specs.Plain.{Plain}
-use Rattle.file.specs.Table.{headerFrom, countOf, headerIn, slotsIn, commentText, commentsIn, rowIn, rowNumbers, noteNumbers, noNote, noteAfter, rowsOfLines, rowLines, rowsIn}
+use Rattle.file.specs.Table.{headerFrom, countOf, headerIn, slotsIn, commentText, commentsIn, rowsOfLines, rowLines, rowsIn}
 use Rattle.laws.proofs.Bounds.{within-true}
 use Rattle.layout.proofs.Again.{lower-clean}
 use Rattle.layout.proofs.Lines.{padded-length}
-use Rattle.lines.proofs.Each.{Each, each-map}
-use Rattle.lines.proofs.Noted.{parts-each, parts-many}
+use Rattle.lines.proofs.Each.{each-map}
+use Rattle.file.proofs.Wide as wide
+use Rattle.file.proofs.Wide.{parts-wide}
 use Rattle.lines.proofs.Picking.{length-flat}
 use Rattle.file_laws.proofs.Sorting.{both-selected}
 use Rattle.file_laws.proofs.Selected.{satellites, identifiers, velocities, interval8, epochs, by-epochs, kind-first, kind-second, kind-satellites, kind-characters, kind-floats, kind-comments, kind-rows}
@@ -47,31 +47,6 @@ use Rattle.file_laws.proofs.Clean.{record-clean, item-at, whole-bounds}
 -- a comment has 77 bytes
 pub comment-wide : (l : List ℕ) → length (commentText l) ≡ commentWidth
 comment-wide l = length-take-le commentWidth (drop 3 (padded l)) (omega (arith, length-drop 3 (padded l), padded-length l))
-
--- a row has its own numbers, and those of its note or of none
-pub note-wide : (rules : Rules) (ls : List (List ℕ)) → length (noteAfter rules ls) ≡ noteWidth
-unfolding noteAfter noteNumbers noNote replicate
-note-wide rules [] = refl
-note-wide rules (l ∷ ls) = go (isNote rules l)
-  where
-    go : (t : Bool) → length (cond t (noteNumbers (noteOf l)) noNote) ≡ noteWidth
-    go true = refl
-    go false = refl
-
-pub row-wide : (rules : Rules) (l : List ℕ) (ls : List (List ℕ)) → length (rowNumbers (rowIn rules l) ++ noteAfter rules ls) ≡ rowWidth
-unfolding rowNumbers
-row-wide rules l ls = omega (arith, length-append (rowNumbers (rowIn rules l)) (noteAfter rules ls), note-wide rules ls)
-
-pub rows-wide : (rules : Rules) (lines : List (List ℕ)) → Each (λ (part : List ℤ). length part ≡ rowWidth) (rowsOfLines rules lines)
-unfolding rowsOfLines noteAfter
-rows-wide rules lines =
-    parts-each (isRow rules) (isNote rules) (λ (l : List ℕ). rowNumbers (rowIn rules l)) (λ (l : List ℕ). noteNumbers (noteOf l)) noNote
-    (λ (part : List ℤ). length part ≡ rowWidth) (row-wide rules) lines
-
-pub rows-count : (rules : Rules) (lines : List (List ℕ)) → length (rowsOfLines rules lines) ≡ length (rowLines rules lines)
-unfolding rowsOfLines
-rows-count rules lines =
-    parts-many (isRow rules) (isNote rules) (λ (l : List ℕ). rowNumbers (rowIn rules l)) (λ (l : List ℕ). noteNumbers (noteOf l)) noNote lines
 
 module _ {rules : Rules} {lines : List (List ℕ)} (p : Plain rules lines) where
   -- the table's number of satellites is the header's
@@ -135,7 +110,7 @@ module _ {rules : Rules} {lines : List (List ℕ)} (p : Plain rules lines) where
   -- so many numbers for each row
   rows-room : length (rowsIn rules lines) ≡ rowWidth * length (rowLines rules lines)
   rows-room =
-      length-flat rowWidth (rowsOfLines rules lines) (rows-wide rules lines) ∙ omega (arith, rows-count rules lines)
+      length-flat rowWidth (rowsOfLines rules lines) (parts-wide rules lines) ∙ omega (arith, wide.rows-many rules lines)
 
   -- without velocities a row for each satellite and epoch, with velocities two
   pub rows-many : velocities p ≡ false → length (rowLines rules lines) ≡ satellites p * epochs p

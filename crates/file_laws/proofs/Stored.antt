@@ -30,7 +30,9 @@ use Rattle.file_laws.proofs.Selected.{satellites, identifiers, velociti
 use Rattle.file_laws.proofs.Instants.{header, three-parts, header-kinds}
 use Rattle.file_laws.proofs.Slots.{slots-wide}
 use Rattle.file_laws.proofs.Rule.{place-at, motion-at, rows-are-places, row-begins, row-motion}
-use Rattle.file_laws.proofs.Counts.{comment-wide, rows-wide, rows-count, rows-many, rows-many-both}
+use Rattle.file_laws.proofs.Counts.{comment-wide, rows-many, rows-many-both}
+use Rattle.file.proofs.Wide as wide
+use Rattle.file.proofs.Wide.{parts-wide}
 use Rattle.file_laws.proofs.Exact.{row-exact}
 use Rattle.file.specs.Exact.{exactNumbers}
 
@@ -67,10 +69,10 @@ module _ (rules : Rules) (lines : List (List ℕ)) where
   -- the row r of any lines, and the comment c
   pub row-stored : (r : ℕ) → r < length (rowLines rules lines)
       → take rowWidth (drop (rowWidth * r) (rowsIn rules lines)) ≡ rowNumbers (rowIn rules (nth r (rowLines rules lines))) ++ noteAt r
-  unfolding rowsOfLines noteAfter
+  unfolding rowsOfLines
   row-stored r h =
       ap (λ (m : ℕ). take rowWidth (drop m (rowsIn rules lines))) (mul-comm rowWidth r)
-      ∙ part-stored rowWidth (rowsOfLines rules lines) r (rows-wide rules lines) (omega (arith, rows-count rules lines))
+      ∙ part-stored rowWidth (rowsOfLines rules lines) r (parts-wide rules lines) (omega (arith, wide.rows-many rules lines))
       ∙ part-at (isRow rules) (isNote rules) (λ (l : List ℕ). rowNumbers (rowIn rules l)) (λ (l : List ℕ). noteNumbers (noteOf l)) noNote lines r h
 
   pub comment-stored : (c : ℕ) → c < length (ofKind rules commentKind lines) → take commentWidth (drop (commentWidth * c) (commentsIn rules lines)) ≡ commentText (nth c (ofKind rules commentKind lines))
