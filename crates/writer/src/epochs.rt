@@ -42,13 +42,8 @@ fn put_cell(velocity: bool, identifier: u64, cell: &[i64], out: &mut [u8]) -> us
     if !velocity {
         return at;
     }
-    at
-        + put_noted(
-            true,
-            identifier,
-            &cell[ROW_WIDTH..BOTH_WIDTH],
-            &mut out[at..],
-        )
+    let motion = &cell[ROW_WIDTH..BOTH_WIDTH];
+    at + put_noted(true, identifier, motion, &mut out[at..])
 }
 
 // Those of each satellite, in header order.

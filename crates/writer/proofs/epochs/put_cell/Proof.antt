@@ -48,8 +48,8 @@ first-laid c =
     (rw (cell-moved (start .args .velocity) (start .args .cell .now) (start .pre .0) (start .args .identifier) (moving c)) at (start .pre .1))
     (c .before .before .before .put-noted .ensures))
 
-part-put-noted-end-2 : tie.Need-part-put-noted-end-2
-part-put-noted-end-2 c =
+part-motion-end : tie.Need-part-motion-end
+part-motion-end c =
     let start = c .before .before .before .before .before .before .before in
     omega (arith, cell-wide (start .args .velocity) (start .args .cell .now) (start .pre .0) (moving c))
 
@@ -84,7 +84,7 @@ put-cell-spec =
     returns
     (λ c. search needs)
     (λ c. search needs)
-    part-put-noted-end-2
+    part-motion-end
     (λ c. laying-within (first-laid (c .before)))
     (λ c. laying-within (first-laid (c .before)))
     (λ c. search needs)
