@@ -1,7 +1,6 @@
 -- `writer::epochs::put_noted` meets its contract: a row's line, and the line of its note directly after it.
 -- Assumes nothing.
 use mathlib.Core.Path.{_≡_}
-use mathlib.Core.Bool.{true}
 use mathlib.Core.List.{List, [], _∷_}
 use Prim.Native.Nat.{ℕ, _+_}
 use native.Mathlib.Omega.{arith}
