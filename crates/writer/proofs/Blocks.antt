@@ -11,12 +11,16 @@ use lib.IntN.{ℤ}
 use lib.ListN.{length, take, drop, getD, length-drop, length-take, drop-of-length-le}
 use lib.Seq.{drop-drop, take-all, take-nil, take-take}
 use Rattle.laws.proofs.Lists.{rest-step}
+use Rattle.lines.specs.Lent.{flat}
 use Rattle.record.specs.Opening.{epochLine}
 use Rattle.record.specs.Plain.{commentLine, commentWidth}
 use Rattle.record.specs.SlotLines.{moreLine}
-use Rattle.record.specs.Rows.{rowLine, rowWidth, bothWidth}
+use Rattle.record.specs.Rows.{rowLine, bareWidth, noteWidth, rowWidth, bothWidth}
+use Rattle.record.specs.Notes.{noteLine}
 use Rattle.canon.specs.Table.{cellWidth}
-use Rattle.canon.specs.Canonical.{rowShown, slotsShown, slotLinesOf, commentLines, cellLines, cellsLines, epochShown, epochsLines}
+use Rattle.canon.specs.Valid.{isNoted}
+use Rattle.canon.specs.Canonical.{rowShown, noteShown, slotsShown, slotLinesOf, commentLines, noteLines, notedLines, cellLines, cellsLines, epochShown, epochsLines}
+use Rattle.writer.proofs.Laying.{first-room}
 
 -- so many blocks of a width are left from a place on
 pub record Left (size width from more : ℕ) : Type 0 where
@@ -96,6 +100,26 @@ unfolding cellsLines
 cells-next velocity identifiers rows j from width h e =
     rw (rest-step identifiers j h, block-is rows from width, ← rest-is rows from width, e)
 
+-- the lines of a row: its own, and that of its note where there is one
+module _ (velocity : Bool) (identifier : ℕ) (row : List ℤ) (size : length row ≡ rowWidth) where
+  pub note-whole : take noteWidth (drop bareWidth row) ≡ drop bareWidth row
+  note-whole = take-all noteWidth (drop bareWidth row) (omega (arith, size, length-drop bareWidth row))
+
+  pub noted-alone : {noted : Bool} → noted ≡ isNoted (take noteWidth (drop bareWidth row)) → noted ≡ false
+      → notedLines velocity identifier row ≡ rowLine velocity (rowShown identifier row) ∷ []
+  unfolding notedLines noteLines
+  noted-alone e none =
+      let no : isNoted (drop bareWidth row) ≡ false = ap isNoted (sym note-whole) ∙ sym e ∙ none in
+      rw no
+
+  pub noted-both : {noted : Bool} → noted ≡ isNoted (take noteWidth (drop bareWidth row)) → noted ≡ true
+      → notedLines velocity identifier row
+      ≡ rowLine velocity (rowShown identifier row) ∷ noteLine velocity (noteShown (take noteWidth (drop bareWidth row))) ∷ []
+  unfolding notedLines noteLines
+  noted-both e some =
+      let yes : isNoted (drop bareWidth row) ≡ true = ap isNoted (sym note-whole) ∙ sym e ∙ some in
+      rw (yes, note-whole)
+
 -- the rows of one satellite: P alone, or P and V
 module _ (velocity : Bool) (cell : List ℤ) (size : length cell ≡ cellWidth velocity) where
   pub cell-long : rowWidth ≤ length cell
@@ -108,16 +132,25 @@ module _ (velocity : Bool) (cell : List ℤ) (size : length cell ≡ cellWidth v
   pub cell-wide : velocity ≡ true → length cell ≡ bothWidth
   cell-wide e = size ∙ ap cellWidth e
 
-  pub cell-placed : (identifier : ℕ) → velocity ≡ false → cellLines velocity identifier cell ≡ rowLine false (rowShown identifier (take rowWidth cell)) ∷ []
+  pub cell-placed : (identifier : ℕ) → velocity ≡ false → cellLines velocity identifier cell ≡ notedLines false identifier (take rowWidth cell)
   unfolding cellLines
   cell-placed identifier e =
-      let twelve : length cell ≡ rowWidth = size ∙ ap cellWidth e in
+      let one : length cell ≡ rowWidth = size ∙ ap cellWidth e in
       rw (e, take-all rowWidth cell (omega arith))
 
   pub cell-moved : (identifier : ℕ) → velocity ≡ true
-      → cellLines velocity identifier cell ≡ rowLine false (rowShown identifier (take rowWidth cell)) ∷ rowLine true (rowShown identifier (take rowWidth (drop rowWidth cell))) ∷ []
+      → cellLines velocity identifier cell ≡ notedLines false identifier (take rowWidth cell) ++ notedLines true identifier (take rowWidth (drop rowWidth cell))
   unfolding cellLines
   cell-moved identifier e = rw (e, take-all rowWidth (drop rowWidth cell) (omega (arith, cell-wide e, length-drop rowWidth cell)))
+
+  -- there is room for those of P
+  pub cell-room : (identifier : ℕ) (out : List ℕ) → length (flat (cellLines velocity identifier cell)) ≤ length out
+      → length (flat (notedLines false identifier (take rowWidth cell))) ≤ length out
+  cell-room identifier out h = go velocity refl
+    where
+      go : (v : Bool) → velocity ≡ v → length (flat (notedLines false identifier (take rowWidth cell))) ≤ length out
+      go true e = first-room (notedLines false identifier (take rowWidth cell)) (notedLines true identifier (take rowWidth (drop rowWidth cell))) out (rw (cell-moved identifier e) at h)
+      go false e = rw (cell-placed identifier e) at h
 
 -- what a front has past its first elements
 front-rest : {A : Type 0} (w n : ℕ) (l : List A) → drop w (take n l) ≡ take (n - w) (drop w l)

@@ -32,8 +32,9 @@ use Rattle.header.specs.declared.types.Header.{Header}
 use Rattle.record.specs.declared.types.Second.{Second}
 use Rattle.record.specs.declared.types.Signed.{Signed}
 use Rattle.record.specs.declared.types.Row.{Row}
+use Rattle.record.specs.declared.types.Note.{Note}
 use Rattle.canon.specs.Valid.{isInstant, entry}
-use Rattle.canon.specs.Canonical.{secondShown, seventeen, signedShown, flagShown, rowShown}
+use Rattle.canon.specs.Canonical.{secondShown, seventeen, signedShown, flagShown, rowShown, noteShown}
 
 -- an instant has a date
 pub named : (at8 : ℕ) (clock : Clock) (n : Named) → isInstant at8 ≡ true → clock ≡ clockOf at8 → toldNamed n ≡ civilAnswer (clock .day)
@@ -137,4 +138,37 @@ row-read identifier row ex ey ez ec e4 e5 e6 e7 e8 e9 e10 e11 =
       predicted = e9 i;
       maneuver = e10 i;
       «orbit_predicted» = e11 i;
+    }
+
+pub note-read : (note : List ℤ) {xd yd zd cd : ℕ} {xy xz xc yz yc zc : Signed}
+    → xd ≡ natAbs (entry note 1) → yd ≡ natAbs (entry note 2) → zd ≡ natAbs (entry note 3) → cd ≡ natAbs (entry note 4)
+    → xy ≡ signedShown (entry note 5) → xz ≡ signedShown (entry note 6) → xc ≡ signedShown (entry note 7)
+    → yz ≡ signedShown (entry note 8) → yc ≡ signedShown (entry note 9) → zc ≡ signedShown (entry note 10)
+    → _≡_ {A = Note}
+    (record {
+      «x_deviation» = xd;
+      «y_deviation» = yd;
+      «z_deviation» = zd;
+      «clock_deviation» = cd;
+      xy = xy;
+      xz = xz;
+      xc = xc;
+      yz = yz;
+      yc = yc;
+      zc = zc;
+    })
+    (noteShown note)
+unfolding noteShown
+note-read note e1 e2 e3 e4 e5 e6 e7 e8 e9 e10 =
+    λ i. record {
+      «x_deviation» = e1 i;
+      «y_deviation» = e2 i;
+      «z_deviation» = e3 i;
+      «clock_deviation» = e4 i;
+      xy = e5 i;
+      xz = e6 i;
+      xc = e7 i;
+      yz = e8 i;
+      yc = e9 i;
+      zc = e10 i;
     }

@@ -7,14 +7,30 @@ ghost use lib.ListN.{length};
 ghost use Rattle.lines.specs.Lent.{flat};
 ghost use Rattle.layout.specs.Line.{Lays};
 ghost use Rattle.record.specs.Opening.{epochLine};
+ghost use Rattle.record.specs.Rows.{rowWidth};
 ghost use Rattle.canon.specs.Table.{cellWidth};
 ghost use Rattle.canon.specs.Valid.{isInstant, timesValid};
-ghost use Rattle.canon.specs.Canonical.{cellLines, cellsLines, epochShown, epochsLines};
+ghost use Rattle.canon.specs.Canonical.{notedLines, cellLines, cellsLines, epochShown, epochsLines};
 use crate::shown;
 use header::Header;
 use record::Epoch;
+use record::rows::BARE_WIDTH;
 use record::rows::BOTH_WIDTH;
 use record::rows::ROW_WIDTH;
+
+// A P line, or a V line where `velocity` says so, and the line of its note where there is one.
+fn put_noted(velocity: bool, identifier: u64, row: &[i64], out: &mut [u8]) -> usize
+    requires { ⌜ length (now row) ≡ rowWidth ⌝ }
+    requires { ⌜ length (flat (notedLines velocity identifier (now row))) ≤ length (now out) ⌝ }
+    ensures { λ r. ⌜ Lays (flat (notedLines velocity identifier (now (row .entry)))) (now (out .entry)) r (now (out .exit)) ⌝ }
+{
+    let note = &row[BARE_WIDTH..ROW_WIDTH];
+    let at = draw::rows::write_row(shown::row_shown(identifier, row), velocity, out);
+    if !shown::flag_at(note, 0) {
+        return at;
+    }
+    at + draw::notes::write_note(shown::note_shown(note), velocity, &mut out[at..])
+}
 
 // The lines of one satellite in one epoch.
 fn put_cell(velocity: bool, identifier: u64, cell: &[i64], out: &mut [u8]) -> usize
@@ -22,13 +38,12 @@ fn put_cell(velocity: bool, identifier: u64, cell: &[i64], out: &mut [u8]) -> us
     requires { ⌜ length (flat (cellLines velocity identifier (now cell))) ≤ length (now out) ⌝ }
     ensures { λ r. ⌜ Lays (flat (cellLines velocity identifier (now (cell .entry)))) (now (out .entry)) r (now (out .exit)) ⌝ }
 {
-    let place = shown::row_shown(identifier, &cell[0..ROW_WIDTH]);
-    let at = draw::rows::write_row(place, false, out);
+    let at = put_noted(false, identifier, &cell[0..ROW_WIDTH], out);
     if !velocity {
         return at;
     }
-    let motion = shown::row_shown(identifier, &cell[ROW_WIDTH..BOTH_WIDTH]);
-    at + draw::rows::write_row(motion, true, &mut out[at..])
+    let motion = &cell[ROW_WIDTH..BOTH_WIDTH];
+    at + put_noted(true, identifier, motion, &mut out[at..])
 }
 
 // Those of each satellite, in header order.

@@ -5,9 +5,9 @@ ghost use Prim.Native.Nat.{_+_, _*_, _/_, _<_, _≤_};
 ghost use lib.ListN.{length};
 ghost use lib.IntN.{natAbs};
 ghost use Rattle.calendar.specs.Clock.{dayUnits};
-ghost use Rattle.record.specs.Rows.{rowWidth};
+ghost use Rattle.record.specs.Rows.{noteWidth, rowWidth};
 ghost use Rattle.canon.specs.Valid.{isInstant, entry};
-ghost use Rattle.canon.specs.Canonical.{momentOf, firstShown, secondShown, seventeen, signedShown, flagShown, rowShown};
+ghost use Rattle.canon.specs.Canonical.{momentOf, firstShown, secondShown, seventeen, signedShown, flagShown, rowShown, noteShown};
 use calendar::Fraction;
 use calendar::Named;
 use calendar::Week;
@@ -16,6 +16,7 @@ use field::sign::magnitude_of;
 use header::Header;
 use header::Moment;
 use record::First;
+use record::Note;
 use record::Row;
 use record::Second;
 use record::Signed;
@@ -118,7 +119,7 @@ fn magnitude_at(row: &[i64], i: usize) -> u64
 }
 
 // The flag at a place of a row.
-fn flag_at(row: &[i64], i: usize) -> bool
+pub(crate) fn flag_at(row: &[i64], i: usize) -> bool
     requires { ⌜ i + 1 ≤ length (now row) ⌝ }
     ensures { λ r. ⌜ r ≡ flagShown (entry (now (row .entry)) i) ⌝ }
 {
@@ -136,7 +137,7 @@ fn signed_at(row: &[i64], i: usize) -> Signed
     }
 }
 
-// The row of a satellite of twelve stored numbers.
+// The row of a satellite of its stored numbers.
 pub(crate) fn row_shown(identifier: u64, row: &[i64]) -> Row
     requires { ⌜ length (now row) ≡ rowWidth ⌝ }
     ensures { λ r. ⌜ r ≡ rowShown identifier (now (row .entry)) ⌝ }
@@ -155,5 +156,24 @@ pub(crate) fn row_shown(identifier: u64, row: &[i64]) -> Row
         predicted: flag_at(row, 9),
         maneuver: flag_at(row, 10),
         orbit_predicted: flag_at(row, 11),
+    }
+}
+
+// A note of its stored numbers, after its mark.
+pub(crate) fn note_shown(note: &[i64]) -> Note
+    requires { ⌜ length (now note) ≡ noteWidth ⌝ }
+    ensures { λ r. ⌜ r ≡ noteShown (now (note .entry)) ⌝ }
+{
+    Note {
+        x_deviation: magnitude_at(note, 1),
+        y_deviation: magnitude_at(note, 2),
+        z_deviation: magnitude_at(note, 3),
+        clock_deviation: magnitude_at(note, 4),
+        xy: signed_at(note, 5),
+        xz: signed_at(note, 6),
+        xc: signed_at(note, 7),
+        yz: signed_at(note, 8),
+        yc: signed_at(note, 9),
+        zc: signed_at(note, 10),
     }
 }
