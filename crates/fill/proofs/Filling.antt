@@ -66,10 +66,6 @@ module _ {A : Type 0} {test : List ℕ → Bool} {rest : ℕ → List (List ℕ)
       here : Laying all old now stored (rest left (line ∷ after))
       here = laying-as (ap (rest left) (select-first test line (linesOf (drop (end + 1) bytes)) (first-line bytes at end found h) is)) (f .has)
 
-      -- nothing of it is to be laid, nor of any after it
-      pub filling-done : rest left (line ∷ after) ≡ [] → now ≡ laid all old
-      filling-done none = laying-all (laying-as none here)
-
       -- a block of it is laid into `&mut out[stored..]`
       module _ (block : List A) (left′ : ℕ) (one : rest left (line ∷ after) ≡ block ++ rest left′ after) {part : List A}
           (e : part ≡ laid block (take (length now - stored) (drop stored now))) where

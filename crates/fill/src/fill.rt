@@ -8,7 +8,7 @@ ghost use Rattle.lines.specs.Lines.{linesOf};
 ghost use Rattle.record.specs.LineKinds.{commentKind};
 ghost use Rattle.record.specs.Rows.{rowWidth};
 ghost use Rattle.file.specs.Kinds.{ofKind};
-ghost use Rattle.file.specs.Table.{slotNumbers, slotsIn, commentText, rowLines, numbersOfRows};
+ghost use Rattle.file.specs.Table.{slotNumbers, slotsIn, commentText, rowsOfLines};
 use crate::rows;
 use header::Rules;
 use record::kind::ACCURACIES_KIND;
@@ -102,9 +102,9 @@ pub fn fill_comments(rules: Rules, bytes: &[u8], count: u64, out: &mut [u8])
     }
 }
 
-// The rows, as many whole ones as there is room for, twelve numbers each.
+// The rows, as many whole ones as there is room for, twenty-three numbers each.
 pub fn fill_rows(rules: Rules, bytes: &[u8], out: &mut [i64])
-    ensures lent { λ _. ⌜ now (out .exit) ≡ over (numbersOfRows rules (take (length (now (out .entry)) / rowWidth) (rowLines rules (linesOf (now (bytes .entry)))))) (now (out .entry)) ⌝ }
+    ensures lent { λ _. ⌜ now (out .exit) ≡ over (flat (take (length (now (out .entry)) / rowWidth) (rowsOfLines rules (linesOf (now (bytes .entry)))))) (now (out .entry)) ⌝ }
 {
     let mut at: usize = 0;
     let mut stored: usize = 0;
@@ -119,8 +119,10 @@ pub fn fill_rows(rules: Rules, bytes: &[u8], out: &mut [i64])
             if out.len() - stored < ROW_WIDTH {
                 return;
             }
-            rows::store_row(
+            rows::store_noted(
                 record::rows::row_of(line, kind == VELOCITY_KIND),
+                bytes,
+                end + 1,
                 &mut out[stored..],
             );
             stored += ROW_WIDTH;

@@ -4,12 +4,12 @@ use Prim.Native.Nat.{ℕ, _-_}
 use mathlib.Core.Path.{sym, ap, _∙_}
 use mathlib.Core.Bool.{Bool, _||_}
 use mathlib.Core.Logic.{⊎-elim}
+use native.Mathlib.Omega.{arith}
 use borrow.Author.Needs.{needs}
 use lib.Dec.{eqb}
 use lib.ListN.{length, take, drop}
 use Rattle.record.specs.Rows.{rowOf}
-use Rattle.fill.proofs.Filling.{filling-other}
-use Rattle.fill.proofs.FillingRows.{RowsFilling, rows-first, rows-end, rows-full, rows-more}
+use Rattle.fill.proofs.FillingRows.{RowsFilling, rows-first, rows-end, rows-full, rows-passed, rows-more}
 use Rattle.fill.proofs.fill.fill_rows.Statement.{statement}
 use Rattle.fill.proofs.fill.fill_rows.Tie as tie
 
@@ -41,8 +41,14 @@ returns-2 c =
     let at-loop = ended .before in
     let a = at-loop .before .before .args in
     rows-full (a .rules) (a .bytes .now) (a .out .now) (at-loop .loop .out) (at-loop .loop .at) (at-loop .loop .stored) (at-loop .loop .inv)
-    (ended .line-end .result) (ended .line-end .ensures) (told .before .before .if1 .left)
-    (sym (ap isRowKind (told .kind-in .ensures)) ∙ c .before .if2 .taken) (c .if3 .taken)
+    (ended .line-end .result) (ended .line-end .ensures) (c .if3 .taken)
+
+-- a row has room, so its end is within 64 bits
+add-stored : tie.Need-add-stored Inv-loop μ-loop
+add-stored c =
+    let room = c .before .before .before .before in
+    let at-loop = room .before .before .before .before .before .before in
+    omega (arith, at-loop .before .before .good, at-loop .loop .inv .has .kept, room .if3 .left)
 
 loop-again : tie.Need-loop-again Inv-loop μ-loop
 loop-again c =
@@ -57,11 +63,11 @@ loop-again c =
     rw (w .6, w .7)
     (rows-more (a .rules) (a .bytes .now) (a .out .now) (at-loop .loop .out) (at-loop .loop .at) (at-loop .loop .stored) (at-loop .loop .inv)
     (ended .line-end .result) (ended .line-end .ensures) found (sym (ap isRowKind (told .kind-in .ensures)) ∙ w .0 .taken) (w .1 .left)
-    (w .2 .result) (w .2 .ensures ∙ ap (λ (kind : ℕ). rowOf (eqb kind 11) line) (told .kind-in .ensures)) (w .4 .ensures)))
+    (w .2 .result) (w .2 .ensures ∙ ap (λ (kind : ℕ). rowOf (eqb kind 11) line) (told .kind-in .ensures)) (w .4 .ensures (a .rules))))
     (λ w.
     rw (w .1, w .2)
-    (filling-other (at-loop .loop .inv) (ended .line-end .result) (ended .line-end .ensures) found
-    (sym (ap isRowKind (told .kind-in .ensures)) ∙ w .0 .left)))
+    (rows-passed (a .rules) (a .bytes .now) (a .out .now) (at-loop .loop .out) (at-loop .loop .at) (at-loop .loop .stored) (at-loop .loop .inv)
+    (ended .line-end .result) (ended .line-end .ensures) found (sym (ap isRowKind (told .kind-in .ensures)) ∙ w .0 .left)))
     (c .if2 .came)
 
 pub fill-rows-spec : {M : Type 1} → statement M
@@ -86,8 +92,9 @@ fill-rows-spec =
     (λ c. search needs)
     (λ c. search needs)
     (λ c. search needs)
-    (λ c κs. search needs)
     (λ c. search needs)
+    (λ c κs. search needs)
+    add-stored
     (λ c. search needs)
     (λ c. search needs)
     loop-again)
