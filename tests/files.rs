@@ -267,7 +267,7 @@ impl Row {
 }
 
 /// 1 and the ten numbers of a note, or 0 and ten that are unknown.
-fn held_note(note: Option<Note>) -> Vec<i64> {
+pub(crate) fn held_note(note: Option<Note>) -> Vec<i64> {
     let (mark, deviations, correlations) = match note {
         Some(note) => (1, note.deviations, note.correlations),
         None => (0, [None; 4], [None; 6]),
