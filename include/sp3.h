@@ -50,8 +50,8 @@ extern "C" {
  * SP3_UNKNOWN; four flags, 0 or 1; then what an EP record directly after a P row, or an EV record directly after a V row, says of it: 1 where it
  * stands there and 0 where not; the standard deviations of x, y, z and clock, 0 to 9999 (0 to 9999999 for the clock); the correlations xy, xz, xc,
  * yz, yc and zc, -9999999 to 9999999. Each of these ten is SP3_UNNOTED where it is unknown, and all ten are where no such record stands. A place that
- * is absent is stored as three zeros, an absent clock as SP3_NO_CLOCK: nobody should take these numbers for a place, so ask sp3_place_of, sp3_clock_of
- * and sp3_note_of instead of counting. No number is above 999,999,999,999 or below minus that. */
+ * is absent is stored as three zeros, an absent clock as SP3_NO_CLOCK: nobody should take these numbers for a place, so ask sp3_place_of,
+ * sp3_clock_of and sp3_note_of instead of counting. No number is above 999,999,999,999 or below minus that. */
 enum { SP3_ROW_WIDTH = 23, SP3_COMMENT_WIDTH = 77, SP3_UNKNOWN = 1000, SP3_UNNOTED = 100000000 };
 #define SP3_NO_CLOCK INT64_C(999999999999)
 

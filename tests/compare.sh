@@ -15,9 +15,9 @@
 #   tests/compare.sh columns
 #   tests/compare.sh case columns NUMBER
 #
-# compares the doors on some 24,000 files that differ from an accepted one in one row or one EP or EV line: every class of bytes in each of its columns,
-# pairs of bytes side by side, identifiers that make the same number, and a line once more. They are always the same. A difference is shown at once;
-# the second shows any.
+# compares the doors on some 24,000 files that differ from an accepted one in one row or one EP or EV line: every class of bytes in each of its
+# columns, pairs of bytes side by side, identifiers that make the same number, and a line once more. They are always the same. A difference is shown
+# at once; the second shows any.
 #
 #   tests/compare.sh tables|forms|divide [SEED [COUNT]]
 #
