@@ -1240,7 +1240,7 @@ pub(crate) fn hand_made(base: Base, edits: &[Edit]) -> Vec<u8> {
 // Answers worked out by hand
 // ---------------------------------------------------------------------------
 
-use Base::{Many, Motion, MovingNotes, MovingRows, Night, Nothing, Notes, Paper, Rows, Talkative};
+use Base::{Many, Motion, MovingNotes, MovingRows, Night, Notes, Nothing, Paper, Rows, Talkative};
 use Edit::{
     After, AfterItself, AfterMany, Byte, CarriageReturns, Double, Drop, Insert, Join, Keep,
     Line as Whole, Put, Swap,
@@ -2831,8 +2831,7 @@ fn plain_file(velocities: bool, satellites: usize, epochs: usize) -> Draft {
     let (identifiers, file_type) = choose_identifiers(random, satellites);
     let (start, interval, notes) = (56_385 * DAY, 900 * SECOND, 8);
     let rest = choose_plan(random);
-    let plan =
-        Plan { velocities, start, interval, epochs, identifiers, file_type, notes, ..rest };
+    let plan = Plan { velocities, start, interval, epochs, identifiers, file_type, notes, ..rest };
     write_plan(&mut Pen { random, odd: false }, &plan)
 }
 
@@ -3112,8 +3111,7 @@ fn names_alike() -> Vec<Case> {
 
 /// A line of the epochs once more, where it may not stand.
 fn lines_doubled() -> Vec<Case> {
-    let files =
-        [(Rows, 23..=28), (MovingRows, 23..=32), (Notes, 23..=32), (MovingNotes, 23..=40)];
+    let files = [(Rows, 23..=28), (MovingRows, 23..=32), (Notes, 23..=32), (MovingNotes, 23..=40)];
     let lines = files.into_iter().flat_map(|(base, lines)| lines.map(move |line| (base, line)));
     lines.map(|(base, line)| ask_for_row(base, line, |draft| draft.double_line(line))).collect()
 }

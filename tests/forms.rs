@@ -1580,9 +1580,8 @@ fn judged_number(
     right: &[i64],
     wrong: &[i64],
 ) -> Vec<Judged> {
-    let judged = |&number: &i64, answer| {
-        (base, [before, &[RowNumber(place, number)]].concat(), 0, answer)
-    };
+    let judged =
+        |&number: &i64, answer| (base, [before, &[RowNumber(place, number)]].concat(), 0, answer);
     let right = right.iter().map(|number| judged(number, 0));
     right.chain(wrong.iter().map(|number| judged(number, 13))).collect()
 }
@@ -1682,9 +1681,14 @@ const ROOMS: &[(Base, &[Change], isize, u8)] = &[
 const SMALL: &[u64] = &[
     0, 1, 2, 3, 4, 5, 9, 10, 17, 31, 32, 65, 71, 77, 80, 86, 90, 91, 99, 100, 126, 127, 128, 254,
     255, 256, 999, 1000, 1001, 6501, 7100, 7101, 9099, 9999, 10_000, 65_535, 65_536, 100_000,
-    100_001, 9_999_999, 10_000_000, 99_999_999, 100_000_000, 100_000_001,
+    100_001,
 ];
 const LARGE: &[u64] = &[
+    9_999_999,
+    10_000_000,
+    99_999_999,
+    100_000_000,
+    100_000_001,
     999_999_999,
     1_000_000_000,
     99_999_999_999,
