@@ -2492,7 +2492,8 @@ fn correlation_inserted(draft: &mut Draft, _: &Plan, random: &mut Random) {
 /// A note after a row, in place of the one there or before it, mostly of the
 /// row's own kind; then most are spoilt.
 fn note_spoilt(draft: &mut Draft, _: &Plan, random: &mut Random) {
-    let rows = [draft.lines_of("P"), draft.lines_of("V")].concat();
+    let (positions, velocities) = (draft.lines_of("P"), draft.lines_of("V"));
+    let rows = if velocities.is_empty() || once_in(random, 3) { positions } else { velocities };
     if rows.is_empty() {
         return;
     }
@@ -2507,15 +2508,20 @@ fn note_spoilt(draft: &mut Draft, _: &Plan, random: &mut Random) {
     spoil_note(draft, row + 1, random);
 }
 
-/// Too long, a wrong byte, another spelling, one or two fields spoilt, or not.
+/// Too long, a wrong byte, a correlation on either side of its bounds, another
+/// spelling, one or two fields spoilt, or not.
 fn spoil_note(draft: &mut Draft, line: usize, random: &mut Random) {
-    match random.below(12) {
+    match random.below(16) {
         0 => draft.put(line, 81, &[*random.pick(b" x0")]),
         1 => draft.put(line, 1 + random.below(81), &[*random.pick(&[9, 0, 31, 127, 255])]),
-        2 => draft.put(line, 3 + random.below(78), &[*random.pick(b"0123456789 -.x+")]),
-        3..=6 => spell_otherwise(draft, line, random),
-        7 | 8 => spoil_line(draft, line, random, 1),
-        9 | 10 => spoil_line(draft, line, random, 2),
+        2 | 3 => draft.put(line, 3 + random.below(78), &[*random.pick(b"0123456789 -.x+")]),
+        4..=6 => {
+            let text = *random.pick(&["10000000", "99999999", "12345678", "09999999", "-9999999"]);
+            draft.put(line, 28 + 9 * random.below(6), text.as_bytes());
+        }
+        7..=10 => spell_otherwise(draft, line, random),
+        11 | 12 => spoil_line(draft, line, random, 1),
+        13 | 14 => spoil_line(draft, line, random, 2),
         _ => {}
     }
 }
@@ -2724,7 +2730,7 @@ const DAMAGES: Damages = &[
     (6, "line: gone, twice or exchanged", lines_moved),
     (3, "line: inserted", line_inserted),
     (2, "line: EP or EV inserted", correlation_inserted),
-    (8, "line: a note, spoilt or not", note_spoilt),
+    (12, "line: a note, spoilt or not", note_spoilt),
     (2, "line: its end spoilt", line_end_spoiled),
     (5, "field: another instant", wrong_instant),
     (2, "field: an identifier twice", identifier_repeats),
@@ -2744,6 +2750,7 @@ const FURTHER_DAMAGES: Damages = &[
     (3, "field: two of a line spoilt", two_fields_spoilt),
     (6, "byte: any", any_byte),
     (1, "line: cut", line_cut),
+    (4, "line: a note, spoilt or not", note_spoilt),
 ];
 
 fn damage(draft: &mut Draft, plan: &Plan, random: &mut Random, damages: Damages) -> Done {
