@@ -4,7 +4,10 @@
 
 #include "plain.h"
 
-enum { COLUMNS = 80, SLOTS = 17, MOST_SATELLITES = 255, MOST_EPOCHS = 100000, TEXT = 77, NUMBERS = 12, UNKNOWN = 1000 };
+enum { COLUMNS = 80, SLOTS = 17, MOST_SATELLITES = 255, MOST_EPOCHS = 100000, TEXT = 77, UNKNOWN = 1000 };
+
+// the numbers of a row, of which those from NOTE on say what the correlation record after it holds
+enum { NUMBERS = 23, NOTE = 12, NOTED = NUMBERS - NOTE, UNNOTED = 100000000, MOST_CORRELATION = 9999999 };
 
 static const uint64_t SECOND = 100000000, DAY = 86400 * 100000000ull;
 
@@ -95,6 +98,14 @@ static bool integer(const uint8_t *s, size_t width, uint64_t *value) {
     }
     *value = v;
     return true;
+}
+
+// the same with a minus directly before the first digit, or without; `value` is the magnitude
+static bool signed_integer(const uint8_t *s, size_t width, uint64_t *value) {
+    size_t i = 0;
+    while (i < width && s[i] == ' ') i++;
+    if (i < width && s[i] == '-') i++;
+    return i < width && s[i] != ' ' && integer(s + i, width - i, value);
 }
 
 // blanks, a minus if the field allows it, at least one digit, the point, exactly the places, filling the field; `value` is the magnitude
@@ -397,9 +408,19 @@ static bool is_blank(const uint8_t *s, size_t width) {
     return true;
 }
 
-static void exponent_at(struct file *f, size_t first, size_t width) {
+// an integer, or blank for unknown
+static void known_at(struct file *f, size_t first, size_t width) {
     uint64_t value;
     if (!is_blank(f->line + first - 1, width) && !integer(f->line + first - 1, width, &value)) fault(f, MALFORMED);
+}
+
+static void correlation_at(struct file *f, size_t first) {
+    uint64_t value;
+    if (is_blank(f->line + first - 1, 8)) return;
+    if (!signed_integer(f->line + first - 1, 8, &value))
+        fault(f, MALFORMED);
+    else if (value > MOST_CORRELATION)
+        fault(f, BOUNDS);
 }
 
 static void flag_at(struct file *f, size_t column, uint8_t letter) {
@@ -415,7 +436,7 @@ static bool row_line(struct file *f, const struct header *h, size_t k, uint8_t l
     if (identifier_at(f, 2) != h->identifiers[k]) fault(f, SATELLITE);
     coordinate_at(f, 5), coordinate_at(f, 19), coordinate_at(f, 33), coordinate_at(f, 47);
     unused(f, 61, 61), unused(f, 64, 64), unused(f, 67, 67), unused(f, 70, 70);
-    exponent_at(f, 62, 2), exponent_at(f, 65, 2), exponent_at(f, 68, 2), exponent_at(f, 71, 3);
+    known_at(f, 62, 2), known_at(f, 65, 2), known_at(f, 68, 2), known_at(f, 71, 3);
     if (letter == 'P') {
         unused(f, 74, 74), unused(f, 77, 78);
         flag_at(f, 75, 'E'), flag_at(f, 76, 'P'), flag_at(f, 79, 'M'), flag_at(f, 80, 'P');
@@ -425,10 +446,18 @@ static bool row_line(struct file *f, const struct header *h, size_t k, uint8_t l
     return f->fault == NO_FAULT;
 }
 
-// Takes the next line, and the one after it where it is a correlation record.
-static bool take_after(struct file *f, const char *correlation) {
+// The line that was taken is a correlation record.
+static bool note_line(struct file *f) {
+    unused(f, 3, 4), unused(f, 9, 9), unused(f, 14, 14), unused(f, 19, 19);
+    known_at(f, 5, 4), known_at(f, 10, 4), known_at(f, 15, 4), known_at(f, 20, 7);
+    for (size_t c = 28; c <= 73; c += 9) unused(f, c - 1, c - 1), correlation_at(f, c);
+    return f->fault == NO_FAULT;
+}
+
+// Takes the next line, and the one after it where it is a correlation record with this symbol.
+static bool take_after(struct file *f, const char *symbol) {
     if (!take(f)) return false;
-    return !begins(f, correlation) || take(f);
+    return !begins(f, symbol) || (note_line(f) && take(f));
 }
 
 // The epochs, from the line that was taken; the line after them is taken.
@@ -498,13 +527,23 @@ static int64_t number(const uint8_t *s, size_t width) {
     return minus ? -v : v;
 }
 
-static int64_t exponent(const uint8_t *s, size_t width) { return is_blank(s, width) ? UNKNOWN : number(s, width); }
+static int64_t known(const uint8_t *s, size_t width, int64_t unknown) { return is_blank(s, width) ? unknown : number(s, width); }
 
+// a row that no correlation record stands after
 static void fill_row(const uint8_t *s, int64_t *row) {
+    static const int64_t none[NOTED] = {0, UNNOTED, UNNOTED, UNNOTED, UNNOTED, UNNOTED, UNNOTED, UNNOTED, UNNOTED, UNNOTED, UNNOTED};
     for (size_t i = 0; i < 4; i++) row[i] = number(s + 4 + 14 * i, 14);
-    for (size_t i = 0; i < 3; i++) row[4 + i] = exponent(s + 61 + 3 * i, 2);
-    row[7] = exponent(s + 70, 3);
+    for (size_t i = 0; i < 3; i++) row[4 + i] = known(s + 61 + 3 * i, 2, UNKNOWN);
+    row[7] = known(s + 70, 3, UNKNOWN);
     row[8] = s[74] == 'E', row[9] = s[75] == 'P', row[10] = s[78] == 'M', row[11] = s[79] == 'P';
+    memcpy(row + NOTE, none, sizeof none);
+}
+
+static void fill_note(const uint8_t *s, int64_t *note) {
+    note[0] = 1;
+    for (size_t i = 0; i < 3; i++) note[1 + i] = known(s + 4 + 5 * i, 4, UNNOTED);
+    note[4] = known(s + 19, 7, UNNOTED);
+    for (size_t i = 0; i < 6; i++) note[5 + i] = known(s + 27 + 9 * i, 8, UNNOTED);
 }
 
 static void fill_exponents(struct file *f, size_t n, uint64_t *exponents) {
@@ -521,10 +560,15 @@ static void fill_comments(struct file *f, size_t count, uint8_t *comments) {
     }
 }
 
-static void fill_rows(struct file *f, size_t count, int64_t *rows) {
-    for (size_t k = 0; k < count;) {
-        next(f);
-        if (f->line[0] == 'P' || f->line[0] == 'V') fill_row(f->line, rows + NUMBERS * k++);
+// The rows up to EOF, and what the records after them say.
+static void fill_rows(struct file *f, int64_t *row) {
+    for (next(f); !begins(f, "EOF"); next(f)) {
+        if (f->line[0] == 'P' || f->line[0] == 'V') {
+            fill_row(f->line, row);
+            row += NUMBERS;
+        } else if (f->line[0] == 'E') {
+            fill_note(f->line, row - NOTED);
+        }
     }
 }
 
@@ -543,7 +587,7 @@ sp3_reading_t PLAIN(read)(const uint8_t *file, size_t length, uint64_t *identifi
     fill_exponents(&f, n, exponents);
     for (size_t j = 0; j < 6; j++) next(&f);
     fill_comments(&f, h.said.comments, comments);
-    fill_rows(&f, row_count, rows);
+    fill_rows(&f, rows);
     return answer;
 }
 

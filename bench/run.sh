@@ -3,10 +3,11 @@
 # For judge, read, write, rewrite (read, then write) and divide, each on a file of 96 epochs of 32 satellites and on one of 288 of 120, in mode P with
 # rows of 80 columns: the instructions for a byte (of the file; of what is written, for write), beside plain scalar C (reader.c, writer.c) at -O2 and
 # at -O3, and the time as a ratio, ours / C, of the least of 15 turns in one run (on another processor than x86-64 it would be the emulator's, and is
-# left out). Walk is the library alone: a file begun, then all its rows. Then the instructions for a row, of 80 columns, with its trailing blanks cut, and
-# of a kind that has no picture (E in column 75 beside a blank); those at 1, 4 and 16 times the size; and how much of its stack each side touches. Ours is target/staticlib/libsp3.a, what include/sp3.h is linked with (LLVM, -O3), proved and built first as far as that
-# is not done; the C is gcc's; both are for plain x86-64. This ends with 1 where the sides do not answer the same, on the files themselves or with
-# one byte or one number altered, or where a byte of ours costs over a tenth more at 16 times the size. Time decides nothing.
+# left out). Walk is the library alone: a file begun, then all its rows. Then the instructions for a row, of 80 columns, with its trailing blanks cut,
+# of a kind that has no picture (E in column 75 beside a blank), and with an EP after it; those at 1, 4 and 16 times the size; and how much of its
+# stack each side touches. Ours is target/staticlib/libsp3.a, what include/sp3.h is linked with (LLVM, -O3), proved and built first as far as that is
+# not done; the C is gcc's; both are for plain x86-64. This ends with 1 where the sides do not answer the same, on the files themselves or with one
+# byte or one number altered, or where a byte of ours costs over a tenth more at 16 times the size. Time decides nothing.
 set -euo pipefail
 . "$(dirname "$0")/counting.sh"
 archive
@@ -19,6 +20,7 @@ harness run reader2.o reader3.o writer2.o writer3.o
 
 cut_blanks() { sed 's/ *$//'; }
 unusual() { sed '/^P/s/^\(.\{74\}\)../\1E /'; }
+noted() { sed '/^P/a EP    55   55   55     222  1234567 -1234567  5999999      -30       21 -1230000'; }
 
 # measure LABEL EPOCHS SATELLITES COPIES ROWS: what was counted, with its label
 measure() {
@@ -31,6 +33,7 @@ while read -r label epochs satellites copies rows; do measure "$label" "$epochs"
 96x32 96 32 1
 cut 96 32 1 cut_blanks
 unusual 96 32 1 unusual
+noted 96 32 1 noted
 288x120 288 120 1
 1x 24 32 1
 4x 96 32 1
@@ -45,6 +48,7 @@ for size in 96x32 288x120; do
 done
 run run altered 96x32.sp3 2000 500 >said || { tail -n 1 said; exit 1; }
 run run altered 288x120.sp3 100 50 >said || { tail -n 1 said; exit 1; }
+run run altered noted.sp3 500 500 >said || { tail -n 1 said; exit 1; }
 
 # lines `bytes SIZE WHAT N` and `count`, `time` or `stack SIZE WHAT SIDE N`; side 0 is ours
 awk '$1 == "bytes" { bytes[$2, $3] = $4; next }
@@ -102,6 +106,7 @@ awk '$1 == "bytes" { bytes[$2, $3] = $4; next }
          kind("of 80 columns", "96x32")
          kind("trailing blanks cut", "cut")
          kind("of an unusual kind", "unusual")
+         kind("with an EP after it", "noted")
          printf "\n%-28s %35s   %35s\n", "instructions a byte", "ours", "C -O2"
          printf "%-28s", "24, 96, 384 epochs x 32"
          for (i = 0; i < 2; i++) printf "%s %8s %8s %8s %8s", i ? "  " : "", "1x", "4x", "16x", "16x/1x"

@@ -4,7 +4,10 @@
 
 #include "plain.h"
 
-enum { COLUMNS = 80, SLOTS = 17, TEXT = 77, NUMBERS = 12, UNKNOWN = 1000 };
+enum { COLUMNS = 80, SLOTS = 17, TEXT = 77, UNKNOWN = 1000 };
+
+// the numbers of a row, of which those from NOTE on say what the correlation record after it holds
+enum { NUMBERS = 23, NOTE = 12, NOTED = NUMBERS - NOTE, UNNOTED = 100000000, MOST_CORRELATION = 9999999 };
 
 static const uint64_t SECOND = 100000000, DAY = 86400 * 100000000ull, FIRST_DAY = 44244, LAST_DAY = 88068;
 static const int64_t LARGEST = 999999999999;
@@ -83,8 +86,23 @@ static bool row_valid(const int64_t *row, int64_t most_flag) {
     for (size_t i = 4; i < 7; i++)
         if (!exponent_valid(row[i], 99)) return false;
     if (!exponent_valid(row[7], 999)) return false;
-    for (size_t i = 8; i < NUMBERS; i++)
+    for (size_t i = 8; i < NOTE; i++)
         if (row[i] < 0 || row[i] > most_flag) return false;
+    return true;
+}
+
+static bool noted_valid(int64_t v, int64_t least, int64_t most) { return (v >= least && v <= most) || v == UNNOTED; }
+
+// 0 and ten that are unknown, or 1 and ten within their bounds
+static bool note_valid(const int64_t *note) {
+    static const int64_t none[NOTED] = {0, UNNOTED, UNNOTED, UNNOTED, UNNOTED, UNNOTED, UNNOTED, UNNOTED, UNNOTED, UNNOTED, UNNOTED};
+    if (memcmp(note, none, sizeof none) == 0) return true;
+    if (note[0] != 1) return false;
+    for (size_t i = 1; i < 4; i++)
+        if (!noted_valid(note[i], 0, 9999)) return false;
+    if (!noted_valid(note[4], 0, 9999999)) return false;
+    for (size_t i = 5; i < NOTED; i++)
+        if (!noted_valid(note[i], -MOST_CORRELATION, MOST_CORRELATION)) return false;
     return true;
 }
 
@@ -98,12 +116,23 @@ static size_t row_columns(const int64_t *row) {
     return 60;
 }
 
+// the last columns of the fields of a correlation record
+static const uint8_t noted_columns[NOTED - 1] = {8, 13, 18, 26, 35, 44, 53, 62, 71, 80};
+
+// the last column of such a record that isn't blank
+static size_t note_columns(const int64_t *note) {
+    for (size_t i = NOTED - 1; i > 0; i--)
+        if (note[i] != UNNOTED) return noted_columns[i - 1];
+    return 2;
+}
+
 // whether all rows are valid, and the bytes of their lines
 static bool rows_valid(const sp3_header_t *h, const int64_t *rows, size_t *length) {
     size_t count = rows_of(h);
     for (size_t k = 0; k < count; k++, rows += NUMBERS) {
-        if (!row_valid(rows, h->velocity && k % 2 == 1 ? 0 : 1)) return false;
+        if (!row_valid(rows, h->velocity && k % 2 == 1 ? 0 : 1) || !note_valid(rows + NOTE)) return false;
         *length += row_columns(rows) + 1;
+        if (rows[NOTE]) *length += note_columns(rows + NOTE) + 1;
     }
     return true;
 }
@@ -180,6 +209,11 @@ static size_t decimal(struct pen *p, size_t last, size_t places, uint64_t v) {
 
 static void signed_decimal(struct pen *p, size_t last, int64_t v) {
     size_t before = decimal(p, last, 6, (uint64_t)(v < 0 ? -v : v));
+    if (v < 0) p->line[before - 1] = '-';
+}
+
+static void signed_integer(struct pen *p, size_t last, int64_t v) {
+    size_t before = integer(p, last, (uint64_t)(v < 0 ? -v : v));
     if (v < 0) p->line[before - 1] = '-';
 }
 
@@ -280,6 +314,19 @@ static void write_row(struct pen *p, uint64_t code, const int64_t *row, bool vel
     end(p);
 }
 
+static void write_note(struct pen *p, const int64_t *note, bool velocity) {
+    begin(p, velocity ? "EV" : "EP");
+    for (size_t i = 1; i < NOTED; i++)
+        if (note[i] != UNNOTED) signed_integer(p, noted_columns[i - 1], note[i]);
+    end(p);
+}
+
+// a row, and the correlation record after it
+static void write_rows(struct pen *p, uint64_t code, const int64_t *row, bool velocity) {
+    write_row(p, code, row, velocity);
+    if (row[NOTE]) write_note(p, row + NOTE, velocity);
+}
+
 static void write_epochs(struct pen *p, const sp3_header_t *h, const struct lists *t) {
     const int64_t *row = t->rows;
     for (uint64_t k = 0; k < h->epochs; k++) {
@@ -287,10 +334,10 @@ static void write_epochs(struct pen *p, const sp3_header_t *h, const struct list
         moment(p, h->start8 + k * h->interval8);
         end(p);
         for (size_t j = 0; j < h->satellites; j++) {
-            write_row(p, t->identifiers[j], row, false);
+            write_rows(p, t->identifiers[j], row, false);
             row += NUMBERS;
             if (h->velocity) {
-                write_row(p, t->identifiers[j], row, true);
+                write_rows(p, t->identifiers[j], row, true);
                 row += NUMBERS;
             }
         }

@@ -47,9 +47,12 @@ extern "C" {
 /* The numbers of one stored row, and the bytes of one stored comment.
  *
  * A stored row, as sp3_read leaves it and sp3_write takes it: x, y, z, clock; their four exponents, 0 to 99 (0 to 999 for the clock) or
- * SP3_UNKNOWN; four flags, 0 or 1. A place that is absent is stored as three zeros, an absent clock as SP3_NO_CLOCK: nobody should take these numbers
- * for a place, so ask sp3_place_of and sp3_clock_of instead of counting. No number is above 999,999,999,999 or below minus that. */
-enum { SP3_ROW_WIDTH = 12, SP3_COMMENT_WIDTH = 77, SP3_UNKNOWN = 1000 };
+ * SP3_UNKNOWN; four flags, 0 or 1; then what an EP record directly after a P row, or an EV record directly after a V row, says of it: 1 where it
+ * stands there and 0 where not; the standard deviations of x, y, z and clock, 0 to 9999 (0 to 9999999 for the clock); the correlations xy, xz, xc,
+ * yz, yc and zc, -9999999 to 9999999. Each of these ten is SP3_UNNOTED where it is unknown, and all ten are where no such record stands. A place that
+ * is absent is stored as three zeros, an absent clock as SP3_NO_CLOCK: nobody should take these numbers for a place, so ask sp3_place_of,
+ * sp3_clock_of and sp3_note_of instead of counting. No number is above 999,999,999,999 or below minus that. */
+enum { SP3_ROW_WIDTH = 23, SP3_COMMENT_WIDTH = 77, SP3_UNKNOWN = 1000, SP3_UNNOTED = 100000000 };
 #define SP3_NO_CLOCK INT64_C(999999999999)
 
 /* A date and a time of day, the seconds in 10^-8 s. */
@@ -112,8 +115,8 @@ typedef struct {
 } sp3_measured_t;
 
 /* Writes the canonical form of a table into the first bytes of `out`. Places of the lists past the header's counts are not looked at.
- * Refused: 13 where the table is not valid (1000 among the exponents of the header, a flag of 2, a list shorter than its count); then 12 where `out`
- * is one byte too short. */
+ * Refused: 13 where the table is not valid (1000 among the exponents of the header, a flag of 2, a deviation beside a row without its record, a list
+ * shorter than its count); then 12 where `out` is one byte too short. */
 sp3_measured_t sp3_write(sp3_header_t header, const uint64_t *identifiers, size_t identifier_count, const uint64_t *exponents,
                          size_t exponent_count, const uint8_t *comments, size_t comment_bytes, const int64_t *rows, size_t row_numbers,
                          uint8_t *out, size_t out_room);
@@ -172,11 +175,39 @@ typedef struct {
 
 /* The k-th row of `rows`, as sp3_read leaves it: columns 5 to 46, 47 to 60, then the exponents of columns 62-63, 65-66, 68-69 and 71-73 (0 to 3), and
  * the flags of columns 75, 76, 79 and 80 (0 to 3: clock event, clock predicted, maneuver, orbit predicted; a V row has none set).
- * Refused: 13 where there is no k-th row (k = 1 of 23 numbers), or `which` is 4; the mark of absence is then set too. */
+ * Refused: 13 where there is no k-th row (k = 1 of 45 numbers), or `which` is 4; the mark of absence is then set too. */
 sp3_stored_place_t sp3_place_of(const int64_t *rows, size_t row_numbers, size_t k);
 sp3_stored_clock_t sp3_clock_of(const int64_t *rows, size_t row_numbers, size_t k);
 sp3_stored_exponent_t sp3_exponent_of(const int64_t *rows, size_t row_numbers, size_t k, size_t which);
 sp3_stored_flag_t sp3_flag_of(const int64_t *rows, size_t row_numbers, size_t k, size_t which);
+
+/* Whether a correlation record stands directly after the row: EP after a P row, EV after a V row. */
+typedef struct {
+    size_t refusal;
+    bool stands;
+} sp3_stored_note_t;
+
+/* A standard deviation of such a record, in mm and ps, after a V row in 10^-4 mm/s and 10^-4 ps/s: a blank one is unknown, 9999 (9999999 for the
+ * clock) is too large. At most one mark is set; the value is 0 where one is. */
+typedef struct {
+    size_t refusal;
+    bool no_record, unknown, too_large;
+    uint64_t value;
+} sp3_note_deviation_t;
+
+/* A correlation of such a record, in 10^-7: a blank one is unknown. At most one mark is set; the value is INT64_MIN where one is. */
+typedef struct {
+    size_t refusal;
+    bool no_record, unknown;
+    int64_t value;
+} sp3_note_correlation_t;
+
+/* What the k-th row of `rows` says of the record after it: whether there is one, the deviations of columns 5-8, 10-13, 15-18 and 20-26 (0 to 3: x, y,
+ * z, clock) and the correlations of columns 28-35, 37-44, 46-53, 55-62, 64-71 and 73-80 (0 to 5: xy, xz, xc, yz, yc, zc).
+ * Refused: 13 where there is no k-th row (k = 1 of 45 numbers), or `which` is 4 for a deviation, 6 for a correlation; then there is no record too. */
+sp3_stored_note_t sp3_note_of(const int64_t *rows, size_t row_numbers, size_t k);
+sp3_note_deviation_t sp3_note_deviation_of(const int64_t *rows, size_t row_numbers, size_t k, size_t which);
+sp3_note_correlation_t sp3_note_correlation_of(const int64_t *rows, size_t row_numbers, size_t k, size_t which);
 
 /* ---- Dividing ---- */
 

@@ -5,7 +5,8 @@
     python3 samples/make.py check    compares the stored files with what it makes; ends with 1 at a difference
 
 paper.sp3 is the file that 01 prints, and late.sp3 the same with its epoch a quarter of an hour late, which is refused with 9 at line 23. The others
-are made up: circles of 26,560 km at 55 degrees around a turning Earth, in Earth-fixed coordinates.
+are made up: circles of 26,560 km at 55 degrees around a turning Earth, in Earth-fixed coordinates. velocity.sp3 and correlations.sp3 have EP and EV
+records, the second of every kind.
 `tests/desk/run.py` takes the numbers of the files from here, to know what the desk tool must print.
 """
 import datetime
@@ -26,11 +27,19 @@ ORBIT = 43_082  # seconds
 EARTH = 86_164  # seconds
 
 
-class Row:
-    """A P or V row: three numbers or None, a number or None, four exponents (None for a blank one), four flags as letters or blanks."""
+class Note:
+    """An EP or EV record: four deviations and six correlations in 10^-7; None for a blank one."""
 
-    def __init__(self, place, clock, exponents=(None, None, None, None), flags="    "):
-        self.place, self.clock, self.exponents, self.flags = place, clock, exponents, flags
+    def __init__(self, deviations=(None,) * 4, correlations=(None,) * 6):
+        self.deviations, self.correlations = deviations, correlations
+
+
+class Row:
+    """A P or V row: three numbers or None, a number or None, four exponents (None for a blank one), four flags as letters or blanks; the record
+    directly after it, or None."""
+
+    def __init__(self, place, clock, exponents=(None, None, None, None), flags="    ", note=None):
+        self.place, self.clock, self.exponents, self.flags, self.note = place, clock, exponents, flags, note
 
 
 class Model:
@@ -126,9 +135,41 @@ def velocity_rows(epoch, k):
     time, rate = clock(k, 900 * epoch)
     if (epoch, k) == (1, 1):
         place = None
-    first = Row(place, time, (18, 18, 18, 219), "    " if epoch < 2 else " P P")
-    second = Row(None if k == 2 else speed, None if k == 2 else rate, (14, 99, None, 191) if k == 0 else (None, None, None, None))
+    first = Row(place, time, (18, 18, 18, 219), "    " if epoch < 2 else " P P", EXAMPLE)
+    second = Row(None if k == 2 else speed, None if k == 2 else rate, (14, 99, None, 191) if k == 0 else (None,) * 4, note=EXAMPLE)
     return [first, second]
+
+
+# the EP and the EV of Example 2 of the SP3-d document
+EXAMPLE = Note((55, 55, 55, 222), (1234567, -1234567, 5999999, -30, 21, -1230000))
+EXAMPLE_V = Note((22, 22, 22, 111), (1234567,) * 6)
+
+# of each epoch and satellite the record after P and the one after V: full; without the clock; of nothing; too large; correlations alone, at their
+# ends; zeros and a deviation of 1000, which is no mark; deviations alone, after a row without a place
+NOTES = [
+    [(EXAMPLE, EXAMPLE_V), (Note((7, 8, 9, None), (120000, -450000, None, 30, None, None)), None), (Note(), Note())],
+    [
+        (Note((9999, 9999, 9999, 9999999)), Note((None,) * 4, (9999999, -9999999, None, -1, 1, None))),
+        (None, Note((0, 1000, 0, 0), (0, 0, None, 0, None, -7))),
+        (Note((1, None, 9998, 9999998)), None),
+    ],
+]
+
+
+def correlations():
+    """Two epochs in mode V with an EP or EV record after most rows, of every kind; the third satellite has no place at the second epoch."""
+    rows = [[correlated_rows(epoch, k) for k in range(3)] for epoch in range(2)]
+    comments = ["MADE UP: CIRCLES WITH VELOCITIES AND CORRELATION RECORDS", "G02: NO CLOCK CORRELATIONS. E11: EP AND EV OF WHICH NOTHING IS KNOWN.",
+                "SECOND EPOCH: G01 TOO LARGE TO BE SHOWN, G02 NO EP, E11 WITHDRAWN", ""]
+    return Model("V", datetime.datetime(2024, 2, 28, 23, 45), 900, ["G01", "G02", "E11"], [5, 6, 0], comments, rows)
+
+
+def correlated_rows(epoch, k):
+    place, speed = circle(k, 900 * epoch)
+    time, rate = clock(k, 900 * epoch)
+    withdrawn = (epoch, k) == (1, 2)
+    first, second = NOTES[epoch][k]
+    return [Row(None if withdrawn else place, time, (18, 18, 18, 219), note=first), Row(None if withdrawn else speed, rate, note=second)]
 
 
 def season():
@@ -191,16 +232,20 @@ def row_line(letter, name, row):
     return f"{letter}{name}{''.join(fixed(number, 6, 14) for number in numbers)} {' '.join(exponents)} {flags}".rstrip()
 
 
-def file_lines(model, correlations=False):
-    """All lines, where asked for with an EP after each P row and an EV after each V row."""
+def note_line(letter, note):
+    fields = zip([*note.deviations, *note.correlations], (4, 4, 4, 7, 8, 8, 8, 8, 8, 8))
+    return f"E{letter}  {' '.join(''.rjust(width) if number is None else f'{number:{width}}' for number, width in fields)}".rstrip()
+
+
+def file_lines(model):
     lines = header_lines(model)
     for epoch, satellites in enumerate(model.rows):
         lines.append(f"*  {date_and_time(model.instant(epoch))}")
         for name, rows in zip(model.satellites, satellites):
             for letter, row in zip("PV", rows):
                 lines.append(row_line(letter, name, row))
-                if correlations:
-                    lines.append(f"E{letter}    55   55   55     222  1234567 -1234567  5999999      -30       21 -1230000")
+                if row.note is not None:
+                    lines.append(note_line(letter, row.note))
     return lines + ["EOF"]
 
 
@@ -230,7 +275,8 @@ def late_lines():
 
 def samples():
     return {"paper.sp3": joined(paper_lines()), "late.sp3": joined(late_lines()), "day.sp3": joined(file_lines(day())),
-            "velocity.sp3": joined(file_lines(velocity(), True)), "season.sp3": b"".join(season_files())}
+            "velocity.sp3": joined(file_lines(velocity())), "correlations.sp3": joined(file_lines(correlations())),
+            "season.sp3": b"".join(season_files())}
 
 
 def main(words):

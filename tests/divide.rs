@@ -65,7 +65,11 @@
 //! LEFT how many satellites have their slot, or their rows of this epoch, still
 //! to come, EPOCHS how many epochs are still to come.
 //!
-//! "The paper" is 01-scope.md, "000" is the SP3-d document.
+//! EP and EV are lines like others: they are judged, and a row is met before the
+//! note after it.
+//!
+//! "The paper" is 01-scope.md as request 1 of 02-change-requests.md changed it,
+//! "000" is the SP3-d document.
 
 #[allow(dead_code)]
 #[path = "files.rs"]
@@ -73,7 +77,7 @@ mod files;
 
 use files::lines::{Line, Random, Tally, SYMBOLS};
 use files::{generated, once_in};
-use files::{Base, Compared, Edit, Refusal, Row, Table, NO_ROOM};
+use files::{Base, Compared, Edit, Refusal, Row, Table, BARE, NOTE, NO_ROOM};
 
 // ---------------------------------------------------------------------------
 // Dividing
@@ -445,7 +449,7 @@ enum Part {
     Many(u8, usize),
 }
 
-use Base::{Many as ManyFile, Motion, Night, Nothing, Paper};
+use Base::{Many as ManyFile, Motion, MovingNotes, Night, Notes, Nothing, Paper};
 use Edit::{
     After, AfterItself, Byte, CarriageReturns, Drop, Insert, Join, Keep, Line as Whole, Put, Swap,
 };
@@ -509,6 +513,20 @@ const DIVIDED: &[Divided] = &[
     (&[File(Paper, &[Insert(25, "EP")]), M], 2, [0, 0, 2, 2823], &[1218, 1605]),
     (&[File(Motion, &[Insert(30, "EV")]), P], 2, [0, 0, 2, 2823], &[1608, 1215]),
     (&[P, File(Paper, &[Insert(25, "EV")])], 2, [4, 25, 1, 1215], &[1215]),
+    (&[File(Paper, &[NOTE]), P], 2, [0, 0, 2, 2511], &[1296, 1215]),
+    (&[P, File(Paper, &[BARE, Put(25, 5, "0055")])], 2, [0, 0, 2, 2439], &[1215, 1224]),
+    // Their columns: 5, 6, 7 in the second file.
+    (&[P, File(Paper, &[Insert(25, "EPx")])], 2, [5, 25, 1, 1215], &[1215]),
+    (&[P, File(Paper, &[NOTE, Put(25, 72, "x")]), P], 3, [5, 25, 1, 1215], &[1215]),
+    (&[P, File(Paper, &[BARE, Put(25, 5, "55  ")])], 2, [6, 25, 1, 1215], &[1215]),
+    (&[P, File(Motion, &[Put(27, 80, "x")]), P], 3, [6, 27, 1, 1215], &[1215]),
+    (&[P, File(Motion, &[Put(27, 28, "10000000")]), P], 3, [7, 27, 1, 1215], &[1215]),
+    (&[P, File(Paper, &[NOTE, Byte(25, 9, 9)])], 2, [2, 25, 1, 1215], &[1215]),
+    (&[P, File(Paper, &[NOTE, Put(25, 81, " ")])], 2, [3, 25, 1, 1215], &[1215]),
+    (&[P, File(Paper, &[NOTE, BARE])], 2, [4, 26, 1, 1215], &[1215]),
+    // A note is no file's beginning.
+    (&[P, Bytes(b"EP\n")], 2, [4, 1, 1, 1215], &[1215]),
+    (&[P, Bytes(b"EPx\n"), P], 2, [4, 1, 1, 1215], &[1215]),
     // Rests that are no file: half of one, one byte, a lone LF, EOF.
     (&[P, File(Night, &[Keep(16)])], 2, [1, 17, 1, 1215], &[1215]),
     (&[P, File(Paper, &[Keep(24), After(b"EO")])], 2, [1, 25, 1, 1215], &[1215]),
@@ -666,6 +684,65 @@ const WALKED: &[Walked] = &[
             "row 0 0 at -11044805800 -10475672350 21929418200 189163300",
             "row 0 1 at -12593593500 10170327650 -20354534400 -55976000",
             "end",
+        ],
+    ),
+    // Notes change no row; a note that is refused stands after its row.
+    (
+        Paper,
+        &[NOTE],
+        1,
+        &[],
+        &[
+            "begin 0 0 1296 1 1",
+            "row 0 0 at 5000000001 -500000 0 absent",
+            "end",
+            "then 26 1292 14 0 0",
+            "spot 26 1292 14 0 0",
+        ],
+    ),
+    (
+        Paper,
+        &[Insert(25, "EPx")],
+        1,
+        &[7107],
+        &[
+            "begin 5 25 0 0 0",
+            "kept",
+            "row 0 0 at 5000000001 -500000 0 absent",
+            "refused 5 line 25",
+            "then 26 1211 14 0 0",
+            "short 26 1211 14 0 0",
+        ],
+    ),
+    (
+        Paper,
+        &[NOTE, Put(25, 28, "99999999"), Put(25, 73, "1234567 ")],
+        1,
+        &[7107],
+        &["begin 6 25 0 0 0", "row 0 0 at 5000000001 -500000 0 absent", "refused 6 line 25"],
+    ),
+    (
+        Motion,
+        &[Put(25, 46, "10000000")],
+        2,
+        &[7101, 7102],
+        &[
+            "begin 7 25 0 0 0",
+            "row 0 0 at -11044805800 -10475672350 21929418200 189163300",
+            "refused 7 line 25",
+            "spot 30 1224 11 2 0",
+        ],
+    ),
+    (
+        Motion,
+        &[Put(27, 3, "x")],
+        2,
+        &[7101, 7102],
+        &[
+            "begin 5 27 0 0 0",
+            "row 0 0 at -11044805800 -10475672350 21929418200 189163300",
+            "refused 5 line 27",
+            "spot 30 1379 10 1 0",
         ],
     ),
     // Places: absent, alone zero, minus zero; clocks: absent, near it.
@@ -1075,6 +1152,39 @@ const READ: &[ReadFile] = &[
         20,
         &["line 3 183 3 3 1", "line 4 244 3 0 1", "line 7 427 4 20 1", "line 8 488 4 3 1"],
     ),
+    // The columns of notes.
+    (
+        Paper,
+        &[BARE],
+        1,
+        &["line 24 1211 14 0 0", "line 25 1214 14 0 0", "finished 26 1218", "identifiers 7107"],
+    ),
+    (
+        Notes,
+        &[],
+        2,
+        &["line 24 1231 10 1 1", "line 25 1312 10 1 1", "line 26 1373 9 0 1", "line 27 1376 9 0 1"],
+    ),
+    (MovingNotes, &[], 2, &["line 25 1312 11 2 1", "line 27 1467 10 1 1", "finished 41 2207"]),
+    (Paper, &[Insert(25, "EPx")], 1, &["line 24 1211 14 0 0", "stopped 5 line 25 column 3"]),
+    (Paper, &[BARE, Put(25, 9, "1")], 1, &["stopped 5 line 25 column 9"]),
+    (Paper, &[BARE, Put(25, 72, "x")], 1, &["stopped 5 line 25 column 72"]),
+    (Paper, &[BARE, Put(25, 5, "55  ")], 1, &["stopped 6 line 25 column 5"]),
+    (Paper, &[BARE, Put(25, 5, "  -1")], 1, &["stopped 6 line 25 column 5"]),
+    (Paper, &[BARE, Put(25, 28, "99999999")], 1, &["stopped 7 line 25 column 28"]),
+    (Paper, &[BARE, Put(25, 28, "     - 1")], 1, &["stopped 6 line 25 column 28"]),
+    (Paper, &[NOTE, Put(25, 5, "55  "), Put(25, 27, "x")], 1, &["stopped 5 line 25 column 27"]),
+    (
+        Paper,
+        &[NOTE, Put(25, 28, "99999999"), Put(25, 73, "1234567 ")],
+        1,
+        &["stopped 6 line 25 column 73"],
+    ),
+    (Paper, &[NOTE, Byte(25, 50, 9)], 1, &["stopped 2 line 25 column 50"]),
+    (Paper, &[NOTE, Put(25, 81, " ")], 1, &["stopped 3 line 25 column 81"]),
+    (Paper, &[NOTE, BARE], 1, &["line 25 1214 14 0 0", "stopped 4 line 26 column 0"]),
+    (Paper, &[Insert(25, "EVx")], 1, &["stopped 4 line 25 column 0"]),
+    (Motion, &[Put(27, 64, "19999999")], 2, &["stopped 7 line 27 column 64"]),
     // Room for n - 1, n and n + 1: "lent room is too small" at the `+ ` line that
     // brings more than fit, and the list is as it was.
     (Paper, &[], 0, &["line 2 122 3 0 1", "stopped 12 line 3 column 0", "identifiers"]),

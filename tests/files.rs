@@ -17,8 +17,8 @@
 //! * `BIN file MODE SATELLITES EPOCHS` prints a plain file, mode P or V;
 //! * `BIN bytes SEED COUNT`    prints so many bytes of any kind;
 //! * `BIN columns`             prints a batch of files with other bytes in the
-//!   columns of a row; `BIN columns case NUMBER` and `BIN columns compare
-//!   PROGRAM [ARGS..]` are as below;
+//!   columns of a row or of a note; `BIN columns case NUMBER` and `BIN columns
+//!   compare PROGRAM [ARGS..]` are as below;
 //! * `BIN cases`               prints the stored batch;
 //! * `BIN check CRATE_DIR`     compares `CRATE_DIR/stdin` with the stored batch
 //!   and `CRATE_DIR/stdout` with the answers to it;
@@ -30,8 +30,9 @@
 //! A batch is cases one after the other. A case is a line of nine numbers,
 //! `LENGTH I X C R K E S N`, and directly after its LF the LENGTH bytes of a
 //! file. I, X, C and R are the rooms lent for identifiers, exponents, bytes of
-//! comments and numbers of rows; K is the comment asked for, E and S the epoch
-//! and the satellite, N the identifier (G07 is 7107). The answer to a case:
+//! comments and numbers of rows, 23 for each row; K is the comment asked for, E
+//! and S the epoch and the satellite, N the identifier (G07 is 7107). The answer
+//! to a case:
 //!
 //! ```text
 //! case LENGTH
@@ -47,14 +48,32 @@
 //! row R LINE X Y Z CLOCK        `absent` in place of X Y Z or of CLOCK
 //! ```
 //!
-//! "The paper" is 01-scope.md, "000" is the SP3-d document.
+//! In the table each row has a line, in file order. It has more words where the
+//! row has a note, an EP (after P) or EV (after V) directly after it:
+//!
+//! ```text
+//! P E G07 X Y Z CLOCK SX SY SZ SC EPMP              or V
+//! P E G07 X Y Z CLOCK SX SY SZ SC EPMP note D D D D C C C C C C
+//! ```
+//!
+//! E is the epoch, S. an exponent, EPMP the flags or points in their places; D is
+//! the deviation of x, y, z and clock, C the correlation xy, xz, xc, yz, yc and
+//! zc, in 10^-7. An exponent, a D or a C that is blank is `unknown`; an exponent
+//! or D that is the largest of its field is `large`:
+//!
+//! ```text
+//! P 0 G07 1 2 3 4 18 18 18 219 .... note 55 large unknown 222 -30 unknown 0 1 2 3
+//! ```
+//!
+//! "The paper" is 01-scope.md as request 1 of 02-change-requests.md changed it,
+//! "000" is the SP3-d document.
 
 #[allow(dead_code)]
 #[path = "lines.rs"]
 pub(crate) mod lines;
 
 use lines::{fail, without_trailing_blanks};
-use lines::{Exponent, Identifier, Line, Moment, Random, Reader, Tally};
+use lines::{Exponent, Identifier, Line, Moment, Note, Random, Reader, Tally, EP, EV};
 use std::collections::{BTreeMap, HashSet};
 use std::io::{Read, Write};
 use std::ops::{Range, RangeInclusive};
@@ -210,6 +229,12 @@ fn line_two_agrees(two: &lines::LineTwo, start: i64) -> bool {
 const ABSENT_CLOCK: i64 = 999_999_999_999;
 /// How an unknown exponent is held.
 pub(crate) const UNKNOWN: i64 = 1000;
+/// How each number of a note is held that is unknown, and all ten where there is
+/// no note.
+pub(crate) const UNNOTED: i64 = 100_000_000;
+/// The numbers of a row in the lent list: its own twelve, whether it has a note,
+/// and the ten of the note.
+pub(crate) const ROW_WIDTH: usize = 23;
 
 pub(crate) struct Row {
     pub(crate) letter: char,
@@ -219,6 +244,8 @@ pub(crate) struct Row {
     pub(crate) clock: i64,
     pub(crate) exponents: [i64; 4],
     pub(crate) flags: [i64; 4],
+    /// "A row now says whether such a record stood there."
+    pub(crate) note: Option<Note>,
 }
 
 impl Row {
@@ -232,11 +259,22 @@ impl Row {
         self.clock == ABSENT_CLOCK
     }
 
-    /// The twelve numbers of a row.
+    /// The numbers of a row, its note's after its own.
     pub(crate) fn held(&self) -> Vec<i64> {
-        let parts = [&self.place[..], &[self.clock], &self.exponents, &self.flags];
-        parts.concat()
+        let own = [&self.place[..], &[self.clock], &self.exponents, &self.flags].concat();
+        [own, held_note(self.note)].concat()
     }
+}
+
+/// 1 and the ten numbers of a note, or 0 and ten that are unknown.
+pub(crate) fn held_note(note: Option<Note>) -> Vec<i64> {
+    let (mark, deviations, correlations) = match note {
+        Some(note) => (1, note.deviations, note.correlations),
+        None => (0, [None; 4], [None; 6]),
+    };
+    let fields = deviations.into_iter().chain(correlations);
+    let numbers = fields.map(|field| field.unwrap_or(UNNOTED));
+    std::iter::once(mark).chain(numbers).collect()
 }
 
 /// Comments are held as the stretches of the file where their texts lie.
@@ -274,7 +312,7 @@ impl Table {
     /// Identifiers, exponents, bytes of comments, numbers of rows.
     fn room_needed(&self) -> [usize; 4] {
         let n = self.satellites();
-        [n, n, 77 * self.comments.len(), 12 * self.rows.len()]
+        [n, n, 77 * self.comments.len(), ROW_WIDTH * self.rows.len()]
     }
 }
 
@@ -414,20 +452,23 @@ fn take_satellite(
     let line = lines.checked(lines::read_position, OTHER_SATELLITE, named)?;
     let flags = line.flags.map(|flag| i64::from(flag != b" "));
     table.rows.push(make_row('P', epoch, satellite, &line.row, flags));
-    take_correlation(lines, "EP")?;
+    take_note(lines, table, EP)?;
     if table.velocities {
         let named = |row: &lines::Row| Some(code(&row.identifier)) == here;
         let row = lines.checked(lines::read_velocity, OTHER_SATELLITE, named)?;
         table.rows.push(make_row('V', epoch, satellite, &row, [0; 4]));
-        take_correlation(lines, "EV")?;
+        take_note(lines, table, EV)?;
     }
     Ok(())
 }
 
-/// "EP and EV records are accepted in their places and skipped."
-fn take_correlation(lines: &mut Lines, symbol: &str) -> Result<(), Refusal> {
+/// "one EP at most": what it says belongs to the row that was taken last.
+fn take_note(lines: &mut Lines, table: &mut Table, symbol: &str) -> Result<(), Refusal> {
     if lines.next_is(symbol) {
-        lines.record(|r| lines::read_correlation(r, symbol))?;
+        let note = lines.record(|r| lines::read_note(r, symbol))?;
+        if let Some(row) = table.rows.last_mut() {
+            row.note = Some(note);
+        }
     }
     Ok(())
 }
@@ -444,7 +485,7 @@ fn make_row(
         Exponent::Known(value) => value,
         Exponent::Unknown => UNKNOWN,
     });
-    Row { letter, epoch, satellite, place: [x, y, z], clock, exponents, flags }
+    Row { letter, epoch, satellite, place: [x, y, z], clock, exponents, flags, note: None }
 }
 
 // ---------------------------------------------------------------------------
@@ -542,7 +583,7 @@ impl Lent {
             place.fill(b' ');
             place[..text.len()].copy_from_slice(text);
         }
-        for (place, row) in self.rows.chunks_mut(12).zip(&table.rows) {
+        for (place, row) in self.rows.chunks_mut(ROW_WIDTH).zip(&table.rows) {
             place.copy_from_slice(&row.held());
         }
     }
@@ -737,6 +778,24 @@ fn show_exponent(exponent: i64, large: i64) -> String {
     }
 }
 
+/// "largest meaning too large", "blank for unknown"; a correlation is never too
+/// large.
+fn show_noted(value: Option<i64>, large: Option<i64>) -> String {
+    match value {
+        None => " unknown".to_string(),
+        Some(_) if value == large => " large".to_string(),
+        Some(number) => format!(" {number}"),
+    }
+}
+
+fn show_note(note: &Note) -> String {
+    let [x, y, z, clock] = note.deviations;
+    let deviations = [(x, 9999), (y, 9999), (z, 9999), (clock, 9_999_999)];
+    let deviations = deviations.map(|(value, large)| show_noted(value, Some(large)));
+    let correlations = note.correlations.map(|value| show_noted(value, None));
+    format!(" note{}{}", deviations.concat(), correlations.concat())
+}
+
 fn show_row(row: &Row, table: &Table) -> String {
     let [x, y, z, clock] = row.exponents;
     let exponents =
@@ -744,13 +803,14 @@ fn show_row(row: &Row, table: &Table) -> String {
     let flags = row.flags.iter().zip("EPMP".chars());
     let flags: String = flags.map(|(&flag, letter)| if flag == 1 { letter } else { '.' }).collect();
     format!(
-        "{} {} {} {} {} {} {flags}\n",
+        "{} {} {} {} {} {} {flags}{}\n",
         row.letter,
         row.epoch,
         show_code(table.identifiers[row.satellite]),
         show_place(row),
         show_clock(row),
         exponents.join(" "),
+        row.note.as_ref().map_or(String::new(), show_note),
     )
 }
 
@@ -1035,6 +1095,28 @@ fn moving_rows_file() -> Draft {
     draft
 }
 
+/// What stands from column 3 on in notes: every column that has a use is filled;
+/// nothing is known; a part is known, with the largest numbers; zeros, minus
+/// signs and minus zero.
+const NOTES: [&str; 4] = [
+    "  1234 5678 9012 3456789 -1234567 09999999 -9999999 01234567 -0000021 08765432",
+    "",
+    "  9999           9999999  9999999          -9999999",
+    "  0055    0 1000       0       -0      -30        0 00000000      -21 -1230000",
+];
+
+/// A file with a note after each row: the rows of a satellite have the same.
+fn with_notes(mut draft: Draft) -> Draft {
+    let mut rows = [draft.lines_of("P"), draft.lines_of("V")].concat();
+    rows.sort();
+    let times = rows.len() / NOTES.len();
+    for (place, &line) in rows.iter().enumerate().rev() {
+        let letter = draft.0[line - 1][0] as char;
+        draft.insert(line + 1, format!("E{letter}{}", NOTES[place / times]).as_bytes());
+    }
+    draft
+}
+
 /// The paper's file with `n` satellites, of which any number may be asked for.
 fn many_file(n: usize) -> Draft {
     let identifier =
@@ -1083,6 +1165,9 @@ pub(crate) enum Base {
     Motion,
     Rows,
     MovingRows,
+    /// The same with notes: 33 lines, 41 in mode V.
+    Notes,
+    MovingNotes,
     Many(usize),
     Talkative(usize),
 }
@@ -1116,6 +1201,8 @@ pub(crate) fn base_file(base: Base) -> Draft {
         Base::Motion => motion_file(),
         Base::Rows => rows_file(),
         Base::MovingRows => moving_rows_file(),
+        Base::Notes => with_notes(rows_file()),
+        Base::MovingNotes => with_notes(moving_rows_file()),
         Base::Many(n) => many_file(n),
         Base::Talkative(count) => talkative_file(count),
     }
@@ -1153,7 +1240,7 @@ pub(crate) fn hand_made(base: Base, edits: &[Edit]) -> Vec<u8> {
 // Answers worked out by hand
 // ---------------------------------------------------------------------------
 
-use Base::{Many, Motion, MovingRows, Night, Nothing, Paper, Rows, Talkative};
+use Base::{Many, Motion, MovingNotes, MovingRows, Night, Notes, Nothing, Paper, Rows, Talkative};
 use Edit::{
     After, AfterItself, AfterMany, Byte, CarriageReturns, Double, Drop, Insert, Join, Keep,
     Line as Whole, Put, Swap,
@@ -1213,7 +1300,7 @@ const HAND: &[Hand] = &[
     (Paper, &[Put(25, 80, " ")], 0, 0),
     (Paper, &[Put(25, 81, " ")], 3, 25),
     (Motion, &[Put(25, 81, " ")], 3, 25),
-    (Motion, &[Put(25, 80, "~")], 0, 0),
+    (Motion, &[Put(25, 80, "~")], 6, 25),
     (Paper, &[Put(24, 1, "x"), Put(24, 81, "x")], 3, 24),
     (Paper, &[Join(1)], 3, 1),
     (Nothing, &[AfterMany(b'x', 9000), After(b"\n")], 3, 1),
@@ -1313,8 +1400,66 @@ const HAND: &[Hand] = &[
     (Motion, &[Double(29)], 4, 30),
     (Motion, &[Drop(24)], 4, 24),
     // EP and EV.
-    (Paper, &[Insert(25, "EP")], 0, 0),
-    (Paper, &[Insert(25, "EPx ~ anything 77")], 0, 0),
+    (Paper, &[BARE], 0, 0),
+    (Paper, &[BARE, Put(25, 80, " ")], 0, 0),
+    (Paper, &[NOTE], 0, 0),
+    (Paper, &[ABSENT, BARE], 0, 0),
+    (Paper, &[ABSENT, NOTE], 0, 0),
+    (Notes, &[], 0, 0),
+    (MovingNotes, &[], 0, 0),
+    (Paper, &[Insert(25, "EPx ~ anything 77")], 5, 25),
+    (Paper, &[NOTE, Byte(25, 7, 9)], 2, 25),
+    (Paper, &[BARE, Byte(25, 3, 9)], 2, 25),
+    (Paper, &[NOTE, Put(25, 81, " ")], 3, 25),
+    (Paper, &[NOTE, Double(25)], 4, 26),
+    // Their unused columns.
+    (Paper, &[Insert(25, "EPx")], 5, 25),
+    (Paper, &[BARE, Put(25, 9, "1")], 5, 25),
+    (Paper, &[NOTE, Put(25, 14, "0")], 5, 25),
+    (Paper, &[NOTE, Put(25, 19, "-")], 5, 25),
+    (Paper, &[NOTE, Put(25, 27, "x")], 5, 25),
+    (Paper, &[NOTE, Put(25, 36, "-")], 5, 25),
+    (Paper, &[NOTE, Put(25, 45, "1")], 5, 25),
+    (Paper, &[NOTE, Put(25, 54, "x")], 5, 25),
+    (Paper, &[NOTE, Put(25, 63, "0")], 5, 25),
+    (Paper, &[NOTE, Put(25, 72, "x")], 5, 25),
+    (Motion, &[Put(27, 3, "x")], 5, 27),
+    // Deviations: blank, or digits that fill the field from its right.
+    (Paper, &[BARE, Put(25, 5, "0055")], 0, 0),
+    (Paper, &[BARE, Put(25, 5, "1000")], 0, 0),
+    (Paper, &[BARE, Put(25, 5, "9999")], 0, 0),
+    (Paper, &[BARE, Put(25, 8, "0")], 0, 0),
+    (Paper, &[NOTE, Put(25, 20, "9999999")], 0, 0),
+    (Paper, &[BARE, Put(25, 5, "55  ")], 6, 25),
+    (Paper, &[BARE, Put(25, 5, "  -1")], 6, 25),
+    (Paper, &[NOTE, Put(25, 15, " 5.5")], 6, 25),
+    (Paper, &[NOTE, Put(25, 20, "222    ")], 6, 25),
+    (Motion, &[Put(27, 5, "22  ")], 6, 27),
+    // Correlations: a minus before the first digit; at most seven digits count.
+    (Paper, &[BARE, Put(25, 28, "09999999")], 0, 0),
+    (Paper, &[BARE, Put(25, 28, "-9999999")], 0, 0),
+    (Paper, &[BARE, Put(25, 28, "      -0")], 0, 0),
+    (Paper, &[BARE, Put(25, 28, "99999999")], 7, 25),
+    (Paper, &[BARE, Put(25, 28, "10000000")], 7, 25),
+    (Paper, &[NOTE, Put(25, 73, "10000000")], 7, 25),
+    (Paper, &[BARE, Put(25, 28, "     - 1")], 6, 25),
+    (Paper, &[BARE, Put(25, 28, "      +1")], 6, 25),
+    (Paper, &[BARE, Put(25, 28, "1234567 ")], 6, 25),
+    (Paper, &[NOTE, Put(25, 37, "     --1")], 6, 25),
+    (Paper, &[NOTE, Put(25, 55, "     3-0")], 6, 25),
+    (Paper, &[NOTE, Put(25, 80, "x")], 6, 25),
+    (Motion, &[Put(27, 46, "10000000")], 7, 27),
+    (Motion, &[Put(27, 64, "- 234567")], 6, 27),
+    // Two faults: the lower number.
+    (Paper, &[NOTE, Put(25, 5, "55  "), Put(25, 27, "x")], 5, 25),
+    (Paper, &[NOTE, Put(25, 28, "99999999"), Put(25, 73, "1234567 ")], 6, 25),
+    (Paper, &[NOTE, Put(25, 3, "x"), Put(25, 81, "x")], 3, 25),
+    (Paper, &[Insert(25, "EVx")], 4, 25),
+    (Paper, &[Insert(24, "EPx")], 4, 24),
+    (Motion, &[Put(25, 3, "x"), Double(26)], 5, 25),
+    (Motion, &[Insert(26, "EVx")], 4, 26),
+    (Motion, &[Insert(30, "EPx")], 4, 30),
+    // Their places.
     (Paper, &[Insert(25, "EP"), Insert(26, "EP")], 4, 26),
     (Paper, &[Insert(25, "EV")], 4, 25),
     (Paper, &[Insert(25, "EP"), Insert(26, "EV")], 4, 26),
@@ -1635,6 +1780,13 @@ const HAND: &[Hand] = &[
     (Paper, &[Put(20, 80, " "), Put(21, 3, " "), Put(22, 4, "   x   y")], 0, 0),
 ];
 
+/// A note after the row of the paper's file: 000's own, and one of which nothing
+/// is known. The row without place and clock.
+pub(crate) const NOTE: Edit =
+    Insert(25, "EP    55   55   55     222  1234567 -1234567  5999999      -30       21 -1230000");
+pub(crate) const BARE: Edit = Insert(25, "EP");
+const ABSENT: Edit = Put(24, 5, "      0.000000      0.000000      0.000000 999999.999999");
+
 /// The paper's file begun one second later.
 const ONE_SECOND: [Edit; 3] =
     [Put(1, 21, " 1.00000000"), Put(2, 9, "259201.00000000"), Put(23, 21, " 1.00000000")];
@@ -1658,6 +1810,8 @@ pub(crate) struct Plan {
     file_type: u8,
     time_system: &'static str,
     comments: usize,
+    /// One row in so many has a note.
+    notes: usize,
     /// Whether fields are spelt in any way that is right.
     odd: bool,
     done: Vec<Done>,
@@ -1787,6 +1941,7 @@ fn choose_plan(random: &mut Random) -> Plan {
         file_type,
         time_system: *random.pick(&lines::TIME_SYSTEMS),
         comments,
+        notes: *random.pick(&[1, 2, 8, 8, 1000]),
         odd: false,
         done: Vec::new(),
     }
@@ -1861,6 +2016,14 @@ impl Pen<'_> {
         let unit = lines::power_of_ten(places);
         let digits = format!("{}.{:0places$}", size / unit, size % unit);
         let sign = if minus { "-" } else { "" };
+        let zeros = self.zeros(width - digits.len() - sign.len());
+        format!("{:>width$}", format!("{sign}{zeros}{digits}"))
+    }
+
+    /// "a minus may stand before the first digit and minus zero is zero"
+    fn signed_integer(&mut self, width: usize, value: i64) -> String {
+        let minus = value < 0 || value == 0 && self.oddly(3);
+        let (sign, digits) = (if minus { "-" } else { "" }, value.abs().to_string());
         let zeros = self.zeros(width - digits.len() - sign.len());
         format!("{:>width$}", format!("{sign}{zeros}{digits}"))
     }
@@ -2114,22 +2277,73 @@ fn write_row(pen: &mut Pen, letter: char, code: u64) -> Vec<u8> {
     pen.line(format!("{letter}{}{numbers}{clock}{tail}", show_code(code)))
 }
 
-/// An EP or EV with anything after column 2.
-fn write_correlation(pen: &mut Pen, symbol: &str) -> Vec<u8> {
-    let length = *pen.random.pick(&[0, 1, 10, 78]);
-    let text = pen.text(length);
-    pen.line(format!("{symbol}{text}"))
+/// Any deviation of so many columns, unknown and the largest among them.
+fn choose_deviation(random: &mut Random, width: usize) -> Option<i64> {
+    let largest = lines::power_of_ten(width) - 1;
+    match random.below(8) {
+        0 | 1 => None,
+        2 => Some(largest),
+        3 => Some(*random.pick(&[0, 1, 999, 1000, largest - 1])),
+        _ => Some(random.below(largest as usize) as i64),
+    }
+}
+
+fn choose_correlation(random: &mut Random) -> Option<i64> {
+    let most = lines::MOST_CORRELATION;
+    match random.below(8) {
+        0 | 1 => None,
+        2 => Some(*random.pick(&[0, 0, 1, -1, most, -most])),
+        _ => Some(random.below(2 * most as usize + 1) as i64 - most),
+    }
+}
+
+/// A note: full, with unknown fields here and there, of deviations or of
+/// correlations alone, of nothing.
+pub(crate) fn choose_note(random: &mut Random) -> Note {
+    let kind = random.below(8);
+    let mut note = Note {
+        deviations: [4, 4, 4, 7].map(|width| choose_deviation(random, width)),
+        correlations: [(); 6].map(|_| choose_correlation(random)),
+    };
+    match kind {
+        0 => note = Note { deviations: [None; 4], correlations: [None; 6] },
+        1 => note.deviations = [None; 4],
+        2 => note.correlations = [None; 6],
+        3 => {
+            note.deviations = note.deviations.map(|value| value.or(Some(55)));
+            note.correlations = note.correlations.map(|value| value.or(Some(-30)));
+        }
+        _ => {}
+    }
+    note
+}
+
+/// An EP or EV, spelt in any way that is right.
+fn write_note(pen: &mut Pen, symbol: &str) -> Vec<u8> {
+    let note = choose_note(pen.random);
+    let mut text = symbol.to_string();
+    for (place, value) in note.deviations.into_iter().enumerate() {
+        let width = if place < 3 { 4 } else { 7 };
+        let gap = if place == 0 { "  " } else { " " };
+        let field = value.map_or(" ".repeat(width), |value| pen.integer(width, value));
+        text += &format!("{gap}{field}");
+    }
+    for value in note.correlations {
+        let field = value.map_or(" ".repeat(8), |value| pen.signed_integer(8, value));
+        text += &format!(" {field}");
+    }
+    pen.line(text)
 }
 
 fn write_epoch(pen: &mut Pen, plan: &Plan, epoch: usize, lines: &mut Vec<Vec<u8>>) {
     let moment = pen.moment(plan.start + epoch as i64 * plan.interval);
     lines.push(pen.line(format!("*  {moment}")));
     for &code in &plan.identifiers {
-        for (letter, symbol) in [('P', "EP"), ('V', "EV")] {
+        for (letter, symbol) in [('P', EP), ('V', EV)] {
             if letter == 'P' || plan.velocities {
                 lines.push(write_row(pen, letter, code));
-                if once_in(pen.random, 8) {
-                    lines.push(write_correlation(pen, symbol));
+                if once_in(pen.random, plan.notes) {
+                    lines.push(write_note(pen, symbol));
                 }
             }
         }
@@ -2203,9 +2417,12 @@ type Damage = fn(&mut Draft, &Plan, &mut Random);
 /// A field spelt otherwise, rightly or wrongly.
 fn another_spelling(draft: &mut Draft, _: &Plan, random: &mut Random) {
     let line = choose_line(draft, random);
-    if draft.0.is_empty() {
-        return;
+    if !draft.0.is_empty() {
+        spell_otherwise(draft, line, random);
     }
+}
+
+fn spell_otherwise(draft: &mut Draft, line: usize, random: &mut Random) {
     let letter = kind_letter(draft, line);
     let entries: Vec<_> =
         lines::SPELLINGS.iter().filter(|entry| entry.0.as_bytes().contains(&letter)).collect();
@@ -2269,6 +2486,43 @@ fn correlation_inserted(draft: &mut Draft, _: &Plan, random: &mut Random) {
         let line = *random.pick(&rows) + random.below(2);
         let text = *random.pick(&["EP", "EP", "EV", "EV", "EPx", "EP  \u{7f}", "E", "Ep"]);
         draft.insert(line, text.as_bytes());
+    }
+}
+
+/// A note after a row, in place of the one there or before it, mostly of the
+/// row's own kind; then most are spoilt.
+fn note_spoilt(draft: &mut Draft, _: &Plan, random: &mut Random) {
+    let (positions, velocities) = (draft.lines_of("P"), draft.lines_of("V"));
+    let rows = if velocities.is_empty() || once_in(random, 3) { positions } else { velocities };
+    if rows.is_empty() {
+        return;
+    }
+    let row = *random.pick(&rows);
+    let own = if draft.0[row - 1][0] == b'P' { EP } else { EV };
+    let symbol = if once_in(random, 8) { *random.pick(&[EP, EV]) } else { own };
+    let noted = draft.lines_of(own).contains(&(row + 1));
+    if noted && !once_in(random, 8) {
+        draft.drop_line(row + 1);
+    }
+    draft.0.insert(row, write_note(&mut Pen { random, odd: true }, symbol));
+    spoil_note(draft, row + 1, random);
+}
+
+/// Too long, a wrong byte, a correlation on either side of its bounds, another
+/// spelling, one or two fields spoilt, or not.
+fn spoil_note(draft: &mut Draft, line: usize, random: &mut Random) {
+    match random.below(16) {
+        0 => draft.put(line, 81, &[*random.pick(b" x0")]),
+        1 => draft.put(line, 1 + random.below(81), &[*random.pick(&[9, 0, 31, 127, 255])]),
+        2 | 3 => draft.put(line, 3 + random.below(78), &[*random.pick(b"0123456789 -.x+")]),
+        4..=6 => {
+            let text = *random.pick(&["10000000", "99999999", "12345678", "09999999", "-9999999"]);
+            draft.put(line, 28 + 9 * random.below(6), text.as_bytes());
+        }
+        7..=10 => spell_otherwise(draft, line, random),
+        11 | 12 => spoil_line(draft, line, random, 1),
+        13 | 14 => spoil_line(draft, line, random, 2),
+        _ => {}
     }
 }
 
@@ -2419,9 +2673,12 @@ fn bytes_after(draft: &mut Draft, _: &Plan, random: &mut Random) {
 /// One or two fields of a line spoilt, each in a way that `lines.rs` has for it.
 fn spoil_fields(draft: &mut Draft, random: &mut Random, count: usize) {
     let line = choose_line(draft, random);
-    if draft.0.is_empty() {
-        return;
+    if !draft.0.is_empty() {
+        spoil_line(draft, line, random, count);
     }
+}
+
+fn spoil_line(draft: &mut Draft, line: usize, random: &mut Random, count: usize) {
     let spoilers = lines::spoilers_of(kind_letter(draft, line));
     let mut put: Vec<&lines::Spoiler> = Vec::new();
     while put.len() < count && spoilers.len() >= count {
@@ -2473,6 +2730,7 @@ const DAMAGES: Damages = &[
     (6, "line: gone, twice or exchanged", lines_moved),
     (3, "line: inserted", line_inserted),
     (2, "line: EP or EV inserted", correlation_inserted),
+    (12, "line: a note, spoilt or not", note_spoilt),
     (2, "line: its end spoilt", line_end_spoiled),
     (5, "field: another instant", wrong_instant),
     (2, "field: an identifier twice", identifier_repeats),
@@ -2492,6 +2750,7 @@ const FURTHER_DAMAGES: Damages = &[
     (3, "field: two of a line spoilt", two_fields_spoilt),
     (6, "byte: any", any_byte),
     (1, "line: cut", line_cut),
+    (4, "line: a note, spoilt or not", note_spoilt),
 ];
 
 fn damage(draft: &mut Draft, plan: &Plan, random: &mut Random, damages: Damages) -> Done {
@@ -2577,9 +2836,9 @@ pub(crate) fn generate_any_file(random: &mut Random) -> (Plan, Vec<u8>) {
 fn plain_file(velocities: bool, satellites: usize, epochs: usize) -> Draft {
     let random = &mut Random(STORED_SEED);
     let (identifiers, file_type) = choose_identifiers(random, satellites);
-    let (start, interval) = (56_385 * DAY, 900 * SECOND);
-    let plan =
-        Plan { velocities, start, interval, epochs, identifiers, file_type, ..choose_plan(random) };
+    let (start, interval, notes) = (56_385 * DAY, 900 * SECOND, 8);
+    let rest = choose_plan(random);
+    let plan = Plan { velocities, start, interval, epochs, identifiers, file_type, notes, ..rest };
     write_plan(&mut Pen { random, odd: false }, &plan)
 }
 
@@ -2635,7 +2894,7 @@ fn choose_code(random: &mut Random, identifiers: &[u64]) -> usize {
 fn ask(random: &mut Random, plan: &Plan, file: Vec<u8>, most: [usize; 4]) -> Case {
     let n = plan.identifiers.len();
     let rows = n * plan.epochs * if plan.velocities { 2 } else { 1 };
-    let planned = [n, n, 77 * plan.comments, 12 * rows];
+    let planned = [n, n, 77 * plan.comments, ROW_WIDTH * rows];
     let needed = judge_front(&file).map_or(planned, |(table, _)| table.room_needed());
     let rooms = choose_rooms(random, needed, most);
     let asked = [
@@ -2664,7 +2923,7 @@ const FAR: &[usize] = &[
     usize::MAX,
     usize::MAX - 1,
     usize::MAX / 77 + 1,
-    usize::MAX / 12 + 1,
+    usize::MAX / ROW_WIDTH + 1,
     usize::MAX / 255 + 1,
 ];
 
@@ -2690,7 +2949,7 @@ pub(crate) fn generated<C>(generate: Generate<C>, seed: u64, number: u64) -> C {
 // The stored cases
 // ---------------------------------------------------------------------------
 
-const MOST_BATCH: usize = 600_000;
+const MOST_BATCH: usize = 680_000;
 pub(crate) const STORED_SEED: u64 = 20_160_221;
 
 /// A file made by hand with rooms that suffice; most refused ones end after
@@ -2700,7 +2959,7 @@ fn hand_case(place: usize, base: Base, edits: &[Edit]) -> Case {
     if place % 10 != 0 {
         cut_after_fault(&mut file);
     }
-    let needed = judge_front(&file).map_or([2, 2, 308, 24], |(table, _)| table.room_needed());
+    let needed = judge_front(&file).map_or([2, 2, 308, 46], |(table, _)| table.room_needed());
     Case { file, rooms: needed, asked: [place % 5, place / 3 % 2, place / 5 % 2, 7107] }
 }
 
@@ -2745,7 +3004,7 @@ fn stored_cases() -> Vec<Case> {
 }
 
 // ---------------------------------------------------------------------------
-// Rows with other bytes in their columns
+// Rows and notes with other bytes in their columns
 // ---------------------------------------------------------------------------
 
 /// Of every class of bytes both ends, and those with a use in a row.
@@ -2755,10 +3014,11 @@ const EDGES: &[u8] = &[
 ];
 const FEW: &[u8] = b"\n -0EP";
 const BESIDE_FLAGS: &[u8] = b"DFLNOQ";
-/// The columns of a row, and the first that a line hasn't.
+/// The columns of a row or a note, and the first that a line hasn't.
 const COLUMNS_OF_ROW: RangeInclusive<usize> = 1..=81;
 
-/// Files, a line with a row, columns of it, and the bytes that each is given.
+/// Files, a line with a row or a note, columns of it, and the bytes that each is
+/// given.
 const ALTERED: &[(Base, usize, RangeInclusive<usize>, &[u8])] = &[
     (Rows, 24, COLUMNS_OF_ROW, EDGES),
     (Rows, 25, COLUMNS_OF_ROW, EDGES),
@@ -2769,12 +3029,32 @@ const ALTERED: &[(Base, usize, RangeInclusive<usize>, &[u8])] = &[
     (MovingRows, 32, COLUMNS_OF_ROW, FEW),
     (Rows, 24, 74..=80, BESIDE_FLAGS),
     (Rows, 25, 74..=80, BESIDE_FLAGS),
+    (Notes, 25, COLUMNS_OF_ROW, EDGES),
+    (Notes, 27, COLUMNS_OF_ROW, FEW),
+    (Notes, 30, COLUMNS_OF_ROW, FEW),
+    (Notes, 32, COLUMNS_OF_ROW, FEW),
+    (MovingNotes, 25, COLUMNS_OF_ROW, FEW),
+    (MovingNotes, 27, COLUMNS_OF_ROW, EDGES),
+    (MovingNotes, 31, COLUMNS_OF_ROW, FEW),
 ];
 
 /// The numbers of a row: their first column and the last that a blank may
 /// stand before.
-const NUMBERS: [(usize, usize); 8] =
-    [(5, 11), (19, 25), (33, 39), (47, 53), (62, 63), (65, 66), (68, 69), (71, 73)];
+const NUMBERS: &[(usize, usize)] =
+    &[(5, 11), (19, 25), (33, 39), (47, 53), (62, 63), (65, 66), (68, 69), (71, 73)];
+/// Those of a note.
+const NOTED: &[(usize, usize)] = &[
+    (5, 8),
+    (10, 13),
+    (15, 18),
+    (20, 26),
+    (28, 35),
+    (37, 44),
+    (46, 53),
+    (55, 62),
+    (64, 71),
+    (73, 80),
+];
 
 /// A file with an edit in line `line`, asked for the P row that stood there or
 /// last before it.
@@ -2783,7 +3063,8 @@ fn ask_for_row(base: Base, line: usize, edit: impl FnOnce(&mut Draft)) -> Case {
     let rows = draft.lines_of("P").into_iter().filter(|&row| row <= line).count();
     let place = rows.saturating_sub(1);
     edit(&mut draft);
-    Case { file: draft.bytes(), rooms: [2, 2, 308, 96], asked: [0, place / 2, place % 2, 7107] }
+    let rooms = [2, 2, 308, 8 * ROW_WIDTH];
+    Case { file: draft.bytes(), rooms, asked: [0, place / 2, place % 2, 7107] }
 }
 
 fn single_bytes() -> Vec<Case> {
@@ -2804,17 +3085,17 @@ fn pairs() -> Vec<[u8; 2]> {
     b" 1-.E".iter().flat_map(pairs_of).collect()
 }
 
-/// A pair in a row of digits; a number in whose front it begins has only blanks
-/// before it.
-fn pairs_of_bytes() -> Vec<Case> {
+/// A pair in a row or a note of digits; a number in whose front it begins has
+/// only blanks before it.
+fn pairs_of_bytes(base: Base, line: usize, numbers: &[(usize, usize)]) -> Vec<Case> {
     let mut cases = Vec::new();
     for column in 4..lines::WIDTH {
-        let number = NUMBERS.iter().find(|&&(first, last)| (first..=last).contains(&column));
+        let number = numbers.iter().find(|&&(first, last)| (first..=last).contains(&column));
         let first = number.map_or(column, |&(first, _)| first);
         let blanks = vec![b' '; column - first];
         for pair in pairs() {
             let bytes = [&blanks[..], &pair].concat();
-            cases.push(ask_for_row(Rows, 24, |draft| draft.put(24, first, &bytes)));
+            cases.push(ask_for_row(base, line, |draft| draft.put(line, first, &bytes)));
         }
     }
     cases
@@ -2837,14 +3118,15 @@ fn names_alike() -> Vec<Case> {
 
 /// A line of the epochs once more, where it may not stand.
 fn lines_doubled() -> Vec<Case> {
-    let files = [(Rows, 23..=28), (MovingRows, 23..=32)].into_iter();
-    let lines = files.flat_map(|(base, lines)| lines.map(move |line| (base, line)));
+    let files = [(Rows, 23..=28), (MovingRows, 23..=32), (Notes, 23..=32), (MovingNotes, 23..=40)];
+    let lines = files.into_iter().flat_map(|(base, lines)| lines.map(move |line| (base, line)));
     lines.map(|(base, line)| ask_for_row(base, line, |draft| draft.double_line(line))).collect()
 }
 
 /// All of them, each once.
 fn altered_rows() -> Vec<Case> {
-    let mut cases = [single_bytes(), pairs_of_bytes(), names_alike(), lines_doubled()].concat();
+    let pairs = [pairs_of_bytes(Rows, 24, NUMBERS), pairs_of_bytes(Notes, 25, NOTED)].concat();
+    let mut cases = [single_bytes(), pairs, names_alike(), lines_doubled()].concat();
     let mut files = HashSet::new();
     cases.retain(|case| files.insert(case.file.clone()));
     cases
@@ -2890,19 +3172,38 @@ fn kinds_of_rows(rows: &[Row]) -> Vec<(&'static str, bool)> {
     ]
 }
 
+/// How many of the ten fields of a note aren't blank.
+fn known_in(note: &Note) -> usize {
+    note.deviations.iter().flatten().count() + note.correlations.iter().flatten().count()
+}
+
+/// What is in some note of a file.
+fn kinds_of_notes(rows: &[Row]) -> Vec<(&'static str, bool)> {
+    let some = |holds: fn(&Note) -> bool| rows.iter().filter_map(|row| row.note).any(|n| holds(&n));
+    let of_letter = |letter| rows.iter().any(|row| row.letter == letter && row.note.is_some());
+    vec![
+        ("notes, an EP", of_letter('P')),
+        ("notes, an EV", of_letter('V')),
+        ("notes, one of nothing", some(|n| known_in(n) == 0)),
+        ("notes, one of some fields", some(|n| (1..10).contains(&known_in(n)))),
+        ("notes, one full", some(|n| known_in(n) == 10)),
+        ("notes, one too large", some(|n| n.deviations[..3].contains(&Some(9999)))),
+        ("notes, a clock too large", some(|n| n.deviations[3] == Some(9_999_999))),
+        ("notes, a minus", some(|n| n.correlations.iter().any(|c| c.is_some_and(|c| c < 0)))),
+    ]
+}
+
 /// What an accepted file has of what the format allows.
-fn kinds_of_table(table: &Table, file: &[u8]) -> Vec<String> {
-    let mut lines = file.split(|&c| c == b'\n');
-    let correlation = lines.any(|line| line.starts_with(b"EP") || line.starts_with(b"EV"));
+fn kinds_of_table(table: &Table) -> Vec<String> {
     let mut named = vec![
         ("accepted", true),
         ("mode P", !table.velocities),
         ("mode V", table.velocities),
-        ("EP or EV", correlation),
         ("comments, more than four", table.comments.len() > 4),
     ];
     named.extend(kinds_of_days(table));
     named.extend(kinds_of_rows(&table.rows));
+    named.extend(kinds_of_notes(&table.rows));
     let mut kinds: Vec<String> =
         named.iter().filter(|(_, holds)| *holds).map(|(name, _)| name.to_string()).collect();
     kinds.push(span_of("satellites", &[1, 2, 6, 17, 18, 86, 200, 255, 256], table.satellites()));
@@ -2913,7 +3214,7 @@ fn kinds_of_table(table: &Table, file: &[u8]) -> Vec<String> {
 /// What a generated file is: accepted and of which kinds, or damaged how.
 fn kinds_of(plan: &Plan, file: &[u8]) -> Vec<String> {
     let mut kinds = match judge(file) {
-        Ok((table, _)) => kinds_of_table(&table, file),
+        Ok((table, _)) => kinds_of_table(&table),
         Err(refusal) => vec!["refused".to_string(), format!("refused {:2}", refusal.number)],
     };
     if plan.odd && plan.done.is_empty() {
@@ -3093,21 +3394,21 @@ fn check<C: Compared>(directory: &str, cases: &[C]) {
 /// A file, rooms and questions, and lines of the answer in their order.
 type Asked = (Base, &'static [Edit], [usize; 4], [usize; 4], &'static [&'static str]);
 
-/// The paper's file needs rooms of 1, 1, 308 and 12 places and has 1,215 bytes;
-/// `night` 2, 2, 308, 72 and 1,636; `motion` 2, 2, 308, 48 and 1,605.
+/// The paper's file needs rooms of 1, 1, 308 and 23 places and has 1,215 bytes;
+/// `night` 2, 2, 308, 138 and 1,636; `motion` 2, 2, 308, 92 and 1,605.
 const ASKED: &[Asked] = &[
     // Everything there.
     (
         Paper,
         &[],
-        [1, 1, 308, 12],
+        [1, 1, 308, 23],
         [0, 0, 0, 7107],
         &[
             "case 1215",
             "front 0 0 1215",
             "whole 0 0 1215",
             "read 0 0 1215",
-            "sums 7107 0 10666195931946167104 6493920291858928513",
+            "sums 7107 0 10666195931946167104 9802001914446447297",
             "mode P",
             "start8 487166400000000000",
             "epochs 1",
@@ -3126,7 +3427,7 @@ const ASKED: &[Asked] = &[
             "P 0 G07 5000000001 -500000 0 absent unknown unknown unknown unknown ....",
             "rows 1 known 1 absent 0",
             "read_front 0 0 1215",
-            "sums 7107 0 10666195931946167104 6493920291858928513",
+            "sums 7107 0 10666195931946167104 9802001914446447297",
             "comment 0 0 1101 7 |ONE ROW|",
             "satellite 0 0 0",
             "row 0 0 5000000001 -500000 0 absent",
@@ -3135,13 +3436,13 @@ const ASKED: &[Asked] = &[
     (
         Night,
         &[],
-        [2, 2, 308, 72],
+        [2, 2, 308, 138],
         [3, 2, 1, 8224],
         &[
             "case 1636",
             "whole 0 0 1636",
             "read 0 0 1636",
-            "sums 228541 168 10666195931946167104 11658872387325528406",
+            "sums 228541 168 10666195931946167104 17937299097973125974",
             "mode P",
             "start8 486371430000000000",
             "epochs 3",
@@ -3167,18 +3468,20 @@ const ASKED: &[Asked] = &[
     (
         Motion,
         &[],
-        [2, 2, 308, 48],
+        [2, 2, 308, 92],
         [1, 0, 1, 7102],
         &[
             "read 0 0 1605",
-            "sums 227233 225 10666195931946167104 7672082360279656442",
+            "sums 227233 225 10666195931946167104 11604800878146835693",
             "mode V",
             "start8 450394560000000000",
             "texts |ORBIT|IGS97|HLM|MGEX|",
             "G01 7",
             "G02 8",
-            "P 0 G01 -11044805800 -10475672350 21929418200 189163300 18 18 18 219 ....",
-            "V 0 G01 20298880364 -18462044804 1381387685 -4534317 14 14 14 191 ....",
+            "P 0 G01 -11044805800 -10475672350 21929418200 189163300 18 18 18 219 .... note \
+             55 55 55 222 1234567 -1234567 5999999 -30 21 -1230000",
+            "V 0 G01 20298880364 -18462044804 1381387685 -4534317 14 14 14 191 .... note \
+             22 22 22 111 1234567 1234567 1234567 1234567 1234567 1234567",
             "P 0 G02 -12593593500 10170327650 -20354534400 -55976000 18 18 18 219 ..M.",
             "V 0 G02 absent absent unknown unknown unknown unknown ....",
             "rows 4 known 3 absent 1",
@@ -3191,13 +3494,13 @@ const ASKED: &[Asked] = &[
     (
         Paper,
         &[],
-        [2, 2, 309, 13],
+        [2, 2, 309, 24],
         [3, 0, 0, 7106],
         &[
             "read 0 0 1215",
-            "sums 228094 7777 17057424637268802787 5657903562601855003",
+            "sums 228094 7777 17057424637268802787 11884362191164528475",
             "read_front 0 0 1215",
-            "sums 228094 7777 17057424637268802787 5657903562601855003",
+            "sums 228094 7777 17057424637268802787 11884362191164528475",
             "comment 0 0 1117 0 ||",
             "satellite 13 0 0",
         ],
@@ -3205,7 +3508,7 @@ const ASKED: &[Asked] = &[
     (
         Paper,
         &[],
-        [1, 1, 384, 17],
+        [1, 1, 384, 28],
         [4, 0, 0, 0],
         &["read 0 0 1215", "comment 13 0 0 0 ||", "satellite 13 0 0"],
     ),
@@ -3213,15 +3516,15 @@ const ASKED: &[Asked] = &[
     (
         Paper,
         &[],
-        [0, 1, 308, 12],
+        [0, 1, 308, 23],
         [5, 1, 0, 7107 + 65_536],
         &[
             "front 0 0 1215",
             "whole 0 0 1215",
             "read 12 0 0",
-            "sums 0 7777 3351868396646214080 15290735238439783736",
+            "sums 0 7777 3351868396646214080 4045731010258001686",
             "read_front 12 0 0",
-            "sums 0 7777 3351868396646214080 15290735238439783736",
+            "sums 0 7777 3351868396646214080 4045731010258001686",
             "comment 13 0 0 0 ||",
             "satellite 13 0 0",
             "row 13 0 absent absent",
@@ -3230,11 +3533,11 @@ const ASKED: &[Asked] = &[
     (
         Paper,
         &[],
-        [1, 0, 308, 12],
+        [1, 0, 308, 23],
         [1, 0, 1, 100],
         &[
             "read 12 0 0",
-            "sums 7777 0 3351868396646214080 15290735238439783736",
+            "sums 7777 0 3351868396646214080 4045731010258001686",
             "comment 0 0 1111 0 ||",
             "row 13 0 absent absent",
         ],
@@ -3242,14 +3545,14 @@ const ASKED: &[Asked] = &[
     (
         Paper,
         &[],
-        [1, 1, 307, 12],
+        [1, 1, 307, 23],
         [2, 1, 1, 7100],
         &["read 12 0 0", "comment 0 0 1114 0 ||", "satellite 13 0 0", "row 13 0 absent absent"],
     ),
     (
         Paper,
         &[],
-        [1, 1, 308, 11],
+        [1, 1, 308, 22],
         [999_999_999, 999_999_999, 999_999_999, 999_999_999],
         &["read 12 0 0", "comment 13 0 0 0 ||", "satellite 13 0 0", "row 13 0 absent absent"],
     ),
@@ -3263,67 +3566,67 @@ const ASKED: &[Asked] = &[
     (
         Night,
         &[],
-        [2, 2, 308, 71],
+        [2, 2, 308, 137],
         [0, 3, 0, 7107],
         &[
             "read 12 0 0",
-            "sums 248864 248864 3351868396646214080 10776830758291807222",
+            "sums 248864 248864 3351868396646214080 12381452714405939882",
             "read_front 12 0 0",
-            "sums 248864 248864 3351868396646214080 10776830758291807222",
+            "sums 248864 248864 3351868396646214080 12381452714405939882",
             "satellite 0 0 0",
             "row 13 0 absent absent",
         ],
     ),
-    (Night, &[], [2, 2, 308, 72], [0, 0, 2, 7107], &["row 13 0 absent absent"]),
-    (Night, &[], [2, 2, 308, 72], [0, 1, 3, 7107], &["row 13 0 absent absent"]),
+    (Night, &[], [2, 2, 308, 138], [0, 0, 2, 7107], &["row 13 0 absent absent"]),
+    (Night, &[], [2, 2, 308, 138], [0, 1, 3, 7107], &["row 13 0 absent absent"]),
     (
         Motion,
         &[],
-        [2, 2, 308, 48],
+        [2, 2, 308, 92],
         [0, 1, 0, 7107],
         &["satellite 13 0 0", "row 13 0 absent absent"],
     ),
     (
         Night,
         &[],
-        [2, 1, 308, 72],
+        [2, 1, 308, 138],
         [0, 2, 2, 7124],
         &["read 12 0 0", "satellite 13 0 0", "row 13 0 absent absent"],
     ),
     (
         Night,
         &[],
-        [1, 2, 308, 72],
+        [1, 2, 308, 138],
         [0, 0, 1, 8207],
         &["read 12 0 0", "satellite 13 0 0", "row 0 0 absent absent"],
     ),
     (
         Night,
         &[],
-        [9, 9, 400, 90],
+        [9, 9, 400, 150],
         [0, 1, 0, 8224],
         &["read 0 0 1636", "satellite 0 0 1", "row 0 0 absent -1"],
     ),
-    (Night, &[], [2, 2, 308, 72], [0, 1, 1, 8225], &["read 0 0 1636", "row 0 0 0 0 1 absent"]),
+    (Night, &[], [2, 2, 308, 138], [0, 1, 1, 8225], &["read 0 0 1636", "row 0 0 0 0 1 absent"]),
     (
         Night,
         &[],
-        [2, 2, 308, 72],
+        [2, 2, 308, 138],
         [0, 2, 0, 8223],
         &["read 0 0 1636", "row 0 0 -500000 0 0 999999000000"],
     ),
     (
         Motion,
         &[],
-        [2, 2, 308, 47],
+        [2, 2, 308, 91],
         [0, 0, 2, 7101],
         &["read 12 0 0", "satellite 0 0 0", "row 13 0 absent absent"],
     ),
-    (Motion, &[], [2, 2, 308, 24], [0, 0, 0, 7101], &["read 12 0 0"]),
+    (Motion, &[], [2, 2, 308, 46], [0, 0, 0, 7101], &["read 12 0 0"]),
     (
         Motion,
         &[],
-        [3, 3, 308, 59],
+        [3, 3, 308, 103],
         [0, 0, 0, 7103],
         &[
             "read 0 0 1605",
@@ -3335,16 +3638,16 @@ const ASKED: &[Asked] = &[
     (
         Paper,
         &[After(b"x")],
-        [1, 1, 308, 12],
+        [1, 1, 308, 23],
         [0, 0, 0, 7107],
         &[
             "case 1216",
             "front 0 0 1215",
             "whole 11 26 0",
             "read 11 26 0",
-            "sums 7777 7777 3351868396646214080 15290735238439783736",
+            "sums 7777 7777 3351868396646214080 4045731010258001686",
             "read_front 0 0 1215",
-            "sums 7107 0 10666195931946167104 6493920291858928513",
+            "sums 7107 0 10666195931946167104 9802001914446447297",
             "comment 11 26 0 0 ||",
             "satellite 11 26 0",
             "row 11 26 absent absent",
@@ -3353,7 +3656,7 @@ const ASKED: &[Asked] = &[
     (
         Paper,
         &[After(b"\n")],
-        [0, 1, 308, 12],
+        [0, 1, 308, 23],
         [4, 1, 1, 0],
         &[
             "front 0 0 1215",
@@ -3369,15 +3672,15 @@ const ASKED: &[Asked] = &[
     (
         Paper,
         &[Drop(25)],
-        [1, 1, 308, 12],
+        [1, 1, 308, 23],
         [0, 0, 0, 7107],
         &[
             "front 1 25 0",
             "whole 1 25 0",
             "read 1 25 0",
-            "sums 7777 7777 3351868396646214080 15290735238439783736",
+            "sums 7777 7777 3351868396646214080 4045731010258001686",
             "read_front 1 25 0",
-            "sums 7777 7777 3351868396646214080 15290735238439783736",
+            "sums 7777 7777 3351868396646214080 4045731010258001686",
             "comment 1 25 0 0 ||",
             "satellite 1 25 0",
             "row 1 25 absent absent",
@@ -3397,35 +3700,190 @@ const ASKED: &[Asked] = &[
         ],
     ),
     // Comments: from column 4 on, trailing blanks cut, leading ones kept.
-    (Paper, &[Put(20, 3, "    ")], [1, 1, 308, 12], [1, 0, 0, 7107], &["comment 0 0 1112 0 ||"]),
-    (Paper, &[Put(20, 3, " ")], [1, 1, 308, 12], [1, 0, 0, 7107], &["comment 0 0 1112 0 ||"]),
+    (Paper, &[Put(20, 3, "    ")], [1, 1, 308, 23], [1, 0, 0, 7107], &["comment 0 0 1112 0 ||"]),
+    (Paper, &[Put(20, 3, " ")], [1, 1, 308, 23], [1, 0, 0, 7107], &["comment 0 0 1112 0 ||"]),
     (
         Paper,
         &[Put(20, 4, "  a |b|   ")],
-        [1, 1, 308, 12],
+        [1, 1, 308, 23],
         [1, 0, 0, 7107],
         &["|  a |b||", "comment 0 0 1112 7 |  a |b||"],
     ),
-    (Paper, &[Put(20, 80, "z")], [1, 1, 308, 12], [2, 0, 0, 7107], &["comment 0 0 1192 0 ||"]),
+    (Paper, &[Put(20, 80, "z")], [1, 1, 308, 23], [2, 0, 0, 7107], &["comment 0 0 1192 0 ||"]),
     (
         Talkative(103),
         &[],
-        [1, 1, 7931, 12],
+        [1, 1, 7931, 23],
         [102, 0, 0, 7107],
         &["comments 103", "|COMMENT 102|", "comment 0 0 2521 11 |COMMENT 102|"],
     ),
     (
         Talkative(103),
         &[],
-        [1, 1, 7930, 12],
+        [1, 1, 7930, 23],
         [103, 0, 0, 7107],
         &["read 12 0 0", "comment 13 0 0 0 ||"],
+    ),
+    // Notes: 000's own, one of nothing, the largest numbers, zeros; 1000 is no mark.
+    (
+        Paper,
+        &[NOTE],
+        [1, 1, 308, 23],
+        [0, 0, 0, 7107],
+        &[
+            "sums 7107 0 10666195931946167104 15289957320527067536",
+            "P 0 G07 5000000001 -500000 0 absent unknown unknown unknown unknown .... note \
+             55 55 55 222 1234567 -1234567 5999999 -30 21 -1230000",
+            "rows 1 known 1 absent 0",
+            "row 0 0 5000000001 -500000 0 absent",
+        ],
+    ),
+    (
+        Paper,
+        &[BARE],
+        [1, 1, 308, 23],
+        [0, 0, 0, 7107],
+        &[
+            "sums 7107 0 10666195931946167104 15226688131451141472",
+            "P 0 G07 5000000001 -500000 0 absent unknown unknown unknown unknown .... note \
+             unknown unknown unknown unknown unknown unknown unknown unknown unknown unknown",
+            "rows 1 known 1 absent 0",
+            "row 0 0 5000000001 -500000 0 absent",
+        ],
+    ),
+    (
+        Paper,
+        &[BARE, Put(25, 80, " ")],
+        [1, 1, 308, 23],
+        [0, 0, 0, 7107],
+        &[
+            "P 0 G07 5000000001 -500000 0 absent unknown unknown unknown unknown .... note \
+             unknown unknown unknown unknown unknown unknown unknown unknown unknown unknown",
+            "rows 1 known 1 absent 0",
+            "row 0 0 5000000001 -500000 0 absent",
+        ],
+    ),
+    (
+        Paper,
+        &[BARE, Put(25, 5, "0055")],
+        [1, 1, 308, 23],
+        [0, 0, 0, 7107],
+        &[
+            "P 0 G07 5000000001 -500000 0 absent unknown unknown unknown unknown .... note \
+             55 unknown unknown unknown unknown unknown unknown unknown unknown unknown",
+            "rows 1 known 1 absent 0",
+            "row 0 0 5000000001 -500000 0 absent",
+        ],
+    ),
+    (
+        Paper,
+        &[BARE, Put(25, 5, "9999"), Put(25, 20, "9999999")],
+        [1, 1, 308, 23],
+        [0, 0, 0, 7107],
+        &[
+            "P 0 G07 5000000001 -500000 0 absent unknown unknown unknown unknown .... note \
+             large unknown unknown large unknown unknown unknown unknown unknown unknown",
+            "rows 1 known 1 absent 0",
+            "row 0 0 5000000001 -500000 0 absent",
+        ],
+    ),
+    (
+        Paper,
+        &[BARE, Put(25, 5, "9998 1000 9999 9999998")],
+        [1, 1, 308, 23],
+        [0, 0, 0, 7107],
+        &[
+            "P 0 G07 5000000001 -500000 0 absent unknown unknown unknown unknown .... note \
+             9998 1000 large 9999998 unknown unknown unknown unknown unknown unknown",
+            "rows 1 known 1 absent 0",
+            "row 0 0 5000000001 -500000 0 absent",
+        ],
+    ),
+    (
+        Paper,
+        &[BARE, Put(25, 20, "   9999 09999999 -9999999       -0 -0000030")],
+        [1, 1, 308, 23],
+        [0, 0, 0, 7107],
+        &[
+            "P 0 G07 5000000001 -500000 0 absent unknown unknown unknown unknown .... note \
+             unknown unknown unknown 9999 9999999 -9999999 0 -30 unknown unknown",
+            "rows 1 known 1 absent 0",
+            "row 0 0 5000000001 -500000 0 absent",
+        ],
+    ),
+    (
+        Paper,
+        &[BARE, Put(25, 73, "      -1")],
+        [1, 1, 308, 23],
+        [0, 0, 0, 7107],
+        &[
+            "P 0 G07 5000000001 -500000 0 absent unknown unknown unknown unknown .... note \
+             unknown unknown unknown unknown unknown unknown unknown unknown unknown -1",
+            "rows 1 known 1 absent 0",
+            "row 0 0 5000000001 -500000 0 absent",
+        ],
+    ),
+    (
+        Paper,
+        &[ABSENT, BARE, Put(25, 8, "7")],
+        [1, 1, 308, 23],
+        [0, 0, 0, 7107],
+        &[
+            "P 0 G07 absent absent unknown unknown unknown unknown .... note \
+             7 unknown unknown unknown unknown unknown unknown unknown unknown unknown",
+            "rows 1 known 0 absent 1",
+            "row 0 0 absent absent",
+        ],
+    ),
+    // A number of rows too few.
+    (Paper, &[NOTE], [1, 1, 308, 22], [0, 0, 0, 7107], &["whole 0 0 1296", "read 12 0 0"]),
+    (MovingNotes, &[], [2, 2, 308, 183], [0, 0, 0, 7107], &["read 12 0 0"]),
+    // Mode V: a note of P alone, of V alone.
+    (
+        Motion,
+        &[Drop(27)],
+        [2, 2, 308, 92],
+        [0, 0, 0, 7101],
+        &[
+            "P 0 G01 -11044805800 -10475672350 21929418200 189163300 18 18 18 219 .... note \
+             55 55 55 222 1234567 -1234567 5999999 -30 21 -1230000",
+            "V 0 G01 20298880364 -18462044804 1381387685 -4534317 14 14 14 191 ....",
+            "P 0 G02 -12593593500 10170327650 -20354534400 -55976000 18 18 18 219 ..M.",
+        ],
+    ),
+    (
+        Motion,
+        &[Drop(25), Insert(29, "EV")],
+        [2, 2, 308, 92],
+        [0, 0, 0, 7101],
+        &[
+            "P 0 G01 -11044805800 -10475672350 21929418200 189163300 18 18 18 219 ....",
+            "V 0 G01 20298880364 -18462044804 1381387685 -4534317 14 14 14 191 .... note \
+             22 22 22 111 1234567 1234567 1234567 1234567 1234567 1234567",
+            "P 0 G02 -12593593500 10170327650 -20354534400 -55976000 18 18 18 219 ..M.",
+            "V 0 G02 absent absent unknown unknown unknown unknown .... note \
+             unknown unknown unknown unknown unknown unknown unknown unknown unknown unknown",
+        ],
+    ),
+    (
+        Night,
+        &[Insert(25, "EP"), Insert(29, "EP    18")],
+        [2, 2, 308, 138],
+        [0, 1, 0, 7107],
+        &[
+            "P 0 G07 15000000000 -20000500000 0 123456789 unknown unknown unknown unknown .... \
+             note unknown unknown unknown unknown unknown unknown unknown unknown unknown unknown",
+            "P 0 R24 absent absent unknown unknown unknown unknown ....",
+            "P 1 G07 absent -1 18 18 18 219 EPMP note \
+             18 unknown unknown unknown unknown unknown unknown unknown unknown unknown",
+            "P 1 R24 0 0 1 absent large large large large ....",
+        ],
     ),
     // Minus zero is zero; the clock's nines with a leading zero are absent.
     (
         Paper,
         &[Put(24, 5, "-000000.000000     -0.000000-000000.000000-999999.999999")],
-        [1, 1, 308, 12],
+        [1, 1, 308, 23],
         [0, 0, 0, 7107],
         &[
             "P 0 G07 absent -999999999999 unknown unknown unknown unknown ....",
@@ -3436,14 +3894,14 @@ const ASKED: &[Asked] = &[
     (
         Paper,
         &[Put(24, 47, "0999999.999999    00 99 999 E    P")],
-        [1, 1, 308, 12],
+        [1, 1, 308, 23],
         [0, 0, 0, 7107],
         &["P 0 G07 5000000001 -500000 0 absent unknown 0 large large E..P"],
     ),
     (
         Paper,
         &[Put(24, 47, "     -0.000000 99 09  7  99  P")],
-        [1, 1, 308, 12],
+        [1, 1, 308, 23],
         [0, 0, 0, 7107],
         &["P 0 G07 5000000001 -500000 0 0 large 9 7 99 .P.."],
     ),
@@ -3451,7 +3909,7 @@ const ASKED: &[Asked] = &[
     (
         Many(255),
         &[],
-        [255, 255, 308, 3060],
+        [255, 255, 308, 5865],
         [0, 0, 254, 6957],
         &[
             "read 0 0 17929",
@@ -3469,14 +3927,14 @@ const ASKED: &[Asked] = &[
     (
         Many(18),
         &[],
-        [17, 18, 308, 216],
+        [17, 18, 308, 414],
         [0, 0, 18, 7119],
         &["read 12 0 0", "satellite 13 0 0", "row 13 0 absent absent"],
     ),
     (
         Many(86),
         &[],
-        [86, 86, 308, 1032],
+        [86, 86, 308, 1978],
         [0, 0, 85, 7186],
         &["satellites 86", "G86 595", "satellite 0 0 85", "row 0 0 85000001 -500000 0 1000000"],
     ),
@@ -3576,11 +4034,135 @@ const ROWS_BY_HAND: &[Hand] = &[
     (Rows, &[Put(24, 1, "V"), Byte(24, 80, 127)], 2, 24),
 ];
 
+/// Notes with other bytes in their columns; these aren't stored.
+const NOTES_BY_HAND: &[Hand] = &[
+    // After the row of the paper's file, and of mode V.
+    (Paper, &[BARE, Put(25, 81, " ")], 3, 25),
+    (Paper, &[NOTE, Byte(25, 81, 9)], 2, 25),
+    (Paper, &[BARE, Put(25, 4, "0")], 5, 25),
+    (Paper, &[BARE, Put(25, 72, "x")], 5, 25),
+    (Motion, &[Put(27, 72, "-")], 5, 27),
+    (Paper, &[NOTE, Put(25, 5, "    ")], 0, 0),
+    (Paper, &[NOTE, Put(25, 20, "0000000")], 0, 0),
+    (Paper, &[BARE, Put(25, 5, "55")], 6, 25),
+    (Paper, &[BARE, Put(25, 5, "  -0")], 6, 25),
+    (Paper, &[BARE, Put(25, 5, "  +1")], 6, 25),
+    (Paper, &[NOTE, Put(25, 10, " 5 5")], 6, 25),
+    (Paper, &[NOTE, Put(25, 20, "     -1")], 6, 25),
+    (Paper, &[BARE, Put(25, 28, "-0000000")], 0, 0),
+    (Paper, &[NOTE, Put(25, 73, "        ")], 0, 0),
+    (Paper, &[BARE, Put(25, 80, "0")], 0, 0),
+    (Paper, &[BARE, Put(25, 28, "       -")], 6, 25),
+    (Paper, &[NOTE, Put(25, 80, " ")], 6, 25),
+    (Paper, &[NOTE, Put(25, 28, "99999999"), Put(25, 72, "x")], 5, 25),
+    // Columns 1 and 2 tell the kind.
+    (Notes, &[Put(25, 1, "P")], 5, 25),
+    (Notes, &[Put(25, 1, "e")], 4, 25),
+    (Notes, &[Put(25, 2, "V")], 4, 25),
+    (Notes, &[Put(27, 2, "p")], 4, 27),
+    (MovingNotes, &[Put(27, 2, "P")], 4, 27),
+    (MovingNotes, &[Put(25, 2, "V")], 4, 25),
+    // Unused columns.
+    (Notes, &[Put(25, 3, "0")], 5, 25),
+    (Notes, &[Put(25, 4, "1")], 5, 25),
+    (Notes, &[Put(25, 9, "-")], 5, 25),
+    (Notes, &[Put(25, 14, ".")], 5, 25),
+    (Notes, &[Put(25, 19, "9")], 5, 25),
+    (Notes, &[Put(25, 27, "E")], 5, 25),
+    (Notes, &[Put(25, 36, "0")], 5, 25),
+    (Notes, &[Put(27, 45, "0")], 5, 27),
+    (Notes, &[Put(27, 54, "0")], 5, 27),
+    (Notes, &[Put(30, 63, "P")], 5, 30),
+    (MovingNotes, &[Put(27, 72, "~")], 5, 27),
+    // The first and the last column of a deviation.
+    (Notes, &[Put(25, 5, " ")], 0, 0),
+    (Notes, &[Put(25, 5, "-")], 6, 25),
+    (Notes, &[Put(25, 5, "0")], 0, 0),
+    (Notes, &[Put(25, 6, " ")], 6, 25),
+    (Notes, &[Put(25, 8, " ")], 6, 25),
+    (Notes, &[Put(25, 13, ":")], 6, 25),
+    (Notes, &[Put(25, 15, "/")], 6, 25),
+    (Notes, &[Put(25, 26, "x")], 6, 25),
+    (Notes, &[Put(27, 7, "5")], 6, 27),
+    (Notes, &[Put(27, 8, "5")], 0, 0),
+    (Notes, &[Put(27, 26, "0")], 0, 0),
+    (Notes, &[Put(27, 25, "0")], 6, 27),
+    // Correlations: the first column has a minus, a zero, another digit, a blank.
+    (Notes, &[Put(25, 28, "1")], 7, 25),
+    (Notes, &[Put(25, 28, "0")], 0, 0),
+    (Notes, &[Put(25, 28, " ")], 0, 0),
+    (Notes, &[Put(25, 28, "+")], 6, 25),
+    (Notes, &[Put(25, 37, "1")], 7, 25),
+    (Notes, &[Put(25, 37, "-")], 0, 0),
+    (Notes, &[Put(25, 29, "-")], 6, 25),
+    (Notes, &[Put(25, 29, " ")], 6, 25),
+    (Notes, &[Put(25, 38, "-")], 6, 25),
+    (Notes, &[Put(25, 37, " -")], 0, 0),
+    (Notes, &[Put(25, 62, " ")], 6, 25),
+    (Notes, &[Put(27, 80, "0")], 0, 0),
+    (Notes, &[Put(27, 80, "-")], 6, 27),
+    (Notes, &[Put(27, 79, "-")], 6, 27),
+    (Notes, &[Put(27, 79, "-1")], 0, 0),
+    (Notes, &[Put(27, 73, "1")], 6, 27),
+    (MovingNotes, &[Put(27, 73, "9")], 7, 27),
+    (MovingNotes, &[Put(31, 80, "P")], 6, 31),
+    // 81 characters; bytes that aren't characters; LF.
+    (Notes, &[Put(25, 81, " ")], 3, 25),
+    (Notes, &[Put(27, 81, " ")], 3, 27),
+    (Notes, &[Byte(25, 81, 127)], 2, 25),
+    (Notes, &[Byte(25, 3, 9)], 2, 25),
+    (Notes, &[Byte(27, 80, 128)], 2, 27),
+    (Notes, &[Byte(25, 1, 10)], 4, 25),
+    (Notes, &[Byte(25, 3, 10)], 4, 26),
+    (Notes, &[Byte(25, 7, 10)], 6, 25),
+    (Notes, &[Byte(25, 9, 10)], 4, 26),
+    // The lowest number decides.
+    (Notes, &[Put(25, 6, " "), Put(25, 72, "x")], 5, 25),
+    (Notes, &[Put(25, 28, "9"), Put(25, 73, "x")], 6, 25),
+    (Notes, &[Put(25, 2, "V"), Byte(25, 80, 127)], 2, 25),
+];
+
+const NOTES_ASKED: &[Asked] = &[
+    (
+        Notes,
+        &[],
+        [2, 2, 308, 92],
+        [0, 1, 0, 8220],
+        &[
+            "P 0 G07 123456789012 234567890123 999999999999 987654321098 18 large 7 219 EPMP note \
+             1234 5678 9012 3456789 -1234567 9999999 -9999999 1234567 -21 8765432",
+            "P 0 R20 absent absent unknown unknown unknown unknown .... note \
+             unknown unknown unknown unknown unknown unknown unknown unknown unknown unknown",
+            "P 1 G07 -12500000 -23456789012 -3456789012 -1 5 unknown large 7 .P.. note \
+             large unknown unknown large 9999999 unknown -9999999 unknown unknown unknown",
+            "P 1 R20 12500000 1000000 -500000 absent 0 1 10 12 ...P note \
+             55 0 1000 0 0 -30 0 0 -21 -1230000",
+            "rows 4 known 3 absent 1",
+            "row 0 0 -12500000 -23456789012 -3456789012 -1",
+        ],
+    ),
+    (
+        MovingNotes,
+        &[Drop(25), Put(26, 28, " 1"), Put(30, 80, "0")],
+        [2, 2, 308, 184],
+        [0, 0, 0, 7107],
+        &[
+            "P 0 G07 123456789012 234567890123 999999999999 987654321098 18 large 7 219 EPMP",
+            "V 0 G07 123456789012 234567890123 999999999999 987654321098 18 large 7 219 .... note \
+             1234 5678 9012 3456789 1234567 9999999 -9999999 1234567 -21 8765432",
+            "P 0 R20 absent absent unknown unknown unknown unknown .... note \
+             unknown unknown unknown unknown unknown unknown unknown unknown unknown unknown",
+            "V 0 R20 absent absent unknown unknown unknown unknown .... note \
+             unknown unknown unknown unknown unknown unknown unknown unknown unknown 0",
+        ],
+    ),
+];
+
 const ROWS_ASKED: &[Asked] = &[
     (
         Rows,
         &[],
-        [2, 2, 308, 48],
+        [2, 2, 308, 92],
         [0, 1, 0, 8220],
         &[
             "P 0 G07 123456789012 234567890123 999999999999 987654321098 18 large 7 219 EPMP",
@@ -3595,7 +4177,7 @@ const ROWS_ASKED: &[Asked] = &[
     (
         Rows,
         &[Put(24, 6, "  -"), Put(24, 62, " "), Put(24, 71, "   "), Put(24, 75, " ")],
-        [2, 2, 308, 48],
+        [2, 2, 308, 92],
         [0, 0, 0, 7107],
         &[
             "P 0 G07 -456789012 234567890123 999999999999 987654321098 8 large 7 unknown .PMP",
@@ -3605,7 +4187,7 @@ const ROWS_ASKED: &[Asked] = &[
     (
         Rows,
         &[Put(25, 10, "-"), Put(25, 60, "8"), Put(25, 73, "0"), Put(25, 79, "M")],
-        [2, 2, 308, 48],
+        [2, 2, 308, 92],
         [0, 0, 1, 7107],
         &[
             "P 0 R20 absent 999999999998 unknown unknown unknown 0 ..M.",
@@ -3615,7 +4197,7 @@ const ROWS_ASKED: &[Asked] = &[
     (
         MovingRows,
         &[Put(25, 5, "-"), Put(27, 63, "9")],
-        [2, 2, 308, 96],
+        [2, 2, 308, 184],
         [0, 0, 0, 7107],
         &[
             "P 0 G07 123456789012 234567890123 999999999999 987654321098 18 large 7 219 EPMP",
@@ -3688,7 +4270,7 @@ fn test_types(tally: &mut Tally) {
 /// "No accepted file is the beginning of a longer accepted file": what is cut
 /// off gives 1 in the unfinished line, what is added gives 11.
 fn test_lengths(tally: &mut Tally) {
-    for base in [Paper, Night, Motion] {
+    for base in [Paper, Night, Motion, Notes] {
         let file = base_file(base).bytes();
         for length in 0..file.len() {
             let line = 1 + file[..length].iter().filter(|&&c| c == b'\n').count();
@@ -3750,6 +4332,28 @@ const COLUMNS: &[(Base, &[Edit], usize)] = &[
     (Paper, &[Put(3, 13, "000")], 0),
     (Paper, &[Put(23, 18, "15")], 0),
     (Paper, &[Put(24, 2, "G08")], 0),
+    // Notes.
+    (Paper, &[NOTE], 0),
+    (Paper, &[BARE, Byte(25, 3, 9)], 3),
+    (Paper, &[NOTE, Byte(25, 60, 9)], 60),
+    (Paper, &[NOTE, Put(25, 81, " ")], 81),
+    (Paper, &[NOTE, Double(25)], 0),
+    (Paper, &[Insert(25, "EPx")], 3),
+    (Paper, &[BARE, Put(25, 9, "1")], 9),
+    (Paper, &[BARE, Put(25, 72, "x")], 72),
+    (Paper, &[NOTE, Put(25, 45, "x"), Put(25, 36, "x")], 36),
+    (Paper, &[BARE, Put(25, 5, "55  ")], 5),
+    (Paper, &[BARE, Put(25, 5, "  -1")], 5),
+    (Paper, &[NOTE, Put(25, 26, "x"), Put(25, 35, "x")], 20),
+    (Paper, &[BARE, Put(25, 28, "99999999")], 28),
+    (Paper, &[BARE, Put(25, 28, "10000000")], 28),
+    (Paper, &[BARE, Put(25, 28, "     - 1")], 28),
+    (Paper, &[BARE, Put(25, 28, "      +1")], 28),
+    (Paper, &[BARE, Put(25, 28, "1234567 ")], 28),
+    (Paper, &[NOTE, Put(25, 5, "55  "), Put(25, 27, "x")], 27),
+    (Paper, &[NOTE, Put(25, 28, "99999999"), Put(25, 73, "1234567 ")], 73),
+    (Motion, &[Put(27, 80, "x")], 73),
+    (Motion, &[Put(27, 64, "99999999"), Put(27, 55, "10000000")], 55),
 ];
 const KEPT: &[(Base, &[Edit], usize, u8, usize)] = &[
     (Paper, &[], 1, 0, 0),
@@ -3814,8 +4418,10 @@ fn self_test() {
     let mut tally = Tally::default();
     test_hand(&mut tally, HAND);
     test_hand(&mut tally, ROWS_BY_HAND);
+    test_hand(&mut tally, NOTES_BY_HAND);
     test_asked(&mut tally, ASKED);
     test_asked(&mut tally, ROWS_ASKED);
+    test_asked(&mut tally, NOTES_ASKED);
     test_types(&mut tally);
     test_days(&mut tally);
     test_columns(&mut tally);

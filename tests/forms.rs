@@ -41,7 +41,11 @@
 //!              of rows are lent
 //! ```
 //!
-//! and then these lists: I, X and R numbers, and C bytes as they are. The answer to a case:
+//! and then these lists: I, X and R numbers, and C bytes as they are. A row has
+//! 23 numbers: x, y, z, clock; four exponents; four flags; 1 where it has a note,
+//! else 0; four deviations; six correlations (xy, xz, xc, yz, yc, zc). A number
+//! of a note that is unknown is 100000000, and so are all ten beside a 0. The
+//! answer to a case:
 //!
 //! ```text
 //! file ROOM LENGTH      or  table ROOM LENGTH
@@ -52,15 +56,16 @@
 //! kept                      every byte past them still holds the mark
 //! ```
 //!
-//! "The paper" is 01-scope.md, "000" is the SP3-d document.
+//! "The paper" is 01-scope.md as request 1 of 02-change-requests.md changed it,
+//! "000" is the SP3-d document.
 
 #[allow(dead_code)]
 #[path = "files.rs"]
 pub(crate) mod files;
 
-use files::lines::{self, fail, Exponent, Identifier, Moment, Random, Tally};
+use files::lines::{self, fail, Exponent, Identifier, Moment, Note, Random, Tally};
 use files::{answers, generated};
-use files::{Base, Compared, Edit, Lent, DAY, GPS_ZERO, SECOND, UNKNOWN};
+use files::{Base, Compared, Edit, Lent, BARE, DAY, GPS_ZERO, NOTE, SECOND, UNKNOWN, UNNOTED};
 use std::collections::HashSet;
 
 // ---------------------------------------------------------------------------
@@ -107,7 +112,13 @@ impl Head {
 
 /// Width of a comment and of a row in the lists.
 const COMMENT: usize = 77;
-const ROW: usize = 12;
+const ROW: usize = files::ROW_WIDTH;
+/// Places in a row: whether it has a note, and the note's deviations and
+/// correlations.
+const MARK: usize = 12;
+const DEVIATIONS: std::ops::Range<usize> = 13..17;
+const CLOCK_DEVIATION: usize = 16;
+const CORRELATIONS: std::ops::Range<usize> = 17..23;
 
 // ---------------------------------------------------------------------------
 // Validity: "A table is valid exactly when some accepted file has it"
@@ -194,7 +205,23 @@ fn row_is_valid(row: &[i64], velocity: bool) -> bool {
     row[..4].iter().all(|&value| value.unsigned_abs() <= most_of(12))
         && row[4..7].iter().all(|&value| is_exponent(value, 99))
         && is_exponent(row[7], 999)
-        && row[8..].iter().all(|&flag| (0..=most_flag).contains(&flag))
+        && row[8..MARK].iter().all(|&flag| (0..=most_flag).contains(&flag))
+        && note_is_valid(&row[MARK..])
+}
+
+/// The mark and the ten numbers of a note: I4 and I7, and -9,999,999 to 9,999,999,
+/// or unknown; all ten are unknown where there is none.
+fn note_is_valid(note: &[i64]) -> bool {
+    let known = |value, least, most| (least..=most).contains(&value) || value == UNNOTED;
+    match note[0] {
+        0 => note[1..].iter().all(|&value| value == UNNOTED),
+        1 => {
+            note[1..4].iter().all(|&value| known(value, 0, 9999))
+                && known(note[4], 0, 9_999_999)
+                && note[5..].iter().all(|&value| known(value, -9_999_999, 9_999_999))
+        }
+        _ => false,
+    }
 }
 
 fn is_valid(head: &Head, lists: &Lent) -> bool {
@@ -327,7 +354,23 @@ fn row_line(code: u64, row: &[i64], velocity: bool) -> String {
     lines::write_position(&lines::Position { row: record, flags })
 }
 
-/// Records 8 and 9, without EP and EV.
+/// "the canonical form writes it there, even when all its fields are blank"
+fn note_line(row: &[i64], velocity: bool) -> Option<String> {
+    let field = |place: usize| (row[place] != UNNOTED).then(|| row[place]);
+    let note = Note {
+        deviations: std::array::from_fn(|place| field(DEVIATIONS.start + place)),
+        correlations: std::array::from_fn(|place| field(CORRELATIONS.start + place)),
+    };
+    let symbol = if velocity { lines::EV } else { lines::EP };
+    (row[MARK] == 1).then(|| lines::write_note(symbol, &note))
+}
+
+/// A row, and directly after it its note.
+fn row_lines(code: u64, row: &[i64], velocity: bool) -> Vec<String> {
+    std::iter::once(row_line(code, row, velocity)).chain(note_line(row, velocity)).collect()
+}
+
+/// Records 8 and 9.
 fn epoch_lines(head: &Head, held: &Held) -> Vec<String> {
     let mut out = Vec::new();
     let mut rows = held.rows.chunks(ROW);
@@ -336,7 +379,8 @@ fn epoch_lines(head: &Head, held: &Held) -> Vec<String> {
         for &code in held.identifiers {
             for velocity in [false, true] {
                 if head.velocities || !velocity {
-                    out.extend(rows.next().map(|row| row_line(code, row, velocity)));
+                    let row = rows.next().into_iter();
+                    out.extend(row.flat_map(|row| row_lines(code, row, velocity)));
                 }
             }
         }
@@ -711,14 +755,21 @@ enum Change {
     RowNumber(usize, i64),
     /// A list (I, X, C, R) of another length, rubbish in its further places.
     Length(usize, usize),
+    /// The rows once more after themselves.
+    Twice,
 }
 
-use Base::{Many, Motion, Night, Paper, Talkative};
+use Base::{Many, Motion, MovingNotes, Night, Notes, Paper, Talkative};
 use Change::{
     Argument, Comment, CommentByte, Epochs, Exponent as Accuracy, Field, Identifier as Name,
-    Length, RowNumber, Start, System, Texts, Type,
+    Length, RowNumber, Start, System, Texts, Twice, Type,
 };
-use Edit::{Insert, Put};
+use Edit::{Drop, Insert, Put};
+
+/// A number of a row: both counted from 0.
+const fn at(row: usize, place: usize) -> usize {
+    ROW * row + place
+}
 
 fn set_length(lists: &mut Lent, list: usize, length: usize) {
     match list {
@@ -754,6 +805,7 @@ fn change(given: &mut Given, change: Change) {
         }
         RowNumber(place, number) => given.lists.rows[place] = number,
         Length(list, length) => set_length(&mut given.lists, list, length),
+        Twice => given.lists.rows = given.lists.rows.repeat(2),
     }
 }
 
@@ -777,12 +829,19 @@ fn changed(base: Base, changes: &[Change]) -> Given {
 
 const PAPER_ROW: &str = "PG07   5000.000001     -0.500000      0.000000 999999.999999";
 
-/// The lines of a canonical form that aren't those of the base's own form.
+/// The lines of a canonical form that aren't those of the base's own form; one
+/// that is empty is gone.
 type Lines = &'static [(usize, &'static str)];
 
 macro_rules! row {
     ($tail:expr) => {
         concat!("PG07   5000.000001     -0.500000      0.000000 999999.999999", $tail)
+    };
+}
+
+macro_rules! noted {
+    ($note:expr) => {
+        &[(25, $note), (26, "EOF")]
     };
 }
 
@@ -896,9 +955,76 @@ const WRITTEN: &[(Base, &[Edit], Lines)] = &[
         &[Put(21, 80, "z")],
         &[(21, "/*                                                                             z")],
     ),
-    // EP and EV have no place in the form.
-    (Paper, &[Insert(25, "EP  anything")], &[]),
-    (Night, &[Insert(25, "EP"), Insert(29, "EP x")], &[]),
+    // Notes: 000's own; of nothing; leading zeros, minus zero, the largest.
+    (
+        Paper,
+        &[NOTE],
+        noted!("EP    55   55   55     222  1234567 -1234567  5999999      -30       21 -1230000"),
+    ),
+    (Paper, &[BARE], noted!("EP")),
+    (Paper, &[BARE, Put(25, 80, " ")], noted!("EP")),
+    (Paper, &[BARE, Put(25, 5, "0055")], noted!("EP    55")),
+    (Paper, &[BARE, Put(25, 5, "1000")], noted!("EP  1000")),
+    (Paper, &[BARE, Put(25, 5, "0000")], noted!("EP     0")),
+    (Paper, &[BARE, Put(25, 5, "9999")], noted!("EP  9999")),
+    (Paper, &[BARE, Put(25, 10, "0007")], noted!("EP          7")),
+    (Paper, &[BARE, Put(25, 15, "  99")], noted!("EP              99")),
+    (Paper, &[BARE, Put(25, 20, "9999999")], noted!("EP                 9999999")),
+    (Paper, &[BARE, Put(25, 20, "0009999")], noted!("EP                    9999")),
+    (Paper, &[BARE, Put(25, 28, "09999999")], noted!("EP                          9999999")),
+    (Paper, &[BARE, Put(25, 28, "-9999999")], noted!("EP                         -9999999")),
+    (Paper, &[BARE, Put(25, 28, "      -0")], noted!("EP                                0")),
+    (
+        Paper,
+        &[BARE, Put(25, 37, "-0000030")],
+        noted!("EP                                       -30"),
+    ),
+    (
+        Paper,
+        &[BARE, Put(25, 46, "-0000000")],
+        noted!("EP                                                  0"),
+    ),
+    (
+        Paper,
+        &[BARE, Put(25, 55, "00000021")],
+        noted!("EP                                                          21"),
+    ),
+    (
+        Paper,
+        &[BARE, Put(25, 64, "      -1")],
+        noted!("EP                                                                   -1"),
+    ),
+    (
+        Paper,
+        &[BARE, Put(25, 80, "1")],
+        noted!("EP                                                                             1"),
+    ),
+    (
+        Paper,
+        &[NOTE, Put(25, 28, "                                                     ")],
+        noted!("EP    55   55   55     222"),
+    ),
+    (
+        Paper,
+        &[NOTE, Put(25, 5, "                      ")],
+        noted!("EP                          1234567 -1234567  5999999      -30       21 -1230000"),
+    ),
+    (
+        Paper,
+        &[Put(24, 5, "     -0.000000      0.000000      0.000000 999999.999999"), BARE],
+        &[
+            (24, "PG07      0.000000      0.000000      0.000000 999999.999999"),
+            (25, "EP"),
+            (26, "EOF"),
+        ],
+    ),
+    (Notes, &[], &[]),
+    (MovingNotes, &[], &[]),
+    // Mode V: EP alone, EV alone, both.
+    (Motion, &[Drop(27)], MOTION_EP),
+    (Motion, &[Drop(25)], MOTION_EV),
+    (Motion, &[Drop(27), Drop(25)], MOTION_ROWS),
+    (Night, &[Insert(25, "EP"), Insert(29, "EP     7      0008")], NIGHT_NOTES),
     // F follows from the start, however it was spelt.
     (
         Paper,
@@ -928,6 +1054,45 @@ const WRITTEN: &[(Base, &[Edit], Lines)] = &[
     (Many(255), &[], &[]),
     (Talkative(5), &[], &[]),
     (Talkative(103), &[], &[]),
+];
+
+/// What is left of the rows of `motion` without some of its notes.
+const MOTION_EP: Lines = &[
+    (26, "VG01  20298.880364 -18462.044804   1381.387685     -4.534317 14 14 14 191"),
+    (27, "PG02 -12593.593500  10170.327650 -20354.534400    -55.976000 18 18 18 219     M"),
+    (28, "VG02      0.000000      0.000000      0.000000 999999.999999"),
+    (29, "EOF"),
+    (30, ""),
+];
+const MOTION_EV: Lines = &[
+    (25, "VG01  20298.880364 -18462.044804   1381.387685     -4.534317 14 14 14 191"),
+    (26, "EV    22   22   22     111  1234567  1234567  1234567  1234567  1234567  1234567"),
+    (27, "PG02 -12593.593500  10170.327650 -20354.534400    -55.976000 18 18 18 219     M"),
+    (28, "VG02      0.000000      0.000000      0.000000 999999.999999"),
+    (29, "EOF"),
+    (30, ""),
+];
+const MOTION_ROWS: Lines = &[
+    (25, "VG01  20298.880364 -18462.044804   1381.387685     -4.534317 14 14 14 191"),
+    (26, "PG02 -12593.593500  10170.327650 -20354.534400    -55.976000 18 18 18 219     M"),
+    (27, "VG02      0.000000      0.000000      0.000000 999999.999999"),
+    (28, "EOF"),
+    (29, ""),
+    (30, ""),
+];
+
+/// `night` with two notes, by the lines from the first of them on.
+const NIGHT_NOTES: Lines = &[
+    (25, "EP"),
+    (26, "PR24      0.000000      0.000000      0.000000 999999.999999"),
+    (27, "*  2013  1  1  0  0  0.00000000"),
+    (28, "PG07      0.000000      0.000000      0.000000     -0.000001 18 18 18 219 EP  MP"),
+    (29, "EP     7         8"),
+    (30, "PR24      0.000000      0.000000      0.000001 999999.999999 99 99 99 999"),
+    (31, "*  2013  1  1  0 15  0.00000000"),
+    (32, "PG07     -0.500000      0.000000      0.000000 999999.000000"),
+    (33, "PR24 999999.999999-999999.999999 999999.999999-999999.999999  0     9   7     M"),
+    (34, "EOF"),
 ];
 
 const ONE_SECOND: Lines = &[
@@ -1096,10 +1261,29 @@ const DATED: &[(Base, &[Change], Lines)] = &[
     ),
     (Paper, &[Comment(1, " leading"), Comment(0, "")], &[(19, "/*"), (20, "/*  leading")]),
     // Lists that are longer than the counts: "places past them aren't looked at".
-    (Paper, &[Length(0, 2), Length(1, 3), Length(2, 309), Length(3, 13)], &[]),
+    (Paper, &[Length(0, 2), Length(1, 3), Length(2, 309), Length(3, 24)], &[]),
     (Night, &[Length(0, 30), Length(1, 20), Length(2, 400), Length(3, 200)], &[]),
-    (Motion, &[Length(0, 3), Length(1, 2), Length(2, 385), Length(3, 60)], &[]),
-    (Many(255), &[Length(0, 256), Length(1, 256), Length(3, 3061)], &[]),
+    (Motion, &[Length(0, 3), Length(1, 2), Length(2, 385), Length(3, 100)], &[]),
+    (Many(86), &[Length(0, 87), Length(1, 87), Length(3, 1979)], &[]),
+    // Numbers of a note.
+    (Paper, &[RowNumber(MARK, 1)], noted!("EP")),
+    (Paper, &[RowNumber(MARK, 1), RowNumber(13, 1000)], noted!("EP  1000")),
+    (Paper, &[RowNumber(MARK, 1), RowNumber(15, 9999)], noted!("EP            9999")),
+    (
+        Paper,
+        &[RowNumber(MARK, 1), RowNumber(16, 1000), RowNumber(17, -30), RowNumber(22, -9_999_999)],
+        noted!("EP                    1000      -30                                     -9999999"),
+    ),
+    (
+        Paper,
+        &[Argument(MODE, b'V' as u64), Twice, RowNumber(at(1, MARK), 1), RowNumber(at(1, 13), 0)],
+        &[
+            (1, "#dV2013  4  3  0  0  0.00000000       1 ORBIT WGS84 BCT PORT"),
+            (25, "VG07   5000.000001     -0.500000      0.000000 999999.999999"),
+            (26, "EV     0"),
+            (27, "EOF"),
+        ],
+    ),
 ];
 
 /// The canonical form of a base, by hand.
@@ -1109,12 +1293,27 @@ fn base_form(base: Base) -> Vec<String> {
     match base {
         // Minus zero is zero.
         Night => form[29] = form[29].replace("     -0.000000", "      0.000000"),
-        // Without its EP and EV.
-        Motion => form.retain(|line| !line.starts_with("EP") && !line.starts_with("EV")),
+        Notes | MovingNotes => form.iter_mut().for_each(|line| *line = plain_note(line)),
         _ => {}
     }
     form
 }
+
+/// A line of the files with notes as its form has it: rows and notes without
+/// leading zeros, minus zero as zero.
+fn plain_note(line: &str) -> String {
+    let shown = [
+        ("-00012.500000", "   -12.500000"),
+        ("000012.500000", "    12.500000"),
+        (" 07 219", "  7 219"),
+        ("-1234567 09999999 -9999999 01234567 -0000021 08765432", BY_HAND_FULL),
+        ("  0055    0 1000       0       -0      -30        0 00000000      -21", BY_HAND_ZEROS),
+    ];
+    shown.iter().fold(line.to_string(), |text, (given, form)| text.replace(given, form))
+}
+
+const BY_HAND_FULL: &str = "-1234567  9999999 -9999999  1234567      -21  8765432";
+const BY_HAND_ZEROS: &str = "    55    0 1000       0        0      -30        0        0      -21";
 
 /// The form of a base with these lines instead.
 fn form_with(base: Base, lines: Lines) -> Vec<u8> {
@@ -1123,6 +1322,7 @@ fn form_with(base: Base, lines: Lines) -> Vec<u8> {
         form.resize(form.len().max(number), String::new());
         form[number - 1] = text.to_string();
     }
+    form.retain(|line| !line.is_empty());
     form.iter().flat_map(|line| line.bytes().chain([b'\n'])).collect()
 }
 
@@ -1211,7 +1411,9 @@ fn judged_letters() -> Vec<Judged> {
     all.push((Paper, vec![Argument(MODE, b'V'.into())], 0, 13));
     all.push((Paper, vec![Field(MODE, b'V'.into())], 0, 13));
     all.push((Motion, vec![Field(MODE, b'P'.into())], 0, 0));
-    all.push((Paper, vec![Argument(MODE, b'V'.into()), Length(3, 24), RowNumber(12, 0)], 0, 13));
+    let velocity = Argument(MODE, b'V'.into());
+    all.push((Paper, vec![velocity, Length(3, 2 * ROW), RowNumber(at(1, 0), 0)], 0, 13));
+    all.push((Paper, vec![velocity, Twice], 0, 0));
     for letter in [b'X', b'g', b'A', b' ', 0, 255] {
         all.push((Paper, vec![Type(letter)], 6, 0));
         all.push((Paper, vec![Field(TYPE, letter.into())], 0, 13));
@@ -1326,30 +1528,90 @@ const CLOCK_EXPONENTS: (&[i64], &[i64]) =
     (&[0, 10, 100, 999, 1000], &[-1, 1001, -1000, i64::MIN, i64::MAX]);
 const FLAGS: (&[i64], &[i64]) = (&[0, 1], &[2, -1, 1000, i64::MIN]);
 const NO_FLAGS: (&[i64], &[i64]) = (&[0], &[1, 2, -1]);
+/// The mark of a note beside ten that are unknown; a number beside the mark 0.
+const MARKS: (&[i64], &[i64]) = (&[0, 1], &[2, -1, 100_000_000, i64::MIN]);
+const NONE_NOTED: (&[i64], &[i64]) = (&[100_000_000], &[0, 5, -100_000_000]);
+/// The deviations and correlations of a note, and both ends of their bounds.
+const NOTED: (&[i64], &[i64]) = (
+    &[0, 1, 1000, 9999, 100_000_000],
+    &[-1, 10_000, 9_999_999, -9999, -100_000_000, 99_999_999, 100_000_001, i64::MAX],
+);
+const CLOCK_NOTED: (&[i64], &[i64]) =
+    (&[0, 10_000, 9_999_999, 100_000_000], &[-1, 10_000_000, 99_999_999, -100_000_000, i64::MIN]);
+const CORRELATED: (&[i64], &[i64]) = (
+    &[0, 1, -1, 9_999_999, -9_999_999, 100_000_000],
+    &[10_000_000, -10_000_000, 99_999_999, -99_999_999, -100_000_000, 100_000_001, i64::MIN],
+);
+const NOTED_ENDS: (&[i64], &[i64]) = (&[0, 9999], &[-1, 10_000, -100_000_000]);
+const CLOCK_NOTED_ENDS: (&[i64], &[i64]) = (&[0, 9_999_999], &[-1, 10_000_000, -100_000_000]);
+const CORRELATED_ENDS: (&[i64], &[i64]) =
+    (&[-9_999_999, 9_999_999], &[-10_000_000, 10_000_000, -100_000_000]);
 
 /// Each number of a P row, then of a V row.
 fn judged_rows() -> Vec<Judged> {
     let mut all: Vec<Judged> = Vec::new();
-    for (base, first, flags) in [(Paper, 0, FLAGS), (Motion, 12, NO_FLAGS)] {
+    for (base, row, flags) in [(Paper, 0, FLAGS), (Motion, 3, NO_FLAGS)] {
         for place in 0..ROW {
             let (right, wrong) = match place {
                 0..=3 => AMOUNTS,
                 4..=6 => EXPONENTS,
                 7 => CLOCK_EXPONENTS,
+                MARK => MARKS,
+                _ if place > MARK => NONE_NOTED,
                 _ => flags,
             };
-            let row =
-                |&number: &i64, answer| (base, vec![RowNumber(first + place, number)], 0, answer);
-            all.extend(right.iter().map(|number| row(number, 0)));
-            all.extend(wrong.iter().map(|number| row(number, 13)));
+            all.extend(judged_number(base, at(row, place), &[], right, wrong));
         }
     }
     // The last row, and one that isn't of the table.
-    all.push((Night, vec![RowNumber(71, 2)], 0, 13));
-    all.push((Night, vec![RowNumber(60, i64::MIN)], 0, 13));
-    all.push((Motion, vec![RowNumber(44, 1)], 0, 13));
-    all.push((Motion, vec![RowNumber(32, 1)], 0, 0));
-    all.push((Night, vec![Length(3, 84), RowNumber(72, i64::MAX)], 0, 0));
+    all.push((Night, vec![RowNumber(at(5, 11), 2)], 0, 13));
+    all.push((Night, vec![RowNumber(at(5, 0), i64::MIN)], 0, 13));
+    all.push((Motion, vec![RowNumber(at(3, 8), 1)], 0, 13));
+    all.push((Motion, vec![RowNumber(at(2, 8), 1)], 0, 0));
+    all.push((Night, vec![Length(3, 7 * ROW), RowNumber(at(6, 0), i64::MAX)], 0, 0));
+    all
+}
+
+/// A number of the rows after some changes: those that it may be, and others.
+fn judged_number(
+    base: Base,
+    place: usize,
+    before: &[Change],
+    right: &[i64],
+    wrong: &[i64],
+) -> Vec<Judged> {
+    let judged =
+        |&number: &i64, answer| (base, [before, &[RowNumber(place, number)]].concat(), 0, answer);
+    let right = right.iter().map(|number| judged(number, 0));
+    right.chain(wrong.iter().map(|number| judged(number, 13))).collect()
+}
+
+/// Each number of a note: after a P row that has nothing else noted, and after a
+/// V row whose note is full.
+fn judged_notes() -> Vec<Judged> {
+    let mut all: Vec<Judged> = Vec::new();
+    for place in MARK + 1..ROW {
+        let (values, ends) = match place {
+            CLOCK_DEVIATION => (CLOCK_NOTED, CLOCK_NOTED_ENDS),
+            _ if DEVIATIONS.contains(&place) => (NOTED, NOTED_ENDS),
+            _ => (CORRELATED, CORRELATED_ENDS),
+        };
+        let (right, wrong) = if [13, 16, 17, 22].contains(&place) { values } else { ends };
+        all.extend(judged_number(Paper, place, &[RowNumber(MARK, 1)], right, wrong));
+        all.extend(judged_number(Motion, at(1, place), &[], ends.0, ends.1));
+    }
+    // A mark of 0 beside a full note, of 2 and of -1; both rows of mode V marked.
+    for mark in [0, 2, -1] {
+        all.push((Motion, vec![RowNumber(at(1, MARK), mark)], 0, 13));
+    }
+    let none = CORRELATIONS.map(|place| RowNumber(at(1, place), UNNOTED));
+    let none = DEVIATIONS.map(|place| RowNumber(at(1, place), UNNOTED)).chain(none);
+    let none: Vec<Change> = none.chain([RowNumber(at(1, MARK), 0)]).collect();
+    all.push((Motion, none, 0, 0));
+    all.push((Motion, vec![RowNumber(at(2, MARK), 1), RowNumber(at(3, MARK), 1)], 0, 0));
+    // The last row's last number; one of a row that isn't of the table.
+    all.push((Night, vec![RowNumber(at(5, 22), 0)], 0, 13));
+    all.push((Night, vec![Length(3, 7 * ROW), RowNumber(at(6, MARK), 2)], 0, 0));
     all
 }
 
@@ -1357,7 +1619,7 @@ fn judged_rows() -> Vec<Judged> {
 fn judged_lengths() -> Vec<Judged> {
     let mut all: Vec<Judged> = Vec::new();
     for (base, lengths) in
-        [(Paper, [1, 1, 308, 12]), (Night, [2, 2, 308, 72]), (Motion, [2, 2, 308, 48])]
+        [(Paper, [1, 1, 308, 23]), (Night, [2, 2, 308, 138]), (Motion, [2, 2, 308, 92])]
     {
         for (list, &length) in lengths.iter().enumerate() {
             all.push((base, vec![Length(list, length)], 0, 0));
@@ -1365,13 +1627,16 @@ fn judged_lengths() -> Vec<Judged> {
             all.push((base, vec![Length(list, 0)], 0, 13));
         }
     }
-    all.push((Motion, vec![Length(3, 24)], 0, 13));
+    all.push((Motion, vec![Length(3, 46)], 0, 13));
+    all.push((Motion, vec![Length(3, 48)], 0, 13));
+    all.push((Paper, vec![Length(3, 12)], 0, 13));
     all.push((Paper, vec![Length(2, 231)], 0, 13));
     all
 }
 
 fn judged_by_hand() -> Vec<Judged> {
-    [judged_heads(), judged_ends(), judged_satellites(), judged_rows(), judged_lengths()].concat()
+    let rows = [judged_rows(), judged_notes()].concat();
+    [judged_heads(), judged_ends(), judged_satellites(), rows, judged_lengths()].concat()
 }
 
 /// A table, whether it is spoilt, and the room: as it is needed and so much
@@ -1395,11 +1660,17 @@ const ROOMS: &[(Base, &[Change], isize, u8)] = &[
     (Paper, &[RowNumber(4, 7), RowNumber(11, 1)], -1, 12),
     (Paper, &[Name(0, 7100)], -1215, 13),
     (Paper, &[RowNumber(11, 2)], -1215, 13),
-    (Paper, &[Length(3, 11)], -1215, 13),
+    (Paper, &[Length(3, 22)], -1215, 13),
     (Paper, &[Field(TYPE, 0)], -1215, 13),
     (Paper, &[CommentByte(307, 7)], -1, 13),
-    (Night, &[RowNumber(71, 2)], -1, 13),
-    (Night, &[RowNumber(71, 2)], -1000, 13),
+    (Night, &[RowNumber(at(5, 11), 2)], -1, 13),
+    (Night, &[RowNumber(at(5, 11), 2)], -1000, 13),
+    (Paper, &[RowNumber(MARK, 1)], 0, 0),
+    (Paper, &[RowNumber(MARK, 1)], -1, 12),
+    (Paper, &[RowNumber(MARK, 1), RowNumber(22, -1)], 0, 0),
+    (Paper, &[RowNumber(MARK, 1), RowNumber(22, -1)], -1, 12),
+    (Paper, &[RowNumber(MARK, 2)], -1215, 13),
+    (Paper, &[RowNumber(13, 5)], -1, 13),
 ];
 
 // ---------------------------------------------------------------------------
@@ -1409,9 +1680,15 @@ const ROOMS: &[(Base, &[Change], isize, u8)] = &[
 /// Numbers near some bound or other, of any field.
 const SMALL: &[u64] = &[
     0, 1, 2, 3, 4, 5, 9, 10, 17, 31, 32, 65, 71, 77, 80, 86, 90, 91, 99, 100, 126, 127, 128, 254,
-    255, 256, 999, 1000, 1001, 6501, 7100, 7101, 9099, 65_535, 65_536, 100_000, 100_001,
+    255, 256, 999, 1000, 1001, 6501, 7100, 7101, 9099, 9999, 10_000, 65_535, 65_536, 100_000,
+    100_001,
 ];
 const LARGE: &[u64] = &[
+    9_999_999,
+    10_000_000,
+    99_999_999,
+    100_000_000,
+    100_000_001,
     999_999_999,
     1_000_000_000,
     99_999_999_999,
@@ -1521,7 +1798,21 @@ fn choose_row_number(random: &mut Random, place: usize) -> i64 {
         3 => files::choose_clock(random),
         4..=6 => *random.pick(&[0, 1, 9, 10, 98, 99, 99, 1000, 1000, 100]),
         7 => *random.pick(&[0, 1, 9, 10, 99, 100, 998, 999, 1000, 1000, 1001]),
-        _ => *random.pick(&[0, 1, 0, 1, 0, 1, 0, 1, 0, 1, 2]),
+        8..=MARK => *random.pick(&[0, 1, 0, 1, 0, 1, 0, 1, 0, 1, 2]),
+        CLOCK_DEVIATION => {
+            *random.pick(&[0, 1000, 9_999_998, 9_999_999, 10_000_000, UNNOTED, UNNOTED, -1])
+        }
+        _ if place < CLOCK_DEVIATION => {
+            *random.pick(&[0, 9, 999, 1000, 9998, 9999, 10_000, UNNOTED, UNNOTED, -1])
+        }
+        _ => {
+            let size = *random.pick(&[0, 1, 30, 9_999_999, 10_000_000, UNNOTED, UNNOTED]);
+            if files::once_in(random, 2) && (size < UNNOTED || files::once_in(random, 8)) {
+                -size
+            } else {
+                size
+            }
+        }
     }
 }
 
@@ -1532,6 +1823,16 @@ fn spoil_row(given: &mut Given, random: &mut Random) {
     }
     let place = random.below(rows);
     given.lists.rows[place] = choose_row_number(random, place % ROW);
+}
+
+/// A number of a note, or its mark.
+fn spoil_note(given: &mut Given, random: &mut Random) {
+    let rows = given.lists.rows.len() / ROW;
+    if rows == 0 {
+        return;
+    }
+    let place = MARK + random.below(ROW - MARK).min(random.below(ROW - MARK));
+    given.lists.rows[at(random.below(rows), place)] = choose_row_number(random, place);
 }
 
 fn spoil_length(given: &mut Given, random: &mut Random) {
@@ -1556,15 +1857,16 @@ const SPOILS: &[Spoil] = &[
     spoil_comment,
     spoil_row,
     spoil_row,
-    spoil_row,
+    spoil_note,
+    spoil_note,
     spoil_length,
 ];
 
 /// Other rows, other times, many epochs: a table that is valid still, mostly.
 fn vary(given: &mut Given, random: &mut Random) {
     let width = given.lists.rows.len() / given.numbers[EPOCHS] as usize;
-    if width <= 72 && files::once_in(random, 25) {
-        set_epochs(given, 1 + random.below(2400 / width));
+    if width <= 6 * ROW && files::once_in(random, 25) {
+        set_epochs(given, 1 + random.below(200 * ROW / width));
     }
     if files::once_in(random, 2) {
         let moment = moment_of(files::choose_start(random) as u64);
@@ -1595,6 +1897,8 @@ fn vary_row(row: &mut [i64], flags: bool, random: &mut Random) {
         row[4 + place] = if known >> place & 1 == 1 { random.below(most) as i64 } else { UNKNOWN };
         row[8 + place] = i64::from(flags && set >> place & 1 == 1);
     }
+    let note = files::once_in(random, 2).then(|| files::choose_note(random));
+    row[MARK..].copy_from_slice(&files::held_note(note));
 }
 
 /// A table with lists of so many places at most.
@@ -1678,6 +1982,8 @@ fn with_room(body: Body, more: isize) -> Case {
     Case { room: needed.saturating_add_signed(more), body }
 }
 
+/// Those worked out by hand, the longer of the judged tables in part, and small
+/// generated ones.
 fn stored_cases() -> Vec<Case> {
     let mut cases: Vec<Case> = Vec::new();
     for &(base, edits, _) in WRITTEN {
@@ -1700,8 +2006,11 @@ fn stored_cases() -> Vec<Case> {
             cases.push(with_room(Body::File(file), more));
         }
     }
-    for (base, changes, ..) in judged_by_hand() {
-        cases.push(with_room(Body::Table(changed(base, &changes)), 1));
+    for (place, (base, changes, ..)) in judged_by_hand().into_iter().enumerate() {
+        let case = with_room(Body::Table(changed(base, &changes)), 1);
+        if case.bytes().len() < 700 || place % 3 == 0 {
+            cases.push(case);
+        }
     }
     for base in [Base::Nothing, Paper] {
         cases.push(Case {
@@ -1709,8 +2018,7 @@ fn stored_cases() -> Vec<Case> {
             body: Body::File(files::hand_made(base, &[Put(25, 4, "x")])),
         });
     }
-    cases.extend((1..=60).map(|number| generated(generate_case, files::STORED_SEED, number)));
-    cases
+    files::filled_up(cases, generate_case, |case| case.bytes().len() < 3000)
 }
 
 // ---------------------------------------------------------------------------

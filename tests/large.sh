@@ -42,7 +42,7 @@ repeated() {
 compare_input() {
     bytes=$(($(wc -c <input)))
     comments=$(grep -ac '^/\*' input || :)
-    numbers=$((12 * $(grep -ac '^[PV]' input || :)))
+    numbers=$((23 * $(grep -ac '^[PV]' input || :)))
     asked="3 99999 0 $name"
     echo "$1, $bytes bytes"
     {

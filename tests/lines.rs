@@ -23,11 +23,14 @@
 //! m P           n V          o EP         p EV         q EOF      z which kind
 //! ```
 //!
-//! An answer is `NUMBER COLUMN`, `0 0 CANONICAL LINE` (`0 0` alone for EP and
-//! EV), or `kind N` for the kind letter `z`.
+//! An answer is `NUMBER COLUMN`, `0 0 CANONICAL LINE`, or `kind N` for the kind
+//! letter `z`. The canonical line of an EP or EV shows its ten values as that of
+//! any other record does: `0 0 EP    55               222`, and `0 0 EP` where
+//! all of them are unknown.
 //!
-//! "The paper" is 01-scope.md, "000" is the SP3-d document; the words beside
-//! the columns below are those of its column-by-column description.
+//! "The paper" is 01-scope.md as request 1 of 02-change-requests.md changed it,
+//! "000" is the SP3-d document; the words beside the columns below are those of
+//! its column-by-column description.
 
 use std::collections::{BTreeMap, HashSet};
 use std::io::{Read, Write};
@@ -118,6 +121,20 @@ fn read_integer(field: &[u8]) -> Option<i64> {
     read_digits(without_leading_blanks(field))
 }
 
+/// The integer of a correlation: "a minus may stand before the first digit and
+/// minus zero is zero".
+fn read_signed(field: &[u8]) -> Option<i64> {
+    let text = without_leading_blanks(field);
+    match text.strip_prefix(b"-") {
+        Some(digits) => read_digits(digits).map(|magnitude| -magnitude),
+        None => read_digits(text),
+    }
+}
+
+fn is_blank(field: &[u8]) -> bool {
+    field.iter().all(|&c| c == b' ')
+}
+
 /// "Decimal: blanks, a minus if the field allows it, at least one digit, the
 /// point, exactly the stated places, filling the field." The value is in
 /// units of the last place.
@@ -144,7 +161,7 @@ pub(crate) enum Exponent {
 }
 
 fn read_exponent(field: &[u8]) -> Option<Exponent> {
-    if field.iter().all(|&c| c == b' ') {
+    if is_blank(field) {
         return Some(Exponent::Unknown);
     }
     read_integer(field).map(Exponent::Known)
@@ -302,6 +319,21 @@ impl Reader {
         read.unwrap_or(Exponent::Unknown)
     }
 
+    /// Request 1: "0 to 9999 (the last 0 to 9999999 ..)", which is as many
+    /// nines as the field has columns; "blank for unknown", which is none here.
+    fn deviation(&mut self, first: usize, last: usize) -> Option<i64> {
+        let field = self.take(first, last, Role::Field);
+        let largest = power_of_ten(last - first + 1) - 1;
+        (!is_blank(&field)).then(|| self.bounded(read_integer(&field), first, 0..=largest))
+    }
+
+    /// Request 1: "from -9999999 to 9999999", or blank.
+    fn correlation(&mut self, first: usize, last: usize) -> Option<i64> {
+        let field = self.take(first, last, Role::Field);
+        let bounds = -MOST_CORRELATION..=MOST_CORRELATION;
+        (!is_blank(&field)).then(|| self.bounded(read_signed(&field), first, bounds))
+    }
+
     fn identifier(&mut self, first: usize, last: usize) -> Identifier {
         let field = self.take(first, last, Role::Field);
         let read = read_identifier(&field);
@@ -428,6 +460,18 @@ pub(crate) struct Position {
     pub(crate) flags: [Vec<u8>; 4],
 }
 
+/// What an EP or EV says of the row before it: deviations of x, y, z and clock,
+/// correlations xy, xz, xc, yz, yc and zc; none where it is unknown.
+#[derive(Clone, Copy, PartialEq, Eq, Debug)]
+pub(crate) struct Note {
+    pub(crate) deviations: [Option<i64>; 4],
+    pub(crate) correlations: [Option<i64>; 6],
+}
+
+/// The symbol of a P row's note, and of a V row's.
+pub(crate) const EP: &str = "EP";
+pub(crate) const EV: &str = "EV";
+
 enum Record {
     First(FirstLine),
     Two(LineTwo),
@@ -442,7 +486,7 @@ enum Record {
     Epoch(Moment),
     Position(Position),
     Velocity(Row),
-    Correlation,
+    Note(&'static str, Note),
     End,
 }
 
@@ -453,6 +497,8 @@ enum Record {
 pub(crate) const SLOTS: usize = 17;
 pub(crate) const MOST_SATELLITES: i64 = 255;
 pub(crate) const MOST_EPOCHS: i64 = 100_000;
+/// In 10^-7: "a correlation coefficient between -0.9999999 and +0.9999999".
+pub(crate) const MOST_CORRELATION: i64 = 9_999_999;
 
 /// The same columns in the first line and in the epoch header.
 fn read_moment(r: &mut Reader) -> Moment {
@@ -739,10 +785,30 @@ pub(crate) fn read_velocity(r: &mut Reader) -> Row {
     row
 }
 
-/// "EP and EV records are accepted in their places and skipped."
-pub(crate) fn read_correlation(r: &mut Reader, symbol: &str) {
-    r.symbol(symbol); //            Columns 1-2    Symbols
-    r.text(3, 80);
+/// SP3 Lines Twenty five (EP) and Twenty seven (EV) in Example 2
+pub(crate) fn read_note(r: &mut Reader, symbol: &str) -> Note {
+    r.symbol(symbol); //                Columns 1-2    Symbols
+    r.unused(3, 4); //                  Columns 3-4    Unused
+    let x = r.deviation(5, 8); //       Columns 5-8    x-sdev, xvel-sdev        I4
+    r.unused(9, 9); //                  Column 9       Unused
+    let y = r.deviation(10, 13); //     Columns 10-13  y-sdev, yvel-sdev        I4
+    r.unused(14, 14); //                Column 14      Unused
+    let z = r.deviation(15, 18); //     Columns 15-18  z-sdev, zvel-sdev        I4
+    r.unused(19, 19); //                Column 19      Unused
+    let clock = r.deviation(20, 26); // Columns 20-26  clk-sdev, clkrate-sdev   I7
+    r.unused(27, 27); //                Column 27      Unused
+    let xy = r.correlation(28, 35); //  Columns 28-35  xy-correlation           I8
+    r.unused(36, 36); //                Column 36      Unused
+    let xz = r.correlation(37, 44); //  Columns 37-44  xz-correlation           I8
+    r.unused(45, 45); //                Column 45      Unused
+    let xc = r.correlation(46, 53); //  Columns 46-53  xc-correlation           I8
+    r.unused(54, 54); //                Column 54      Unused
+    let yz = r.correlation(55, 62); //  Columns 55-62  yz-correlation           I8
+    r.unused(63, 63); //                Column 63      Unused
+    let yc = r.correlation(64, 71); //  Columns 64-71  yc-correlation           I8
+    r.unused(72, 72); //                Column 72      Unused
+    let zc = r.correlation(73, 80); //  Columns 73-80  zc-correlation           I8
+    Note { deviations: [x, y, z, clock], correlations: [xy, xz, xc, yz, yc, zc] }
 }
 
 /// SP3 "Last" Line (The End-of-File marker)
@@ -777,14 +843,8 @@ fn read_record(letter: u8, left: usize, r: &mut Reader) -> Record {
         b'l' => Record::Epoch(read_epoch(r)),
         b'm' => Record::Position(read_position(r)),
         b'n' => Record::Velocity(read_velocity(r)),
-        b'o' => {
-            read_correlation(r, "EP");
-            Record::Correlation
-        }
-        b'p' => {
-            read_correlation(r, "EV");
-            Record::Correlation
-        }
+        b'o' => Record::Note(EP, read_note(r, EP)),
+        b'p' => Record::Note(EV, read_note(r, EV)),
         b'q' => {
             read_end(r);
             Record::End
@@ -826,6 +886,13 @@ impl Writer {
         let whole = value.abs() / power_of_ten(places);
         let rest = value.abs() % power_of_ten(places);
         self.at_the_right(last, &format!("{minus}{whole}.{rest:0places$}"));
+    }
+
+    /// Blank where it is unknown.
+    fn known(&mut self, last: usize, value: Option<i64>) {
+        if let Some(value) = value {
+            self.integer(last, value);
+        }
     }
 
     fn exponent(&mut self, last: usize, exponent: Exponent) {
@@ -960,9 +1027,20 @@ pub(crate) fn write_velocity(row: &Row) -> String {
     w.finish()
 }
 
-/// The canonical line of a record; EP and EV have none.
-fn canonical(record: &Record) -> Option<String> {
-    Some(match record {
+pub(crate) fn write_note(symbol: &str, note: &Note) -> String {
+    let mut w = Writer::new(symbol);
+    for (last, value) in [8, 13, 18, 26].into_iter().zip(note.deviations) {
+        w.known(last, value);
+    }
+    for (last, value) in [35, 44, 53, 62, 71, 80].into_iter().zip(note.correlations) {
+        w.known(last, value);
+    }
+    w.finish()
+}
+
+/// The canonical line of a record.
+fn canonical(record: &Record) -> String {
+    match record {
         Record::First(line) => write_first_line(line),
         Record::Two(line) => write_line_two(line),
         Record::Satellites(line) => write_satellites(line),
@@ -976,9 +1054,9 @@ fn canonical(record: &Record) -> Option<String> {
         Record::Epoch(moment) => write_epoch(moment),
         Record::Position(position) => write_position(position),
         Record::Velocity(row) => write_velocity(row),
-        Record::Correlation => return None,
+        Record::Note(symbol, note) => write_note(symbol, note),
         Record::End => "EOF".to_string(),
-    })
+    }
 }
 
 // ---------------------------------------------------------------------------
@@ -986,7 +1064,7 @@ fn canonical(record: &Record) -> Option<String> {
 // ---------------------------------------------------------------------------
 
 /// The answer of one line: a fault, or its canonical text.
-fn judge(letter: u8, left: usize, text: &[u8]) -> Result<Option<String>, Fault> {
+fn judge(letter: u8, left: usize, text: &[u8]) -> Result<String, Fault> {
     let mut reader = Reader::new(text);
     let record = read_record(letter, left, &mut reader);
     match reader.deciding {
@@ -1014,8 +1092,7 @@ impl Case {
         }
         match judge(self.letter, self.argument, text) {
             Err(fault) => format!("{} {}", fault.number, fault.column),
-            Ok(Some(canonical)) => format!("0 0 {canonical}"),
-            Ok(None) => "0 0".to_string(),
+            Ok(canonical) => format!("0 0 {canonical}"),
         }
     }
 }
@@ -1095,6 +1172,9 @@ const GOOD: &[(u8, usize, &str)] = &[
         0,
         "EV    22   22   22     111  1234567  1234567  1234567  1234567  1234567  1234567",
     ),
+    (b'o', 0, "EP"),
+    (b'o', 0, "EP  1000      9999 9999999"),
+    (b'p', 0, "EV                       0 -9999999                             9999999"),
     (b'q', 0, "EOF"),
 ];
 
@@ -1290,6 +1370,43 @@ const SPOILED: &[(u8, usize, &str, u8, usize)] = &[
     (b'n', 68, ".1", 6, 68),
     (b'n', 74, " E", 5, 75),
     (b'n', 80, "P", 5, 80),
+    // Notes: each unused column and each field, 7 and 6 in the correlations.
+    (b'o', 2, "V", 4, 0),
+    (b'o', 3, "x", 5, 3),
+    (b'o', 4, "5", 5, 4),
+    (b'o', 5, "55  ", 6, 5),
+    (b'o', 9, "1", 5, 9),
+    (b'o', 10, "  -1", 6, 10),
+    (b'o', 14, "-", 5, 14),
+    (b'o', 15, "5 5 ", 6, 15),
+    (b'o', 19, "0", 5, 19),
+    (b'o', 20, "    2.2", 6, 20),
+    (b'o', 27, "x", 5, 27),
+    (b'o', 28, "99999999", 7, 28),
+    (b'o', 36, "-", 5, 36),
+    (b'o', 37, "     - 1", 6, 37),
+    (b'o', 45, "1", 5, 45),
+    (b'o', 46, "10000000", 7, 46),
+    (b'o', 54, "x", 5, 54),
+    (b'o', 55, "      +1", 6, 55),
+    (b'o', 63, "0", 5, 63),
+    (b'o', 64, "       -", 6, 64),
+    (b'o', 72, "x", 5, 72),
+    (b'o', 73, "1234567 ", 6, 73),
+    (b'o', 73, "12345678", 7, 73),
+    (b'p', 2, "P", 4, 0),
+    (b'p', 4, "x", 5, 4),
+    (b'p', 5, "-001", 6, 5),
+    (b'p', 15, "2 2 ", 6, 15),
+    (b'p', 20, "222    ", 6, 20),
+    (b'p', 27, "0", 5, 27),
+    (b'p', 28, "--123456", 6, 28),
+    (b'p', 37, "10000000", 7, 37),
+    (b'p', 55, "55555555", 7, 55),
+    (b'p', 63, "-", 5, 63),
+    (b'p', 64, "99999999", 7, 64),
+    (b'p', 73, "1.234567", 6, 73),
+    (b'p', 80, "x", 6, 73),
     // End.
     (b'q', 3, "X", 4, 0),
     (b'q', 4, "X", 5, 4),
@@ -1310,6 +1427,17 @@ pub(crate) fn overlap(one: &Spoiler, other: &Spoiler) -> bool {
 // ---------------------------------------------------------------------------
 // Other spellings of fields, to be put into the good lines
 // ---------------------------------------------------------------------------
+
+/// The first three deviations of a note, and its correlations.
+const DEVIATIONS: &[&str] = &[
+    "   0", "0000", "   9", "0055", "1000", "9998", "9999", "09  ", "    ", "5   ", "  -1", "  -0",
+    "  +5", " 5 5", " 1.0",
+];
+const CORRELATIONS: &[&str] = &[
+    "       0", "      -0", "-0000000", "00000000", "      -1", " 9999999", "09999999", "-9999999",
+    "-0000030", "10000000", "99999999", "        ", "     - 1", "      +1", "1234567 ", "       -",
+    "     --1", "-",
+];
 
 /// Kind letters, columns, and texts put there; a text is set at the left.
 pub(crate) const SPELLINGS: &[(&str, &[usize], &[&str])] = &[
@@ -1560,6 +1688,28 @@ pub(crate) const SPELLINGS: &[(&str, &[usize], &[&str])] = &[
     ("mn", &[1], &["P", "V", "p", "v", "E", "EP"]),
     ("op", &[1], &["EP", "EV", "Ep", "eP", "EE", "E "]),
     ("op", &[3], &["x", "X", "7", ".........................."]),
+    // Deviations: blank is unknown.
+    ("o", &[5, 15], DEVIATIONS),
+    ("op", &[10], DEVIATIONS),
+    (
+        "op",
+        &[20],
+        &[
+            "      0", "0000000", "   1000", "0009999", "9999998", "9999999", "       ", "222    ",
+            "     -1", "     -0", "-999999", " 22 222", "    1.0",
+        ],
+    ),
+    // Correlations: a minus before the first digit.
+    ("o", &[37, 46, 55, 64], CORRELATIONS),
+    ("op", &[28, 73], CORRELATIONS),
+    // All deviations, all correlations, all of them.
+    ("op", &[5], &["                      ", "9999 9999 9999 9999999", "1000 0000    0      -1"]),
+    ("op", &[28], &["                                                     "]),
+    (
+        "op",
+        &[3],
+        &["                                                                              "],
+    ),
     ("q", &[1], &["EOF", "EOX", "EOf", "eof", "EO ", "E F", " EO"]),
 ];
 
@@ -1596,6 +1746,18 @@ const OUTSIDE: &[(u8, &[(usize, &str)])] = &[
             (47, "1000000.000000"),
         ],
     ),
+    (
+        b'o',
+        &[
+            (28, "10000000"),
+            (37, "99999999"),
+            (46, "10000001"),
+            (55, "19999999"),
+            (64, "10000000"),
+            (73, "90000000"),
+        ],
+    ),
+    (b'p', &[(28, "99999999"), (46, "10000000"), (73, "10000000")]),
 ];
 
 /// Accepted spellings and how the canonical form shows them: kind letter,
@@ -1629,6 +1791,17 @@ const SHOWN: &[(u8, usize, &str, &str)] = &[
     (b'm', 75, "E   M ", "E   M "),
     (b'n', 5, "  00000.500000", "      0.500000"),
     (b'n', 61, "    05       ", "     5       "),
+    (b'o', 5, "0055 0000 9999 0000222", "  55    0 9999     222"),
+    (b'o', 5, "1000              9999", "1000              9999"),
+    (b'o', 5, "                      ", "                      "),
+    (b'o', 20, "9999999", "9999999"),
+    (b'o', 28, "09999999 -9999999       -0", " 9999999 -9999999        0"),
+    (b'o', 55, "-0000030 00000000 -0000000", "     -30        0        0"),
+    (b'o', 73, "        ", "        "),
+    (b'p', 5, "0000      0007", "   0         7"),
+    (b'p', 20, "0000001", "      1"),
+    (b'p', 28, "-0000001", "      -1"),
+    (b'p', 64, "                 ", "                 "),
 ];
 
 // ---------------------------------------------------------------------------
@@ -1699,10 +1872,10 @@ fn add_spellings(cases: &mut Cases) {
 
 /// Several spellings of a kind in one line, whether right or wrong.
 fn add_mixed_spellings(cases: &mut Cases, random: &mut Random) {
-    for letter in b'a'..=b'n' {
+    for letter in b'a'..=b'p' {
         let of_letter = SPELLINGS.iter().filter(|entry| entry.0.as_bytes().contains(&letter));
         let entries: Vec<_> = of_letter.filter(|entry| entry.1[0] > 1).collect();
-        for _ in 0..if b"mn".contains(&letter) { 60 } else { 15 } {
+        for _ in 0..if b"mnop".contains(&letter) { 60 } else { 15 } {
             let mut case = good(letter);
             for _ in 0..2 + random.below(3) {
                 let &&(_, columns, texts) = random.pick(&entries);
@@ -1846,8 +2019,10 @@ fn add_lengths(cases: &mut Cases) {
     let lengths = [
         0, 1, 2, 3, 4, 6, 7, 10, 13, 19, 31, 39, 46, 57, 59, 60, 62, 63, 66, 72, 73, 75, 79,
     ];
+    let of_notes = [5, 8, 9, 18, 26, 27, 35, 36, 44, 53, 55, 71];
     for base in good_cases() {
-        for length in lengths.into_iter().filter(|&length| length < base.line.len()) {
+        let more: &[usize] = if b"op".contains(&base.letter) { &of_notes } else { &[] };
+        for &length in lengths.iter().chain(more).filter(|&&length| length < base.line.len()) {
             cases.add(cut(&base, length));
         }
         cases.add(edited(&base, base.line.len().min(79) + 1, " "));
@@ -1898,7 +2073,7 @@ const ALPHABET: [&str; 19] = [
 /// Good lines with one to four columns replaced, anywhere or near each other.
 fn add_random(cases: &mut Cases, random: &mut Random, number: usize) {
     let mut bases = good_cases();
-    bases.retain(|case| !b"kopq".contains(&case.letter));
+    bases.retain(|case| !b"kq".contains(&case.letter));
     let goal = cases.list.len() + number;
     while cases.list.len() < goal {
         let mut case = random.pick(&bases).clone();
@@ -1928,7 +2103,7 @@ fn all_cases() -> Vec<Case> {
     add_outside(&mut cases);
     add_lengths(&mut cases);
     add_kinds(&mut cases);
-    add_random(&mut cases, &mut random, 1800);
+    add_random(&mut cases, &mut random, 1300);
     cases.list
 }
 
@@ -2052,11 +2227,67 @@ const BY_HAND: &[(&str, &str)] = &[
     ("q000EOFX", "5 4"),
     ("q000EOX", "4 0"),
     ("q000EO", "4 0"),
-    // Correlation records: the symbol only.
-    ("o000EPxxxx", "0 0"),
+    // Notes: 000's own EP and EV.
+    (
+        "o000EP    55   55   55     222  1234567 -1234567  5999999      -30       21 -1230000",
+        "0 0 EP    55   55   55     222  1234567 -1234567  5999999      -30       21 -1230000",
+    ),
+    (
+        "p000EV    22   22   22     111  1234567  1234567  1234567  1234567  1234567  1234567",
+        "0 0 EV    22   22   22     111  1234567  1234567  1234567  1234567  1234567  1234567",
+    ),
+    ("o000EP", "0 0 EP"),
+    ("p000EV", "0 0 EV"),
+    ("o000EP   ", "0 0 EP"),
+    (
+        "o000EP                                                                              ",
+        "0 0 EP",
+    ),
     ("o000EV", "4 0"),
-    ("p000EV", "0 0"),
+    ("p000EP", "4 0"),
     ("p000E", "4 0"),
+    ("o000EPx", "5 3"),
+    ("o000EP x", "5 4"),
+    ("o000EPxxxx", "5 3"),
+    ("o000EP      1", "5 9"),
+    ("o000EP                                                                     x", "5 72"),
+    ("o000EP                                                                       x", "6 73"),
+    // Deviations: leading zeros, no minus; the largest is a number like others.
+    ("o000EP  0055", "0 0 EP    55"),
+    ("o000EP  55", "6 5"),
+    ("o000EP  55  ", "6 5"),
+    ("o000EP    -1", "6 5"),
+    ("o000EP  1000", "0 0 EP  1000"),
+    ("o000EP  9999", "0 0 EP  9999"),
+    ("o000EP                 9999999", "0 0 EP                 9999999"),
+    ("o000EP                 0000000", "0 0 EP                       0"),
+    ("o000EP                      0", "6 20"),
+    ("p000EV       000", "6 10"),
+    ("p000EV       0000", "0 0 EV          0"),
+    ("p000EV                 000000", "6 20"),
+    ("p000EV            9999", "0 0 EV            9999"),
+    // Correlations.
+    ("o000EP                         99999999", "7 28"),
+    ("o000EP                         10000000", "7 28"),
+    ("o000EP                         09999999", "0 0 EP                          9999999"),
+    ("o000EP                         -9999999", "0 0 EP                         -9999999"),
+    ("o000EP                               -0", "0 0 EP                                0"),
+    ("o000EP                              - 1", "6 28"),
+    ("o000EP                               +1", "6 28"),
+    ("o000EP                                -", "6 28"),
+    ("o000EP                         1234567 ", "6 28"),
+    (
+        "o000EP                                                                      -0000001",
+        "0 0 EP                                                                            -1",
+    ),
+    ("p000EV                                                             90000000", "7 64"),
+    // 6 at the left and 5 at the right; 7 at the left and 6 at the right.
+    ("o000EP  55                    x", "5 27"),
+    (
+        "o000EP                         99999999                                     1234567 ",
+        "6 73",
+    ),
+    ("p000EV                         10000000 10000000", "7 28"),
     // Kinds.
     ("z000#dP", "kind 1"),
     ("z000#c", "kind 0"),
@@ -2137,9 +2368,7 @@ fn test_by_hand(tally: &mut Tally) {
 /// Good lines are canonical, and every column is judged exactly once.
 fn test_good_lines(tally: &mut Tally) {
     for case in good_cases() {
-        if !b"op".contains(&case.letter) {
-            tally.expect(&case, &format!("0 0 {}", case.line));
-        }
+        tally.expect(&case, &format!("0 0 {}", case.line));
         let mut reader = Reader::new(case.line.as_bytes());
         read_record(case.letter, case.argument, &mut reader);
         let all_taken = !reader.roles.contains(&Role::Untouched) && !reader.taken_twice;

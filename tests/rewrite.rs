@@ -16,7 +16,7 @@
 //!
 //! 13 is no answer of `rewrite`: what was read from a file is a valid table.
 //!
-//! "The paper" is 01-scope.md.
+//! "The paper" is 01-scope.md as request 1 of 02-change-requests.md changed it.
 
 #[allow(dead_code)]
 #[path = "forms.rs"]
@@ -24,7 +24,7 @@ mod forms;
 
 use forms::files;
 use forms::files::lines::{fail, Tally};
-use forms::files::{Base, Draft, Edit};
+use forms::files::{Base, Draft, Edit, BARE, NOTE};
 use std::collections::BTreeMap;
 use std::path::Path;
 use std::process::exit;
@@ -72,7 +72,7 @@ fn printed(input: &[u8]) -> Vec<u8> {
 // Inputs that are stored
 // ---------------------------------------------------------------------------
 
-use Base::{Many, Motion, Night, Nothing, Paper, Talkative};
+use Base::{Many, Motion, MovingNotes, Night, Nothing, Paper, Talkative};
 use Edit::{
     After, AfterItself, Byte, CarriageReturns, Double, Drop, Insert, Join, Keep, Line as Whole,
     Put, Swap,
@@ -105,8 +105,53 @@ const WRITTEN: &[(&str, Base, Edits, Edits)] = &[
     ("00-paper", Paper, &[Put(24, 19, "    -00.500000")], &[]),
     ("00-canonical", Paper, &[], &[]),
     ("00-over-midnight", Night, &[], &[NIGHT_FORM]),
-    ("00-mode-v-without-ep-and-ev", Motion, &[], &[Drop(27), Drop(25)]),
-    ("00-one-ep", Paper, &[Insert(25, "EPx ~ anything 77")], &[]),
+    ("00-mode-v-with-ep-and-ev", Motion, &[], &[]),
+    ("00-mode-v-with-ep", Motion, &[Drop(27)], &[Drop(27)]),
+    ("00-mode-v-with-ev", Motion, &[Drop(25)], &[Drop(25)]),
+    ("00-one-ep", Paper, &[NOTE], &[NOTE]),
+    ("00-ep-of-nothing", Paper, &[BARE], &[BARE]),
+    ("00-ep-of-blanks", Paper, &[BARE, Put(25, 80, " ")], &[BARE]),
+    (
+        "00-ep-leading-zeros",
+        Paper,
+        &[BARE, Put(25, 5, "0055"), Put(25, 28, "09999999 -0000030")],
+        &[BARE, Put(25, 5, "  55"), Put(25, 28, " 9999999      -30")],
+    ),
+    (
+        "00-ep-minus-zero",
+        Paper,
+        &[BARE, Put(25, 28, "      -0 -9999999")],
+        &[BARE, Put(25, 28, "       0 -9999999")],
+    ),
+    (
+        "00-ep-too-large",
+        Paper,
+        &[BARE, Put(25, 5, "9999 1000      9999999")],
+        &[BARE, Put(25, 5, "9999 1000      9999999")],
+    ),
+    (
+        "00-ep-after-an-absent-place",
+        Paper,
+        &[Put(24, 5, "     -0.000000      0.000000      0.000000"), NOTE],
+        &[Put(24, 5, "      0.000000      0.000000      0.000000"), NOTE],
+    ),
+    (
+        "00-notes",
+        MovingNotes,
+        &[],
+        &[
+            Put(24, 68, " 7"),
+            Put(25, 37, " 9999999 -9999999  1234567      -21  8765432"),
+            Put(26, 68, " 7"),
+            Put(27, 37, " 9999999 -9999999  1234567      -21  8765432"),
+            Put(33, 5, "    -12.500000"),
+            Put(35, 5, "    -12.500000"),
+            Put(37, 5, "     12.500000"),
+            Put(38, 5, "  55    0 1000       0        0      -30        0        0      -21"),
+            Put(39, 5, "     12.500000"),
+            Put(40, 5, "  55    0 1000       0        0      -30        0        0      -21"),
+        ],
+    ),
     (
         "00-leading-zeros",
         Paper,
@@ -179,9 +224,11 @@ const REFUSED: &[(&str, Base, Edits, u8, usize)] = &[
     ("02-byte-128", Paper, &[Byte(24, 40, 128)], 2, 24),
     ("02-byte-127-in-a-comment", Paper, &[Byte(19, 4, 127)], 2, 19),
     ("02-before-3", Paper, &[Byte(24, 81, 9)], 2, 24),
+    ("02-ep-tab", Paper, &[BARE, Byte(25, 3, 9)], 2, 25),
     ("03-81-characters", Paper, &[Put(24, 81, " ")], 3, 24),
     ("03-comment-of-81", Paper, &[Put(19, 81, "x")], 3, 19),
     ("03-before-4", Paper, &[Put(24, 1, "x"), Put(24, 81, "x")], 3, 24),
+    ("03-ep-of-81", Paper, &[NOTE, Put(25, 81, " ")], 3, 25),
     ("04-one-lf", Nothing, &[After(b"\n")], 4, 1),
     ("04-three-comments", Paper, &[Drop(22)], 4, 22),
     ("04-sp3-c", Paper, &[Put(1, 2, "c")], 4, 1),
@@ -191,18 +238,36 @@ const REFUSED: &[(&str, Base, Edits, u8, usize)] = &[
     ("04-eof-too-early", Paper, &[Put(1, 39, "2")], 4, 25),
     ("04-epoch-too-many", Paper, &[Insert(25, "*  2013  4  3  0 15  0.00000000")], 4, 25),
     ("04-two-ep", Paper, &[Insert(25, "EP"), Insert(26, "EP")], 4, 26),
+    ("04-ev-in-mode-p", Paper, &[Insert(25, "EV")], 4, 25),
+    ("04-ev-before-v", Motion, &[Swap(26, 27)], 4, 26),
+    ("04-ep-after-v", Motion, &[Swap(25, 26)], 4, 26),
     ("04-mode-v-without-v", Motion, &[Drop(26)], 4, 26),
     ("05-unused-column", Paper, &[Put(1, 32, "x")], 5, 1),
     ("05-placeholder-of-letters", Paper, &[Put(14, 4, "G ")], 5, 14),
     ("05-placeholder-blank", Paper, &[Put(18, 52, "         ")], 5, 18),
     ("05-eofx", Paper, &[Whole(25, "EOFX")], 5, 25),
     ("05-flag-in-v", Motion, &[Put(26, 75, "E")], 5, 26),
+    ("05-ep-column-3", Paper, &[Insert(25, "EPx")], 5, 25),
+    ("05-ep-column-9", Paper, &[BARE, Put(25, 9, "1")], 5, 25),
+    ("05-ep-column-72", Paper, &[BARE, Put(25, 72, "x")], 5, 25),
+    ("05-ep-before-6", Paper, &[NOTE, Put(25, 5, "55  "), Put(25, 27, "x")], 5, 25),
+    ("05-ev-column-3", Motion, &[Put(27, 3, "x")], 5, 27),
     ("06-small-v", Paper, &[Put(1, 3, "v")], 6, 1),
     ("06-no-digit-before-point", Paper, &[Put(24, 5, "       .500000")], 6, 24),
     ("06-blank-clock", Paper, &[Put(24, 47, "              ")], 6, 24),
     ("06-identifier", Paper, &[Put(3, 10, "G 7")], 6, 3),
     ("06-file-type", Paper, &[Put(13, 4, "X ")], 6, 13),
     ("06-time-system", Paper, &[Put(13, 10, "gps")], 6, 13),
+    ("06-ep-blanks-after", Paper, &[BARE, Put(25, 5, "55  ")], 6, 25),
+    ("06-ep-deviation-minus", Paper, &[BARE, Put(25, 5, "  -1")], 6, 25),
+    ("06-ep-minus-apart", Paper, &[BARE, Put(25, 28, "     - 1")], 6, 25),
+    ("06-ep-plus", Paper, &[BARE, Put(25, 28, "      +1")], 6, 25),
+    ("06-ep-correlation-at-the-left", Paper, &[BARE, Put(25, 28, "1234567 ")], 6, 25),
+    ("06-ep-before-7", Paper, &[NOTE, Put(25, 28, "99999999"), Put(25, 73, "1234567 ")], 6, 25),
+    ("06-ev-column-80", Motion, &[Put(27, 80, "x")], 6, 27),
+    ("07-ep-99999999", Paper, &[BARE, Put(25, 28, "99999999")], 7, 25),
+    ("07-ep-10000000", Paper, &[BARE, Put(25, 28, "10000000")], 7, 25),
+    ("07-ev-10000000", Motion, &[Put(27, 73, "10000000")], 7, 27),
     ("07-256-satellites", Many(256), &[Keep(40)], 7, 3),
     ("07-no-satellite", Paper, &[Put(3, 4, "  0")], 7, 3),
     ("07-100001-epochs", Paper, &[Put(1, 33, " 100001")], 7, 1),
@@ -298,24 +363,38 @@ fn many_rows() -> Draft {
     draft
 }
 
-/// Every P row of a draft with an EP after it.
-fn with_notes(draft: &Draft) -> Draft {
-    let note = || format!("{:80}\n", "EP").into_bytes();
+/// Every P row of a draft with this EP after it.
+fn with_notes(draft: &Draft, note: &str) -> Draft {
     let with_note = |line: &Vec<u8>| match line[0] {
-        b'P' => vec![line.clone(), note()],
+        b'P' => vec![line.clone(), format!("{note}\n").into_bytes()],
         _ => vec![line.clone()],
     };
     Draft(draft.0.iter().flat_map(with_note).collect())
 }
 
-/// A file of 65,536 bytes whose form has 81 less for each of its EP lines.
+/// Lines that begin so filled up with blanks to 80 characters.
+fn padded(form: &[u8], symbol: &str) -> Vec<u8> {
+    let line = |line: &str| match line.starts_with(symbol) {
+        true => format!("{line:80}\n"),
+        false => format!("{line}\n"),
+    };
+    files::show_text(form).lines().map(line).collect::<String>().into_bytes()
+}
+
+/// A file of 65,536 bytes whose form has 78 less for each of its EP lines, in
+/// which nothing is known.
 fn notes_case() -> Case {
-    let plain = files::base_file(Many(255));
-    let size = MOST_BYTES - 255 * 81;
-    let form = filled_to(size, plain);
-    let lines = form.split_inclusive(|&byte| byte == b'\n').map(<[u8]>::to_vec).collect();
-    let file = with_notes(&Draft(lines)).bytes();
-    Case::new("65536-bytes-with-ep", file, form)
+    let form = filled_to(MOST_BYTES - 255 * 78, with_notes(&files::base_file(Many(255)), "EP"));
+    Case::new("65536-bytes-with-ep", padded(&form, "EP"), form)
+}
+
+/// A full EP after each of 255 rows.
+fn full_notes_case() -> Case {
+    let Edit::Insert(_, note) = NOTE else {
+        fail("the note of 000 is no line");
+    };
+    let file = filled_to(MOST_BYTES, with_notes(&files::base_file(Many(255)), note));
+    same_form("65536-bytes-with-full-ep", file)
 }
 
 fn same_form(name: &str, file: Vec<u8>) -> Case {
@@ -347,6 +426,7 @@ fn large() -> Vec<Case> {
         same_form("65536-bytes", paper(MOST_BYTES)),
         same_form("65536-bytes-of-1050-rows", rows.clone()),
         notes_case(),
+        full_notes_case(),
         Case::new("65536-bytes-one-past-eof", after(b'x', paper(MOST_BYTES - 1)), refused(11, 821)),
         Case::new("65536-bytes-no-last-lf", cut(paper(MOST_BYTES + 1)), refused(1, 820)),
         Case::new("65536-bytes-x", b"x".repeat(MOST_BYTES), refused(1, 1)),

@@ -176,7 +176,7 @@ class Oracles:
 
     def form(self, file):
         """The canonical form of an accepted file."""
-        answer = self.ask("forms", "answer", batch=b"0 60000 %d\n" % len(file) + file)
+        answer = self.ask("forms", "answer", batch=b"2 60000 %d\n" % len(file) + file)
         _, read, write, rest = answer.split(b"\n", 3)
         assert read == b"read 0 0" and write.startswith(b"write 0 "), (read, write)
         return rest[: int(write.split()[2])]

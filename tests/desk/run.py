@@ -261,9 +261,9 @@ def test_samples(desk):
     """The stored samples, by the numbers that they were made from; one that is refused, which README.md shows."""
     late = str(ROOT / "samples/late.sp3")
     desk.expect(["check", late], 1, refused(late, 9, 23))
-    day, velocity, files = of_model(make.day()), of_model(make.velocity()), make.season_files()
-    names = [str(ROOT / "samples" / name) for name in ("day.sp3", "velocity.sp3", "season.sp3")]
-    for name, held, form in ((names[0], day, make.samples()["day.sp3"]), (names[1], velocity, make.joined(make.file_lines(make.velocity())))):
+    models, files = {"day.sp3": make.day(), "velocity.sp3": make.velocity(), "correlations.sp3": make.correlations()}, make.season_files()
+    for sample, model in models.items():
+        name, held, form = str(ROOT / "samples" / sample), of_model(model), make.samples()[sample]
         desk.expect(["check", name], 0, expected.check(name, held))
         desk.expect(["table", name], 0, expected.table(held))
         desk.expect(["rewrite", name], 0, form)
@@ -272,11 +272,12 @@ def test_samples(desk):
         for epoch, k in ((0, 0), (1, 1), (held.epochs - 1, len(held.satellites) - 1)):
             for satellite in (str(k), held.satellites[k][0]):
                 desk.expect(["row", name, str(epoch), satellite], 0, expected.row(held, epoch, k))
+    day, season, held = str(ROOT / "samples/day.sp3"), str(ROOT / "samples/season.sp3"), of_model(make.day())
     for epoch in (12, 29, 30, 47, 48, 95):
         for k in (3, 10, 14, 18):
-            desk.expect(["row", names[0], str(epoch), f"G{k + 1:02}"], 0, expected.row(day, epoch, k))
-    desk.expect(["divide", names[2]], 0, expected.divide([len(file) for file in files]))
-    desk.expect(["check", names[2]], 1, refused(names[2], 11, files[0].count(b"\n") + 1, b"".join(files)))
+            desk.expect(["row", day, str(epoch), f"G{k + 1:02}"], 0, expected.row(held, epoch, k))
+    desk.expect(["divide", season], 0, expected.divide([len(file) for file in files]))
+    desk.expect(["check", season], 1, refused(season, 11, files[0].count(b"\n") + 1, b"".join(files)))
     for k, (file, model) in enumerate(zip(files, make.season())):
         desk.expect(["check", desk.file("part.sp3", file)], 0, expected.check("part.sp3", of_model(model)))
         desk.expect(["rewrite", "part.sp3"], 0, make.joined(make.file_lines(model)))

@@ -91,6 +91,61 @@ static void flag_value(sp3_stored_flag_t flag, char letter) {
     mark(flag.refusal != 0);
 }
 
+static void deviation_value(sp3_note_deviation_t deviation) {
+    if (deviation.unknown) {
+        fputs(" unknown", stdout);
+    } else if (deviation.too_large) {
+        fputs(" large", stdout);
+    } else {
+        value(deviation.value);
+    }
+    bool empty = !(deviation.unknown || deviation.too_large) || deviation.value == 0;
+    mark(deviation.refusal != 0 || deviation.no_record || (deviation.unknown && deviation.too_large) || !empty);
+}
+
+static void correlation_value(sp3_note_correlation_t correlation) {
+    if (correlation.unknown) {
+        fputs(" unknown", stdout);
+        mark(correlation.value != INT64_MIN);
+    } else {
+        signed_value(correlation.value);
+    }
+    mark(correlation.refusal != 0 || correlation.no_record);
+}
+
+/* Whether deviation and correlation `which` of row k are those of no record, with this refusal. */
+static bool is_no_deviation(lists_t lists, size_t k, size_t which, size_t refusal) {
+    sp3_note_deviation_t d = sp3_note_deviation_of(lists.rows, lists.row_room, k, which);
+    return d.refusal == refusal && d.no_record && !d.unknown && !d.too_large && d.value == 0;
+}
+
+static bool is_no_correlation(lists_t lists, size_t k, size_t which, size_t refusal) {
+    sp3_note_correlation_t c = sp3_note_correlation_of(lists.rows, lists.row_room, k, which);
+    return c.refusal == refusal && c.no_record && !c.unknown && c.value == INT64_MIN;
+}
+
+/* Whether row k has no note, nor a number of one, with this refusal. */
+static bool is_no_note(lists_t lists, size_t k, size_t refusal) {
+    sp3_stored_note_t note = sp3_note_of(lists.rows, lists.row_room, k);
+    bool none = note.refusal == refusal && !note.stands;
+    for (size_t which = 0; which < 4; which++) none = none && is_no_deviation(lists, k, which, refusal);
+    for (size_t which = 0; which < 6; which++) none = none && is_no_correlation(lists, k, which, refusal);
+    return none;
+}
+
+/* What the record after a row says, where one stands. */
+static void note_out(lists_t lists, size_t k) {
+    sp3_stored_note_t note = sp3_note_of(lists.rows, lists.row_room, k);
+    if (!note.stands) {
+        mark(!is_no_note(lists, k, 0));
+        return;
+    }
+    fputs(" note", stdout);
+    mark(note.refusal != 0);
+    for (size_t which = 0; which < 4; which++) deviation_value(sp3_note_deviation_of(lists.rows, lists.row_room, k, which));
+    for (size_t which = 0; which < 6; which++) correlation_value(sp3_note_correlation_of(lists.rows, lists.row_room, k, which));
+}
+
 /* The k-th stored row; in mode V each P row has its V row after it. */
 static void row_out(sp3_header_t header, lists_t lists, size_t k) {
     const int64_t *rows = lists.rows;
@@ -104,6 +159,7 @@ static void row_out(sp3_header_t header, lists_t lists, size_t k) {
     for (size_t which = 0; which < 4; which++) exponent_value(sp3_exponent_of(rows, room, k, which));
     putchar(' ');
     for (size_t which = 0; which < 4; which++) flag_value(sp3_flag_of(rows, room, k, which), "EPMP"[which]);
+    note_out(lists, k);
     putchar('\n');
 }
 
@@ -130,7 +186,14 @@ static void check_no_row(lists_t lists, size_t k) {
     sp3_stored_clock_t clock = sp3_clock_of(lists.rows, lists.row_room, k);
     check(place.refusal == 13 && is_no_stored_place(place), "a place that is not there");
     check(clock.refusal == 13 && clock.absent && clock.clock == INT64_MIN, "a clock that is not there");
+    check(is_no_note(lists, k, 13), "a note that is not there");
     check_not_there(lists, k, 0);
+}
+
+/* The same for deviation `fifth` and correlation `seventh` of row k, which no note has. */
+static void check_not_noted(lists_t lists, size_t k, size_t fifth, size_t seventh) {
+    check(is_no_deviation(lists, k, fifth, 13), "a deviation that is not there");
+    check(is_no_correlation(lists, k, seventh, 13), "a correlation that is not there");
 }
 
 static void table_out(sp3_header_t header, lists_t lists) {
@@ -141,6 +204,8 @@ static void table_out(sp3_header_t header, lists_t lists) {
     check_no_row(lists, lists.row_room / SP3_ROW_WIDTH);
     check_no_row(lists, SIZE_MAX);
     check_not_there(lists, 0, 4);
+    check_not_noted(lists, 0, 4, 6);
+    check_not_noted(lists, 0, SIZE_MAX, SIZE_MAX);
 }
 
 /* ---- readings ---- */
