@@ -21,7 +21,8 @@ use Rattle.lines.proofs.Each.{each-map}
 use Rattle.lines.proofs.Laying.{laid-fits}
 use Rattle.lines.proofs.Picking.{length-flat}
 use Rattle.file.specs.Kinds.{ofKind}
-use Rattle.file.specs.Table.{countOf, slotNumbers, slotLineKind, slotsIn, commentText, commentsIn, rowLines, numbersOfRows, rowsIn}
+use Rattle.file.specs.Table.{countOf, slotNumbers, slotLineKind, slotsIn, commentText, commentsIn, rowsOfLines, rowsIn}
+use Rattle.file.proofs.Wide.{rows-many}
 use Rattle.file_laws.proofs.Counts.{comment-wide}
 use Rattle.header.specs.declared.types.Rules.{Rules}
 use Rattle.scan.specs.declared.Tally.{Tally}
@@ -64,7 +65,7 @@ module _ (room : Bool) (rules : Rules) (n count : ℕ) (used : List (List ℕ)) 
       (identifiers′ ≡ filled room (take (length identifiers) (slotsIn rules false n used)) identifiers)
       × ((exponents′ ≡ filled room (take (length exponents) (slotsIn rules true n used)) exponents)
       × ((comments′ ≡ filled room (take (length comments) (flat (map commentText (take count (ofKind rules commentKind used))))) comments)
-      × (rows′ ≡ filled room (numbersOfRows rules (take (length rows / rowWidth) (rowLines rules used))) rows)))
+      × (rows′ ≡ filled room (flat (take (length rows / rowWidth) (rowsOfLines rules used))) rows)))
 
   pub lists-left : room ≡ false → Filled identifiers exponents comments rows
   lists-left e = (rw e, (rw e, (rw e, rw e)))
@@ -73,7 +74,7 @@ module _ (room : Bool) (rules : Rules) (n count : ℕ) (used : List (List ℕ)) 
       → identifiers′ ≡ laid (slotsIn rules false n used) identifiers
       → exponents′ ≡ laid (slotsIn rules true n used) exponents
       → comments′ ≡ laid (flat (map commentText (take count (ofKind rules commentKind used)))) comments
-      → rows′ ≡ over (numbersOfRows rules (take (length rows / rowWidth) (rowLines rules used))) rows
+      → rows′ ≡ over (flat (take (length rows / rowWidth) (rowsOfLines rules used))) rows
       → Filled identifiers′ exponents′ comments′ rows′
   lists-filled identifiers′ exponents′ comments′ rows′ e i x c r = (
     laid-all room _ identifiers identifiers′ e i,
@@ -194,13 +195,14 @@ module _ (rules : Rules) (bytes : List ℕ) (f : Front) (i x c r : ℕ) where
           wide : length (commentsIn rules (linesIn bytes f)) ≤ length old
           wide = omega (arith, size, ap (λ (g : Front). length (commentsIn rules (linesIn bytes g))) is, comments-wide rules lines, counts .1, comments-within (t .comments) c comments-fit)
 
-      rows-all : (old : List ℤ) → length old ≡ r → numbersOfRows rules (take (length old / rowWidth) (rowLines rules used)) ≡ rowsIn rules (linesIn bytes f)
-      rows-all old size = ap (numbersOfRows rules) all ∙ ap (λ (g : Front). rowsIn rules (linesIn bytes g)) (sym is)
+      rows-all : (old : List ℤ) → length old ≡ r → flat (take (length old / rowWidth) (rowsOfLines rules used)) ≡ rowsIn rules (linesIn bytes f)
+      rows-all old size = ap flat all ∙ ap (λ (g : Front). rowsIn rules (linesIn bytes g)) (sym is)
         where
-          all : take (length old / rowWidth) (rowLines rules used) ≡ rowLines rules lines
+          all : take (length old / rowWidth) (rowsOfLines rules used) ≡ rowsOfLines rules lines
           all =
-              ap (λ (b : List ℕ). take (length old / rowWidth) (rowLines rules (linesOf b))) (front-part (t .end) bytes)
-              ∙ take-all (length old / rowWidth) (rowLines rules lines) (omega (arith, ap (λ (k : ℕ). k / rowWidth) size, counts .2, rows-fit))
+              ap (λ (b : List ℕ). take (length old / rowWidth) (rowsOfLines rules (linesOf b))) (front-part (t .end) bytes)
+              ∙ take-all (length old / rowWidth) (rowsOfLines rules lines)
+              (omega (arith, ap (λ (k : ℕ). k / rowWidth) size, rows-many rules lines, counts .2, rows-fit))
 
     -- so a list that the flag fills, or leaves, is as it is delivered
     delivers : {A : Type 0} (some all old now : List A) → (room ≡ true → some ≡ all) → now ≡ filled room some old → now ≡ filled (enough rules bytes f i x c r) all old

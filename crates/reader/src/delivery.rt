@@ -10,7 +10,7 @@ ghost use Rattle.header.specs.Rules.{d};
 ghost use Rattle.record.specs.LineKinds.{commentKind};
 ghost use Rattle.record.specs.Rows.{rowWidth};
 ghost use Rattle.file.specs.Kinds.{ofKind};
-ghost use Rattle.file.specs.Table.{slotsIn, commentText, rowLines, numbersOfRows};
+ghost use Rattle.file.specs.Table.{slotsIn, commentText, rowsOfLines};
 ghost use Rattle.reader.specs.Reading.{frontOf, fileOf, Accounted, roomFor, filled, readAnswer, identifiersAfter, exponentsAfter, commentsAfter, rowsAfter};
 use crate::judging;
 use crate::types::Reading;
@@ -43,7 +43,7 @@ fn fill_lists(
     ensures { λ _. ⌜ now (identifiers .exit) ≡ filled enough (take (length (now (identifiers .entry))) (slotsIn rules false n (linesOf (now (bytes .entry))))) (now (identifiers .entry)) ⌝ }
     ensures { λ _. ⌜ now (exponents .exit) ≡ filled enough (take (length (now (exponents .entry))) (slotsIn rules true n (linesOf (now (bytes .entry))))) (now (exponents .entry)) ⌝ }
     ensures { λ _. ⌜ now (comments .exit) ≡ filled enough (take (length (now (comments .entry))) (flat (map commentText (take count (ofKind rules commentKind (linesOf (now (bytes .entry)))))))) (now (comments .entry)) ⌝ }
-    ensures { λ _. ⌜ now (rows .exit) ≡ filled enough (numbersOfRows rules (take (length (now (rows .entry)) / rowWidth) (rowLines rules (linesOf (now (bytes .entry)))))) (now (rows .entry)) ⌝ }
+    ensures { λ _. ⌜ now (rows .exit) ≡ filled enough (flat (take (length (now (rows .entry)) / rowWidth) (rowsOfLines rules (linesOf (now (bytes .entry)))))) (now (rows .entry)) ⌝ }
 {
     if !enough {
         return;
@@ -108,7 +108,7 @@ fn deliver(
     }
 }
 
-// Reads one whole file: identifiers, exponents, comments (77 bytes each, filled up with blanks) and rows (twelve numbers each) into the first places
+// Reads one whole file: identifiers, exponents, comments (77 bytes each, filled up with blanks) and rows (ROW_WIDTH numbers each) into the first places
 // of the lent lists. Too little room anywhere is 12 with line 0; on every refusal the lists are as they were.
 pub fn read(
     file: &[u8],
