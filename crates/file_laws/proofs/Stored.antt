@@ -96,7 +96,7 @@ module _ (rules : Rules) (lines : List (List ℕ)) where
       ∙ ap (λ (s : List ℕ). getD s i 0) (made-stored 17 (slotNumbers accuracies) (slots-wide accuracies) of k hk)
 
 -- The row of epoch k and satellite j.
-below : (k e n j : ℕ) → k < e → j < n → k * n + j < n * e
+pub below : (k e n j : ℕ) → k < e → j < n → k * n + j < n * e
 below k e n j hk hj = omega (arith, mul-le-mul hk (le-refl n), suc-mul k n, mul-comm e n)
 
 module _ {rules : Rules} {lines : List (List ℕ)} (p : Plain rules lines) (k j : ℕ) (hk : k < epochs p) (hj : j < satellites p) where

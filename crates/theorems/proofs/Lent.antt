@@ -2,12 +2,12 @@
 -- Assumes nothing.
 use mathlib.Core.Path.{_≡_, refl, sym, ap, _∙_, subst}
 use mathlib.Core.Bool.{Bool, true, false, cond}
-use mathlib.Core.List.{List, _++_}
+use mathlib.Core.List.{List, _++_, append-assoc}
 use Prim.Native.Nat.{ℕ, _+_, _*_, _≤_}
 use native.Mathlib.Nat.{mul-comm}
 use native.Mathlib.Omega.{arith}
 use lib.IntN.{ℤ}
-use lib.ListN.{length, take, drop, length-take, length-drop, take-append-drop}
+use lib.ListN.{length, take, drop, length-append, length-take, length-drop, take-append-drop}
 use lib.Seq.{length-take-le, take-append-le, drop-append-le}
 use Rattle.header.specs.Rules.{d}
 use Rattle.lines.specs.Lent.{over}
@@ -15,9 +15,11 @@ use Rattle.lines.specs.Lines.{linesOf, nth}
 use Rattle.record.specs.Absence.{placeAbsent, clockAbsent}
 use Rattle.layout.specs.Layout.{valuesOf}
 use Rattle.layout.specs.Line.{padded}
-use Rattle.record.specs.Rows.{rowFrom, rowItems}
+use Rattle.record.specs.Rows.{rowFrom, rowItems, noteWidth, rowWidth}
 use Rattle.file.specs.Plain.{isRowLine}
-use Rattle.file.specs.Table.{rowNumbers, rowsIn}
+use Rattle.file.specs.Table.{rowNumbers, noteAfter, rowsIn}
+use Rattle.file.proofs.Wide.{after-wide}
+use Rattle.file_laws.proofs.Stored.{noteAt}
 use Rattle.scan.specs.Run.{IsFile}
 use Rattle.stored_row.specs.Stored.{placeIn, clockIn, deviationOf, deviationIn, flagIn}
 use Rattle.reader.specs.Reading.{fileOf, readAnswer, rowsAfter}
@@ -31,48 +33,56 @@ use Rattle.theorems.proofs.Filled.{rows-filled}
 use Rattle.record.specs.declared.types.Row.{Row}
 use Rattle.stored_row.specs.declared.types.Place.the-variants as place
 use Rattle.stored_row.specs.declared.types.ClockRead.the-variants as clock
-use Rattle.theorems.specs.Files.{lineAsked, held, tableRow}
+use Rattle.theorems.specs.Files.{lineAsked, held, tableRow, linesAfter}
 
--- a part of twelve that is there ends before the list does
-module _ (numbers : List ℤ) (m : ℕ) (part : List ℤ) (wide : length part ≡ 12) (stored : take 12 (drop m numbers) ≡ part) where
-  part-within : m + 12 ≤ length numbers
+-- a row's part that is there ends before the list does
+module _ (numbers : List ℤ) (m : ℕ) (part : List ℤ) (wide : length part ≡ rowWidth) (stored : take rowWidth (drop m numbers) ≡ part) where
+  part-within : m + rowWidth ≤ length numbers
   part-within =
-      let size : length (take 12 (drop m numbers)) ≡ 12 = ap length stored ∙ wide in
-      omega (arith, length-take 12 (drop m numbers), length-drop m numbers)
+      let size : length (take rowWidth (drop m numbers)) ≡ rowWidth = ap length stored ∙ wide in
+      omega (arith, length-take rowWidth (drop m numbers), length-drop m numbers)
 
   -- and stands there whatever follows
-  part-kept : (rest : List ℤ) → take 12 (drop m (numbers ++ rest)) ≡ part
+  part-kept : (rest : List ℤ) → take rowWidth (drop m (numbers ++ rest)) ≡ part
   part-kept rest =
-      ap (take 12) (drop-append-le m numbers rest (omega (arith, part-within)))
-      ∙ take-append-le 12 (drop m numbers) rest (omega (arith, part-within, length-drop m numbers))
+      ap (take rowWidth) (drop-append-le m numbers rest (omega (arith, part-within)))
+      ∙ take-append-le rowWidth (drop m numbers) rest (omega (arith, part-within, length-drop m numbers))
       ∙ stored
 
--- a row that is stored is given back by name
-module _ (numbers : List ℤ) (r : ℕ) (row : Row) (bounded : Bounded row) (stored : take 12 (drop (12 * r) numbers) ≡ rowNumbers row) where
-  wide : length (rowNumbers row) ≡ 12
+-- a row that is stored, with its note or none, is given back by name
+module _ (numbers : List ℤ) (r : ℕ) (row : Row) (bounded : Bounded row) (note : List ℤ) (noted : length note ≡ noteWidth)
+    (stored : take rowWidth (drop (rowWidth * r) numbers) ≡ rowNumbers row ++ note) where
+  wide : length (rowNumbers row ++ note) ≡ rowWidth
   unfolding rowNumbers
-  wide = refl
+  wide = omega (arith, length-append (rowNumbers row) note)
 
-  before : length (take (12 * r) numbers) ≡ r * 12
-  before = length-take-le (12 * r) numbers (omega (arith, part-within numbers (12 * r) (rowNumbers row) wide stored)) ∙ mul-comm 12 r
+  abbrev pub before : List ℤ
+  before = take (rowWidth * r) numbers
 
-  parts : take (12 * r) numbers ++ (rowNumbers row ++ drop 12 (drop (12 * r) numbers)) ≡ numbers
+  abbrev pub behind : List ℤ
+  behind = drop rowWidth (drop (rowWidth * r) numbers)
+
+  pub before-long : length before ≡ r * rowWidth
+  before-long = length-take-le (rowWidth * r) numbers (omega (arith, part-within numbers (rowWidth * r) (rowNumbers row ++ note) wide stored)) ∙ mul-comm rowWidth r
+
+  pub parts : before ++ (rowNumbers row ++ (note ++ behind)) ≡ numbers
   parts =
-      ap (λ (s : List ℤ). take (12 * r) numbers ++ (s ++ drop 12 (drop (12 * r) numbers))) (sym stored)
-      ∙ ap (λ (s : List ℤ). take (12 * r) numbers ++ s) (take-append-drop 12 (drop (12 * r) numbers))
-      ∙ take-append-drop (12 * r) numbers
+      ap (λ (s : List ℤ). before ++ s) (sym (append-assoc (rowNumbers row) note behind))
+      ∙ ap (λ (s : List ℤ). before ++ (s ++ behind)) (sym stored)
+      ∙ ap (λ (s : List ℤ). before ++ s) (take-append-drop rowWidth (drop (rowWidth * r) numbers))
+      ∙ take-append-drop (rowWidth * r) numbers
 
   stored-place : placeIn numbers r
       ≡ cond (placeAbsent (row .x .magnitude) (row .y .magnitude) (row .z .magnitude)) place.Absent
       (place.At (exactSigned (row .x)) (exactSigned (row .y)) (exactSigned (row .z)))
   stored-place =
       ap (λ (s : List ℤ). placeIn s r) (sym parts)
-      ∙ place-back (take (12 * r) numbers) (drop 12 (drop (12 * r) numbers)) row r before (bounded .x) (bounded .y) (bounded .z)
+      ∙ place-back before note behind row r before-long noted (bounded .x) (bounded .y) (bounded .z)
 
   stored-clock : clockIn numbers r ≡ cond (clockAbsent (row .clock .negative) (row .clock .magnitude)) clock.Absent (clock.At (exactSigned (row .clock)))
   stored-clock =
       ap (λ (s : List ℤ). clockIn s r) (sym parts)
-      ∙ clock-back (take (12 * r) numbers) (drop 12 (drop (12 * r) numbers)) row r before (bounded .clock)
+      ∙ clock-back before note behind row r before-long noted (bounded .clock)
 
   stored-exponents : (row .«x_exponent» ≤ 1000) × (row .«y_exponent» ≤ 1000) × (row .«z_exponent» ≤ 1000) × (row .«clock_exponent» ≤ 1000)
       → (deviationIn numbers r 0 ≡ deviationOf 0 (row .«x_exponent»)) × (deviationIn numbers r 1 ≡ deviationOf 1 (row .«y_exponent»))
@@ -82,7 +92,7 @@ module _ (numbers : List ℤ) (r : ℕ) (row : Row) (bounded : Bounded row) (sto
       (λ (s : List ℤ). (deviationIn s r 0 ≡ deviationOf 0 (row .«x_exponent»)) × (deviationIn s r 1 ≡ deviationOf 1 (row .«y_exponent»))
       × (deviationIn s r 2 ≡ deviationOf 2 (row .«z_exponent»)) × (deviationIn s r 3 ≡ deviationOf 3 (row .«clock_exponent»)))
       parts
-      (exponents-back (take (12 * r) numbers) (drop 12 (drop (12 * r) numbers)) row r before
+      (exponents-back before note behind row r before-long noted
       (omega (arith, low .0)) (omega (arith, low .1)) (omega (arith, low .2)) (omega (arith, low .3)))
 
   stored-flags : (flagIn numbers r 0 ≡ cond (row .event) flag.Set flag.NotSet) × (flagIn numbers r 1 ≡ cond (row .predicted) flag.Set flag.NotSet)
@@ -92,7 +102,7 @@ module _ (numbers : List ℤ) (r : ℕ) (row : Row) (bounded : Bounded row) (sto
       (λ (s : List ℤ). (flagIn s r 0 ≡ cond (row .event) flag.Set flag.NotSet) × (flagIn s r 1 ≡ cond (row .predicted) flag.Set flag.NotSet)
       × (flagIn s r 2 ≡ cond (row .maneuver) flag.Set flag.NotSet) × (flagIn s r 3 ≡ cond (row .«orbit_predicted») flag.Set flag.NotSet))
       parts
-      (flags-back (take (12 * r) numbers) (drop 12 (drop (12 * r) numbers)) row r before)
+      (flags-back before note behind row r before-long noted)
 
 -- a whole file, read into these lists with success
 module _ (bytes : List ℕ) (accepted : IsFile d bytes) (identifiers exponents comments : List ℕ) (old : List ℤ)
@@ -106,7 +116,7 @@ module _ (bytes : List ℕ) (accepted : IsFile d bytes) (identifiers exponents c
 
   -- V rows are asked for in mode V alone
   module _ (k j : ℕ) (there : There bytes k j) (v : Bool) (mode : v ≡ true → header bytes .velocity ≡ true) where
-    named : isRowLine d v (identifier bytes j) (nth (rowAt bytes k j) (rowLinesOf v bytes)) ≡ true
+    pub named : isRowLine d v (identifier bytes j) (nth (rowAt bytes k j) (rowLinesOf v bytes)) ≡ true
     named = go v mode
       where
         go : (t : Bool) → (t ≡ true → header bytes .velocity ≡ true)
@@ -114,63 +124,72 @@ module _ (bytes : List ℕ) (accepted : IsFile d bytes) (identifiers exponents c
         go true m = the-motion bytes accepted k j there (m refl) .names-it
         go false m = the-row bytes accepted k j there .names-it
 
-    in-table : take 12 (drop (12 * tableRow v bytes k j) (rowsIn d (linesOf bytes))) ≡ exactNumbers (held v bytes k j)
+    -- the numbers of what stands directly after its line
+    abbrev pub behindRow : List ℤ
+    behindRow = noteAfter d (linesAfter v bytes k j)
+
+    in-table : take rowWidth (drop (rowWidth * tableRow v bytes k j) (rowsIn d (linesOf bytes))) ≡ exactNumbers (held v bytes k j) ++ behindRow
     in-table = go v mode
       where
         places : (both : Bool) → header bytes .velocity ≡ both
-            → take 12 (drop (12 * cond both (2 * rowAt bytes k j) (rowAt bytes k j)) (rowsIn d (linesOf bytes))) ≡ exactNumbers (held false bytes k j)
+            → let r = cond both (2 * rowAt bytes k j) (rowAt bytes k j) in
+            take rowWidth (drop (rowWidth * r) (rowsIn d (linesOf bytes))) ≡ exactNumbers (held false bytes k j) ++ noteAt d (linesOf bytes) r
         places true e = row-holds-both bytes accepted k j there e
         places false e = row-holds bytes accepted k j there e
 
         go : (t : Bool) → (t ≡ true → header bytes .velocity ≡ true)
-            → take 12 (drop (12 * tableRow t bytes k j) (rowsIn d (linesOf bytes))) ≡ exactNumbers (held t bytes k j)
+            → take rowWidth (drop (rowWidth * tableRow t bytes k j) (rowsIn d (linesOf bytes))) ≡ exactNumbers (held t bytes k j) ++ noteAfter d (linesAfter t bytes k j)
         go true m = motion-holds bytes accepted k j there (m refl)
         go false m = places (header bytes .velocity) refl
 
-    twelve : length (exactNumbers (held v bytes k j)) ≡ 12
+    row-long : length (exactNumbers (held v bytes k j) ++ behindRow) ≡ rowWidth
     unfolding exactNumbers
-    twelve = refl
+    row-long = omega (arith, length-append (exactNumbers (held v bytes k j)) behindRow, after-wide d (linesAfter v bytes k j))
 
-    -- The lent rows hold at the row of epoch k and satellite j exactly the twelve numbers of its line.
-    pub lent-row : take 12 (drop (12 * tableRow v bytes k j) lent) ≡ exactNumbers (held v bytes k j)
+    -- The lent rows hold at the row of epoch k and satellite j exactly the numbers of its line and of what stands directly after it.
+    pub lent-row : take rowWidth (drop (rowWidth * tableRow v bytes k j) lent) ≡ exactNumbers (held v bytes k j) ++ behindRow
     lent-row =
-        ap (λ (s : List ℤ). take 12 (drop (12 * tableRow v bytes k j) s)) lent-is
-        ∙ part-kept (rowsIn d (linesOf bytes)) (12 * tableRow v bytes k j) (exactNumbers (held v bytes k j)) twelve in-table (drop (length (rowsIn d (linesOf bytes))) old)
+        ap (λ (s : List ℤ). take rowWidth (drop (rowWidth * tableRow v bytes k j) s)) lent-is
+        ∙ part-kept (rowsIn d (linesOf bytes)) (rowWidth * tableRow v bytes k j) (exactNumbers (held v bytes k j) ++ behindRow) row-long in-table (drop (length (rowsIn d (linesOf bytes))) old)
 
-    as-stored : take 12 (drop (12 * tableRow v bytes k j) lent) ≡ rowNumbers (held v bytes k j)
+    pub as-stored : take rowWidth (drop (rowWidth * tableRow v bytes k j) lent) ≡ rowNumbers (held v bytes k j) ++ behindRow
     as-stored =
         lent-row
-        ∙ sym (row-exact d v (identifier bytes j) (nth (rowAt bytes k j) (rowLinesOf v bytes)) named)
-        ∙ ap rowNumbers (row-in d v (identifier bytes j) (nth (rowAt bytes k j) (rowLinesOf v bytes)) named)
+        ∙ ap (λ (s : List ℤ). s ++ behindRow)
+        (sym (row-exact d v (identifier bytes j) (nth (rowAt bytes k j) (rowLinesOf v bytes)) named)
+        ∙ ap rowNumbers (row-in d v (identifier bytes j) (nth (rowAt bytes k j) (rowLinesOf v bytes)) named))
 
-    bounded : Bounded (held v bytes k j)
+    pub behind-wide : length behindRow ≡ noteWidth
+    behind-wide = after-wide d (linesAfter v bytes k j)
+
+    pub bounded : Bounded (held v bytes k j)
     bounded = row-bounded d v (identifier bytes j) (nth (rowAt bytes k j) (rowLinesOf v bytes)) named
 
     -- Asked by name, its place or velocity is absent where the three fields of the line are zero, else it is those three, whatever the clock.
     pub lent-place : placeIn lent (tableRow v bytes k j)
         ≡ cond (placeAbsent (held v bytes k j .x .magnitude) (held v bytes k j .y .magnitude) (held v bytes k j .z .magnitude)) place.Absent
         (place.At (exactSigned (held v bytes k j .x)) (exactSigned (held v bytes k j .y)) (exactSigned (held v bytes k j .z)))
-    lent-place = stored-place lent (tableRow v bytes k j) (held v bytes k j) bounded as-stored
+    lent-place = stored-place lent (tableRow v bytes k j) (held v bytes k j) bounded behindRow behind-wide as-stored
 
     -- Its clock or rate is absent where the field is +999,999,999,999, else it is that field, whatever the place.
     pub lent-clock : clockIn lent (tableRow v bytes k j)
         ≡ cond (clockAbsent (held v bytes k j .clock .negative) (held v bytes k j .clock .magnitude)) clock.Absent
         (clock.At (exactSigned (held v bytes k j .clock)))
-    lent-clock = stored-clock lent (tableRow v bytes k j) (held v bytes k j) bounded as-stored
+    lent-clock = stored-clock lent (tableRow v bytes k j) (held v bytes k j) bounded behindRow behind-wide as-stored
 
     -- Its exponents are those of its columns: a value, unknown where they are blank, too large at 99, for the clock at 999.
     pub lent-exponents : let row = held v bytes k j in let r = tableRow v bytes k j in
         (deviationIn lent r 0 ≡ deviationOf 0 (row .«x_exponent»)) × (deviationIn lent r 1 ≡ deviationOf 1 (row .«y_exponent»))
         × (deviationIn lent r 2 ≡ deviationOf 2 (row .«z_exponent»)) × (deviationIn lent r 3 ≡ deviationOf 3 (row .«clock_exponent»))
     lent-exponents =
-        stored-exponents lent (tableRow v bytes k j) (held v bytes k j) bounded as-stored
+        stored-exponents lent (tableRow v bytes k j) (held v bytes k j) bounded behindRow behind-wide as-stored
         (exponents-bounded d v (identifier bytes j) (nth (rowAt bytes k j) (rowLinesOf v bytes)) named)
 
     -- Its flags are the letters of columns 75, 76, 79 and 80.
     pub lent-flags : let row = held v bytes k j in let r = tableRow v bytes k j in
         (flagIn lent r 0 ≡ cond (row .event) flag.Set flag.NotSet) × (flagIn lent r 1 ≡ cond (row .predicted) flag.Set flag.NotSet)
         × (flagIn lent r 2 ≡ cond (row .maneuver) flag.Set flag.NotSet) × (flagIn lent r 3 ≡ cond (row .«orbit_predicted») flag.Set flag.NotSet)
-    lent-flags = stored-flags lent (tableRow v bytes k j) (held v bytes k j) bounded as-stored
+    lent-flags = stored-flags lent (tableRow v bytes k j) (held v bytes k j) bounded behindRow behind-wide as-stored
 
     -- What the row holds is what the columns of its line say, each field by its rule.
     pub row-columns : held v bytes k j ≡ rowFrom v (valuesOf (rowItems v) (padded (lineAsked v bytes k j)))

@@ -8,6 +8,7 @@ pub mod RewriteRoom
 pub mod Filled
 pub mod Floats
 pub mod Lent
+pub mod LentNotes
 pub mod Writing
 pub mod Rewritten
 pub mod Known

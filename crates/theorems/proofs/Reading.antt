@@ -1,8 +1,8 @@
 -- The front page for reading: what holds of every accepted file, in sentences over its lines and the header of its table. Satellites,
 -- epochs and rows are counted from 0. P lines are kind 10, V lines 11, epoch lines 9, comments 8.
 -- Assumes nothing.
-use mathlib.Core.Path.{_≡_, sym, _∙_}
-use mathlib.Core.Bool.{Bool, true, false, not}
+use mathlib.Core.Path.{_≡_, refl, sym, ap, _∙_}
+use mathlib.Core.Bool.{Bool, true, false, cond, not}
 use mathlib.Core.List.{List, _∷_, _++_, []}
 use Prim.Native.Nat.{ℕ, _+_, _*_, _<_, _≤_}
 use native.Mathlib.Nat.{le-trans}
@@ -10,7 +10,7 @@ use native.Mathlib.Omega.{arith}
 use lib.ListN.{length, take, drop}
 use Rattle.header.specs.Rules.{d}
 use Rattle.lines.specs.Lines.{linesOf, select, nth}
-use Rattle.record.specs.Rows.{rowOf}
+use Rattle.record.specs.Rows.{rowOf, rowWidth}
 use Rattle.file.specs.Plain.{Plain}
 use Rattle.file.specs.Table.{rowLines, rowsIn}
 use Rattle.scan.specs.Run.{IsFile}
@@ -20,11 +20,11 @@ use Rattle.file_laws.proofs.Bytes.{bytes-enough}
 use Rattle.file_laws.proofs.Counts.{identifiers-are, rows-many, rows-many-both, places-known-and-absent}
 use Rattle.file_laws.proofs.Different.{one-of-each}
 use Rattle.file.specs.Exact.{exactNumbers}
-use Rattle.file_laws.proofs.Rule.{InOrder, EpochAt, the-rule, absentIn, places-many, motions-many, no-motions}
+use Rattle.file_laws.proofs.Rule.{InOrder, EpochAt, the-rule, absentIn, places-many, motions-many, no-motions, rows-are-places, row-begins, row-motion}
 use Rattle.file_laws.proofs.Selected.{satellites, epochs}
-use Rattle.file_laws.proofs.Stored.{place-stored, place-stored-both, motion-stored}
+use Rattle.file_laws.proofs.Stored.{noteAt, below, place-stored, place-stored-both, motion-stored}
 use Rattle.theorems.proofs.Accepting.{says-satellites, says-epochs, says-start, says-interval, says-velocity, says-comments}
-use Rattle.theorems.specs.Files.{header, rowLinesOf, rowAt, There, RowOf}
+use Rattle.theorems.specs.Files.{header, rowLinesOf, rowAt, There, RowOf, lineAsked, tableRow}
 
 module _ (bytes : List ℕ) (accepted : IsFile d bytes) where
   abbrev p : Plain d (linesOf bytes)
@@ -88,17 +88,42 @@ module _ (bytes : List ℕ) (accepted : IsFile d bytes) where
     pub the-motion : header bytes .velocity ≡ true → RowOf true bytes k j
     the-motion both = let e = the-rule p k hk in row-of true e (e .motions (sym (says-velocity p) ∙ both))
 
-    -- In mode P row k * n + j of the lent table holds exactly the numbers of that P line.
+    -- In mode P row k * n + j of the lent table holds exactly the numbers of that P line, and those of what stands directly after it.
     pub row-holds : header bytes .velocity ≡ false
-        → take 12 (drop (12 * rowAt bytes k j) (rowsIn d (linesOf bytes))) ≡ exactNumbers (rowOf false (nth (rowAt bytes k j) (rowLinesOf false bytes)))
+        → take rowWidth (drop (rowWidth * rowAt bytes k j) (rowsIn d (linesOf bytes)))
+        ≡ exactNumbers (rowOf false (nth (rowAt bytes k j) (rowLinesOf false bytes))) ++ noteAt d (linesOf bytes) (rowAt bytes k j)
     row-holds alone = rw (says-satellites p) (place-stored p k j hk hj (sym (says-velocity p) ∙ alone))
 
-    -- In mode V row 2 * (k * n + j) holds exactly the numbers of the P line,
+    -- In mode V row 2 * (k * n + j) holds exactly those of the P line,
     pub row-holds-both : header bytes .velocity ≡ true
-        → take 12 (drop (12 * (2 * rowAt bytes k j)) (rowsIn d (linesOf bytes))) ≡ exactNumbers (rowOf false (nth (rowAt bytes k j) (rowLinesOf false bytes)))
+        → take rowWidth (drop (rowWidth * (2 * rowAt bytes k j)) (rowsIn d (linesOf bytes)))
+        ≡ exactNumbers (rowOf false (nth (rowAt bytes k j) (rowLinesOf false bytes))) ++ noteAt d (linesOf bytes) (2 * rowAt bytes k j)
     row-holds-both both = rw (says-satellites p) (place-stored-both p k j hk hj (sym (says-velocity p) ∙ both))
 
     -- and the row after it those of the V line.
     pub motion-holds : header bytes .velocity ≡ true
-        → take 12 (drop (12 * (2 * rowAt bytes k j + 1)) (rowsIn d (linesOf bytes))) ≡ exactNumbers (rowOf true (nth (rowAt bytes k j) (rowLinesOf true bytes)))
+        → take rowWidth (drop (rowWidth * (2 * rowAt bytes k j + 1)) (rowsIn d (linesOf bytes)))
+        ≡ exactNumbers (rowOf true (nth (rowAt bytes k j) (rowLinesOf true bytes))) ++ noteAt d (linesOf bytes) (2 * rowAt bytes k j + 1)
     motion-holds both = rw (says-satellites p) (motion-stored p k j hk hj (sym (says-velocity p) ∙ both))
+
+    -- Among all rows of the table it is the one with its number.
+    pub line-in-table : (v : Bool) → (v ≡ true → header bytes .velocity ≡ true) → nth (tableRow v bytes k j) (rowLines d (linesOf bytes)) ≡ lineAsked v bytes k j
+    line-in-table true mode = rw (says-satellites p) (row-motion p (sym (says-velocity p) ∙ mode refl) k j hk hj)
+    line-in-table false mode = go (header bytes .velocity) refl
+      where
+        go : (both : Bool) → header bytes .velocity ≡ both
+            → nth (cond both (2 * rowAt bytes k j) (rowAt bytes k j)) (rowLines d (linesOf bytes)) ≡ lineAsked false bytes k j
+        go true e = rw (says-satellites p) (row-begins p (sym (says-velocity p) ∙ e) k j hk hj)
+        go false e = ap (nth (rowAt bytes k j)) (rows-are-places p (sym (says-velocity p) ∙ e))
+
+    -- and it is there
+    pub row-in-table : (v : Bool) → (v ≡ true → header bytes .velocity ≡ true) → tableRow v bytes k j < length (rowLines d (linesOf bytes))
+    row-in-table v mode = go v mode (header bytes .velocity) refl
+      where
+        within : rowAt bytes k j < satellites p * epochs p
+        within = rw (says-satellites p) (below k (epochs p) (satellites p) j hk hj)
+
+        go : (t : Bool) → (t ≡ true → header bytes .velocity ≡ true) → (both : Bool) → header bytes .velocity ≡ both → tableRow t bytes k j < length (rowLines d (linesOf bytes))
+        go true m both e = omega (arith, within, rows-many-both p (sym (says-velocity p) ∙ m refl))
+        go false m true e = rw e (omega (arith, within, rows-many-both p (sym (says-velocity p) ∙ e)))
+        go false m false e = rw e (omega (arith, within, rows-many p (sym (says-velocity p) ∙ e)))

@@ -1,5 +1,5 @@
 -- The room of the program `rewrite`, which takes files of at most 65,536 bytes. 01, "One file whole": "It has room for 800 comments .., and for all
--- rows". A row has at least 61 bytes, so such a file has at most 1,074 of them: 12,888 numbers are room for all rows, and with 255 identifiers
+-- rows". A row has at least 61 bytes, so such a file has at most 1,074 of them: 24,702 numbers are room for all rows, and with 255 identifiers
 -- and exponents, and 61,600 bytes for comments, a reading answers 12 exactly where there are more than 800 comments.
 -- Assumes nothing.
 use mathlib.Core.Path.{_≡_, refl, sym, ap, subst}
@@ -48,7 +48,7 @@ module _ (bytes : List ℕ) (accepted : IsFile d bytes) where
     pub few-rows : length (rowLines d (linesOf bytes)) ≤ 1_074
     few-rows = omega (arith, file-bytes bytes accepted)
 
-    -- so ROWS ARE NEVER SHORT: it needs at most 12,888 numbers for them.
+    -- so ROWS ARE NEVER SHORT: it needs at most 24,702 numbers for them.
     pub rows-fit : rowsNeeded (header bytes) ≤ mostRows * rowWidth
     rows-fit = go (header bytes .velocity) refl
       where

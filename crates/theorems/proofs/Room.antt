@@ -147,8 +147,8 @@ module _ (whole : Bool) (bytes : List ℕ) where
   headerTo t = headerIn d (linesTo (t .end) bytes)
 
   module _ (t : Tally) (found : foundIn whole bytes ≡ front.File t) where
-    -- ROOM: a reading fills exactly where there is room for n identifiers and exponents, for 77 bytes of each comment and for 12 numbers of
-    -- each row.
+    -- ROOM: a reading fills exactly where there is room for n identifiers and exponents, for 77 bytes of each comment and for all the
+    -- numbers of each row.
     pub fills-exactly : (i x c r : ℕ) → (fills whole bytes i x c r ≡ true) ↔ Room (headerTo t) i x c r
     unfolding enough
     fills-exactly i x c r = (

@@ -6,11 +6,12 @@ use mathlib.Core.List.{List, _∷_, _++_, []}
 use Prim.Native.Nat.{ℕ, _+_, _*_, _<_}
 use lib.ListN.{length, getD}
 use Rattle.header.specs.Rules.{d}
-use Rattle.lines.specs.Lines.{linesOf, nth}
+use Rattle.lines.specs.Lines.{linesOf, nth, afterNth}
 use Rattle.record.specs.LineKinds.{epochKind}
-use Rattle.record.specs.Rows.{rowOf}
-use Rattle.file.specs.Kinds.{ofKind, rowNumber}
-use Rattle.file.specs.Plain.{isEpochLine, isRowLine}
+use Rattle.layout.specs.Line.{padded}
+use Rattle.record.specs.Rows.{rowOf, cut}
+use Rattle.file.specs.Kinds.{isRow, ofKind, rowNumber}
+use Rattle.file.specs.Plain.{isEpochLine, isRowLine, isNoteLine}
 use Rattle.file.specs.Table.{headerIn}
 use Rattle.reader.specs.Reading.{identifiersOf}
 use Rattle.header.specs.declared.types.Header.{Header}
@@ -47,6 +48,33 @@ held velocity bytes k j = rowOf velocity (lineAsked velocity bytes k j)
 abbrev pub tableRow : Bool → List ℕ → ℕ → ℕ → ℕ
 tableRow true bytes k j = 2 * rowAt bytes k j + 1
 tableRow false bytes k j = cond (header bytes .velocity) (2 * rowAt bytes k j) (rowAt bytes k j)
+
+-- the lines after that row's line; the first of them is the line directly after it
+abbrev pub linesAfter : Bool → List ℕ → ℕ → ℕ → List (List ℕ)
+linesAfter velocity bytes k j = afterNth (isRow d) (tableRow velocity bytes k j) (linesOf bytes)
+
+-- this line stands directly after it, and is an EP line (an EV line after a V row)
+pub record HasNote (velocity : Bool) (bytes : List ℕ) (k j : ℕ) (line : List ℕ) : Type 0 where
+  pub others : List (List ℕ)
+  pub stands : linesAfter velocity bytes k j ≡ line ∷ others
+  pub is-note : isNoteLine d velocity line ≡ true
+
+-- the columns of its deviations by 0 to 3 (x, y, z, clock), and of its correlations by 0 to 5 (xy, xz, xc, yz, yc, zc)
+abbrev pub deviationField : ℕ → List ℕ → List ℕ
+deviationField which line = getD (cut 5 8 (padded line) ∷ cut 10 13 (padded line) ∷ cut 15 18 (padded line) ∷ cut 20 26 (padded line) ∷ []) which []
+
+abbrev pub correlationField : ℕ → List ℕ → List ℕ
+correlationField which line =
+    getD
+    (cut 28 35 (padded line)
+    ∷ cut 37 44 (padded line)
+    ∷ cut 46 53 (padded line)
+    ∷ cut 55 62 (padded line)
+    ∷ cut 64 71 (padded line)
+    ∷ cut 73 80 (padded line)
+    ∷ [])
+    which
+    []
 
 -- Row k * n + j of the P lines, or of the V lines, is the line of epoch k that names identifier j: epoch k is the epoch line with k epoch lines before it
 -- and the lines that follow it up to the next; it stands at the start plus k times the interval; and of its rows the j-th names identifier j, and no
