@@ -129,10 +129,11 @@ fn row_spent(row: &[i64], velocity: bool, left: usize) -> Spent
     requires { ⌜ length (now row) ≡ rowWidth ⌝ }
     ensures { λ r. ⌜ (r .valid ≡ notedValid velocity (now (row .entry))) × (r .left ≡ left - notedLength (now (row .entry))) ⌝ }
 {
+    let valid = row_valid(row, velocity);
     let rest = lists::spend(left, row_length(row));
     let note = notes::note_spent(&row[BARE_WIDTH..ROW_WIDTH], rest);
     Spent {
-        valid: row_valid(row, velocity) & note.valid,
+        valid: valid & note.valid,
         left: note.left,
     }
 }
