@@ -38,7 +38,7 @@ fn is_largest(clock: bool, n: u64) -> bool
     if clock {
         n == 9_999_999
     } else {
-        n == 9_999
+        n == 9999
     }
 }
 
