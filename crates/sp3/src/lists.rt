@@ -211,11 +211,7 @@ fn note_deviation_answer(found: NoteDeviation) -> NoteDeviationAnswer
 
 // The deviation of x, y, z or clock (0 to 3) in the note of the k-th stored row.
 #[no_mangle]
-pub extern "C" fn sp3_note_deviation_of(
-    rows: &[i64],
-    k: usize,
-    which: usize,
-) -> NoteDeviationAnswer
+pub extern "C" fn sp3_note_deviation_of(rows: &[i64], k: usize, which: usize) -> NoteDeviationAnswer
     ensures result { λ r. ⌜ r ≡ noteDeviationDoor (noteDeviationIn (now (rows .entry)) k which) ⌝ }
 {
     note_deviation_answer(stored_row::note_deviation_of(rows, k, which))
