@@ -20,6 +20,9 @@ use Rattle.sp3.proofs.lists.sp3_place_of.Reads as sp3-place-of
 use Rattle.sp3.proofs.lists.sp3_clock_of.Reads as sp3-clock-of
 use Rattle.sp3.proofs.lists.sp3_exponent_of.Reads as sp3-exponent-of
 use Rattle.sp3.proofs.lists.sp3_flag_of.Reads as sp3-flag-of
+use Rattle.sp3.proofs.lists.sp3_note_of.Reads as sp3-note-of
+use Rattle.sp3.proofs.lists.sp3_note_deviation_of.Reads as sp3-note-deviation-of
+use Rattle.sp3.proofs.lists.sp3_note_correlation_of.Reads as sp3-note-correlation-of
 use Rattle.sp3.proofs.walking.sp3_first_spot.Reads as sp3-first-spot
 use Rattle.sp3.proofs.walking.sp3_read_line.Reads as sp3-read-line
 use Rattle.sp3.proofs.walking.sp3_next_line.Reads as sp3-next-line
@@ -86,6 +89,15 @@ sp3-exponent-of-determined κs a r r′ s s′ p q = p ∙ sym q
 
 pub sp3-flag-of-determined : (κs : _) (a : _) (r r′ : _) (s s′ : _) → sp3-flag-of.Post κs a r s → sp3-flag-of.Post κs a r′ s′ → r ≡ r′
 sp3-flag-of-determined κs a r r′ s s′ p q = p ∙ sym q
+
+pub sp3-note-of-determined : (κs : _) (a : _) (r r′ : _) (s s′ : _) → sp3-note-of.Post κs a r s → sp3-note-of.Post κs a r′ s′ → r ≡ r′
+sp3-note-of-determined κs a r r′ s s′ p q = p ∙ sym q
+
+pub sp3-note-deviation-of-determined : (κs : _) (a : _) (r r′ : _) (s s′ : _) → sp3-note-deviation-of.Post κs a r s → sp3-note-deviation-of.Post κs a r′ s′ → r ≡ r′
+sp3-note-deviation-of-determined κs a r r′ s s′ p q = p ∙ sym q
+
+pub sp3-note-correlation-of-determined : (κs : _) (a : _) (r r′ : _) (s s′ : _) → sp3-note-correlation-of.Post κs a r s → sp3-note-correlation-of.Post κs a r′ s′ → r ≡ r′
+sp3-note-correlation-of-determined κs a r r′ s s′ p q = p ∙ sym q
 
 pub sp3-first-spot-determined : (κs : _) (a : _) (r r′ : _) (s s′ : _) → sp3-first-spot.Post κs a r s → sp3-first-spot.Post κs a r′ s′ → r ≡ r′
 sp3-first-spot-determined κs a r r′ s s′ p q = p ∙ sym q

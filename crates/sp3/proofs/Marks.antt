@@ -1,4 +1,4 @@
--- Absence over the doors: a place or clock that is not marked absent is there, with its own numbers; one that is marked has no number that a file can
+-- Absence over the doors: a place, clock or correlation with no mark is there, with its own numbers; one with a mark has no number that a file can
 -- hold beside it; a row beside a refusal, and at the end, is absent in both parts.
 -- Assumes nothing.
 use mathlib.Core.Path.{_≡_, refl, sym, ap}
@@ -12,10 +12,14 @@ use Rattle.stored_row.specs.declared.types.Place.{Place}
 use Rattle.stored_row.specs.declared.types.Place.the-variants as place
 use Rattle.stored_row.specs.declared.types.ClockRead.{ClockRead}
 use Rattle.stored_row.specs.declared.types.ClockRead.the-variants as clock
+use Rattle.stored_row.specs.declared.types.NoteDeviation.{NoteDeviation}
+use Rattle.stored_row.specs.declared.types.NoteDeviation.the-variants as noteDeviation
+use Rattle.stored_row.specs.declared.types.NoteCorrelation.{NoteCorrelation}
+use Rattle.stored_row.specs.declared.types.NoteCorrelation.the-variants as noteCorrelation
 use Rattle.row_walk.specs.declared.types.RowWalk.{RowWalk}
 use Rattle.row_walk.specs.declared.types.RowStep.{RowStep}
 use Rattle.row_walk.specs.declared.types.RowStep.the-variants as step
-use Rattle.sp3.specs.Doors.{noNumber, placeDoor, clockDoor, rowDoor}
+use Rattle.sp3.specs.Doors.{noNumber, placeDoor, clockDoor, noteDeviationDoor, noteCorrelationDoor, rowDoor}
 
 -- not marked: a place with these coordinates, accepted
 pub place-unmarked : (p : Place) → placeDoor p .absent ≡ false → (p ≡ place.At (placeDoor p .x) (placeDoor p .y) (placeDoor p .z)) × (placeDoor p .refusal ≡ 0)
@@ -44,6 +48,49 @@ unfolding clockDoor
 clock-marked (clock.At v) e = absurd (false≢true e)
 clock-marked clock.Absent e = (inl refl, refl)
 clock-marked clock.NotThere e = (inr refl, refl)
+
+-- a deviation of a note with no mark is a value, accepted; one with a mark has no value beside it
+pub deviation-unmarked : (d : NoteDeviation) → noteDeviationDoor d .«no_record» ≡ false → noteDeviationDoor d .unknown ≡ false
+    → noteDeviationDoor d .«too_large» ≡ false → (d ≡ noteDeviation.Value (noteDeviationDoor d .value)) × (noteDeviationDoor d .refusal ≡ 0)
+unfolding noteDeviationDoor
+deviation-unmarked (noteDeviation.Value n) e u l = (refl, refl)
+deviation-unmarked noteDeviation.Unknown e u l = absurd (false≢true (sym u))
+deviation-unmarked noteDeviation.TooLarge e u l = absurd (false≢true (sym l))
+deviation-unmarked noteDeviation.NoRecord e u l = absurd (false≢true (sym e))
+deviation-unmarked noteDeviation.NotThere e u l = absurd (false≢true (sym e))
+
+pub deviation-unrecorded : (d : NoteDeviation) → noteDeviationDoor d .«no_record» ≡ true
+    → ((d ≡ noteDeviation.NoRecord) ⊎ (d ≡ noteDeviation.NotThere)) × (noteDeviationDoor d .value ≡ 0)
+unfolding noteDeviationDoor
+deviation-unrecorded (noteDeviation.Value n) e = absurd (false≢true e)
+deviation-unrecorded noteDeviation.Unknown e = absurd (false≢true e)
+deviation-unrecorded noteDeviation.TooLarge e = absurd (false≢true e)
+deviation-unrecorded noteDeviation.NoRecord e = (inl refl, refl)
+deviation-unrecorded noteDeviation.NotThere e = (inr refl, refl)
+
+-- the same of a correlation, beside whose marks no number stands that a file can hold
+pub correlation-unmarked : (c : NoteCorrelation) → noteCorrelationDoor c .«no_record» ≡ false → noteCorrelationDoor c .unknown ≡ false
+    → (c ≡ noteCorrelation.Value (noteCorrelationDoor c .value)) × (noteCorrelationDoor c .refusal ≡ 0)
+unfolding noteCorrelationDoor
+correlation-unmarked (noteCorrelation.Value v) e u = (refl, refl)
+correlation-unmarked noteCorrelation.Unknown e u = absurd (false≢true (sym u))
+correlation-unmarked noteCorrelation.NoRecord e u = absurd (false≢true (sym e))
+correlation-unmarked noteCorrelation.NotThere e u = absurd (false≢true (sym e))
+
+pub correlation-unknown : (c : NoteCorrelation) → noteCorrelationDoor c .unknown ≡ true → (c ≡ noteCorrelation.Unknown) × (noteCorrelationDoor c .value ≡ noNumber)
+unfolding noteCorrelationDoor
+correlation-unknown (noteCorrelation.Value v) u = absurd (false≢true u)
+correlation-unknown noteCorrelation.Unknown u = (refl, refl)
+correlation-unknown noteCorrelation.NoRecord u = absurd (false≢true u)
+correlation-unknown noteCorrelation.NotThere u = absurd (false≢true u)
+
+pub correlation-unrecorded : (c : NoteCorrelation) → noteCorrelationDoor c .«no_record» ≡ true
+    → ((c ≡ noteCorrelation.NoRecord) ⊎ (c ≡ noteCorrelation.NotThere)) × (noteCorrelationDoor c .value ≡ noNumber)
+unfolding noteCorrelationDoor
+correlation-unrecorded (noteCorrelation.Value v) e = absurd (false≢true e)
+correlation-unrecorded noteCorrelation.Unknown e = absurd (false≢true e)
+correlation-unrecorded noteCorrelation.NoRecord e = (inl refl, refl)
+correlation-unrecorded noteCorrelation.NotThere e = (inr refl, refl)
 
 -- no number of a field is the one beside a mark
 pub no-field : (v : ℤ) → natAbs v ≤ 999999999999 → v ≡ noNumber → ⊥

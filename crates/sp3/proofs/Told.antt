@@ -6,7 +6,7 @@ use Prim.Native.Nat.{ℕ}
 use lib.ListN.{getD}
 use Rattle.calendar.specs.Gregorian.{toldDate, toldNamed}
 use Rattle.machine.specs.Told.{toldRead}
-use Rattle.stored_row.specs.Stored.{toldPlace, toldClock, toldDeviation, toldFlag}
+use Rattle.stored_row.specs.Stored.{toldPlace, toldClock, toldDeviation, toldFlag, toldNote, toldNoteDeviation, toldNoteCorrelation}
 use Rattle.row_walk.specs.Told.{toldStep}
 use Rattle.calendar.specs.declared.types.Dated.{Dated}
 use Rattle.calendar.specs.declared.types.Named.{Named}
@@ -21,11 +21,17 @@ use Rattle.stored_row.specs.declared.types.Deviation.{Deviation}
 use Rattle.stored_row.specs.declared.types.Deviation.the-variants as deviation
 use Rattle.stored_row.specs.declared.types.Flag.{Flag}
 use Rattle.stored_row.specs.declared.types.Flag.the-variants as flag
+use Rattle.stored_row.specs.declared.types.NoteMark.{NoteMark}
+use Rattle.stored_row.specs.declared.types.NoteMark.the-variants as noteMark
+use Rattle.stored_row.specs.declared.types.NoteDeviation.{NoteDeviation}
+use Rattle.stored_row.specs.declared.types.NoteDeviation.the-variants as noteDeviation
+use Rattle.stored_row.specs.declared.types.NoteCorrelation.{NoteCorrelation}
+use Rattle.stored_row.specs.declared.types.NoteCorrelation.the-variants as noteCorrelation
 use Rattle.line_walk.specs.declared.Spot.{Spot}
 use Rattle.row_walk.specs.declared.types.RowWalk.{RowWalk}
 use Rattle.row_walk.specs.declared.types.RowStep.{RowStep}
 use Rattle.row_walk.specs.declared.types.RowStep.the-variants as step
-use Rattle.sp3.specs.Doors.{dateDoor, momentDoor, placeDoor, clockDoor, exponentDoor, flagDoor, lineDoor, rowDoor}
+use Rattle.sp3.specs.Doors.{dateDoor, momentDoor, placeDoor, clockDoor, exponentDoor, flagDoor, noteDoor, noteDeviationDoor, noteCorrelationDoor, lineDoor, rowDoor}
 
 -- the number of an answer that is told as a list: its first entry
 abbrev numberTold : List ℕ → ℕ
@@ -63,6 +69,27 @@ unfolding flagDoor
 flag-door-number flag.Set = refl
 flag-door-number flag.NotSet = refl
 flag-door-number flag.NotThere = refl
+
+pub note-door-number : (a : NoteMark) → noteDoor a .refusal ≡ numberTold (toldNote a)
+unfolding noteDoor
+note-door-number noteMark.Stands = refl
+note-door-number noteMark.NoRecord = refl
+note-door-number noteMark.NotThere = refl
+
+pub note-deviation-door-number : (a : NoteDeviation) → noteDeviationDoor a .refusal ≡ numberTold (toldNoteDeviation a)
+unfolding noteDeviationDoor
+note-deviation-door-number (noteDeviation.Value n) = refl
+note-deviation-door-number noteDeviation.Unknown = refl
+note-deviation-door-number noteDeviation.TooLarge = refl
+note-deviation-door-number noteDeviation.NoRecord = refl
+note-deviation-door-number noteDeviation.NotThere = refl
+
+pub note-correlation-door-number : (a : NoteCorrelation) → noteCorrelationDoor a .refusal ≡ numberTold (toldNoteCorrelation a)
+unfolding noteCorrelationDoor
+note-correlation-door-number (noteCorrelation.Value v) = refl
+note-correlation-door-number noteCorrelation.Unknown = refl
+note-correlation-door-number noteCorrelation.NoRecord = refl
+note-correlation-door-number noteCorrelation.NotThere = refl
 
 pub line-door-number : (p : Spot) (a : LineRead) → lineDoor p a .refusal ≡ numberTold (toldRead a)
 unfolding lineDoor toldRead

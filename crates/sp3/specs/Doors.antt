@@ -15,6 +15,12 @@ use Rattle.stored_row.specs.declared.types.Deviation.{Deviation}
 use Rattle.stored_row.specs.declared.types.Deviation.the-variants as deviation
 use Rattle.stored_row.specs.declared.types.Flag.{Flag}
 use Rattle.stored_row.specs.declared.types.Flag.the-variants as flag
+use Rattle.stored_row.specs.declared.types.NoteMark.{NoteMark}
+use Rattle.stored_row.specs.declared.types.NoteMark.the-variants as noteMark
+use Rattle.stored_row.specs.declared.types.NoteDeviation.{NoteDeviation}
+use Rattle.stored_row.specs.declared.types.NoteDeviation.the-variants as noteDeviation
+use Rattle.stored_row.specs.declared.types.NoteCorrelation.{NoteCorrelation}
+use Rattle.stored_row.specs.declared.types.NoteCorrelation.the-variants as noteCorrelation
 use Rattle.machine.specs.declared.types.LineRead.{LineRead}
 use Rattle.machine.specs.declared.types.LineRead.the-variants as found
 use Rattle.float_row.specs.Floats.{absentRow}
@@ -29,6 +35,9 @@ use Rattle.sp3.specs.declared.types.StoredPlace.{StoredPlace}
 use Rattle.sp3.specs.declared.types.StoredClock.{StoredClock}
 use Rattle.sp3.specs.declared.types.StoredExponent.{StoredExponent}
 use Rattle.sp3.specs.declared.types.StoredFlag.{StoredFlag}
+use Rattle.sp3.specs.declared.types.StoredNote.{StoredNote}
+use Rattle.sp3.specs.declared.types.NoteDeviationAnswer.{NoteDeviationAnswer}
+use Rattle.sp3.specs.declared.types.NoteCorrelationAnswer.{NoteCorrelationAnswer}
 use Rattle.sp3.specs.declared.types.LineAnswer.{LineAnswer}
 use Rattle.sp3.specs.declared.types.RowStepAnswer.{RowStepAnswer}
 
@@ -93,6 +102,37 @@ unfoldable pub flagDoor : Flag → StoredFlag
 flagDoor flag.Set = flagParts 0 true
 flagDoor flag.NotSet = flagParts 0 false
 flagDoor flag.NotThere = flagParts 13 false
+
+-- whether a note stands
+abbrev pub noteParts : ℕ → Bool → StoredNote
+noteParts number on = record { refusal = number; stands = on }
+
+unfoldable pub noteDoor : NoteMark → StoredNote
+noteDoor noteMark.Stands = noteParts 0 true
+noteDoor noteMark.NoRecord = noteParts 0 false
+noteDoor noteMark.NotThere = noteParts 13 false
+
+-- a deviation of a note: no record, unknown and too large are marks; what is not there is no record too
+abbrev pub noteDeviationParts : ℕ → Bool → Bool → Bool → ℕ → NoteDeviationAnswer
+noteDeviationParts number none unknown large value =
+    record { refusal = number; «no_record» = none; unknown = unknown; «too_large» = large; value = value }
+
+unfoldable pub noteDeviationDoor : NoteDeviation → NoteDeviationAnswer
+noteDeviationDoor (noteDeviation.Value n) = noteDeviationParts 0 false false false n
+noteDeviationDoor noteDeviation.Unknown = noteDeviationParts 0 false true false 0
+noteDeviationDoor noteDeviation.TooLarge = noteDeviationParts 0 false false true 0
+noteDeviationDoor noteDeviation.NoRecord = noteDeviationParts 0 true false false 0
+noteDeviationDoor noteDeviation.NotThere = noteDeviationParts 13 true false false 0
+
+-- a correlation that is unknown, not recorded, or not there
+abbrev pub noCorrelation : ℕ → Bool → Bool → NoteCorrelationAnswer
+noCorrelation number none unknown = record { refusal = number; «no_record» = none; unknown = unknown; value = noNumber }
+
+unfoldable pub noteCorrelationDoor : NoteCorrelation → NoteCorrelationAnswer
+noteCorrelationDoor (noteCorrelation.Value v) = record { refusal = 0; «no_record» = false; unknown = false; value = v }
+noteCorrelationDoor noteCorrelation.Unknown = noCorrelation 0 false true
+noteCorrelationDoor noteCorrelation.NoRecord = noCorrelation 0 true false
+noteCorrelationDoor noteCorrelation.NotThere = noCorrelation 13 true false
 
 -- what a line does at a spot: a line that is refused leaves the spot, and the line that ends the file leaves the state
 abbrev pub lineParts : ℕ → ℕ → Bool → Spot → LineAnswer

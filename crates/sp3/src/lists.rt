@@ -1,15 +1,21 @@
 // Rows in lent memory, asked for by name.
 ghost use mathlib.Core.Path.{_≡_};
 ghost use mathlib.Core.Bool.{Bool};
-ghost use Rattle.stored_row.specs.Stored.{placeIn, clockIn, deviationIn, flagIn};
-ghost use Rattle.sp3.specs.Doors.{noPlace, noClock, exponentParts, flagParts, placeDoor, clockDoor, exponentDoor, flagDoor};
+ghost use Rattle.stored_row.specs.Stored.{placeIn, clockIn, deviationIn, flagIn, noteIn, noteDeviationIn, noteCorrelationIn};
+ghost use Rattle.sp3.specs.Doors.{noPlace, noClock, exponentParts, flagParts, noteParts, noteDeviationParts, noCorrelation, placeDoor, clockDoor, exponentDoor, flagDoor, noteDoor, noteDeviationDoor, noteCorrelationDoor};
+use crate::types::NoteCorrelationAnswer;
+use crate::types::NoteDeviationAnswer;
 use crate::types::StoredClock;
 use crate::types::StoredExponent;
 use crate::types::StoredFlag;
+use crate::types::StoredNote;
 use crate::types::StoredPlace;
 use stored_row::ClockRead;
 use stored_row::Deviation;
 use stored_row::Flag;
+use stored_row::NoteCorrelation;
+use stored_row::NoteDeviation;
+use stored_row::NoteMark;
 use stored_row::Place;
 
 // What stands for a number that is not there: the least of 64 bits, which no field of a file can hold.
@@ -143,4 +149,111 @@ pub extern "C" fn sp3_flag_of(rows: &[i64], k: usize, which: usize) -> StoredFla
     ensures result { λ r. ⌜ r ≡ flagDoor (flagIn (now (rows .entry)) k which) ⌝ }
 {
     flag_answer(stored_row::flag_of(rows, k, which))
+}
+
+// The parts of a note's mark.
+fn note(refusal: usize, stands: bool) -> StoredNote
+    ensures { λ r. ⌜ r ≡ noteParts refusal stands ⌝ }
+{
+    StoredNote { refusal, stands }
+}
+
+// A note's mark, for C.
+fn note_answer(found: NoteMark) -> StoredNote
+    ensures { λ r. ⌜ r ≡ noteDoor found ⌝ }
+{
+    match found {
+        NoteMark::Stands => note(0, true),
+        NoteMark::NoRecord => note(0, false),
+        NoteMark::NotThere => note(13, false),
+    }
+}
+
+// Whether an EP or EV line stood after the k-th stored row.
+#[no_mangle]
+pub extern "C" fn sp3_note_of(rows: &[i64], k: usize) -> StoredNote
+    ensures result { λ r. ⌜ r ≡ noteDoor (noteIn (now (rows .entry)) k) ⌝ }
+{
+    note_answer(stored_row::note_of(rows, k))
+}
+
+// The parts of a deviation.
+fn note_deviation(
+    refusal: usize,
+    no_record: bool,
+    unknown: bool,
+    too_large: bool,
+    value: u64,
+) -> NoteDeviationAnswer
+    ensures { λ r. ⌜ r ≡ noteDeviationParts refusal «no_record» unknown «too_large» value ⌝ }
+{
+    NoteDeviationAnswer {
+        refusal,
+        no_record,
+        unknown,
+        too_large,
+        value,
+    }
+}
+
+// A deviation, for C.
+fn note_deviation_answer(found: NoteDeviation) -> NoteDeviationAnswer
+    ensures { λ r. ⌜ r ≡ noteDeviationDoor found ⌝ }
+{
+    match found {
+        NoteDeviation::Value(value) => note_deviation(0, false, false, false, value),
+        NoteDeviation::Unknown => note_deviation(0, false, true, false, 0),
+        NoteDeviation::TooLarge => note_deviation(0, false, false, true, 0),
+        NoteDeviation::NoRecord => note_deviation(0, true, false, false, 0),
+        NoteDeviation::NotThere => note_deviation(13, true, false, false, 0),
+    }
+}
+
+// The deviation of x, y, z or clock (0 to 3) in the note of the k-th stored row.
+#[no_mangle]
+pub extern "C" fn sp3_note_deviation_of(rows: &[i64], k: usize, which: usize) -> NoteDeviationAnswer
+    ensures result { λ r. ⌜ r ≡ noteDeviationDoor (noteDeviationIn (now (rows .entry)) k which) ⌝ }
+{
+    note_deviation_answer(stored_row::note_deviation_of(rows, k, which))
+}
+
+// No correlation, unknown, not recorded or not there.
+fn no_correlation(refusal: usize, no_record: bool, unknown: bool) -> NoteCorrelationAnswer
+    ensures { λ r. ⌜ r ≡ noCorrelation refusal «no_record» unknown ⌝ }
+{
+    NoteCorrelationAnswer {
+        refusal,
+        no_record,
+        unknown,
+        value: NO_NUMBER,
+    }
+}
+
+// A correlation, for C.
+fn note_correlation_answer(found: NoteCorrelation) -> NoteCorrelationAnswer
+    ensures { λ r. ⌜ r ≡ noteCorrelationDoor found ⌝ }
+{
+    match found {
+        NoteCorrelation::Value(value) => NoteCorrelationAnswer {
+            refusal: 0,
+            no_record: false,
+            unknown: false,
+            value,
+        },
+        NoteCorrelation::Unknown => no_correlation(0, false, true),
+        NoteCorrelation::NoRecord => no_correlation(0, true, false),
+        NoteCorrelation::NotThere => no_correlation(13, true, false),
+    }
+}
+
+// The correlation xy, xz, xc, yz, yc or zc (0 to 5) in the note of the k-th stored row.
+#[no_mangle]
+pub extern "C" fn sp3_note_correlation_of(
+    rows: &[i64],
+    k: usize,
+    which: usize,
+) -> NoteCorrelationAnswer
+    ensures result { λ r. ⌜ r ≡ noteCorrelationDoor (noteCorrelationIn (now (rows .entry)) k which) ⌝ }
+{
+    note_correlation_answer(stored_row::note_correlation_of(rows, k, which))
 }

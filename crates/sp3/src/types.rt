@@ -73,6 +73,33 @@ pub struct StoredFlag {
     pub set: bool,
 }
 
+// Whether an EP or EV line stood after a stored row: the refusal (0 or 13); beside one none stands.
+#[repr(C)]
+pub struct StoredNote {
+    pub refusal: usize,
+    pub stands: bool,
+}
+
+// A deviation of such a line: the refusal (0 or 13); no record, unknown and too large each a mark of its own. The value is 0 beside any of them, and
+// what is not there is marked as no record.
+#[repr(C)]
+pub struct NoteDeviationAnswer {
+    pub refusal: usize,
+    pub no_record: bool,
+    pub unknown: bool,
+    pub too_large: bool,
+    pub value: u64,
+}
+
+// A correlation of such a line in 10^-7, in the same way; beside a mark the value is the least number of 64 bits.
+#[repr(C)]
+pub struct NoteCorrelationAnswer {
+    pub refusal: usize,
+    pub no_record: bool,
+    pub unknown: bool,
+    pub value: i64,
+}
+
 // What a line does: the refusal (0, 1 where no complete line is left, 2 to 10) and its column (0 for none), whether the line ends the file, and the
 // spot after the line; where the line is refused the spot before it, where it ends the file the state before it.
 #[repr(C)]

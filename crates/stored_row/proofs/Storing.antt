@@ -22,7 +22,7 @@ use Rattle.layout.specs.Kind.{unnoted}
 use Rattle.record.specs.Notes.{largestDeviation}
 use Rattle.record.specs.Rows.{bareWidth, rowWidth}
 use Rattle.file.specs.Table.{storedInt}
-use Rattle.stored_row.specs.Stored.{isThere, numberAt, isPlaceAbsent, placeIn, clockIn, deviationOf, deviationIn, flagIn, hasNote, noteIn, noteDeviationOf, noteDeviationIn, noteCorrelationOf, noteCorrelationIn}
+use Rattle.stored_row.specs.Stored.{isThere, numberAt, isPlaceAbsent, placeIn, clockIn, deviationOf, deviationIn, flagIn, hasNote, noteIn, noteDeviationOf, noteDeviationIn, noteCorrelationIn}
 use Rattle.stored_row.specs.declared.types.Place.the-variants as place
 use Rattle.stored_row.specs.declared.types.ClockRead.the-variants as clock
 use Rattle.stored_row.specs.declared.types.Deviation.the-variants as deviation

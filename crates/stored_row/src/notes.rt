@@ -35,7 +35,7 @@ fn has_note(rows: &[i64], k: usize) -> bool
 fn is_largest(clock: bool, n: u64) -> bool
     ensures { λ r. ⌜ r ≡ eqb n (largestDeviation clock) ⌝ }
 {
-    if clock { n == 9_999_999 } else { n == 9_999 }
+    if clock { n == 9_999_999 } else { n == 9999 }
 }
 
 // Whether an EP or EV line stood directly after the line of the k-th row.

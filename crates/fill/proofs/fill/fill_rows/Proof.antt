@@ -1,4 +1,4 @@
--- `fill::fill::fill_rows` meets its contract. The invariant and the loop's turn are in `Filling`: the rows left that have room are still to be laid.
+-- `fill::fill::fill_rows` meets its contract. The invariant and the turns of the loop are in `FillingRows`: the rows left that have room are still to be laid.
 -- Assumes nothing.
 use Prim.Native.Nat.{ℕ, _-_}
 use mathlib.Core.Path.{sym, ap, _∙_}
