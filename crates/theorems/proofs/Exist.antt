@@ -13,7 +13,8 @@ use Rattle.file.specs.Table.{rowsIn}
 use Rattle.scan.specs.Run.{IsFile}
 use Rattle.record.specs.Agrees.{repeats, typeAgrees}
 use Rattle.canon.specs.Table.{Table, tableOf, rowsOf}
-use Rattle.canon.specs.Valid.{isInstant, textsFit, timesValid, countsValid, wordsValid, headerValid, listsLong, identifiersValid, exponentsValid, commentValid, commentsValid, rowValid, cellValid, rowsValid, countsHold, valid}
+use Rattle.canon.specs.Valid.{isInstant, textsFit, timesValid, countsValid, wordsValid, headerValid, listsLong, identifiersValid, exponentsValid, commentValid, commentsValid, rowValid, noteValid, notedValid, cellValid, rowsValid, countsHold, valid}
+use Rattle.layout.specs.Kind.{unnoted}
 use Rattle.canon_laws.specs.Held.{Holds}
 use Rattle.theorems.proofs.Rewritten.{valid-exactly}
 use Rattle.header.specs.declared.types.Header.{Header}
@@ -38,33 +39,41 @@ header = record {
   bases = record { place = 12_500_000; clock = 1_025_000_000 };
 }
 
--- its table with this x: G07, no exponent known, no flag
-unfoldable pub oneRow : ℤ → Table
-oneRow x =
+-- its table with this x and this mark of a note: G07, no exponent known, no flag, nothing known of the note
+unfoldable pub oneRow : ℤ → ℤ → Table
+oneRow x mark =
     tableOf header (7107 ∷ []) (0 ∷ []) (replicate 308 32)
-    (x ∷ pos 0 ∷ pos 0 ∷ pos 999_999_999_999 ∷ pos 1000 ∷ pos 1000 ∷ pos 1000 ∷ pos 1000 ∷ pos 0 ∷ pos 0 ∷ pos 0 ∷ pos 0 ∷ [])
+    (x ∷ pos 0 ∷ pos 0 ∷ pos 999_999_999_999 ∷ pos 1000 ∷ pos 1000 ∷ pos 1000 ∷ pos 1000 ∷ pos 0 ∷ pos 0 ∷ pos 0 ∷ pos 0 ∷ mark ∷ replicate 10 (pos unnoted))
 
-valid-one : valid d (oneRow (pos 1)) ≡ true
-unfolding isInstant textsFit timesValid countsValid wordsValid headerValid listsLong identifiersValid exponentsValid commentValid commentsValid rowValid cellValid rowsValid countsHold valid oneRow header repeats typeAgrees
+valid-one : valid d (oneRow (pos 1) (pos 0)) ≡ true
+unfolding isInstant textsFit timesValid countsValid wordsValid headerValid listsLong identifiersValid exponentsValid commentValid commentsValid rowValid noteValid notedValid cellValid rowsValid countsHold valid oneRow header repeats typeAgrees
 valid-one = refl
 
-valid-two : valid d (oneRow (pos 2)) ≡ true
-unfolding isInstant textsFit timesValid countsValid wordsValid headerValid listsLong identifiersValid exponentsValid commentValid commentsValid rowValid cellValid rowsValid countsHold valid oneRow header repeats typeAgrees
+valid-two : valid d (oneRow (pos 2) (pos 0)) ≡ true
+unfolding isInstant textsFit timesValid countsValid wordsValid headerValid listsLong identifiersValid exponentsValid commentValid commentsValid rowValid noteValid notedValid cellValid rowsValid countsHold valid oneRow header repeats typeAgrees
 valid-two = refl
 
--- A FILE IS ACCEPTED that has this table,
-pub accepted-one : (bytes : List ℕ) × IsFile d bytes × Holds d (linesOf bytes) (oneRow (pos 1))
-accepted-one = valid-exactly (oneRow (pos 1)) .0 valid-one
+valid-noted : valid d (oneRow (pos 1) (pos 1)) ≡ true
+unfolding isInstant textsFit timesValid countsValid wordsValid headerValid listsLong identifiersValid exponentsValid commentValid commentsValid rowValid noteValid notedValid cellValid rowsValid countsHold valid oneRow header repeats typeAgrees
+valid-noted = refl
 
-pub accepted-two : (bytes : List ℕ) × IsFile d bytes × Holds d (linesOf bytes) (oneRow (pos 2))
-accepted-two = valid-exactly (oneRow (pos 2)) .0 valid-two
+-- A FILE IS ACCEPTED that has this table,
+pub accepted-one : (bytes : List ℕ) × IsFile d bytes × Holds d (linesOf bytes) (oneRow (pos 1) (pos 0))
+accepted-one = valid-exactly (oneRow (pos 1) (pos 0)) .0 valid-one
+
+pub accepted-two : (bytes : List ℕ) × IsFile d bytes × Holds d (linesOf bytes) (oneRow (pos 2) (pos 0))
+accepted-two = valid-exactly (oneRow (pos 2) (pos 0)) .0 valid-two
+
+-- and one with `EP` alone after its row.
+pub accepted-noted : (bytes : List ℕ) × IsFile d bytes × Holds d (linesOf bytes) (oneRow (pos 1) (pos 1))
+accepted-noted = valid-exactly (oneRow (pos 1) (pos 1)) .0 valid-noted
 
 -- the first number of the rows
 firstOf : List ℤ → ℤ
 firstOf [] = pos 0
 firstOf (n ∷ ns) = n
 
-apart : rowsOf (oneRow (pos 1)) ≡ rowsOf (oneRow (pos 2)) → ⊥
+apart : rowsOf (oneRow (pos 1) (pos 0)) ≡ rowsOf (oneRow (pos 2) (pos 0)) → ⊥
 unfolding oneRow header firstOf
 apart e =
     let same : pos 1 ≡ pos 2 = ap firstOf e in

@@ -149,7 +149,7 @@ data After (ls : List (List ℕ)) : Type 0 where
   none : noteAfter d ls ≡ noNote → ((l : List ℕ) (others : List (List ℕ)) → ls ≡ l ∷ others → isNote d l ≡ true → ⊥) → After ls
   one : (l : List ℕ) (others : List (List ℕ)) → ls ≡ l ∷ others → isNote d l ≡ true → noteAfter d ls ≡ noteNumbers (noteOf l) → After ls
 
-first-of : {A : Type 0} {a b : A} {as bs : List A} → a ∷ as ≡ b ∷ bs → a ≡ b
+first-of : {a b : List ℕ} {more others : List (List ℕ)} → a ∷ more ≡ b ∷ others → a ≡ b
 first-of e = cc
 
 after : (ls : List (List ℕ)) → After ls
