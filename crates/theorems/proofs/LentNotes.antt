@@ -23,7 +23,7 @@ use Rattle.layout.specs.Kind.Held.{amount}
 use Rattle.layout.specs.Layout.{valuesOf}
 use Rattle.layout.specs.Line.{padded}
 use Rattle.lines.specs.Lines.{linesOf}
-use Rattle.record.specs.LineKinds.{positionCorrelationKind, velocityCorrelationKind, toldKind}
+use Rattle.record.specs.LineKinds.{toldKind}
 use Rattle.record.specs.Rows.{cut, bareWidth, noteWidth, rowWidth}
 use Rattle.record.specs.Notes.{largestDeviation, largestCorrelation, correlation, correlationItems, correlationIn, noteFrom, noteTaken, noteOf, noteFault}
 use Rattle.field.specs.declared.Whole.{Whole}
@@ -49,23 +49,14 @@ use Rattle.scan_laws.proofs.Files.{file-plain}
 use Rattle.file_laws.proofs.Sorting.{note-kind, row-kind}
 use Rattle.file_laws.proofs.Clean.{record-clean, amount-bounds}
 use Rattle.file_laws.proofs.Exact.{note-exact, field-clean, deviations-bounded, correlations-bounded}
-use Rattle.file_laws.proofs.Following.{after-row, file-follows}
+use Rattle.file_laws.proofs.Following.{isNoteKind, note-told, after-row, file-follows}
 use Rattle.stored_row.proofs.Noted.{deviationAt, correlationAt, note-stands, deviation-back, deviation-unknown-at, deviation-unknown-only, deviation-large-at, deviation-large-only, correlation-back, correlation-unknown-at, correlation-unknown-only, no-record, no-deviation-recorded, no-correlation-recorded}
 use Rattle.theorems.specs.Files.{header, lineAsked, tableRow, There, linesAfter, HasNote, held, deviationField, correlationField}
 use Rattle.theorems.proofs.Reading.{line-in-table, row-in-table}
 use Rattle.theorems.proofs.Lent.{lent, named, bounded, as-stored, behindRow, behind-wide, before, behind, before-long, parts}
 
--- the two kinds of note
-isNoteKind : ℕ → Bool
-isNoteKind k = eqb k positionCorrelationKind || eqb k velocityCorrelationKind
-
-note-told : (v : Bool) → isNoteKind (toldKind (noteKind v)) ≡ true
-unfolding isNoteKind
-note-told true = refl
-note-told false = refl
-
+-- EP and EV lines are notes
 pub note-line : (v : Bool) (l : List ℕ) → isNoteLine d v l ≡ true → isNote d l ≡ true
-unfolding isNoteKind
 note-line v l is = ap isNoteKind (note-kind d v l is) ∙ note-told v
 
 -- which row a kind is
