@@ -2,7 +2,7 @@
 -- Assumes nothing.
 use mathlib.Core.Path.{_≡_, refl, sym, ap, subst, _∙_}
 use mathlib.Core.Bool.{Bool, true, false, cond, _||_, false≢true}
-use mathlib.Core.List.{List, [], _∷_, _++_}
+use mathlib.Core.List.{List, _∷_, _++_}
 use Prim.Native.Nat.{ℕ, zero, suc, _+_, _<_}
 use native.Mathlib.Nat.{le-of-suc-le-suc, not-suc-le-zero}
 use native.Mathlib.Omega.{arith}
@@ -14,7 +14,7 @@ use Rattle.lines.specs.Lines.{select, nth, afterNth}
 use Rattle.record.specs.LineKinds.{firstKind, commentKind, positionKind, velocityKind, positionCorrelationKind, velocityCorrelationKind, toldKind}
 use Rattle.header.specs.declared.types.Rules.{Rules}
 use Rattle.file.specs.Kinds.{kindIn, isRow, isNote}
-use Rattle.file.specs.Plain.{everyLine, rowKind, noteKind, isRowLine, isNoteLine, areNotes, Noted, Rest, Rows, Epochs, Plain}
+use Rattle.file.specs.Plain.{everyLine, rowKind, noteKind, isNoteLine, areNotes, Noted, Rest, Rows, Epochs, Plain}
 use Rattle.laws.proofs.Bools.{and-left, and-right}
 use Rattle.laws.proofs.Bounds.{within-true}
 use Rattle.lines.proofs.Each.{Each, each-weaken}

@@ -3,7 +3,7 @@
 -- Assumes nothing.
 use mathlib.Core.Path.{_≡_, refl, ap, _∙_}
 use mathlib.Core.Bool.{Bool, true, false, cond, _&&_}
-use mathlib.Core.List.{List, [], _∷_, _++_}
+use mathlib.Core.List.{List, _∷_, _++_}
 use mathlib.Core.Logic.{_⊎_, inl, inr}
 use Prim.Native.Nat.{ℕ, _≤_, _<_, _*_}
 use native.Mathlib.Omega.{arith}
@@ -14,6 +14,7 @@ use lib.ListN.{length, length-append}
 use Rattle.header.specs.Rules.{d, maxSatellites}
 use Rattle.layout.specs.Line.{Lays}
 use Rattle.record.specs.Plain.{commentWidth}
+use Rattle.record.specs.Rows.{rowWidth}
 use Rattle.reader.specs.Reading.{refusedWith, fileOf, delivered}
 use Rattle.canon.specs.Table.{Table}
 use Rattle.canon.specs.Canonical.{canonical}
@@ -21,6 +22,7 @@ use Rattle.canon.specs.Measured.{measured, refusedAs}
 use Rattle.writer.specs.Writing.{outAfter}
 use Rattle.canon_laws.specs.Held.{rewritten}
 use Rattle.theorems.specs.Files.{header}
+use Rattle.theorems.specs.Room.{mostRows}
 use Rattle.theorems.proofs.Room.{found-numbered}
 use Rattle.theorems.proofs.RewriteRoom.{rewriteReading, few-comments, many-comments}
 use Rattle.theorems.proofs.Rewritten.{lent-valid, lent-form, lent-answer, lent-written}
@@ -57,7 +59,7 @@ Outcome text out done now =
 
 -- Of a file of at most 65,536 bytes, with the lists and the output of the program.
 module _ (bytes identifiers exponents comments : List ℕ) (rows : List ℤ) (out : List ℕ) (short : length bytes ≤ mostBytes) (room : length out ≡ mostBytes)
-    (named : length identifiers ≡ maxSatellites) (weighed : length exponents ≡ maxSatellites) (noted : length comments ≡ mostComments * commentWidth) (placed : length rows ≡ 12_888) where
+    (named : length identifiers ≡ maxSatellites) (weighed : length exponents ≡ maxSatellites) (noted : length comments ≡ mostComments * commentWidth) (placed : length rows ≡ mostRows * rowWidth) where
   abbrev read : Reading
   read = reading bytes identifiers exponents comments rows
 

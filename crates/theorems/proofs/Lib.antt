@@ -8,9 +8,11 @@ pub mod RewriteRoom
 pub mod Filled
 pub mod Floats
 pub mod Lent
+pub mod NoteFields
 pub mod LentNotes
 pub mod Writing
 pub mod Rewritten
+pub mod WrittenNotes
 pub mod Known
 pub mod LineRoom
 pub mod Walks

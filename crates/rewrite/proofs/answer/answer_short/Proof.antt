@@ -1,13 +1,16 @@
 -- `rewrite::answer::answer_short` meets its contract: the room that it lends is enough for all but comments, and a refusal is said in words.
 -- Assumes nothing.
-use Prim.Native.Nat.{ℕ}
+use Prim.Native.Nat.{ℕ, _*_}
 use native.Mathlib.Omega.{arith}
 use borrow.Author.Needs.{needs}
 use lib.IntN.{ℤ, pos}
 use lib.ListN.{replicate, length-replicate}
 use Rattle.header.specs.Rules.{d, maxSatellites}
+use Rattle.record.specs.Plain.{commentWidth}
+use Rattle.record.specs.Rows.{rowWidth}
+use Rattle.theorems.specs.Room.{mostRows}
 use Rattle.reader.specs.Reading.{fileOf}
-use Rattle.rewrite.specs.Printed.{answered}
+use Rattle.rewrite.specs.Printed.{mostComments, answered}
 use Rattle.rewrite.proofs.Answering.{few-words, Outcome, outcome-of, outcome-said, outcome-laid}
 use Rattle.rewrite.proofs.answer.answer_short.Statement.{statement}
 use Rattle.rewrite.proofs.answer.answer_short.Tie as tie
@@ -19,12 +22,12 @@ answered-so : (c : tie.After-read-and-write)
     → Outcome (answered (start c .args .file .now) (fileOf d (start c .args .file .now))) (start c .args .out .now)
     (c .read-and-write .result) (c .read-and-write .last .1 .1 .1 .1 .1 .0)
 answered-so c =
-    outcome-of (start c .args .file .now) (replicate maxSatellites 0) (replicate maxSatellites 0) (replicate 61_600 0) (replicate 12_888 (pos 0)) (start c .args .out .now)
+    outcome-of (start c .args .file .now) (replicate maxSatellites 0) (replicate maxSatellites 0) (replicate (mostComments * commentWidth) 0) (replicate (mostRows * rowWidth) (pos 0)) (start c .args .out .now)
     (start c .pre .0) (start c .pre .1)
     (length-replicate {0} {A = ℕ} maxSatellites 0)
     (length-replicate {0} {A = ℕ} maxSatellites 0)
-    (length-replicate {0} {A = ℕ} 61_600 0)
-    (length-replicate {0} {A = ℤ} 12_888 (pos 0))
+    (length-replicate {0} {A = ℕ} (mostComments * commentWidth) 0)
+    (length-replicate {0} {A = ℤ} (mostRows * rowWidth) (pos 0))
     (c .read-and-write .ensures .0) (c .read-and-write .ensures .1)
 
 put-refusal-requires : tie.Need-put-refusal-requires
