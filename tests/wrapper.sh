@@ -205,11 +205,13 @@ wrapper_tests() {
     compare_functions
     compare_words
     cargo_in doc --offline --locked --no-deps "$@"
-    cargo_in build --offline --locked --example known "$@"
-    known=$CARGO_TARGET_DIR${2:+/$2}/debug/examples/known
+    cargo_in build --offline --locked --examples "$@"
+    built=$CARGO_TARGET_DIR${2:+/$2}/debug/examples
+    known=$built/known
     run_example known "$crate/examples/known.out" 'known FILE' x86_run "$known"
     printf 'G07 known 0 absent 1\nall known 0 absent 1\n' >"$made/withdrawn.out"
     answers 'known, a place that is absent' 0 "$made/withdrawn.out" x86_run "$known" "$made/withdrawn.sp3"
+    answers notes 0 "$crate/examples/notes.out" x86_run "$built/notes" "$root/samples/correlations.sp3"
 }
 
 c_example() {

@@ -154,6 +154,29 @@ pub struct StoredFlag {
     pub set: bool,
 }
 
+#[repr(C)]
+pub struct StoredNote {
+    pub refusal: usize,
+    pub stands: bool,
+}
+
+#[repr(C)]
+pub struct NoteDeviation {
+    pub refusal: usize,
+    pub no_record: bool,
+    pub unknown: bool,
+    pub too_large: bool,
+    pub value: u64,
+}
+
+#[repr(C)]
+pub struct NoteCorrelation {
+    pub refusal: usize,
+    pub no_record: bool,
+    pub unknown: bool,
+    pub value: i64,
+}
+
 // ---- Dividing ----
 
 #[repr(C)]
@@ -333,6 +356,19 @@ unsafe extern "C" {
         which: usize,
     ) -> StoredExponent;
     pub fn sp3_flag_of(rows: *const i64, row_numbers: usize, k: usize, which: usize) -> StoredFlag;
+    pub fn sp3_note_of(rows: *const i64, row_numbers: usize, k: usize) -> StoredNote;
+    pub fn sp3_note_deviation_of(
+        rows: *const i64,
+        row_numbers: usize,
+        k: usize,
+        which: usize,
+    ) -> NoteDeviation;
+    pub fn sp3_note_correlation_of(
+        rows: *const i64,
+        row_numbers: usize,
+        k: usize,
+        which: usize,
+    ) -> NoteCorrelation;
     pub fn sp3_divide(
         stretch: *const u8,
         length: usize,

@@ -88,6 +88,9 @@ structs! {
     sp3_stored_clock_t = StoredClock { refusal absent clock }
     sp3_stored_exponent_t = StoredExponent { refusal unknown too_large value }
     sp3_stored_flag_t = StoredFlag { refusal set }
+    sp3_stored_note_t = StoredNote { refusal stands }
+    sp3_note_deviation_t = NoteDeviation { refusal no_record unknown too_large value }
+    sp3_note_correlation_t = NoteCorrelation { refusal no_record unknown value }
     sp3_division_t = Division { count rest refusal line }
     sp3_comment_answer_t = CommentAnswer { refusal line at length }
     sp3_satellite_answer_t = SatelliteAnswer { refusal line number }
@@ -148,6 +151,9 @@ functions! {
     sp3_clock_of(_ _ _)
     sp3_exponent_of(_ _ _ _)
     sp3_flag_of(_ _ _ _)
+    sp3_note_of(_ _ _)
+    sp3_note_deviation_of(_ _ _ _)
+    sp3_note_correlation_of(_ _ _ _)
     sp3_divide(_ _ _ _)
     sp3_comment(_ _ _)
     sp3_identifier(_ _)
@@ -172,6 +178,7 @@ fn layout() {
         format!("constant SP3_ROW_WIDTH {}", crate::ROW_WIDTH),
         format!("constant SP3_COMMENT_WIDTH {}", crate::COMMENT_WIDTH),
         format!("constant SP3_UNKNOWN {}", crate::stored::UNKNOWN),
+        format!("constant SP3_UNNOTED {}", crate::notes::UNNOTED),
     ];
     let words = (0..=13).map(|number| format!("words {number} {}", crate::words(number)));
     println!();

@@ -24,13 +24,16 @@
 //! one or two coordinates are 0 is not absent. Place and clock are absent apart from each other. Every satellite of the header stays in every
 //! epoch.
 //!
+//! **Correlation records.** What an EP line says of the P row before it, and an EV line of the V row before it, is the row's [`Note`]: `None`
+//! where no such line stands, and in it `None` for what is unknown; neither is 0.
+//!
 //! **Refusals.** [`Refusal`] has the number in the paper's table, 1 to 13, and the line; [`words`] says what each number means.
 //!
 //! **Threads.** No function keeps a state: an answer follows from what the call is given. So they may be called from several threads at once, each
 //! call with lent memory of its own; what is borrowed shared, such as a file's bytes, may be lent to several calls at the same time.
 //!
-//! **Units.** Places in mm, clocks in ps; in V rows 10^-4 mm/s and 10^-16 s/s. A name that ends in `8` is a time in 10^-8 s. Epochs, satellites of
-//! the header, comments and rows are counted from 0, lines and columns from 1.
+//! **Units.** Places and their standard deviations in mm, clocks and theirs in ps; in V rows 10^-4 mm/s and 10^-16 s/s; correlations in 10^-7. A
+//! name that ends in `8` is a time in 10^-8 s. Epochs, satellites of the header, comments and rows are counted from 0, lines and columns from 1.
 #![deny(missing_docs)]
 #![deny(unsafe_op_in_unsafe_fn)]
 
@@ -38,6 +41,7 @@ mod ffi;
 #[cfg(test)]
 mod layout;
 mod lines;
+mod notes;
 mod questions;
 mod reading;
 mod refusal;
@@ -49,6 +53,7 @@ mod writing;
 
 pub use ffi::{Bases, Header, HeaderParts, Moment, RowWalk, Spot, Texts};
 pub use lines::{after_lines, first_spot, next_line, read_line, Line};
+pub use notes::{note_correlation_of, note_deviation_of, note_of, Deviation, Note};
 pub use questions::{
     comment, comment_answer, date, identifier, identifier_text, moment, row, satellite_of, Date,
     Row,

@@ -1,11 +1,13 @@
 //! Stored rows, asked for by name and made.
 
 use crate::ffi;
+use crate::notes::note_numbers;
 use crate::refusal::{accepted, NOT_THERE};
-use crate::Refusal;
+use crate::{note_of, Note, Refusal};
 
-/// The numbers of one stored row: x, y, z, clock, their four exponents, four flags.
-pub const ROW_WIDTH: usize = 12;
+/// The numbers of one stored row: x, y, z, clock, their four exponents, four flags; then of the correlation record after it whether it stands
+/// there, four deviations, six correlations.
+pub const ROW_WIDTH: usize = 23;
 
 /// The bytes of one stored comment.
 pub const COMMENT_WIDTH: usize = 77;
@@ -37,10 +39,10 @@ pub struct Flags {
 /// The place or velocity of the k-th stored row, columns 5 to 46: x, y, z in mm, or in 10^-4 mm/s in a V row. `None` is absent: all three are
 /// zero in the file, whatever the clock.
 ///
-/// Refused: 13 where there is no k-th row (k = 1 of 23 numbers).
+/// Refused: 13 where there is no k-th row (k = 1 of 45 numbers).
 ///
 /// ```
-/// let mut rows = [0; 23];
+/// let mut rows = [0; 45];
 /// rows[2] = 1;
 /// assert_eq!(sp3::place_of(&rows, 0)?, Some([0, 0, 1]));
 /// rows[2] = 0;
@@ -58,10 +60,10 @@ pub fn place_of(rows: &[i64], k: usize) -> Result<Option<[i64; 3]>, Refusal> {
 /// The clock or rate of the k-th stored row, columns 47 to 60: in ps, or in 10^-16 s/s in a V row. `None` is absent: `999999.999999` in the
 /// file, whatever the place.
 ///
-/// Refused: 13 where there is no k-th row (k = 1 of 23 numbers).
+/// Refused: 13 where there is no k-th row (k = 1 of 45 numbers).
 ///
 /// ```
-/// let mut rows = [0; 23];
+/// let mut rows = [0; 45];
 /// assert_eq!(sp3::clock_of(&rows, 0)?, Some(0));
 /// rows[3] = 999_999_999_999;
 /// assert_eq!(sp3::clock_of(&rows, 0)?, None);
@@ -80,7 +82,7 @@ pub fn clock_of(rows: &[i64], k: usize) -> Result<Option<i64>, Refusal> {
 /// Refused: 13 where there is no k-th row, or `which` is 4.
 ///
 /// ```
-/// let rows = [0; 12];
+/// let rows = [0; sp3::ROW_WIDTH];
 /// assert_eq!(sp3::exponent_of(&rows, 0, 3)?, sp3::Exponent::Value(0));
 /// assert_eq!(sp3::exponent_of(&rows, 0, 4), Err(sp3::Refusal { number: 13, line: 0 }));
 /// # Ok::<(), sp3::Refusal>(())
@@ -101,7 +103,7 @@ pub fn exponent_of(rows: &[i64], k: usize, which: usize) -> Result<Exponent, Ref
 /// Refused: 13 where there is no k-th row, or `which` is 4.
 ///
 /// ```
-/// let rows = [0; 12];
+/// let rows = [0; sp3::ROW_WIDTH];
 /// assert_eq!(sp3::flag_of(&rows, 0, 2)?, false);
 /// assert_eq!(sp3::flag_of(&rows, 0, 4), Err(sp3::Refusal { number: 13, line: 0 }));
 /// # Ok::<(), sp3::Refusal>(())
@@ -124,16 +126,18 @@ pub struct StoredRow {
     pub exponents: [Exponent; 4],
     /// The flags.
     pub flags: Flags,
+    /// The EP record directly after a P row, or the EV record directly after a V row; `None` where none stands there.
+    pub note: Option<Note>,
 }
 
 /// All of the k-th stored row.
 ///
-/// Refused: 13 where there is no k-th row (k = 1 of 23 numbers).
+/// Refused: 13 where there is no k-th row (k = 1 of 45 numbers).
 ///
 /// ```
-/// let row = sp3::stored_row(&[0; 23], 0)?;
-/// assert_eq!((row.place, row.clock), (None, Some(0)));
-/// assert_eq!(sp3::stored_row(&[0; 23], 1), Err(sp3::Refusal { number: 13, line: 0 }));
+/// let row = sp3::stored_row(&[0; 45], 0)?;
+/// assert_eq!((row.place, row.clock, row.note), (None, Some(0), None));
+/// assert_eq!(sp3::stored_row(&[0; 45], 1), Err(sp3::Refusal { number: 13, line: 0 }));
 /// # Ok::<(), sp3::Refusal>(())
 /// ```
 pub fn stored_row(rows: &[i64], k: usize) -> Result<StoredRow, Refusal> {
@@ -149,6 +153,7 @@ pub fn stored_row(rows: &[i64], k: usize) -> Result<StoredRow, Refusal> {
             maneuver: flag(2)?,
             orbit_predicted: flag(3)?,
         },
+        note: note_of(rows, k)?,
     })
 }
 
@@ -172,18 +177,27 @@ impl Exponent {
     }
 }
 
+impl Flags {
+    /// The flags in the order of their columns.
+    fn in_order(self) -> [bool; 4] {
+        [self.clock_event, self.clock_predicted, self.maneuver, self.orbit_predicted]
+    }
+}
+
 impl StoredRow {
     /// The row as the numbers that [`write`](crate::write) takes, such that [`stored_row`] gives it back.
     ///
-    /// Refused: 13 where it would be another row: `Some([0, 0, 0])` would be absent, `Value(99)` too large.
+    /// Refused: 13 where it would be another row: `Some([0, 0, 0])` would be absent, an exponent `Value(99)` too large, a correlation
+    /// `Some(100_000_000)` unknown.
     ///
     /// ```
-    /// use sp3::{Exponent, Flags, StoredRow};
+    /// use sp3::{Deviation, Exponent, Flags, Note, StoredRow};
     /// let row = StoredRow {
     ///     place: Some([5_000_000_001, -500_000, 0]),
     ///     clock: None,
     ///     exponents: [Exponent::Unknown; 4],
     ///     flags: Flags { maneuver: true, ..Flags::default() },
+    ///     note: Some(Note { deviations: [Some(Deviation::Value(55)); 4], ..Note::default() }),
     /// };
     /// assert_eq!(sp3::stored_row(&row.numbers()?, 0)?, row);
     ///
@@ -192,22 +206,17 @@ impl StoredRow {
     /// # Ok::<(), sp3::Refusal>(())
     /// ```
     pub fn numbers(&self) -> Result<[i64; ROW_WIDTH], Refusal> {
-        let [x, y, z] = self.place.unwrap_or([0; 3]);
-        let exponent = |which: usize| self.exponents[which].number(which);
-        let numbers = [
-            x,
-            y,
-            z,
-            self.clock.unwrap_or(ABSENT_CLOCK),
-            exponent(0),
-            exponent(1),
-            exponent(2),
-            exponent(3),
-            i64::from(self.flags.clock_event),
-            i64::from(self.flags.clock_predicted),
-            i64::from(self.flags.maneuver),
-            i64::from(self.flags.orbit_predicted),
-        ];
+        let place = self.place.unwrap_or([0; 3]).into_iter();
+        let exponents = (0..4).map(|which| self.exponents[which].number(which));
+        let in_order = place
+            .chain([self.clock.unwrap_or(ABSENT_CLOCK)])
+            .chain(exponents)
+            .chain(self.flags.in_order().map(i64::from))
+            .chain(note_numbers(self.note));
+        let mut numbers = [0; ROW_WIDTH];
+        for (place, number) in numbers.iter_mut().zip(in_order) {
+            *place = number;
+        }
         match stored_row(&numbers, 0) {
             Ok(row) if row == *self => Ok(numbers),
             _ => Err(NOT_THERE),

@@ -3,8 +3,9 @@
 use crate::refusal::{NOT_THERE, NO_ROOM};
 use crate::stored::{COMMENT_WIDTH, ROW_WIDTH};
 use crate::{
-    clock_of, exponent_of, flag_of, form_length, judge, judge_front, place_of, read, read_front,
-    stored_row, write, Exponent, Header, Refusal, StoredRow,
+    clock_of, exponent_of, flag_of, form_length, judge, judge_front, note_correlation_of,
+    note_deviation_of, note_of, place_of, read, read_front, stored_row, write, Deviation, Exponent,
+    Header, Note, Refusal, StoredRow,
 };
 
 /// What a file holds: its header and the four lists, as [`read`] leaves them. All parts may be altered; [`Table::write`] says whether they are
@@ -17,6 +18,7 @@ use crate::{
 ///     clock: None,
 ///     exponents: [Exponent::Unknown; 4],
 ///     flags: Flags::default(),
+///     note: None,
 /// };
 /// let table = Table {
 ///     header: Header::new(HeaderParts {
@@ -65,9 +67,9 @@ pub struct TableRow {
     pub epoch: u64,
     /// The number of the satellite in the header, counted from 0.
     pub satellite: u64,
-    /// The P row: mm and ps.
+    /// The P row with the EP record after it: mm and ps.
     pub position: StoredRow,
-    /// The V row: 10^-4 mm/s and 10^-16 s/s. `None` in mode P, where there is none.
+    /// The V row with the EV record after it: 10^-4 mm/s and 10^-16 s/s. `None` in mode P, where there is none.
     pub velocity: Option<StoredRow>,
 }
 
@@ -175,6 +177,21 @@ impl Table {
         flag_of(&self.rows, k, which)
     }
 
+    /// The correlation record directly after the k-th stored row; see [`note_of`].
+    pub fn note_of(&self, k: usize) -> Result<Option<Note>, Refusal> {
+        note_of(&self.rows, k)
+    }
+
+    /// A deviation in the record after the k-th stored row; see [`note_deviation_of`].
+    pub fn note_deviation_of(&self, k: usize, which: usize) -> Result<Option<Deviation>, Refusal> {
+        note_deviation_of(&self.rows, k, which)
+    }
+
+    /// A correlation in the record after the k-th stored row; see [`note_correlation_of`].
+    pub fn note_correlation_of(&self, k: usize, which: usize) -> Result<Option<i64>, Refusal> {
+        note_correlation_of(&self.rows, k, which)
+    }
+
     /// The row of an epoch and a satellite of the header, both counted from 0.
     ///
     /// Refused: 13 with line 0 for epoch 1 of a table that has one.
@@ -184,7 +201,7 @@ impl Table {
     /// let row = table.row(0, 0)?;
     /// assert_eq!(row.position.place, Some([5_000_000_001, -500_000, 0]));
     /// assert_eq!(row.position.exponents, [sp3::Exponent::Unknown; 4]);
-    /// assert_eq!(row.velocity, None);
+    /// assert_eq!((row.position.note, row.velocity), (None, None));
     /// assert_eq!(table.row(1, 0), Err(sp3::Refusal { number: 13, line: 0 }));
     /// # Ok::<(), sp3::Refusal>(())
     /// ```

@@ -103,8 +103,8 @@ pub fn form_length(
 /// The lists are as [`read`](crate::read) leaves them; places past the header's counts are not looked at, bytes of `out` past those written
 /// stay as they were.
 ///
-/// Refused, with line 0: 13 where the table is not valid (1000 among the header's exponents, a list shorter than its count), then 12 where `out` is
-/// one byte too short; `out` is then as it was.
+/// Refused, with line 0: 13 where the table is not valid (1000 among the header's exponents, a deviation beside a row without its record, a list
+/// shorter than its count), then 12 where `out` is one byte too short; `out` is then as it was.
 ///
 /// ```
 /// let file = include_bytes!("../../../samples/paper.sp3");

@@ -15,7 +15,8 @@ const NO_FLAGS: Flags =
 /// The rows of the file over midnight, worked out from its columns.
 fn night_rows() -> [StoredRow; 6] {
     use Exponent::{TooLarge, Unknown, Value};
-    let row = |place, clock, exponents, flags| StoredRow { place, clock, exponents, flags };
+    let row =
+        |place, clock, exponents, flags| StoredRow { place, clock, exponents, flags, note: None };
     let widest = 999_999_999_999;
     [
         row(Some([15_000_000_000, -20_000_500_000, 0]), Some(123_456_789), [Unknown; 4], NO_FLAGS),
@@ -172,14 +173,6 @@ fn mode_v() {
     let walked: Vec<_> = sp3::rows(&file).unwrap().map(|row| row.unwrap().row).collect();
     assert_eq!(walked, [floats(&rows[0].position), floats(&rows[1].position)], "the P rows alone");
     assert_eq!(table.place_of(1), Ok(velocity.place), "a V row stands after its P row");
-}
-
-#[test]
-fn mode_v_is_written_without_ep_and_ev() {
-    let file = motion().bytes();
-    let written = Table::read(&file).unwrap().write().unwrap();
-    let kept = motion().without(27).without(25).bytes();
-    assert_eq!(written, kept);
 }
 
 #[test]

@@ -2,7 +2,7 @@
 
 mod common;
 
-use common::{motion, night, paper};
+use common::{motion, night, paper, stored_again, CORRELATIONS};
 use sp3::{judge_front, Refusal, Table};
 
 /// Numbers that look random and are the same in each run (splitmix64).
@@ -78,8 +78,8 @@ fn agree(file: &[u8]) {
         assert_eq!(walked.row.place, place);
         assert_eq!(walked.row.clock, stored.position.clock.map(|number| number as f64));
         assert_eq!(sp3::row(file, stored.epoch, stored.satellite), Ok(walked.row));
-        assert_eq!(sp3::stored_row(&stored.position.numbers().unwrap(), 0), Ok(stored.position));
     }
+    assert_eq!(stored_again(&table), table.rows);
     for k in 0..table.header.comments {
         assert_eq!(sp3::comment(file, k), table.comment(k as usize));
     }
@@ -106,9 +106,9 @@ fn divided(stretch: &[u8]) {
 fn damaged_files() {
     let mut random = Random(1);
     let mut counts = [0; 12];
-    let bases = [paper().bytes(), night().bytes(), motion().bytes()];
+    let bases = [paper().bytes(), night().bytes(), motion().bytes(), CORRELATIONS.to_vec()];
     for case in 0..6000 {
-        let mut file = bases[case % 3].clone();
+        let mut file = bases[case % 4].clone();
         for _ in 0..random.below(3) {
             damage(&mut file, &mut random);
         }
@@ -120,7 +120,7 @@ fn damaged_files() {
         if whole.is_ok() {
             agree(&file);
         }
-        divided(&[&bases[(case + 1) % 3], &file[..], &bases[0]].concat());
+        divided(&[&bases[(case + 1) % 4], &file[..], &bases[0]].concat());
     }
     assert!(counts.iter().all(|&count| count > 0), "numbers 0 to 11 all occur: {counts:?}");
 }
@@ -136,6 +136,6 @@ fn bytes_of_every_kind() {
         divided(&bytes);
         let numbers: Vec<i64> = bytes.iter().map(|&byte| i64::from(byte) << (byte % 64)).collect();
         let rows = (0..).map_while(|k| sp3::stored_row(&numbers, k).ok()).count();
-        assert_eq!(rows, numbers.len() / 12);
+        assert_eq!(rows, numbers.len() / sp3::ROW_WIDTH);
     }
 }

@@ -37,6 +37,7 @@ fn the_papers_table() {
         clock: None,
         exponents: [Exponent::Unknown; 4],
         flags: Flags::default(),
+        note: None,
     };
     assert_eq!(table.rows().map(|row| row.position).collect::<Vec<_>>(), [row]);
 }

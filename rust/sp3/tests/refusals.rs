@@ -38,7 +38,7 @@ impl Lent {
     }
 }
 
-/// A file that is refused, by number and line: the paper's with one alteration.
+/// A file that is refused, by number and line: the paper's, or that with velocities, with one alteration.
 fn refused_files() -> Vec<(u8, u64, Vec<u8>)> {
     let of = |number, line, draft: Draft| (number, line, draft.bytes());
     vec![
@@ -50,13 +50,21 @@ fn refused_files() -> Vec<(u8, u64, Vec<u8>)> {
         of(3, 19, paper().put(19, 81, " ")),
         of(4, 1, paper().put(1, 2, "c")),
         of(4, 24, paper().without(24)),
+        of(4, 25, paper().with(25, "EV")),
+        of(4, 26, paper().with(25, "EP").with(26, "EP")),
+        of(4, 27, motion().without(27).with(27, "EP")),
         of(5, 25, paper().put(25, 4, "X")),
         of(5, 14, paper().put(14, 4, "xx")),
+        of(5, 25, paper().with(25, "EPx")),
+        of(5, 25, paper().with(25, "EP").put(25, 72, "x")),
         of(6, 1, paper().put(1, 3, "v")),
         of(6, 13, paper().put(13, 10, "GPX")),
+        of(6, 25, paper().with(25, "EP    -1")),
+        of(6, 27, motion().put(27, 80, "x")),
         of(7, 1, paper().put(1, 12, "31")),
         of(7, 3, paper().put(3, 10, "G00")),
         of(7, 23, paper().put(23, 21, "60.00000000")),
+        of(7, 25, paper().with(25, "EP").put(25, 28, "10000000")),
         of(8, 2, paper().put(2, 4, "1735")),
         of(8, 3, paper().put(3, 13, "G08")),
         of(8, 13, paper().put(13, 4, "R")),
@@ -68,7 +76,7 @@ fn refused_files() -> Vec<(u8, u64, Vec<u8>)> {
 }
 
 /// Room for the paper's file: 1 identifier, 1 exponent, 4 comments, 1 row.
-const PAPER_ROOM: [usize; 4] = [1, 1, 4 * 77, 12];
+const PAPER_ROOM: [usize; 4] = [1, 1, 4 * 77, 23];
 
 #[test]
 fn numbers_1_to_11_with_their_lines() {
@@ -133,7 +141,7 @@ fn places_past_those_filled_stay() {
     expected.identifiers[..1].copy_from_slice(&table.identifiers);
     expected.exponents[..1].copy_from_slice(&table.exponents);
     expected.comments[..4 * 77].copy_from_slice(&table.comments);
-    expected.rows[..12].copy_from_slice(&table.rows);
+    expected.rows[..23].copy_from_slice(&table.rows);
     let reading = lent.read(SAMPLE).unwrap();
     assert_eq!(reading, sp3::Reading { length: SAMPLE.len(), header: common::paper_header() });
     assert_eq!(lent, expected);
@@ -150,23 +158,43 @@ fn number_13_for_what_is_not_there() {
     assert_eq!(sp3::row(SAMPLE, 1, 0), refused(13, 0));
     assert_eq!(sp3::row(SAMPLE, 0, 1), refused(13, 0));
     assert_eq!(sp3::row(SAMPLE, u64::MAX, u64::MAX), refused(13, 0));
-    assert_eq!(sp3::place_of(&[1; 23], 1), refused(13, 0));
-    assert_eq!(sp3::clock_of(&[1; 23], usize::MAX), refused(13, 0));
-    assert_eq!(sp3::exponent_of(&[1; 12], 0, 4), refused(13, 0));
-    assert_eq!(sp3::flag_of(&[1; 12], 0, usize::MAX), refused(13, 0));
+    assert_eq!(sp3::place_of(&[1; 45], 1), refused(13, 0));
+    assert_eq!(sp3::clock_of(&[1; 45], usize::MAX), refused(13, 0));
+    assert_eq!(sp3::exponent_of(&[1; 23], 0, 4), refused(13, 0));
+    assert_eq!(sp3::flag_of(&[1; 23], 0, usize::MAX), refused(13, 0));
+    assert_eq!(sp3::note_of(&[1; 45], 1), refused(13, 0));
+    assert_eq!(sp3::note_deviation_of(&[1; 23], 0, 4), refused(13, 0));
+    assert_eq!(sp3::note_correlation_of(&[1; 23], 0, 6), refused(13, 0));
+    assert_eq!(sp3::note_correlation_of(&[1; 45], 1, 0), refused(13, 0));
+}
+
+/// Has a correlation record after the row of the paper's table, with one of its ten numbers.
+fn note(table: &mut Table, place: usize, number: i64) {
+    table.rows[12] = 1;
+    table.rows[place] = number;
 }
 
 /// Tables that no accepted file has, each made from the paper's by one alteration.
 fn invalid_tables() -> Vec<Table> {
-    let alterations: [fn(&mut Table); 12] = [
+    let alterations: [fn(&mut Table); 22] = [
         |table| table.exponents[0] = 1000,
         |table| table.identifiers.clear(),
         |table| table.exponents.clear(),
         |table| table.comments.truncate(4 * 77 - 1),
-        |table| table.rows.truncate(11),
+        |table| table.rows.truncate(22),
         |table| table.identifiers[0] = 7100,
         |table| table.comments[0] = b'\n',
         |table| table.rows[0] = 1_000_000_000_000,
+        |table| table.rows[12] = 2,
+        |table| table.rows[13] = 5,
+        |table| table.rows[22] = 0,
+        |table| note(table, 13, 10_000),
+        |table| note(table, 14, -1),
+        |table| note(table, 16, 10_000_000),
+        |table| note(table, 17, 10_000_000),
+        |table| note(table, 22, -10_000_000),
+        |table| note(table, 22, -100_000_000),
+        |table| note(table, 22, i64::MIN),
         |table| table.header.comments = 3,
         |table| table.header.epochs = 0,
         |table| table.header.satellites = u64::MAX,

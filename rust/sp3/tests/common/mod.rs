@@ -6,6 +6,9 @@ use sp3::{Header, HeaderParts, Moment, Refusal, Table, Texts};
 /// The sample that holds the paper's file in its canonical form.
 pub const SAMPLE: &[u8] = include_bytes!("../../../../samples/paper.sp3");
 
+/// The sample with correlation records of every kind, in mode V.
+pub const CORRELATIONS: &[u8] = include_bytes!("../../../../samples/correlations.sp3");
+
 const NO_SATELLITES: &str = "+          0  0  0  0  0  0  0  0  0  0  0  0  0  0  0  0  0";
 const NO_EXPONENTS: &str = "++         0  0  0  0  0  0  0  0  0  0  0  0  0  0  0  0  0";
 
@@ -55,6 +58,12 @@ impl Draft {
         self.0.remove(line - 1);
         self
     }
+
+    /// The file with a line more, which is then the one of this number.
+    pub fn with(mut self, line: usize, text: &str) -> Draft {
+        self.0.insert(line - 1, text.as_bytes().to_vec());
+        self
+    }
 }
 
 /// 01, "One file whole": 25 lines.
@@ -101,7 +110,7 @@ pub fn night() -> Draft {
     )
 }
 
-/// Mode V with an EP and an EV: 29 lines. 2001-08-08 is MJD 52129, 526 days after case 4 of the paper: 1126 weeks and three days.
+/// Mode V with an EP and an EV: 30 lines. 2001-08-08 is MJD 52129, 526 days after case 4 of the paper: 1126 weeks and three days.
 pub fn motion() -> Draft {
     Draft::of(
         [
@@ -173,6 +182,12 @@ pub fn many(n: u64) -> Table {
         comments: one.comments,
         rows: one.rows.repeat(n as usize),
     }
+}
+
+/// The numbers of all rows of a table, made again from what each row says.
+pub fn stored_again(table: &Table) -> Vec<i64> {
+    let rows = table.rows().flat_map(|row| [Some(row.position), row.velocity]);
+    rows.flatten().flat_map(|row| row.numbers().expect("a row that was read")).collect()
 }
 
 /// A refusal, as a result.
