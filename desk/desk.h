@@ -48,7 +48,7 @@ typedef struct {
     size_t length;
 } input_t;
 
-// An accepted file with its header; read_table fills the lists, read_identifiers that one alone.
+// An accepted file with its header; read_table fills the lists, read_identifiers the identifiers alone.
 typedef struct {
     input_t file;
     sp3_header_t header;
@@ -83,7 +83,7 @@ typedef struct {
 
 tally_t tally_of(const table_t *table);
 
-// The end of a line, with the notes or without.
+// Ends a line with the counts, where `notes` is set with those of the notes too.
 void show_tally(const tally_t *tally, bool notes);
 
 // The header, a line for each row and each note, the count. Of notes nothing is said where there are none.
