@@ -48,7 +48,7 @@ typedef struct {
     size_t length;
 } input_t;
 
-// An accepted file with its header and identifiers; read_table fills the other lists.
+// An accepted file with its header; read_table fills the lists, read_identifiers the identifiers alone.
 typedef struct {
     input_t file;
     sp3_header_t header;
@@ -68,22 +68,25 @@ int out_of_memory(const input_t *file);
 int take_input(input_t *input, const char *argument);
 void drop_input(input_t *input);
 
-// A file judged; its header and identifiers; where it is refused, that is said there. Then the rest of its table.
-int begin_table(table_t *table, const char *argument, FILE *refusals);
+// A file judged, and its header; where it is refused, that is said there. Then either its identifiers or its whole table.
+int judge_file(table_t *table, const char *argument, FILE *refusals);
+int read_identifiers(table_t *table);
 int read_table(table_t *table);
 void drop_table(table_t *table);
 
 // ---- What is shown of a table ----
 
-// How many places and clocks of P rows are known (0) and absent (1).
+// How many places and clocks of P rows are known (0) and absent (1), and how many notes P rows (0) and V rows (1) have: EP and EV records.
 typedef struct {
-    uint64_t places[2], clocks[2];
+    uint64_t places[2], clocks[2], notes[2];
 } tally_t;
 
-void count_row(tally_t *tally, bool place_absent, bool clock_absent);
-void show_tally(const tally_t *tally);
+tally_t tally_of(const table_t *table);
 
-// The header, a line for each row, the count.
+// Ends a line with the counts, where `notes` is set with those of the notes too.
+void show_tally(const tally_t *tally, bool notes);
+
+// The header, a line for each row and each note, the count. Of notes nothing is said where there are none.
 int show_table(const table_t *table);
 
 #endif

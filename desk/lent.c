@@ -57,39 +57,51 @@ int take_input(input_t *input, const char *argument) {
 
 void drop_input(input_t *input) { free(input->bytes); }
 
-// Says that a whole file was refused.
-static int refused_file(const input_t *file, sp3_reading_t answer, FILE *to) {
+// The status of a file that was judged or read; where it is refused, that is said.
+static int status_of(const input_t *file, sp3_reading_t answer, FILE *refusals) {
+    if (answer.refusal == 0) return ACCEPTED;
     const char *hint = hint_of(file->bytes, file->length, answer.refusal, answer.line);
-    return refused(to, answer.refusal, answer.line, hint, "%s", file->name);
+    return refused(refusals, answer.refusal, answer.line, hint, "%s", file->name);
 }
 
-int begin_table(table_t *table, const char *argument, FILE *refusals) {
+int judge_file(table_t *table, const char *argument, FILE *refusals) {
     *table = (table_t){0};
     input_t *file = &table->file;
     int status = take_input(file, argument);
     if (status != ACCEPTED) return status;
     sp3_reading_t judged = sp3_judge(file->bytes, file->length);
-    if (judged.refusal != 0) return refused_file(file, judged, refusals);
     table->header = judged.header;
-    table->identifiers = lend(judged.header.satellites, sizeof *table->identifiers);
-    if (table->identifiers == NULL) return out_of_memory(file);
-    sp3_reading_t begun = sp3_begin(file->bytes, file->length, table->identifiers, judged.header.satellites);
-    return begun.refusal == 0 ? ACCEPTED : refused_file(file, begun, refusals);
+    return status_of(file, judged, refusals);
 }
 
-int read_table(table_t *table) {
+int read_identifiers(table_t *table) {
     const input_t *file = &table->file;
+    size_t satellites = table->header.satellites;
+    table->identifiers = lend(satellites, sizeof *table->identifiers);
+    if (table->identifiers == NULL) return out_of_memory(file);
+    return status_of(file, sp3_begin(file->bytes, file->length, table->identifiers, satellites), stderr);
+}
+
+// Whether there is memory for all lists of a table.
+static bool lend_lists(table_t *table) {
     const sp3_header_t *header = &table->header;
     table->row_count = times(times(header->satellites, header->epochs), header->velocity ? 2 : 1);
     table->row_numbers = times(table->row_count, SP3_ROW_WIDTH);
     table->comment_bytes = times(header->comments, SP3_COMMENT_WIDTH);
+    table->identifiers = lend(header->satellites, sizeof *table->identifiers);
     table->exponents = lend(header->satellites, sizeof *table->exponents);
     table->comments = lend(table->comment_bytes, 1);
     table->rows = lend(table->row_numbers, sizeof *table->rows);
-    if (table->exponents == NULL || table->comments == NULL || table->rows == NULL) return out_of_memory(file);
-    sp3_reading_t read = sp3_read(file->bytes, file->length, table->identifiers, header->satellites, table->exponents, header->satellites,
-                                  table->comments, table->comment_bytes, table->rows, table->row_numbers);
-    return read.refusal == 0 ? ACCEPTED : refused_file(file, read, stderr);
+    return table->identifiers != NULL && table->exponents != NULL && table->comments != NULL && table->rows != NULL;
+}
+
+int read_table(table_t *table) {
+    const input_t *file = &table->file;
+    size_t satellites = table->header.satellites;
+    if (!lend_lists(table)) return out_of_memory(file);
+    sp3_reading_t read = sp3_read(file->bytes, file->length, table->identifiers, satellites, table->exponents, satellites, table->comments,
+                                  table->comment_bytes, table->rows, table->row_numbers);
+    return status_of(file, read, stderr);
 }
 
 void drop_table(table_t *table) {

@@ -28,61 +28,41 @@ static int take_number(uint64_t *number, const char *name, const char *word) {
     return is_number(number, word) ? ACCEPTED : unusable("not a number from 0 to 18446744073709551615", "%s '%s'", name, word);
 }
 
-// ---- check ----
-
-// Counts the rows of a file that was begun.
-static int count_rows(tally_t *tally, const table_t *table) {
-    const input_t *file = &table->file;
-    sp3_row_step_t step = {.next = sp3_first_row()};
-    for (;;) {
-        step = sp3_next_row(file->bytes, file->length, table->identifiers, table->header.satellites, step.next);
-        if (step.refusal != 0) return refused(stdout, step.refusal, step.line, "", "%s", file->name);
-        if (step.end) return ACCEPTED;
-        count_row(tally, step.row.place_absent, step.row.clock_absent);
-    }
+// Reads a whole table and has it shown; where its file is refused, that is said there.
+static int with_table(const char *argument, FILE *refusals, int (*show)(const table_t *table)) {
+    table_t table;
+    int status = judge_file(&table, argument, refusals);
+    if (status == ACCEPTED) status = read_table(&table);
+    if (status == ACCEPTED) status = show(&table);
+    drop_table(&table);
+    return status;
 }
 
+// ---- check ----
+
 // The line of an accepted file.
-static void show_checked(const table_t *table, const tally_t *tally) {
+static int show_checked(const table_t *table) {
     const sp3_header_t *header = &table->header;
+    tally_t tally = tally_of(table);
     char start[TEXT_ROOM], interval[TEXT_ROOM];
     printf("%s: accepted, mode %c, start %s, epochs %" PRIu64 ", interval %s s, satellites %" PRIu64 ", time system %.3s, ", table->file.name,
            header->velocity ? 'V' : 'P', moment(start, header->start8), header->epochs, decimal(interval, (int64_t)header->interval8, 8),
            header->satellites, (const char *)header->time_system);
-    show_tally(tally);
-}
-
-static int check_one(const char *argument) {
-    table_t table;
-    tally_t tally = {0};
-    int status = begin_table(&table, argument, stdout);
-    if (status == ACCEPTED) status = count_rows(&tally, &table);
-    if (status == ACCEPTED) show_checked(&table, &tally);
-    drop_table(&table);
-    return status;
+    show_tally(&tally, true);
+    return ACCEPTED;
 }
 
 // Each file is judged, also after a refused one; the gravest status is given.
 static int check(char **arguments) {
     int gravest = ACCEPTED;
     for (; *arguments != NULL; arguments++) {
-        int status = check_one(*arguments);
+        int status = with_table(*arguments, stdout, show_checked);
         if (status > gravest) gravest = status;
     }
     return gravest;
 }
 
 // ---- rewrite and table ----
-
-// Reads a whole table and has it shown.
-static int with_table(const char *argument, int (*show)(const table_t *table)) {
-    table_t table;
-    int status = begin_table(&table, argument, stderr);
-    if (status == ACCEPTED) status = read_table(&table);
-    if (status == ACCEPTED) status = show(&table);
-    drop_table(&table);
-    return status;
-}
 
 // Writes the canonical form into just as many bytes as it has.
 static int show_form(const table_t *table) {
@@ -99,9 +79,9 @@ static int show_form(const table_t *table) {
     return written.refusal == 0 ? ACCEPTED : unusable("the table to be written is not valid", "%s", table->file.name);
 }
 
-static int rewrite(char **arguments) { return with_table(arguments[0], show_form); }
+static int rewrite(char **arguments) { return with_table(arguments[0], stderr, show_form); }
 
-static int table(char **arguments) { return with_table(arguments[0], show_table); }
+static int table(char **arguments) { return with_table(arguments[0], stderr, show_table); }
 
 // ---- row and comment ----
 
@@ -146,7 +126,8 @@ static int row(char **arguments) {
     if (!is_number(&number, word) && named(word) == 0)
         return unusable("neither an identifier such as G07 nor a number from 0 to 18446744073709551615", "SAT '%s'", word);
     table_t table;
-    int status = begin_table(&table, arguments[0], stderr);
+    int status = judge_file(&table, arguments[0], stderr);
+    if (status == ACCEPTED) status = read_identifiers(&table);
     if (status == ACCEPTED) status = ask_row(&table, epoch, word);
     drop_table(&table);
     return status;
@@ -164,7 +145,7 @@ static int comment(char **arguments) {
     uint64_t k;
     if (take_number(&k, "K", arguments[1]) != ACCEPTED) return UNUSABLE;
     table_t table;
-    int status = begin_table(&table, arguments[0], stderr);
+    int status = judge_file(&table, arguments[0], stderr);
     if (status == ACCEPTED) status = ask_comment(&table.file, k);
     drop_table(&table);
     return status;
@@ -241,7 +222,7 @@ typedef struct {
 static const command_t commands[] = {
     {"check", "FILE..", "judge each file: what an accepted one holds, or why it is refused", 1, true, check},
     {"rewrite", "FILE", "write a file's canonical form", 1, false, rewrite},
-    {"table", "FILE", "show the header and every row, absent as a word", 1, false, table},
+    {"table", "FILE", "show the header, every row and its EP or EV; absent as a word", 1, false, table},
     {"row", "FILE EPOCH SAT", "show a satellite's place and clock at an epoch; SAT is G07 or a number", 3, false, row},
     {"comment", "FILE K", "write the text of a comment", 2, false, comment},
     {"divide", "FILE", "tell where each file begins in a stretch of files laid end to end", 1, false, divide},

@@ -22,6 +22,7 @@ def words():
 
 
 WORDS = words()
+LARGE = "large"
 
 
 def hint(content, number, line):
@@ -43,7 +44,8 @@ def refused(subject, number, line, content=b""):
 
 
 class Held:
-    """What an accepted file holds. A row is a tuple: letter, epoch, satellite, place or None, clock or None, exponents and flags as shown."""
+    """What an accepted file holds. A row is a tuple: letter, epoch, satellite, place or None, clock or None, exponents and flags as shown, note or
+    None. A note is its four deviations and six correlations: whole numbers, None for an unknown one, LARGE for one that is too large."""
 
     def __init__(self, mode, start8, epochs, interval8, texts, file_type, time, bases, satellites, comments, rows):
         self.mode, self.start8, self.epochs, self.interval8, self.texts = mode, start8, epochs, interval8, texts
@@ -55,6 +57,11 @@ def shown_exponent(exponent, large):
     return "-" if exponent is None else ">" if exponent == large else str(exponent)
 
 
+def note_of_model(note):
+    """The numbers of a record of samples/make.py."""
+    return [LARGE if number == large else number for number, large in zip(note.deviations, (9999, 9999, 9999, 9999999))] + list(note.correlations)
+
+
 def of_model(model):
     """What a file of samples/make.py holds."""
     start8 = (model.start.toordinal() - MJD_ZERO) * DAY + (model.start.hour * 3600 + model.start.minute * 60 + model.start.second) * SECOND
@@ -64,7 +71,8 @@ def of_model(model):
         for k, parts in enumerate(satellites):
             for letter, row in zip("PV", parts):
                 exponents = [shown_exponent(e, large) for e, large in zip(row.exponents, (99, 99, 99, 999))]
-                rows.append((letter, epoch, k, row.place, row.clock, exponents, row.flags.replace(" ", ".")))
+                note = None if row.note is None else note_of_model(row.note)
+                rows.append((letter, epoch, k, row.place, row.clock, exponents, row.flags.replace(" ", "."), note))
     return Held(model.mode, start8, len(model.rows), model.interval * SECOND, model.texts, letters.pop() if len(letters) == 1 else "M", "GPS",
                 (12_500_000, 1_025_000_000), list(zip(model.satellites, model.accuracies)), model.comments, rows)
 
@@ -84,15 +92,21 @@ def moment(instant8):
     return f"{datetime.date.fromordinal(days + MJD_ZERO)} {minutes // 60:02}:{minutes % 60:02}:{fixed(seconds8, 8):0>11}"
 
 
-def tally(held):
+def has_notes(held):
+    return any(row[7] is not None for row in held.rows)
+
+
+def tally(held, with_notes):
     rows = [row for row in held.rows if row[0] == "P"]
     absent = [sum(row[part] is None for row in rows) for part in (3, 4)]
-    return f"rows known {len(rows) - absent[0]} absent {absent[0]}, clocks known {len(rows) - absent[1]} absent {absent[1]}\n"
+    noted = [sum(row[0] == letter and row[7] is not None for row in held.rows) for letter in "PV"]
+    notes = ", notes EP {} EV {}".format(*noted) if with_notes else ""
+    return f"rows known {len(rows) - absent[0]} absent {absent[0]}, clocks known {len(rows) - absent[1]} absent {absent[1]}{notes}\n"
 
 
 def check(name, held):
     return (f"{name}: accepted, mode {held.mode}, start {moment(held.start8)}, epochs {held.epochs}, interval {fixed(held.interval8, 8)} s, "
-            f"satellites {len(held.satellites)}, time system {held.time}, {tally(held)}")
+            f"satellites {len(held.satellites)}, time system {held.time}, {tally(held, True)}")
 
 
 def labelled(label, text):
@@ -114,20 +128,41 @@ def heading(held):
         lines.append(labelled("V rows", "x y z in mm/s, clock in ps/s"))
     lines.append(labelled("sx sy sz sc", "exponents of the standard deviations of x y z clock; - is unknown, > is too large"))
     lines.append(labelled("flags", "E clock event, P clock predicted, M maneuver, P orbit predicted; . is not set"))
-    return "".join(lines) + f"row  epoch date       time              sat{'x':>15}{'y':>15}{'z':>15}{'clock':>15} sx sy sz  sc flags\n"
+    titles = f"row  epoch date       time              sat{'x':>15}{'y':>15}{'z':>15}{'clock':>15} sx sy sz  sc flags\n"
+    if has_notes(held):
+        lines += note_units(held.mode)
+        titles += f"note epoch date       time              sat{'x-sdev':>15}{'y-sdev':>15}{'z-sdev':>15}{'clock-sdev':>15}"
+        titles += "".join(f"{pair:>11}" for pair in ("xy", "xz", "xc", "yz", "yc", "zc")) + "\n"
+    return "".join(lines) + titles
+
+
+def note_units(mode):
+    lines = [labelled("EP notes", "of the P row before: x-sdev y-sdev z-sdev in mm, clock-sdev in ps")]
+    if mode == "V":
+        lines.append(labelled("EV notes", "of the V row before: x-sdev y-sdev z-sdev in mm/s, clock-sdev in ps/s"))
+    return lines + [labelled("x-sdev ..", "standard deviations of x y z clock; - is unknown, > is too large"),
+                    labelled("xy xz ..", "correlation coefficients, c is the clock; - is unknown")]
 
 
 def row_line(held, row):
-    letter, epoch, k, place, clock, exponents, flags = row
+    """The line of a row, and after it the one of its note."""
+    letter, epoch, k, place, clock, exponents, flags, note = row
     places = 4 if letter == "V" else 0
     numbers = ["absent"] * 3 if place is None else [fixed(number, places) for number in place]
     numbers.append("absent" if clock is None else fixed(clock, places))
     columns = "".join(f"{number:>15}" for number in numbers) + "".join(f"{e:>3}" for e in exponents[:3]) + f"{exponents[3]:>4}"
-    return f"{letter}   {epoch:6} {moment(held.start8 + epoch * held.interval8)} {held.satellites[k][0]}{columns} {flags}\n"
+    whose = f"{epoch:6} {moment(held.start8 + epoch * held.interval8)} {held.satellites[k][0]}"
+    return f"{letter}   {whose}{columns} {flags}\n" + ("" if note is None else f"E{letter}  {whose}{note_columns(note, places)}\n")
+
+
+def note_columns(note, places):
+    shapes = [(15, places)] * 4 + [(11, 7)] * 6
+    shown = [{None: "-", LARGE: ">"}.get(number) or fixed(number, digits) for number, (_, digits) in zip(note, shapes)]
+    return "".join(f"{text:>{width}}" for text, (width, _) in zip(shown, shapes))
 
 
 def table(held):
-    return heading(held) + "".join(row_line(held, row) for row in held.rows) + tally(held)
+    return heading(held) + "".join(row_line(held, row) for row in held.rows) + tally(held, has_notes(held))
 
 
 def row(held, epoch, k):
@@ -213,4 +248,10 @@ def of_row(parts, names):
     place = None if rest[0] == "absent" else tuple(int(word) for word in rest[:3])
     clock, *others = rest[1:] if place is None else rest[3:]
     exponents = [{"unknown": "-", "large": ">"}.get(word, word) for word in others[:4]]
-    return letter, epoch, names[name], place, None if clock == "absent" else int(clock), exponents, others[4]
+    return letter, epoch, names[name], place, None if clock == "absent" else int(clock), exponents, others[4], of_note(others[5:])
+
+
+def of_note(words):
+    """The ten numbers after the word `note`; None where there is no word."""
+    assert not words or (words[0] == "note" and len(words) == 11), words
+    return [{"unknown": None, "large": LARGE}[word] if word.isalpha() else int(word) for word in words[1:]] or None

@@ -50,12 +50,22 @@ row  epoch date       time              sat              x              y       
 P        0 2013-04-03 00:00:00.00000000 G07     5000000001        -500000              0         absent  -  -  -   - ....
 rows known 1 absent 0, clocks known 0 absent 1
 """
+PAPER_TALLY = "rows known 1 absent 0, clocks known 0 absent 1"
+NOTE_UNITS = """\
+EP notes      of the P row before: x-sdev y-sdev z-sdev in mm, clock-sdev in ps
+x-sdev ..     standard deviations of x y z clock; - is unknown, > is too large
+xy xz ..      correlation coefficients, c is the clock; - is unknown
+"""
+NOTE_TITLE = """\
+note epoch date       time              sat         x-sdev         y-sdev         z-sdev     clock-sdev         xy         xz         xc\
+         yz         yc         zc
+"""
 USAGE = """\
 usage: sp3 COMMAND ARGUMENTS
 
   sp3 check   FILE..          judge each file: what an accepted one holds, or why it is refused
   sp3 rewrite FILE            write a file's canonical form
-  sp3 table   FILE            show the header and every row, absent as a word
+  sp3 table   FILE            show the header, every row and its EP or EV; absent as a word
   sp3 row     FILE EPOCH SAT  show a satellite's place and clock at an epoch; SAT is G07 or a number
   sp3 comment FILE K          write the text of a comment
   sp3 divide  FILE            tell where each file begins in a stretch of files laid end to end
@@ -128,11 +138,16 @@ class Desk:
 # ---- What 01 says ----
 
 
+def paper_checked(name, notes):
+    """What `check` says of the paper's file with so many notes."""
+    told = ": accepted, mode P, start 2013-04-03 00:00:00.00000000, epochs 1, interval 900.00000000 s, satellites 1, time system GPS, "
+    return f"{name}{told}{PAPER_TALLY}, notes {notes}\n"
+
+
 def test_paper(desk):
     """The paper's own file: its answers are written here as 01 has them."""
     name = desk.file("paper.sp3", make.joined(PAPER))
-    told = ": accepted, mode P, start 2013-04-03 00:00:00.00000000, epochs 1, interval 900.00000000 s, satellites 1, time system GPS, "
-    desk.expect(["check", name], 0, name + told + "rows known 1 absent 0, clocks known 0 absent 1\n")
+    desk.expect(["check", name], 0, paper_checked(name, "EP 0 EV 0"))
     odd = desk.file("odd.sp3", [line.replace("     -0.500000", "    -00.500000") for line in PAPER])
     desk.expect(["rewrite", odd], 0, make.joined(PAPER))
     desk.expect(["table", odd], 0, PAPER_TABLE)
@@ -254,7 +269,78 @@ def test_edges(desk):
         desk.expect(["comment", name, k], 1, "", refused(f"{name}: comment {k}", 13, 0))
 
 
+def after_row(*lines):
+    """The paper's lines with others after the row."""
+    return PAPER[:24] + list(lines) + PAPER[24:]
+
+
+def ep_line(*fields):
+    """An EP of these fields, as they are written."""
+    return "EP  " + " ".join(f"{field:>{width}}" for field, width in zip(fields, (4, 4, 4, 7, 8, 8, 8, 8, 8, 8)))
+
+
+def noted():
+    """EP lines, each with its canonical form and what is shown of its fields."""
+    unknown = "- - - - - - - - - -"
+    example = "EP    55   55   55     222  1234567 -1234567  5999999      -30       21 -1230000"
+    return [(example, example, "55 55 55 222 0.1234567 -0.1234567 0.5999999 -0.0000030 0.0000021 -0.1230000"), ("EP", "EP", unknown),
+            ("EP".ljust(80), "EP", unknown), ("EP  9999 9999 9999 9999999", "EP  9999 9999 9999 9999999", "> > > > - - - - - -"),
+            (ep_line("0055", "9998", "1000", "0009999"), "EP    55 9998 1000    9999", "55 9998 1000 9999 - - - - - -"),
+            (ep_line("0", "", "00", "9999998", "-0", "-0000000", "09999999", "-9999999", "", "-1"),
+             ep_line("0", "", "0", "9999998", "0", "0", "9999999", "-9999999", "", "-1"),
+             "0 - 0 9999998 0.0000000 0.0000000 0.9999999 -0.9999999 - -0.0000001")]
+
+
+def noted_table(shown):
+    """What `table` shows of the paper's file with one EP."""
+    columns = "".join(f"{text:>{15 if k < 4 else 11}}" for k, text in enumerate(shown.split()))
+    line = f"EP       0 2013-04-03 00:00:00.00000000 G07{columns}\n"
+    first, title, row = PAPER_TABLE.partition("row  epoch")[0], *PAPER_TABLE.splitlines(True)[-3:-1]
+    return f"{first}{NOTE_UNITS}{title}{NOTE_TITLE}{row}{line}{PAPER_TALLY}, notes EP 1 EV 0\n"
+
+
+def test_notes(desk):
+    """An EP after the row of the paper's file: full, of nothing, too large, with leading zeros, minus zero; then such as are refused."""
+    for line, form, shown in noted():
+        content = make.joined(after_row(line))
+        name, held = desk.file("noted.sp3", content), desk.oracles.judged(content)[2]
+        assert expected.table(held) == noted_table(shown) and expected.check(name, held) == paper_checked(name, "EP 1 EV 0")
+        desk.expect(["check", name], 0, paper_checked(name, "EP 1 EV 0"))
+        desk.expect(["table", name], 0, noted_table(shown))
+        desk.expect(["rewrite", name], 0, make.joined(after_row(form)))
+        desk.expect(["row", name, "0", "G07"], 0, expected.row(paper_held(desk), 0, 0))
+    for lines, number in ((["EPx"], 5), ([ep_line("55") + "1"], 5), (["EP  55"], 6), ([ep_line("-1")], 6), ([ep_line(*[""] * 4, "99999999")], 7),
+                          ([ep_line(*[""] * 4, "10000000", *[""] * 4, "+1")], 6), (["EV"], 4)):
+        content = make.joined(after_row(*lines))
+        name = desk.file("noted.sp3", content)
+        for words in about(name):
+            desk.expect_refused(words, refused(name, number, 25, content))
+    desk.expect_refused(["check", desk.file("noted.sp3", after_row("EP", "EP"))], refused("noted.sp3", 4, 26))
+
+
 # ---- What samples/make.py and the oracles know ----
+
+
+def noted_only(letters):
+    """The sample with notes in mode V, with those after the rows of these letters alone."""
+    model = make.correlations()
+    for rows in (rows for satellites in model.rows for rows in satellites):
+        for letter, row in zip("PV", rows):
+            row.note = row.note if letter in letters else None
+    return model
+
+
+def test_moving_notes(desk):
+    """Mode V: EP and EV, each alone, none. Where there is none, nothing is shown of notes."""
+    for letters, notes in (("PV", "EP 5 EV 4"), ("P", "EP 5 EV 0"), ("V", "EP 0 EV 4"), ("", "EP 0 EV 0")):
+        model = noted_only(letters)
+        content, held = make.joined(make.file_lines(model)), of_model(model)
+        name, checked, table = desk.file("moving.sp3", content), expected.check("moving.sp3", held), expected.table(held)
+        assert checked.endswith(f", clocks known 6 absent 0, notes {notes}\n") and ("note" in table) == (letters != "")
+        assert table == expected.table(desk.oracles.judged(content)[2])
+        desk.expect(["check", name], 0, checked)
+        desk.expect(["table", name], 0, table)
+        desk.expect(["rewrite", name], 0, content)
 
 
 def test_samples(desk):
@@ -323,13 +409,14 @@ def expect_answers(desk, name, held, asked, answers):
 
 
 def large_model():
-    """By a rule: 1,042 epochs of 120 satellites, ten megabytes, every seventh place and every eleventh clock absent."""
+    """By a rule: 1,042 epochs of 120 satellites, ten megabytes, every seventh place and every eleventh clock absent, a note after each 13th."""
     identifiers = [f"{letter}{k:02}" for letter in "GR" for k in range(1, 61)]
     rows = []
     for epoch in range(1042):
         numbers = [epoch * 120 + k for k in range(120)]
         rows.append([[make.Row(None if n % 7 == 0 else (n * 7_919 - 10**9, n - 50_000, -n * 104_729), None if n % 11 == 0 else 5 * n - 300_000,
-                               (n % 98, None if n % 5 == 0 else 99, n % 13, n % 1000), "EPMP" if n % 3 else "  M ")] for n in numbers])
+                               (n % 98, None if n % 5 == 0 else 99, n % 13, n % 1000), "EPMP" if n % 3 else "  M ",
+                               None if n % 13 else make.Note((n % 10_000, None, 9999, 9 * n), (-n, n, None, 0, None, 70 * n)))] for n in numbers])
     return make.Model("P", make.datetime.datetime(2000, 2, 28, 20, 0, 30), 30, identifiers, [k % 100 for k in range(120)], ["BY RULE"] * 5, rows)
 
 
@@ -529,8 +616,8 @@ def expect_without_memory(desk, words, out, content, tool):
 
 def main():
     desk = Desk(pathlib.Path(sys.argv[1]).resolve())
-    for test in (test_paper, test_dates, test_damaged, test_hints, test_edges, test_samples, test_generated, test_usage, test_numbers, test_inputs,
-                 test_pipes, test_many, test_outputs, test_failing, test_large):
+    for test in (test_paper, test_dates, test_damaged, test_hints, test_edges, test_notes, test_moving_notes, test_samples, test_generated,
+                 test_usage, test_numbers, test_inputs, test_pipes, test_many, test_outputs, test_failing, test_large):
         test(desk)
     print(f"desk: {desk.passed} tests passed")
 
