@@ -22,6 +22,7 @@ use record::kind::SATELLITES_KIND;
 use record::kind::SECOND_KIND;
 use record::kind::VELOCITY_CORRELATION_KIND;
 use record::kind::VELOCITY_KIND;
+use record::notes;
 use record::opening;
 use record::plain;
 use record::rows;
@@ -120,6 +121,14 @@ fn row(line: &[u8; 80], velocity: bool) {
     print::written(rows::row_fault(line, velocity), &out, n);
 }
 
+// An EP line, or an EV line where `velocity` says so.
+fn note(line: &[u8; 80], velocity: bool) {
+    let read = notes::note_of(&line[..]);
+    let mut out = [35u8; 81];
+    let n = draw::notes::write_note(read, velocity, &mut out);
+    print::written(notes::correlation_fault(line, velocity), &out, n);
+}
+
 // The end of the file.
 fn end(line: &[u8; 80]) {
     let mut out = [35u8; 81];
@@ -174,8 +183,8 @@ pub(crate) fn answer(letter: u8, left: u64, line: &[u8; 80]) {
         b'l' => epoch(line),
         b'm' => row(line, false),
         b'n' => row(line, true),
-        b'o' => print::judged(plain::correlation_fault(line, false)),
-        b'p' => print::judged(plain::correlation_fault(line, true)),
+        b'o' => note(line, false),
+        b'p' => note(line, true),
         b'q' => end(line),
         b'z' => which(line),
         _ => print::text(b"?\n"),

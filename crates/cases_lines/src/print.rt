@@ -19,7 +19,7 @@ fn key(fault: usize) {
 }
 
 // A line that is judged and not written.
-pub(crate) fn judged(fault: usize) {
+fn judged(fault: usize) {
     key(fault);
     text(b"\n");
 }

@@ -9,6 +9,9 @@ use record::rows::ROW_WIDTH;
 use stored_row::ClockRead;
 use stored_row::Deviation;
 use stored_row::Flag;
+use stored_row::NoteCorrelation;
+use stored_row::NoteDeviation;
+use stored_row::NoteMark;
 use stored_row::Place;
 
 // The four texts of line 1.
@@ -154,6 +157,51 @@ fn flag(rows: &[i64], k: usize, which: usize, letter: u8) {
     }
 }
 
+// A deviation of a row's note.
+fn note_deviation(rows: &[i64], k: usize, which: usize) {
+    match stored_row::note_deviation_of(rows, k, which) {
+        NoteDeviation::Value(n) => print::value(n),
+        NoteDeviation::Unknown => print::text(b" unknown"),
+        NoteDeviation::TooLarge => print::text(b" large"),
+        NoteDeviation::NoRecord => print::text(b" norecord"),
+        NoteDeviation::NotThere => print::text(b" none"),
+    }
+}
+
+// A correlation of a row's note.
+fn note_correlation(rows: &[i64], k: usize, which: usize) {
+    match stored_row::note_correlation_of(rows, k, which) {
+        NoteCorrelation::Value(v) => print::signed(v),
+        NoteCorrelation::Unknown => print::text(b" unknown"),
+        NoteCorrelation::NoRecord => print::text(b" norecord"),
+        NoteCorrelation::NotThere => print::text(b" none"),
+    }
+}
+
+// The ten numbers of a row's note.
+fn noted(rows: &[i64], k: usize) {
+    print::text(b" note");
+    note_deviation(rows, k, 0);
+    note_deviation(rows, k, 1);
+    note_deviation(rows, k, 2);
+    note_deviation(rows, k, 3);
+    note_correlation(rows, k, 0);
+    note_correlation(rows, k, 1);
+    note_correlation(rows, k, 2);
+    note_correlation(rows, k, 3);
+    note_correlation(rows, k, 4);
+    note_correlation(rows, k, 5);
+}
+
+// The note of a row, where one stands.
+fn note(rows: &[i64], k: usize) {
+    match stored_row::note_of(rows, k) {
+        NoteMark::Stands => noted(rows, k),
+        NoteMark::NoRecord => {}
+        NoteMark::NotThere => print::text(b" none"),
+    }
+}
+
 // What the k-th row holds.
 fn held(rows: &[i64], k: usize) {
     place(rows, k);
@@ -167,6 +215,7 @@ fn held(rows: &[i64], k: usize) {
     flag(rows, k, 1, b'P');
     flag(rows, k, 2, b'M');
     flag(rows, k, 3, b'P');
+    note(rows, k);
     print::text(b"\n");
 }
 

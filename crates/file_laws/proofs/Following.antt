@@ -11,16 +11,36 @@ use lib.Dec.{eqb, leb}
 use lib.ListN.{length}
 use Rattle.laws.specs.Tests.{within}
 use Rattle.lines.specs.Lines.{select, nth, afterNth}
-use Rattle.record.specs.LineKinds.{firstKind, commentKind, positionCorrelationKind, velocityCorrelationKind, toldKind}
+use Rattle.record.specs.LineKinds.{firstKind, commentKind, positionKind, velocityKind, positionCorrelationKind, velocityCorrelationKind, toldKind}
 use Rattle.header.specs.declared.types.Rules.{Rules}
 use Rattle.file.specs.Kinds.{kindIn, isRow, isNote}
-use Rattle.file.specs.Plain.{everyLine, rowKind, isRowLine, isNoteLine, areNotes, Noted, Rest, Rows, Epochs, Plain}
+use Rattle.file.specs.Plain.{everyLine, rowKind, noteKind, isRowLine, isNoteLine, areNotes, Noted, Rest, Rows, Epochs, Plain}
 use Rattle.laws.proofs.Bools.{and-left, and-right}
 use Rattle.laws.proofs.Bounds.{within-true}
 use Rattle.lines.proofs.Each.{Each, each-weaken}
 use Rattle.file_laws.proofs.Sorting.{row-kind, epoch-kind}
 use Rattle.file_laws.proofs.Selected.{velocities, identifiers, interval8, epochs, start8, last-kind}
 use Rattle.file_laws.proofs.Instants.{header, three-parts, header-kinds}
+
+-- the kinds of P and V lines, and those of EP and EV lines
+abbrev pub isRowKind : ℕ → Bool
+isRowKind k = eqb k positionKind || eqb k velocityKind
+
+abbrev pub isNoteKind : ℕ → Bool
+isNoteKind k = eqb k positionCorrelationKind || eqb k velocityCorrelationKind
+
+pub row-told : (v : Bool) → isRowKind (toldKind (rowKind v)) ≡ true
+row-told true = refl
+row-told false = refl
+
+pub note-told : (v : Bool) → isNoteKind (toldKind (noteKind v)) ≡ true
+note-told true = refl
+note-told false = refl
+
+-- a row is no note
+pub row-quiet : (v : Bool) → isNoteKind (toldKind (rowKind v)) ≡ false
+row-quiet true = refl
+row-quiet false = refl
 
 module _ (rules : Rules) where
   -- a note that follows a line of this kind is that of a P line, or of a V line
@@ -61,21 +81,12 @@ module _ (rules : Rules) where
   join (l ∷ a) b k f g = (f .0, join a b (kindIn rules l) (f .1) g)
 
   -- a line of a kind that is no note
-  isNoteKind : ℕ → Bool
-  isNoteKind k = eqb k positionCorrelationKind || eqb k velocityCorrelationKind
-
   no-note : (k j : ℕ) (l : List ℕ) → kindIn rules l ≡ j → isNoteKind j ≡ false → Follows k l
-  unfolding isNoteKind
   no-note k j l e none is = absurd (false≢true (sym none ∙ ap isNoteKind (sym e) ∙ is))
 
   quiet : (ls : List (List ℕ)) (k : ℕ) → Each (λ (l : List ℕ). isNoteKind (kindIn rules l) ≡ false) ls → Following k ls
   quiet [] k p = tt
   quiet (l ∷ ls) k p = (no-note k (kindIn rules l) l refl (p .0), quiet ls (kindIn rules l) (p .1))
-
-  row-quiet : (v : Bool) → isNoteKind (toldKind (rowKind v)) ≡ false
-  unfolding isNoteKind
-  row-quiet true = refl
-  row-quiet false = refl
 
   -- a row and what may stand after it
   noted-follow : (v : Bool) (identifier : ℕ) (ls : List (List ℕ)) → Noted rules v identifier ls → (k : ℕ) → Following k ls
@@ -105,7 +116,6 @@ module _ (rules : Rules) where
 
   epochs-follow : (velocity : Bool) (identifiers : List ℕ) (interval8 n at8 : ℕ) (ls : List (List ℕ)) → Epochs rules velocity identifiers interval8 n at8 ls → (k : ℕ)
       → Following k ls
-  unfolding isNoteKind
   epochs-follow velocity identifiers interval8 zero at8 ls e k = subst (Following k) (sym e) tt
   epochs-follow velocity identifiers interval8 (suc n) at8 ls e k =
       subst (Following k) (sym (e .3)) (
@@ -116,7 +126,6 @@ module _ (rules : Rules) where
 
 -- THE NOTE OF A ROW: in an accepted file every note stands directly after its own row.
 pub file-follows : {rules : Rules} {lines : List (List ℕ)} → Plain rules lines → Following rules 0 lines
-unfolding isNoteKind
 file-follows {rules} {lines} p =
     subst (Following rules 0) (sym (three-parts p))
     (join rules (header p) (p .epochs ++ (p .last ∷ [])) 0 (quiet rules (header p) 0 before)
@@ -124,12 +133,12 @@ file-follows {rules} {lines} p =
     join rules (p .epochs) (p .last ∷ []) k (epochs-follow rules (velocities p) (identifiers p) (interval8 p) (epochs p) (start8 p) (p .epochs) (p .are-epochs) k)
     (λ j. (no-note rules j _ (p .last) (last-kind p .0) refl, tt))))
   where
-    apart : (k : ℕ) → within firstKind commentKind k ≡ true → isNoteKind rules k ≡ false
+    apart : (k : ℕ) → within firstKind commentKind k ≡ true → isNoteKind k ≡ false
     apart k e =
         let b = within-true firstKind commentKind k e in
         rw (ne-eqb k positionCorrelationKind (λ q. omega (arith, b)), ne-eqb k velocityCorrelationKind (λ q. omega (arith, b)))
 
-    before : Each (λ (l : List ℕ). isNoteKind rules (kindIn rules l) ≡ false) (header p)
+    before : Each (λ (l : List ℕ). isNoteKind (kindIn rules l) ≡ false) (header p)
     before =
-        each-weaken (λ (l : List ℕ). within firstKind commentKind (kindIn rules l) ≡ true) (λ (l : List ℕ). isNoteKind rules (kindIn rules l) ≡ false)
+        each-weaken (λ (l : List ℕ). within firstKind commentKind (kindIn rules l) ≡ true) (λ (l : List ℕ). isNoteKind (kindIn rules l) ≡ false)
         (λ l e. apart (kindIn rules l) e) (header p) (header-kinds p)

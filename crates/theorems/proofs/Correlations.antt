@@ -1,12 +1,10 @@
 -- EP and EV lines are part of the table: accepted files that differ in one of them have different rows.
 -- Assumes nothing.
 use mathlib.Core.Path.{_≡_, refl, sym, ap, subst, _∙_}
-use mathlib.Core.Bool.{Bool, true, false, cond, _||_, false≢true}
+use mathlib.Core.Bool.{Bool, true, false, cond, false≢true}
 use mathlib.Core.List.{List, [], _∷_, _++_, append-assoc}
 use Prim.Native.Nat.{ℕ}
 use native.Mathlib.Omega.{arith}
-use borrow.Author.Tests.{eqb-true}
-use lib.Dec.{eqb}
 use lib.IntN.{ℤ, natAbs}
 use lib.ListN.{length, take, drop}
 use lib.Seq.{take-at, drop-at}
@@ -14,12 +12,11 @@ use Rattle.header.specs.Rules.{d}
 use Rattle.layout.specs.Line.{padded}
 use Rattle.lines.specs.Lent.{flat}
 use Rattle.lines.specs.Lines.{linesOf, joinLines}
-use Rattle.record.specs.LineKinds.{positionKind, velocityKind, positionCorrelationKind, velocityCorrelationKind, toldKind}
 use Rattle.record.specs.Rows.{noteWidth}
 use Rattle.record.specs.Notes.{noteFault, noteOf}
 use Rattle.file.specs.Exact.{exactNote, exactNone}
 use Rattle.file.specs.Kinds.{kindIn, isRow, isNote}
-use Rattle.file.specs.Plain.{rowKind, noteKind, isNoteLine}
+use Rattle.file.specs.Plain.{noteKind, isNoteLine}
 use Rattle.file.specs.Table.{rowIn, rowNumbers, noteNumbers, noNote, noteAfter, rowsOfLines, rowsIn}
 use Rattle.scan.specs.Run.{IsFile}
 use Rattle.scan_laws.proofs.Files.{plain-accepts, d-sound, file-plain}
@@ -29,7 +26,7 @@ use Rattle.file_laws.proofs.Clean.{record-clean}
 use Rattle.file_laws.proofs.Exact.{note-exact, none-exact}
 use Rattle.file_laws.proofs.Notes.{SameBut}
 use Rattle.file_laws.proofs.Skipped.{same-plain}
-use Rattle.file_laws.proofs.Following.{Following, file-follows}
+use Rattle.file_laws.proofs.Following.{isRowKind, isNoteKind, row-told, row-quiet, Following, file-follows}
 use Rattle.file.proofs.Wide.{after-wide}
 use Rattle.theorems.proofs.LentNotes.{note-line}
 
@@ -69,58 +66,67 @@ module _ (before rest rest′ : List (List ℕ)) (row : List ℕ) (is-row : isRo
       sym (take-at (noteAfter d rest) (rowsIn d rest) noteWidth (after-wide d rest)) ∙ ap (take noteWidth) noted
       ∙ take-at (noteAfter d rest′) (rowsIn d rest′) noteWidth (after-wide d rest′)
 
--- a P or V line is no note
-row-apart : (row : List ℕ) → isRow d row ≡ true → isNote d row ≡ false
-row-apart row is = go (kindIn d row) is
-  where
-    go : (k : ℕ) → (eqb k positionKind || eqb k velocityKind) ≡ true → (eqb k positionCorrelationKind || eqb k velocityCorrelationKind) ≡ false
-    go k e = by (eqb k positionKind) refl e
-      where
-        by : (t : Bool) → eqb k positionKind ≡ t → (t || eqb k velocityKind) ≡ true → (eqb k positionCorrelationKind || eqb k velocityCorrelationKind) ≡ false
-        by true q h = ap (λ (n : ℕ). eqb n positionCorrelationKind || eqb n velocityCorrelationKind) (eqb-true k positionKind q)
-        by false q h = ap (λ (n : ℕ). eqb n positionCorrelationKind || eqb n velocityCorrelationKind) (eqb-true k velocityKind h)
+-- a note without fault is read as its fields say
+noted : (v : Bool) (l : List ℕ) (others : List (List ℕ)) → isNoteLine d v l ≡ true → noteAfter d (l ∷ others) ≡ exactNote (noteOf l)
+noted v l others is = rw (note-line v l is) (note-exact v l (record-clean d (noteKind v) (noteFault v (padded l)) l is))
 
-module _ (before rest : List (List ℕ)) (row note : List ℕ) (v : Bool) (is-row : isRow d row ≡ true) (is-note : isNoteLine d v note ≡ true) where
-  sound : (w : Bool) (l : List ℕ) → isNoteLine d w l ≡ true → noteNumbers (noteOf l) ≡ exactNote (noteOf l)
-  sound w l is = note-exact w l (record-clean d (noteKind w) (noteFault w (padded l)) l is)
+-- a note in an accepted file
+module _ (bytes : List ℕ) (accepted : IsFile d bytes) (before rest : List (List ℕ)) (row note : List ℕ)
+    (lines : linesOf bytes ≡ before ++ (row ∷ note ∷ rest)) (is : isNote d note ≡ true) where
+  behind : Following d (kindIn d row) (note ∷ rest)
+  behind = back before 0 (subst (Following d 0) lines (file-follows (file-plain bytes accepted)))
+    where
+      back : (ls : List (List ℕ)) (k : ℕ) → Following d k (ls ++ (row ∷ note ∷ rest)) → Following d (kindIn d row) (note ∷ rest)
+      back [] k f = f .1
+      back (l ∷ ls) k f = back ls (kindIn d l) (f .1)
 
-  read : (w : Bool) (l : List ℕ) (others : List (List ℕ)) → isNoteLine d w l ≡ true → noteAfter d (l ∷ others) ≡ exactNote (noteOf l)
-  read w l others is = rw (note-line w l is) (sound w l is)
+  -- stands after a row,
+  is-row : isRow d row ≡ true
+  is-row = ap isRowKind (behind .0 is .1) ∙ row-told (behind .0 is .0)
 
-  -- NOTES DIFFER: files that differ only in a field of one such line have different rows;
-  pub notes-differ : (other : List ℕ) → isNoteLine d v other ≡ true → (exactNote (noteOf note) ≡ exactNote (noteOf other) → ⊥)
-      → rowsIn d (before ++ (row ∷ note ∷ rest)) ≡ rowsIn d (before ++ (row ∷ other ∷ rest)) → ⊥
-  notes-differ other is-other apart same =
-      apart (sym (read v note rest is-note) ∙ same-note before (note ∷ rest) (other ∷ rest) row is-row (row-apart row is-row) same ∙ read v other rest is-other)
+  row-apart : isNote d row ≡ false
+  row-apart = ap isNoteKind (behind .0 is .1) ∙ row-quiet (behind .0 is .0)
 
-  -- and so do one with such a line, whatever stands in it, and one without.
-  pub note-or-none : noteAfter d rest ≡ noNote → rowsIn d (before ++ (row ∷ note ∷ rest)) ≡ rowsIn d (before ++ (row ∷ rest)) → ⊥
+  -- has no fault,
+  own-note : noteAfter d (note ∷ rest) ≡ exactNote (noteOf note)
+  own-note = noted (behind .0 is .0) note rest (behind .0 is .2)
+
+  -- and no note stands after it.
+  quiet-after : noteAfter d rest ≡ noNote
+  quiet-after = go rest (behind .1)
+    where
+      go : (ls : List (List ℕ)) → Following d (kindIn d note) ls → noteAfter d ls ≡ noNote
+      go [] f = refl
+      go (l ∷ ls) f = by (isNote d l) refl
+        where
+          by : (t : Bool) → isNote d l ≡ t → cond t (noteNumbers (noteOf l)) noNote ≡ noNote
+          by true q =
+              let own = f .0 q in
+              absurd (false≢true (sym (row-quiet (own .0)) ∙ ap isNoteKind (sym (own .1)) ∙ is))
+          by false q = refl
+
+-- Two accepted files
+module _ (a : List ℕ) (accepted : IsFile d a) (before rest : List (List ℕ)) (row note : List ℕ)
+    (lines : linesOf a ≡ before ++ (row ∷ note ∷ rest)) (is : isNote d note ≡ true) (b : List ℕ) (also : IsFile d b) where
+  -- that differ only in what one EP or EV line says have different rows,
+  pub notes-differ : (other : List ℕ) → isNote d other ≡ true → linesOf b ≡ before ++ (row ∷ other ∷ rest)
+      → (exactNote (noteOf note) ≡ exactNote (noteOf other) → ⊥) → rowsIn d (linesOf a) ≡ rowsIn d (linesOf b) → ⊥
+  notes-differ other is-other lines-b apart same =
+      apart
+      (sym (own-note a accepted before rest row note lines is)
+      ∙ same-note before (note ∷ rest) (other ∷ rest) row (is-row a accepted before rest row note lines is) (row-apart a accepted before rest row note lines is)
+      (ap (rowsIn d) (sym lines) ∙ same ∙ ap (rowsIn d) lines-b)
+      ∙ own-note b also before rest row other lines-b is-other)
+
+  -- and so do one that has such a line, whatever stands in it, and one without.
+  pub note-or-none : linesOf b ≡ before ++ (row ∷ rest) → rowsIn d (linesOf a) ≡ rowsIn d (linesOf b) → ⊥
   unfolding exactNote exactNone firstIs
-  note-or-none quiet same =
+  note-or-none lines-b same =
       let numbers : exactNote (noteOf note) ≡ exactNone =
-      sym (read v note rest is-note) ∙ same-note before (note ∷ rest) rest row is-row (row-apart row is-row) same ∙ quiet ∙ none-exact in
+      sym (own-note a accepted before rest row note lines is)
+      ∙ same-note before (note ∷ rest) rest row (is-row a accepted before rest row note lines is) (row-apart a accepted before rest row note lines is)
+      (ap (rowsIn d) (sym lines) ∙ same ∙ ap (rowsIn d) lines-b)
+      ∙ quiet-after a accepted before rest row note lines is
+      ∙ none-exact in
       let z : _≡_ {A = ℕ} 1 0 = ap firstIs numbers in
       omega arith
-
--- in an accepted file no note follows a note
-pub quiet-after : (bytes : List ℕ) → IsFile d bytes → (before rest : List (List ℕ)) (note : List ℕ) → isNote d note ≡ true
-    → linesOf bytes ≡ before ++ (note ∷ rest) → noteAfter d rest ≡ noNote
-quiet-after bytes accepted before rest note is e = go rest (back before 0 (subst (Following d 0) e (file-follows (file-plain bytes accepted))))
-  where
-    back : (ls : List (List ℕ)) (k : ℕ) → Following d k (ls ++ (note ∷ rest)) → Following d (kindIn d note) rest
-    back [] k f = f .1
-    back (l ∷ ls) k f = back ls (kindIn d l) (f .1)
-
-    row-told : (v : Bool) → (eqb (toldKind (rowKind v)) positionCorrelationKind || eqb (toldKind (rowKind v)) velocityCorrelationKind) ≡ false
-    row-told true = refl
-    row-told false = refl
-
-    go : (ls : List (List ℕ)) → Following d (kindIn d note) ls → noteAfter d ls ≡ noNote
-    go [] f = refl
-    go (l ∷ ls) f = by (isNote d l) refl
-      where
-        by : (t : Bool) → isNote d l ≡ t → cond t (noteNumbers (noteOf l)) noNote ≡ noNote
-        by true q =
-            let own = f .0 q in
-            absurd (false≢true (sym (row-told (own .0)) ∙ ap (λ (n : ℕ). eqb n positionCorrelationKind || eqb n velocityCorrelationKind) (sym (own .1)) ∙ is))
-        by false q = refl

@@ -6,7 +6,7 @@ use mathlib.Core.List.{List, [], _∷_, _++_}
 use mathlib.Core.Logic.{_↔_}
 use Prim.Native.Nat.{ℕ, zero, suc, _+_, _-_, _*_, _^_, _<_, _≤_}
 use native.Mathlib.Omega.{arith}
-use borrow.Author.Tests.{eqb-true, eqb-false, ltb-true}
+use borrow.Author.Tests.{eq-eqb, eqb-true, eqb-false, ltb-true}
 use lib.Dec.{eqb, leb, ltb}
 use lib.IntN.{ℤ}
 use lib.ListN.{length, getD, take, drop, length-drop}
@@ -23,7 +23,7 @@ use Rattle.layout.specs.Kind.Held.{amount}
 use Rattle.layout.specs.Layout.{valuesOf}
 use Rattle.layout.specs.Line.{padded}
 use Rattle.lines.specs.Lines.{linesOf}
-use Rattle.record.specs.LineKinds.{positionCorrelationKind, velocityCorrelationKind, toldKind}
+use Rattle.record.specs.LineKinds.{toldKind}
 use Rattle.record.specs.Rows.{cut, bareWidth, noteWidth, rowWidth}
 use Rattle.record.specs.Notes.{largestDeviation, largestCorrelation, correlation, correlationItems, correlationIn, noteFrom, noteTaken, noteOf, noteFault}
 use Rattle.field.specs.declared.Whole.{Whole}
@@ -49,23 +49,14 @@ use Rattle.scan_laws.proofs.Files.{file-plain}
 use Rattle.file_laws.proofs.Sorting.{note-kind, row-kind}
 use Rattle.file_laws.proofs.Clean.{record-clean, amount-bounds}
 use Rattle.file_laws.proofs.Exact.{note-exact, field-clean, deviations-bounded, correlations-bounded}
-use Rattle.file_laws.proofs.Following.{after-row, file-follows}
+use Rattle.file_laws.proofs.Following.{isNoteKind, note-told, after-row, file-follows}
 use Rattle.stored_row.proofs.Noted.{deviationAt, correlationAt, note-stands, deviation-back, deviation-unknown-at, deviation-unknown-only, deviation-large-at, deviation-large-only, correlation-back, correlation-unknown-at, correlation-unknown-only, no-record, no-deviation-recorded, no-correlation-recorded}
 use Rattle.theorems.specs.Files.{header, lineAsked, tableRow, There, linesAfter, HasNote, held, deviationField, correlationField}
 use Rattle.theorems.proofs.Reading.{line-in-table, row-in-table}
 use Rattle.theorems.proofs.Lent.{lent, named, bounded, as-stored, behindRow, behind-wide, before, behind, before-long, parts}
 
--- the two kinds of note
-isNoteKind : ℕ → Bool
-isNoteKind k = eqb k positionCorrelationKind || eqb k velocityCorrelationKind
-
-note-told : (v : Bool) → isNoteKind (toldKind (noteKind v)) ≡ true
-unfolding isNoteKind
-note-told true = refl
-note-told false = refl
-
+-- EP and EV lines are notes
 pub note-line : (v : Bool) (l : List ℕ) → isNoteLine d v l ≡ true → isNote d l ≡ true
-unfolding isNoteKind
 note-line v l is = ap isNoteKind (note-kind d v l is) ∙ note-told v
 
 -- which row a kind is
@@ -82,8 +73,11 @@ blank-all (b ∷ bs) = go (eqb b 32) (blank-all bs)
   where
     go : (t : Bool) → (eqb (blanksOf bs) (length bs) ≡ true) ↔ (every isBlank bs ≡ true)
         → (eqb (cond t (suc (blanksOf bs)) 0) (suc (length bs)) ≡ true) ↔ ((t && every isBlank bs) ≡ true)
-    go true h = h
-    go false h = (λ e. e, λ e. e)
+    go true h = (
+      λ e. h .0 (eq-eqb (blanksOf bs) (length bs) (omega (arith, eqb-true (suc (blanksOf bs)) (suc (length bs)) e))),
+      λ e. eq-eqb (suc (blanksOf bs)) (suc (length bs)) (ap suc (eqb-true (blanksOf bs) (length bs) (h .1 e))),
+    )
+    go false h = (λ e. absurd (omega (arith, eqb-true 0 (suc (length bs)) e)), λ e. absurd (false≢true e))
 
 module _ (bs : List ℕ) (w : ℕ) (wide : length bs ≡ w) (fits : w ≤ 18) (narrow : 10 ^ (w - 0) ≤ unnoted) where
   blank-unknown : (maybeHeld unnoted (exponentOf bs) ≡ unnoted) ↔ (every isBlank bs ≡ true)
@@ -153,7 +147,7 @@ first-of : {a b : List ℕ} {more others : List (List ℕ)} → a ∷ more ≡ b
 first-of e = cc
 
 after : (ls : List (List ℕ)) → After ls
-after [] = none refl (λ l others e is. let z : _≡_ {A = ℕ} 0 1 = ap (λ (xs : List (List ℕ)). cond (eqb (length xs) 0) 0 1) e in omega arith)
+after [] = none refl (λ l others e is. let z : 0 ≡ suc (length others) = ap length e in omega arith)
 after (l ∷ others) = go (isNote d l) refl
   where
     go : (t : Bool) → isNote d l ≡ t → After (l ∷ others)
@@ -230,12 +224,12 @@ module _ (bytes : List ℕ) (accepted : IsFile d bytes) (identifiers exponents c
     numbers-are : row-part ≡ noteNumbers (noteOf l)
     numbers-are = ap (noteAfter d) (has .stands) ∙ rw (note-line v l (has .is-note))
 
-    whole : front ++ (rowNumbers (held v bytes k j) ++ (noteNumbers (noteOf l) ++ rest)) ≡ rows
-    whole = with-note (noteNumbers (noteOf l)) numbers-are
+    stored-as : front ++ (rowNumbers (held v bytes k j) ++ (noteNumbers (noteOf l) ++ rest)) ≡ rows
+    stored-as = with-note (noteNumbers (noteOf l)) numbers-are
 
     -- THE NOTE STANDS THERE, and its eleven numbers are those of that line,
     pub recorded : noteIn rows r ≡ noteMark.Stands
-    recorded = ap (λ (s : List ℤ). noteIn s r) (sym whole) ∙ note-stands front rest (held v bytes k j) r front-long (noteOf l)
+    recorded = ap (λ (s : List ℤ). noteIn s r) (sym stored-as) ∙ note-stands front rest (held v bytes k j) r front-long (noteOf l)
 
     pub lent-note : drop bareWidth (take rowWidth (drop (rowWidth * r) rows)) ≡ exactNote (noteOf l)
     unfolding rowNumbers
@@ -273,38 +267,38 @@ module _ (bytes : List ℕ) (accepted : IsFile d bytes) (identifiers exponents c
     -- Asked by name, a deviation is the line's, unknown, or too large; a correlation is the line's, or unknown.
     pub lent-deviation : (which : ℕ) → which ≤ 3 → noteDeviationIn rows r which ≡ noteDeviationOf which (deviationAt (noteOf l) which)
     lent-deviation which few =
-        ap (λ (s : List ℤ). noteDeviationIn s r which) (sym whole)
+        ap (λ (s : List ℤ). noteDeviationIn s r which) (sym stored-as)
         ∙ deviation-back front rest (held v bytes k j) r front-long (noteOf l) which few (omega (arith, deviation-bound which few))
 
     pub lent-correlation : (which : ℕ) → which ≤ 5 → noteCorrelationIn rows r which
         ≡ cond (eqb (correlationAt (noteOf l) which .magnitude) unnoted) noteCorrelation.Unknown (noteCorrelation.Value (exactSigned (correlationAt (noteOf l) which)))
     lent-correlation which few =
-        ap (λ (s : List ℤ). noteCorrelationIn s r which) (sym whole)
+        ap (λ (s : List ℤ). noteCorrelationIn s r which) (sym stored-as)
         ∙ correlation-back front rest (held v bytes k j) r front-long (noteOf l) which few (omega (arith, correlation-bound which few))
 
     -- UNKNOWN EXACTLY WHERE THE COLUMNS ARE BLANK, and too large exactly at the largest.
     pub deviation-unknown : (which : ℕ) → which ≤ 3 → (noteDeviationIn rows r which ≡ noteDeviation.Unknown) ↔ (every isBlank (deviationField which l) ≡ true)
     deviation-unknown which few =
-        let bound = omega (arith, deviation-bound which few) in (
+        let bound : deviationAt (noteOf l) which ≤ largest = omega (arith, deviation-bound which few) in (
           λ e. deviation-blank l which few .0
-              (deviation-unknown-only front rest (held v bytes k j) r front-long (noteOf l) which few bound (ap (λ (s : List ℤ). noteDeviationIn s r which) whole ∙ e)),
-          λ e. ap (λ (s : List ℤ). noteDeviationIn s r which) (sym whole)
+              (deviation-unknown-only front rest (held v bytes k j) r front-long (noteOf l) which few bound (ap (λ (s : List ℤ). noteDeviationIn s r which) stored-as ∙ e)),
+          λ e. ap (λ (s : List ℤ). noteDeviationIn s r which) (sym stored-as)
               ∙ deviation-unknown-at front rest (held v bytes k j) r front-long (noteOf l) which few bound (deviation-blank l which few .1 e),
         )
 
     pub deviation-too-large : (which : ℕ) → which ≤ 3 → (noteDeviationIn rows r which ≡ noteDeviation.TooLarge) ↔ (deviationAt (noteOf l) which ≡ largestDeviation (eqb which 3))
     deviation-too-large which few =
-        let bound = omega (arith, deviation-bound which few) in (
-          λ e. deviation-large-only front rest (held v bytes k j) r front-long (noteOf l) which few bound (ap (λ (s : List ℤ). noteDeviationIn s r which) whole ∙ e),
-          λ e. ap (λ (s : List ℤ). noteDeviationIn s r which) (sym whole) ∙ deviation-large-at front rest (held v bytes k j) r front-long (noteOf l) which few bound e,
+        let bound : deviationAt (noteOf l) which ≤ largest = omega (arith, deviation-bound which few) in (
+          λ e. deviation-large-only front rest (held v bytes k j) r front-long (noteOf l) which few bound (ap (λ (s : List ℤ). noteDeviationIn s r which) stored-as ∙ e),
+          λ e. ap (λ (s : List ℤ). noteDeviationIn s r which) (sym stored-as) ∙ deviation-large-at front rest (held v bytes k j) r front-long (noteOf l) which few bound e,
         )
 
     pub correlation-unknown : (which : ℕ) → which ≤ 5 → (noteCorrelationIn rows r which ≡ noteCorrelation.Unknown) ↔ (every isBlank (correlationField which l) ≡ true)
     correlation-unknown which few =
-        let bound = omega (arith, correlation-bound which few) in (
+        let bound : correlationAt (noteOf l) which .magnitude ≤ largest = omega (arith, correlation-bound which few) in (
           λ e. correlation-blank v l sound which few .0
-              (correlation-unknown-only front rest (held v bytes k j) r front-long (noteOf l) which few bound (ap (λ (s : List ℤ). noteCorrelationIn s r which) whole ∙ e)),
-          λ e. ap (λ (s : List ℤ). noteCorrelationIn s r which) (sym whole)
+              (correlation-unknown-only front rest (held v bytes k j) r front-long (noteOf l) which few bound (ap (λ (s : List ℤ). noteCorrelationIn s r which) stored-as ∙ e)),
+          λ e. ap (λ (s : List ℤ). noteCorrelationIn s r which) (sym stored-as)
               ∙ correlation-unknown-at front rest (held v bytes k j) r front-long (noteOf l) which few bound (correlation-blank v l sound which few .1 e),
         )
 
@@ -318,4 +312,3 @@ module _ (bytes : List ℕ) (accepted : IsFile d bytes) (identifiers exponents c
           let q : noteMark.Stands ≡ noteMark.NoRecord = sym stands ∙ said in
           let z : _≡_ {A = ℕ} 0 1 = cc in absurd (omega arith)
       go (one l others e is numbers) stands = (l, record { others = others; stands = e; is-note = own-note l others e is })
-
