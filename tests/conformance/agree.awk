@@ -1,18 +1,18 @@
 # Compares two files of answers, `NAME answer` to a line: what is expected, then what was said. Prints each case that differs; status 1 where any
 # does.
 
-# whether what was said is what is expected: the same words, or of `accepted written|other X Y Z CLOCK` as much as is asked
-function agrees(expected, said, words) {
+# whether what was said is what is expected: the same words, or of `accepted written|other row X Y Z CLOCK note ..` as much as is asked
+function agrees(expected, said) {
     if (expected == said)
         return 1
     if (expected == "accepted")
         return said ~ /^accepted /
     if (expected ~ /^accepted written/)
         return said ~ /^accepted written /
-    if (expected ~ /^accepted row /) {
-        split(said, words, " ")
-        return words[1] == "accepted" && substr(said, length(words[1] words[2]) + 3) == substr(expected, 14)
-    }
+    if (expected ~ /^accepted row /)
+        return said ~ /^accepted / && index(said, substr(expected, 9) " note ") == index(said, " row ")
+    if (expected ~ /^accepted note /)
+        return said ~ /^accepted / && substr(said, index(said, " note ")) == substr(expected, 9)
     return 0
 }
 

@@ -3,8 +3,9 @@
  *   answers files LIST     LIST names two files to a line, with a TAB between them: a case, and the form in which it should be written
  *   answers calls PAPER    calls on the paper's file (calls.c)
  *
- * A file is `refused N line L`, with ` column C` where the line reader names one, or `accepted written|other X Y Z CLOCK`: whether its canonical
- * form is the second file, and the row of epoch 0 and satellite 0. */
+ * A file is `refused N line L`, with ` column C` where the line reader names one, or `accepted written|other row X Y Z CLOCK note ..`: whether its
+ * canonical form is the second file, the row of epoch 0 and satellite 0, and what its stored row says of the EP line after it, in mode V also what
+ * the V row says of the EV line (`note ..` again): `none`, or four deviations and six correlations, `-` for unknown, `large` for too large. */
 #include "sp3.h"
 #include "stretch.h"
 
@@ -79,33 +80,88 @@ static void print_refusal(stretch_t file, sp3_reading_t judged, const char *path
     printf("\n");
 }
 
-/* Whether an accepted file, read and written again, is this form. */
-static bool is_written_as(stretch_t file, sp3_header_t h, stretch_t form, const char *path)
+/* The table of an accepted file. */
+typedef struct {
+    sp3_header_t header;
+    size_t text, numbers;
+    uint64_t *identifiers, *exponents;
+    uint8_t *comments;
+    int64_t *rows;
+} table_t;
+
+static table_t table_of(stretch_t file, sp3_header_t h, const char *path)
 {
-    size_t n = h.satellites, numbers = n * h.epochs * (h.velocity ? 2 : 1) * SP3_ROW_WIDTH, text = h.comments * SP3_COMMENT_WIDTH;
-    uint64_t *identifiers = room(n, sizeof *identifiers), *exponents = room(n, sizeof *exponents);
-    uint8_t *comments = room(text, 1), *out = room(form.length, 1);
-    int64_t *rows = room(numbers, sizeof *rows);
-    sp3_reading_t read = sp3_read(file.bytes, file.length, identifiers, n, exponents, n, comments, text, rows, numbers);
-    if (read.refusal != 0)
+    size_t n = h.satellites;
+    table_t t = {h, h.comments * SP3_COMMENT_WIDTH, n * h.epochs * (h.velocity ? 2 : 1) * SP3_ROW_WIDTH, NULL, NULL, NULL, NULL};
+    t.identifiers = room(n, sizeof *t.identifiers);
+    t.exponents = room(n, sizeof *t.exponents);
+    t.comments = room(t.text, 1);
+    t.rows = room(t.numbers, sizeof *t.rows);
+    if (sp3_read(file.bytes, file.length, t.identifiers, n, t.exponents, n, t.comments, t.text, t.rows, t.numbers).refusal != 0)
         stop("accepted, and not read", path);
-    sp3_measured_t written = sp3_write(read.header, identifiers, n, exponents, n, comments, text, rows, numbers, out, form.length);
+    return t;
+}
+
+static void free_table(table_t t)
+{
+    free(t.identifiers), free(t.exponents), free(t.comments), free(t.rows);
+}
+
+/* Whether a table is written in this form. */
+static bool is_written_as(table_t t, stretch_t form)
+{
+    uint8_t *out = room(form.length, 1);
+    size_t n = t.header.satellites;
+    sp3_measured_t written = sp3_write(t.header, t.identifiers, n, t.exponents, n, t.comments, t.text, t.rows, t.numbers, out, form.length);
     bool same = written.refusal == 0 && written.length == form.length && memcmp(out, form.bytes, form.length) == 0;
-    free(identifiers), free(exponents), free(comments), free(out), free(rows);
+    free(out);
     return same;
 }
 
 static void print_row(stretch_t file)
 {
     sp3_row_t row = sp3_row(file.bytes, file.length, 0, 0).row;
+    printf(" row");
     if (row.place_absent)
         printf(" absent");
     else
         printf(" %.0f %.0f %.0f", row.x, row.y, row.z);
     if (row.clock_absent)
-        printf(" absent\n");
+        printf(" absent");
     else
-        printf(" %.0f\n", row.clock);
+        printf(" %.0f", row.clock);
+}
+
+static void print_deviation(sp3_note_deviation_t d)
+{
+    if (d.unknown)
+        printf(" -");
+    else if (d.too_large)
+        printf(" large");
+    else
+        printf(" %llu", (unsigned long long)d.value);
+}
+
+static void print_correlation(sp3_note_correlation_t c)
+{
+    if (c.unknown)
+        printf(" -");
+    else
+        printf(" %lld", (long long)c.value);
+}
+
+/* What the k-th stored row says of the EP or EV line after it. */
+static void print_note(table_t t, size_t k)
+{
+    printf(" note");
+    if (!sp3_note_of(t.rows, t.numbers, k).stands) {
+        printf(" none");
+        return;
+    }
+    for (size_t which = 0; which < 4; which++)
+        print_deviation(sp3_note_deviation_of(t.rows, t.numbers, k, which));
+    for (size_t which = 0; which < 6; which++)
+        print_correlation(sp3_note_correlation_of(t.rows, t.numbers, k, which));
 }
 
 static void print_file(const char *path, const char *form_path)
@@ -115,8 +171,13 @@ static void print_file(const char *path, const char *form_path)
     if (judged.refusal != 0) {
         print_refusal(file, judged, path);
     } else {
-        printf("accepted %s", is_written_as(file, judged.header, form, path) ? "written" : "other");
+        table_t table = table_of(file, judged.header, path);
+        printf("accepted %s", is_written_as(table, form) ? "written" : "other");
         print_row(file);
+        for (size_t k = 0; k < (judged.header.velocity ? 2 : 1); k++)
+            print_note(table, k);
+        printf("\n");
+        free_table(table);
     }
     free(file.bytes), free(form.bytes);
 }

@@ -8,12 +8,15 @@
 #include <string.h>
 
 /* What the paper's file needs; room for more than its bytes; how far its row stands before its end (61 bytes with its LF, `EOF` 4); where its first
- * `+ ` line begins (two lines of 61 bytes stand before it), and more lines than it has. */
+ * `+ ` line begins (two lines of 61 bytes stand before it), and more lines than it has. Where a row has the mark of its record, the first deviation,
+ * that of the clock, and the first correlation; the bytes of a record of which nothing is known. */
 enum { IDENTIFIERS = 1, COMMENTS = 4, TEXT = COMMENTS * SP3_COMMENT_WIDTH, NUMBERS = SP3_ROW_WIDTH, LENGTH = 1215, ROOM = 2 * LENGTH,
-       ROW_FROM_END = 65, IDENTIFIERS_LINE = 122, ALL_LINES = 99 };
+       ROW_FROM_END = 65, IDENTIFIERS_LINE = 122, ALL_LINES = 99, MARK = 12, DEVIATION = 13, CLOCK_DEVIATION = 16, CORRELATION = 17, BARE_NOTE = 3 };
 
 /* What is changed in the paper's table before it is written. */
-enum { AS_READ, EXPONENT_1000, IDENTIFIER_00, THREE_COMMENTS, CLOCK_LARGE, FLAG_2, PAST_2099 };
+enum { AS_READ, EXPONENT_1000, IDENTIFIER_00, THREE_COMMENTS, CLOCK_LARGE, FLAG_2, PAST_2099, MARK_1, MARK_2, NO_RECORD_5, NO_RECORD_0,
+       DEVIATION_9999, DEVIATION_10000, DEVIATION_MINUS, CLOCK_DEVIATION_LARGE, CORRELATION_LARGE, CORRELATION_MINUS_LARGE,
+       CORRELATION_MINUS_UNKNOWN };
 
 /* An answer; `line` is -1 where the function tells none. */
 typedef struct {
@@ -114,6 +117,13 @@ static answer_t begin_into(stretch_t file, const size_t *with)
     return at_line(r.refusal, r.line);
 }
 
+/* The row has a record of which one number is known. */
+static void note(table_t *t, size_t place, int64_t value)
+{
+    t->rows[MARK] = 1;
+    t->rows[place] = value;
+}
+
 static void change(table_t *t, size_t which)
 {
     const uint64_t day8 = 86400ull * 100000000ull;
@@ -129,16 +139,27 @@ static void change(table_t *t, size_t which)
         t->header.interval8 = day8;
         t->header.epochs = 2;
         break;
+    case MARK_1: t->rows[MARK] = 1; break;
+    case MARK_2: t->rows[MARK] = 2; break;
+    case NO_RECORD_5: t->rows[DEVIATION] = 5; break;
+    case NO_RECORD_0: t->rows[CORRELATION] = 0; break;
+    case DEVIATION_9999: note(t, DEVIATION, 9999); break;
+    case DEVIATION_10000: note(t, DEVIATION, 10000); break;
+    case DEVIATION_MINUS: note(t, DEVIATION, -5); break;
+    case CLOCK_DEVIATION_LARGE: note(t, CLOCK_DEVIATION, 10000000); break;
+    case CORRELATION_LARGE: note(t, CORRELATION, 10000000); break;
+    case CORRELATION_MINUS_LARGE: note(t, CORRELATION, -10000000); break;
+    case CORRELATION_MINUS_UNKNOWN: note(t, CORRELATION, -SP3_UNNOTED); break;
     }
 }
 
-/* with: what is changed, identifiers, bytes of output */
+/* with: what is changed, identifiers, bytes of output, numbers that the list of rows lacks */
 static answer_t write_into(stretch_t file, const size_t *with)
 {
     static uint8_t out[ROOM];
     table_t t = table_of(file);
     change(&t, with[0]);
-    size_t numbers = t.header.epochs * NUMBERS;
+    size_t numbers = t.header.epochs * NUMBERS - with[3];
     return alone(sp3_write(t.header, t.identifiers, with[1], t.exponents, IDENTIFIERS, t.comments, TEXT, t.rows, numbers, out, with[2]).refusal);
 }
 
@@ -192,6 +213,27 @@ static answer_t ask_stored_flag(stretch_t file, const size_t *with)
 {
     table_t t = table_of(file);
     return alone(sp3_flag_of(t.rows, NUMBERS, 0, with[0]).refusal);
+}
+
+/* with: numbers, the row */
+static answer_t ask_note(stretch_t file, const size_t *with)
+{
+    table_t t = table_of(file);
+    return alone(sp3_note_of(t.rows, with[0], with[1]).refusal);
+}
+
+/* with: numbers, the row, which deviation */
+static answer_t ask_note_deviation(stretch_t file, const size_t *with)
+{
+    table_t t = table_of(file);
+    return alone(sp3_note_deviation_of(t.rows, with[0], with[1], with[2]).refusal);
+}
+
+/* with: numbers, the row, which correlation */
+static answer_t ask_note_correlation(stretch_t file, const size_t *with)
+{
+    table_t t = table_of(file);
+    return alone(sp3_note_correlation_of(t.rows, with[0], with[1], with[2]).refusal);
 }
 
 /* with: year, month, day */
@@ -251,6 +293,7 @@ static const struct {
     {"read-short-identifiers", itself, read_into, {IDENTIFIERS - 1, TEXT, NUMBERS}},
     {"read-short-comments", itself, read_into, {IDENTIFIERS, TEXT - 1, NUMBERS}},
     {"read-short-rows", itself, read_into, {IDENTIFIERS, TEXT, NUMBERS - 1}},
+    {"read-rows-12", itself, read_into, {IDENTIFIERS, TEXT, 12}},
     {"read-refused-short", damaged, read_into, {0}},
     {"read-after-end-short", with_more, read_into, {0}},
     {"front-after-end", with_more, judge_front, {0}},
@@ -266,6 +309,19 @@ static const struct {
     {"write-clock-large", itself, write_into, {CLOCK_LARGE, IDENTIFIERS, ROOM}},
     {"write-flag-2", itself, write_into, {FLAG_2, IDENTIFIERS, ROOM}},
     {"write-past-2099", itself, write_into, {PAST_2099, IDENTIFIERS, ROOM}},
+    {"write-rows-short", itself, write_into, {AS_READ, IDENTIFIERS, ROOM, 1}},
+    {"write-note-exact", itself, write_into, {MARK_1, IDENTIFIERS, LENGTH + BARE_NOTE}},
+    {"write-note-short", itself, write_into, {MARK_1, IDENTIFIERS, LENGTH + BARE_NOTE - 1}},
+    {"write-note-2", itself, write_into, {MARK_2, IDENTIFIERS, ROOM}},
+    {"write-no-note-5", itself, write_into, {NO_RECORD_5, IDENTIFIERS, ROOM}},
+    {"write-no-note-0", itself, write_into, {NO_RECORD_0, IDENTIFIERS, ROOM}},
+    {"write-deviation-9999", itself, write_into, {DEVIATION_9999, IDENTIFIERS, ROOM}},
+    {"write-deviation-10000", itself, write_into, {DEVIATION_10000, IDENTIFIERS, ROOM}},
+    {"write-deviation-minus", itself, write_into, {DEVIATION_MINUS, IDENTIFIERS, ROOM}},
+    {"write-deviation-clock", itself, write_into, {CLOCK_DEVIATION_LARGE, IDENTIFIERS, ROOM}},
+    {"write-correlation-large", itself, write_into, {CORRELATION_LARGE, IDENTIFIERS, ROOM}},
+    {"write-correlation-minus-large", itself, write_into, {CORRELATION_MINUS_LARGE, IDENTIFIERS, ROOM}},
+    {"write-correlation-minus-unknown", itself, write_into, {CORRELATION_MINUS_UNKNOWN, IDENTIFIERS, ROOM}},
     {"write-invalid-short", itself, write_into, {EXPONENT_1000, IDENTIFIERS, 0}},
     {"header-mode-q", itself, make_header, {'Q', 1, 8, 8}},
     {"header-256", itself, make_header, {'P', 256, 8, 8}},
@@ -281,6 +337,14 @@ static const struct {
     {"ask-stored-row-1", itself, ask_stored_place, {2 * NUMBERS - 1, 1}},
     {"ask-stored-exponent-4", itself, ask_stored_exponent, {4}},
     {"ask-stored-flag-4", itself, ask_stored_flag, {4}},
+    {"ask-note-row-0", itself, ask_note, {NUMBERS, 0}},
+    {"ask-note-row-1", itself, ask_note, {2 * NUMBERS - 1, 1}},
+    {"ask-note-deviation-3", itself, ask_note_deviation, {NUMBERS, 0, 3}},
+    {"ask-note-deviation-4", itself, ask_note_deviation, {NUMBERS, 0, 4}},
+    {"ask-note-deviation-row-1", itself, ask_note_deviation, {2 * NUMBERS - 1, 1, 0}},
+    {"ask-note-correlation-5", itself, ask_note_correlation, {NUMBERS, 0, 5}},
+    {"ask-note-correlation-6", itself, ask_note_correlation, {NUMBERS, 0, 6}},
+    {"ask-note-correlation-row-1", itself, ask_note_correlation, {2 * NUMBERS - 1, 1, 0}},
     {"ask-date-2001-02-29", itself, ask_date, {2001, 2, 29}},
     {"ask-moment-0", itself, ask_moment, {0}},
     {"divide-two", twice, divide_into, {2}},

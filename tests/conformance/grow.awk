@@ -1,5 +1,5 @@
 # Grows samples/paper.sp3 (25 lines, one satellite, one epoch): a file in its canonical form by other numbers, written from the paper. Settings, each
-# of which may be left out: n, epochs, interval (s), mode, comments, date (YYYY-MM-DD), mjd, second. Epochs stay within the month of the start.
+# of which may be left out: n, epochs, interval (s), mode, comments, date (YYYY-MM-DD), mjd, second, notes. Epochs stay within the month of the start.
 
 # the identifier of satellite i, from 1 on: G01 to G99, R01 to R99, E01 and so on
 function name(i) {
@@ -32,8 +32,12 @@ function epoch_lines(row, k, i) {
         printf "*  %s\n", moment(second + k * interval)
         for (i = 1; i <= satellites; i++) {
             print "P" name(i) row
+            if (notes)
+                print "EP    55   55   55     222  1234567 -1234567  5999999      -30       21 -1230000"
             if (mode == "V")
                 print "V" name(i) row
+            if (mode == "V" && notes)
+                print "EV    22   22   22     111  1234567  1234567  1234567  1234567  1234567  1234567"
         }
     }
 }
