@@ -47,9 +47,12 @@ dividing-keeps bytes old twelve = dividing.refusal-keeps bytes old twelve
 pub accepted-files : (bytes : List ℕ) → IsFile d bytes ↔ Accepted d bytes
 accepted-files bytes = judging.accepts-exactly bytes
 
--- Accepted files exist: one has the paper's own header and one row,
-pub accepted-one : (bytes : List ℕ) × IsFile d bytes × Holds d (linesOf bytes) (oneRow (pos 1))
+-- Accepted files exist: one has the paper's own header and one row, one has `EP` alone after that row,
+pub accepted-one : (bytes : List ℕ) × IsFile d bytes × Holds d (linesOf bytes) (oneRow (pos 1) (pos 0))
 accepted-one = exist.accepted-one
+
+pub accepted-noted : (bytes : List ℕ) × IsFile d bytes × Holds d (linesOf bytes) (oneRow (pos 1) (pos 1))
+accepted-noted = exist.accepted-noted
 
 -- and the tables of two of them differ.
 pub tables-differ : (a : List ℕ) × (b : List ℕ) × IsFile d a × IsFile d b × (rowsIn d (linesOf a) ≡ rowsIn d (linesOf b) → ⊥)
@@ -130,7 +133,7 @@ front-as-alone a b accepted identifiers exponents comments rows = (
 )
 
 -- ITS ROWS, by epoch k and satellite j, P rows (false) and in mode V the V rows (true): what a row holds is what the columns of its line say, each field by
--- its rule; and asked by wanted the lent rows give place, clock, exponents and flags of that line.
+-- its rule; and asked by name the lent rows give place, clock, exponents and flags of that line.
 module _ (bytes : List ℕ) (accepted : IsFile d bytes) (identifiers exponents comments : List ℕ) (old : List ℤ)
     (read : readAnswer d bytes (fileOf d bytes) identifiers exponents comments old .refusal ≡ 0) (k j : ℕ) (there : There bytes k j) (v : Bool)
     (mode : v ≡ true → header bytes .velocity ≡ true) where
@@ -166,7 +169,54 @@ module _ (bytes : List ℕ) (accepted : IsFile d bytes) (identifiers exponents c
       × (flagIn rows r 2 ≡ cond (row .maneuver) flag.Set flag.NotSet) × (flagIn rows r 3 ≡ cond (row .«orbit_predicted») flag.Set flag.NotSet)
   row-flags = lent.lent-flags bytes accepted identifiers exponents comments old read k j there v mode
 
--- Asked by wanted a row is 13 exactly where the lent numbers do not have it, an exponent or a flag also where it is none of the four.
+  -- ITS NOTE: the row says that a record stood there exactly where the line directly after its own is EP (after a V line EV);
+  pub row-note : (noteIn rows r ≡ noteMark.Stands) ↔ ((line : List ℕ) × HasNote v bytes k j line)
+  row-note = lent-notes.the-note bytes accepted identifiers exponents comments old read k j there v mode
+
+  -- where none stands, it says so whatever is asked of it;
+  pub row-no-note : ((line : List ℕ) → HasNote v bytes k j line → ⊥)
+      → (noteIn rows r ≡ noteMark.NoRecord)
+      × ((which : ℕ) → which ≤ 3 → noteDeviationIn rows r which ≡ noteDeviation.NoRecord)
+      × ((which : ℕ) → which ≤ 5 → noteCorrelationIn rows r which ≡ noteCorrelation.NoRecord)
+  row-no-note none = lent-notes.none-recorded bytes accepted identifiers exponents comments old read k j there v mode none
+
+  module _ (line : List ℕ) (has : HasNote v bytes k j line) where
+    -- where one stands, the last eleven numbers of the row are 1 and what the columns of that line hold, each field by its rule, minus zero being zero.
+    pub note-numbers : drop bareWidth (take rowWidth (drop (rowWidth * r) rows)) ≡ exactNote (noteOf line)
+    note-numbers = lent-notes.lent-note bytes accepted identifiers exponents comments old read k j there v mode line has
+
+    pub note-columns : noteOf line ≡ noteFrom (valuesOf (correlationItems v) (padded line))
+    note-columns = lent-notes.note-columns bytes accepted identifiers exponents comments old read k j there v mode line has
+
+    -- The deviations of x, y, z and clock by 0 to 3: unknown exactly where the columns are blank, too large exactly at the largest, else the line's own,
+    pub note-deviation : (which : ℕ) → which ≤ 3 → noteDeviationIn rows r which ≡ noteDeviationOf which (deviationAt (noteOf line) which)
+    note-deviation which few = lent-notes.lent-deviation bytes accepted identifiers exponents comments old read k j there v mode line has which few
+
+    pub deviation-unknown : (which : ℕ) → which ≤ 3 → (noteDeviationIn rows r which ≡ noteDeviation.Unknown) ↔ (every isBlank (deviationField which line) ≡ true)
+    deviation-unknown which few = lent-notes.deviation-unknown bytes accepted identifiers exponents comments old read k j there v mode line has which few
+
+    pub deviation-too-large : (which : ℕ) → which ≤ 3
+        → (noteDeviationIn rows r which ≡ noteDeviation.TooLarge) ↔ (deviationAt (noteOf line) which ≡ largestDeviation (eqb which 3))
+    deviation-too-large which few = lent-notes.deviation-too-large bytes accepted identifiers exponents comments old read k j there v mode line has which few
+
+    -- which is then less than 9999, of the clock than 9999999.
+    pub deviation-value : (which : ℕ) → which ≤ 3 → (n : ℕ) → noteDeviationIn rows r which ≡ noteDeviation.Value n → n < largestDeviation (eqb which 3)
+    deviation-value which few n e = lent-notes.deviation-value bytes accepted identifiers exponents comments old read k j there v mode line has which few n e
+
+    -- The correlations xy, xz, xc, yz, yc and zc by 0 to 5: unknown exactly where the columns are blank, else the line's own in 10^-7,
+    pub note-correlation : (which : ℕ) → which ≤ 5 → noteCorrelationIn rows r which
+        ≡ cond (eqb (correlationAt (noteOf line) which .magnitude) unnoted) noteCorrelation.Unknown (noteCorrelation.Value (exactSigned (correlationAt (noteOf line) which)))
+    note-correlation which few = lent-notes.lent-correlation bytes accepted identifiers exponents comments old read k j there v mode line has which few
+
+    pub correlation-unknown : (which : ℕ) → which ≤ 5
+        → (noteCorrelationIn rows r which ≡ noteCorrelation.Unknown) ↔ (every isBlank (correlationField which line) ≡ true)
+    correlation-unknown which few = lent-notes.correlation-unknown bytes accepted identifiers exponents comments old read k j there v mode line has which few
+
+    -- which is then from -9999999 to 9999999.
+    pub correlation-value : (which : ℕ) → which ≤ 5 → (z : ℤ) → noteCorrelationIn rows r which ≡ noteCorrelation.Value z → natAbs z ≤ largestCorrelation
+    correlation-value which few z e = lent-notes.correlation-value bytes accepted identifiers exponents comments old read k j there v mode line has which few z e
+
+-- Asked by name a row is 13 exactly where the lent numbers do not have it, an exponent or a flag also where it is none of the four.
 pub stored-thirteen : (rows : List ℤ) (k : ℕ)
     → ((placeIn rows k ≡ place.NotThere) ↔ (isThere rows k ≡ false)) × ((clockIn rows k ≡ clock.NotThere) ↔ (isThere rows k ≡ false))
 stored-thirteen rows k = answers.stored-thirteen rows k
@@ -290,9 +340,20 @@ comment-says κs a r s promised accepted there = promised .0 ∙ answers.comment
 pub comment-one : (κs : _) (a : _) (r r′ : _) (s s′ : _) → CommentPost κs a r s → CommentPost κs a r′ s′ → slice-vals r ≡ slice-vals r′
 comment-one κs a r r′ s s′ p q = places.same-value r r′ (comment-determined κs a r r′ s s′ p q)
 
--- Files that differ only after column 2 of EP and EV lines have the same table.
-pub same-table : (a b : List ℕ) → OnlyAfterTwo a b → SameTable d (linesOf a) (linesOf b)
-same-table a b same = correlations.same-table a b same
+-- EP AND EV ARE PART OF THE TABLE. One that is replaced by another without fault leaves a file accepted;
+pub still-accepted : (a : List ℕ) (lines : List (List ℕ)) → IsFile d a → SameBut d (linesOf a) lines → IsFile d (joinLines lines)
+still-accepted a lines accepted same = correlations.still-accepted a lines accepted same
+
+module _ (a : List ℕ) (accepted : IsFile d a) (before rest : List (List ℕ)) (row note : List ℕ)
+    (lines : linesOf a ≡ before ++ (row ∷ note ∷ rest)) (is : isNote d note ≡ true) (b : List ℕ) (also : IsFile d b) where
+  -- two accepted files that differ only in what a field of one such line says have different rows,
+  pub notes-differ : (other : List ℕ) → isNote d other ≡ true → linesOf b ≡ before ++ (row ∷ other ∷ rest)
+      → (exactNote (noteOf note) ≡ exactNote (noteOf other) → ⊥) → rowsIn d (linesOf a) ≡ rowsIn d (linesOf b) → ⊥
+  notes-differ other is-other lines-b apart same = correlations.notes-differ a accepted before rest row note lines is b also other is-other lines-b apart same
+
+  -- and so do one that has such a line, be it `EP` alone, and one without.
+  pub note-or-none : linesOf b ≡ before ++ (row ∷ rest) → rowsIn d (linesOf a) ≡ rowsIn d (linesOf b) → ⊥
+  note-or-none lines-b same = correlations.note-or-none a accepted before rest row note lines is b also lines-b same
 
 -- LINE BY LINE: after k lines of an accepted file the spot is the length of those lines, the state is the machine's after them, and there the line
 -- reader reads the next, for every k.
@@ -398,6 +459,16 @@ written-accepted t out success = rewritten.written-accepted t out success
 
 pub written-holds : (t : Table) (out : List ℕ) (success : measured d t (length out) .refusal ≡ 0) → Holds d (linesOf (writtenBytes t out)) t
 written-holds t out success = rewritten.written-holds t out success
+
+-- with EP or EV written directly after a row exactly where the table says that one stood there,
+pub written-note : (t : Table) (out : List ℕ) (success : measured d t (length out) .refusal ≡ 0) → let bytes = writtenBytes t out in
+    (k j : ℕ) → There bytes k j → (v : Bool) → (v ≡ true → header bytes .velocity ≡ true)
+    → (noteIn (rowsOf t) (tableRow v bytes k j) ≡ noteMark.Stands) ↔ ((line : List ℕ) × HasNote v bytes k j line)
+written-note t out success k j there v mode = written-notes.note-written t out success k j there v mode
+
+-- also where nothing is known of it: it is then `EP` (`EV`) alone.
+pub written-bare : (v : Bool) (mark : ℤ) → noteLine v (noteShown (mark ∷ replicate 10 (pos unnoted))) ≡ ended (correlationSymbol v)
+written-bare v mark = written-notes.bare-note v mark
 
 module _ (bytes : List ℕ) (accepted : IsFile d bytes) (identifiers exponents comments : List ℕ) (rows : List ℤ)
     (read : readAnswer d bytes (fileOf d bytes) identifiers exponents comments rows .refusal ≡ 0) where
