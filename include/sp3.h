@@ -188,7 +188,7 @@ typedef struct {
 } sp3_stored_note_t;
 
 /* A standard deviation of such a record, in mm and ps, after a V row in 10^-4 mm/s and 10^-4 ps/s: a blank one is unknown, 9999 (9999999 for the
- * clock) is too large. At most one mark is set; the value is 0 where one is. */
+ * clock) is too large. At most one mark is set; the value is UINT64_MAX where one is. */
 typedef struct {
     size_t refusal;
     bool no_record, unknown, too_large;

@@ -99,7 +99,7 @@ static void deviation_value(sp3_note_deviation_t deviation) {
     } else {
         value(deviation.value);
     }
-    bool empty = !(deviation.unknown || deviation.too_large) || deviation.value == 0;
+    bool empty = !(deviation.unknown || deviation.too_large) || deviation.value == UINT64_MAX;
     mark(deviation.refusal != 0 || deviation.no_record || (deviation.unknown && deviation.too_large) || !empty);
 }
 
@@ -116,7 +116,7 @@ static void correlation_value(sp3_note_correlation_t correlation) {
 /* Whether deviation and correlation `which` of row k are those of no record, with this refusal. */
 static bool is_no_deviation(lists_t lists, size_t k, size_t which, size_t refusal) {
     sp3_note_deviation_t d = sp3_note_deviation_of(lists.rows, lists.row_room, k, which);
-    return d.refusal == refusal && d.no_record && !d.unknown && !d.too_large && d.value == 0;
+    return d.refusal == refusal && d.no_record && !d.unknown && !d.too_large && d.value == UINT64_MAX;
 }
 
 static bool is_no_correlation(lists_t lists, size_t k, size_t which, size_t refusal) {

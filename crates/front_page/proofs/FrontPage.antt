@@ -216,7 +216,7 @@ module _ (bytes : List ℕ) (accepted : IsFile d bytes) (identifiers exponents c
     pub correlation-value : (which : ℕ) → which ≤ 5 → (z : ℤ) → noteCorrelationIn rows r which ≡ noteCorrelation.Value z → natAbs z ≤ largestCorrelation
     correlation-value which few z e = lent-notes.correlation-value bytes accepted identifiers exponents comments old read k j there v mode line has which few z e
 
--- Asked by name a row is 13 exactly where the lent numbers do not have it, an exponent or a flag also where it is none of the four.
+-- Asked by name a row is 13 exactly where the lent numbers do not have it, an exponent or a flag also where it is none of the four,
 pub stored-thirteen : (rows : List ℤ) (k : ℕ)
     → ((placeIn rows k ≡ place.NotThere) ↔ (isThere rows k ≡ false)) × ((clockIn rows k ≡ clock.NotThere) ↔ (isThere rows k ≡ false))
 stored-thirteen rows k = answers.stored-thirteen rows k
@@ -225,6 +225,13 @@ pub stored-parts-thirteen : (rows : List ℤ) (k which : ℕ)
     → ((deviationIn rows k which ≡ deviation.NotThere) ↔ ((isThere rows k && leb which 3) ≡ false))
     × ((flagIn rows k which ≡ flag.NotThere) ↔ ((isThere rows k && leb which 3) ≡ false))
 stored-parts-thirteen rows k which = answers.stored-parts-thirteen rows k which
+
+-- a deviation of its note also where it is none of the four, a correlation where it is none of the six.
+pub notes-thirteen : (rows : List ℤ) (k which : ℕ)
+    → ((noteIn rows k ≡ noteMark.NotThere) ↔ (isThere rows k ≡ false))
+    × ((noteDeviationIn rows k which ≡ noteDeviation.NotThere) ↔ ((isThere rows k && leb which 3) ≡ false))
+    × ((noteCorrelationIn rows k which ≡ noteCorrelation.NotThere) ↔ ((isThere rows k && leb which 5) ≡ false))
+notes-thirteen rows k which = answers.notes-thirteen rows k which
 
 module _ (bytes : List ℕ) (accepted : IsFile d bytes) where
   -- EVERY SATELLITE OF THE HEADER STAYS IN EVERY EPOCH, IN HEADER ORDER: the P rows number satellites times epochs,

@@ -19,7 +19,7 @@ use Rattle.stored_row.specs.declared.types.NoteCorrelation.the-variants as note
 use Rattle.row_walk.specs.declared.types.RowWalk.{RowWalk}
 use Rattle.row_walk.specs.declared.types.RowStep.{RowStep}
 use Rattle.row_walk.specs.declared.types.RowStep.the-variants as step
-use Rattle.sp3.specs.Doors.{noNumber, placeDoor, clockDoor, noteDeviationDoor, noteCorrelationDoor, rowDoor}
+use Rattle.sp3.specs.Doors.{noNumber, noCount, placeDoor, clockDoor, noteDeviationDoor, noteCorrelationDoor, rowDoor}
 
 -- not marked: a place with these coordinates, accepted
 pub place-unmarked : (p : Place) → placeDoor p .absent ≡ false → (p ≡ place.At (placeDoor p .x) (placeDoor p .y) (placeDoor p .z)) × (placeDoor p .refusal ≡ 0)
@@ -49,7 +49,7 @@ clock-marked (clock.At v) e = absurd (false≢true e)
 clock-marked clock.Absent e = (inl refl, refl)
 clock-marked clock.NotThere e = (inr refl, refl)
 
--- a deviation of a note with no mark is a value, accepted; one with a mark has no value beside it
+-- a deviation of a note with no mark is a value, accepted; beside each mark stands a count that no field of a file can hold
 pub deviation-unmarked : (d : NoteDeviation) → noteDeviationDoor d .«no_record» ≡ false → noteDeviationDoor d .unknown ≡ false
     → noteDeviationDoor d .«too_large» ≡ false → (d ≡ noteDeviation.Value (noteDeviationDoor d .value)) × (noteDeviationDoor d .refusal ≡ 0)
 unfolding noteDeviationDoor
@@ -59,14 +59,30 @@ deviation-unmarked noteDeviation.TooLarge e u l = absurd (false≢true (sym l))
 deviation-unmarked noteDeviation.NoRecord e u l = absurd (false≢true (sym e))
 deviation-unmarked noteDeviation.NotThere e u l = absurd (false≢true (sym e))
 
-pub deviation-unrecorded : (d : NoteDeviation) → noteDeviationDoor d .«no_record» ≡ true
-    → ((d ≡ noteDeviation.NoRecord) ⊎ (d ≡ noteDeviation.NotThere)) × (noteDeviationDoor d .value ≡ 0)
+pub deviation-marked-unknown : (d : NoteDeviation) → noteDeviationDoor d .unknown ≡ true → (d ≡ noteDeviation.Unknown) × (noteDeviationDoor d .value ≡ noCount)
 unfolding noteDeviationDoor
-deviation-unrecorded (noteDeviation.Value n) e = absurd (false≢true e)
-deviation-unrecorded noteDeviation.Unknown e = absurd (false≢true e)
-deviation-unrecorded noteDeviation.TooLarge e = absurd (false≢true e)
-deviation-unrecorded noteDeviation.NoRecord e = (inl refl, refl)
-deviation-unrecorded noteDeviation.NotThere e = (inr refl, refl)
+deviation-marked-unknown (noteDeviation.Value n) u = absurd (false≢true u)
+deviation-marked-unknown noteDeviation.Unknown u = (refl, refl)
+deviation-marked-unknown noteDeviation.TooLarge u = absurd (false≢true u)
+deviation-marked-unknown noteDeviation.NoRecord u = absurd (false≢true u)
+deviation-marked-unknown noteDeviation.NotThere u = absurd (false≢true u)
+
+pub deviation-marked-large : (d : NoteDeviation) → noteDeviationDoor d .«too_large» ≡ true → (d ≡ noteDeviation.TooLarge) × (noteDeviationDoor d .value ≡ noCount)
+unfolding noteDeviationDoor
+deviation-marked-large (noteDeviation.Value n) l = absurd (false≢true l)
+deviation-marked-large noteDeviation.Unknown l = absurd (false≢true l)
+deviation-marked-large noteDeviation.TooLarge l = (refl, refl)
+deviation-marked-large noteDeviation.NoRecord l = absurd (false≢true l)
+deviation-marked-large noteDeviation.NotThere l = absurd (false≢true l)
+
+pub deviation-marked-unrecorded : (d : NoteDeviation) → noteDeviationDoor d .«no_record» ≡ true
+    → ((d ≡ noteDeviation.NoRecord) ⊎ (d ≡ noteDeviation.NotThere)) × (noteDeviationDoor d .value ≡ noCount)
+unfolding noteDeviationDoor
+deviation-marked-unrecorded (noteDeviation.Value n) e = absurd (false≢true e)
+deviation-marked-unrecorded noteDeviation.Unknown e = absurd (false≢true e)
+deviation-marked-unrecorded noteDeviation.TooLarge e = absurd (false≢true e)
+deviation-marked-unrecorded noteDeviation.NoRecord e = (inl refl, refl)
+deviation-marked-unrecorded noteDeviation.NotThere e = (inr refl, refl)
 
 -- the same of a correlation, beside whose marks no number stands that a file can hold
 pub correlation-unmarked : (c : NoteCorrelation) → noteCorrelationDoor c .«no_record» ≡ false → noteCorrelationDoor c .unknown ≡ false
@@ -77,20 +93,20 @@ correlation-unmarked noteCorrelation.Unknown e u = absurd (false≢true (sym u))
 correlation-unmarked noteCorrelation.NoRecord e u = absurd (false≢true (sym e))
 correlation-unmarked noteCorrelation.NotThere e u = absurd (false≢true (sym e))
 
-pub correlation-unknown : (c : NoteCorrelation) → noteCorrelationDoor c .unknown ≡ true → (c ≡ noteCorrelation.Unknown) × (noteCorrelationDoor c .value ≡ noNumber)
+pub correlation-marked-unknown : (c : NoteCorrelation) → noteCorrelationDoor c .unknown ≡ true → (c ≡ noteCorrelation.Unknown) × (noteCorrelationDoor c .value ≡ noNumber)
 unfolding noteCorrelationDoor
-correlation-unknown (noteCorrelation.Value v) u = absurd (false≢true u)
-correlation-unknown noteCorrelation.Unknown u = (refl, refl)
-correlation-unknown noteCorrelation.NoRecord u = absurd (false≢true u)
-correlation-unknown noteCorrelation.NotThere u = absurd (false≢true u)
+correlation-marked-unknown (noteCorrelation.Value v) u = absurd (false≢true u)
+correlation-marked-unknown noteCorrelation.Unknown u = (refl, refl)
+correlation-marked-unknown noteCorrelation.NoRecord u = absurd (false≢true u)
+correlation-marked-unknown noteCorrelation.NotThere u = absurd (false≢true u)
 
-pub correlation-unrecorded : (c : NoteCorrelation) → noteCorrelationDoor c .«no_record» ≡ true
+pub correlation-marked-unrecorded : (c : NoteCorrelation) → noteCorrelationDoor c .«no_record» ≡ true
     → ((c ≡ noteCorrelation.NoRecord) ⊎ (c ≡ noteCorrelation.NotThere)) × (noteCorrelationDoor c .value ≡ noNumber)
 unfolding noteCorrelationDoor
-correlation-unrecorded (noteCorrelation.Value v) e = absurd (false≢true e)
-correlation-unrecorded noteCorrelation.Unknown e = absurd (false≢true e)
-correlation-unrecorded noteCorrelation.NoRecord e = (inl refl, refl)
-correlation-unrecorded noteCorrelation.NotThere e = (inr refl, refl)
+correlation-marked-unrecorded (noteCorrelation.Value v) e = absurd (false≢true e)
+correlation-marked-unrecorded noteCorrelation.Unknown e = absurd (false≢true e)
+correlation-marked-unrecorded noteCorrelation.NoRecord e = (inl refl, refl)
+correlation-marked-unrecorded noteCorrelation.NotThere e = (inr refl, refl)
 
 -- no number of a field is the one beside a mark
 pub no-field : (v : ℤ) → natAbs v ≤ 999999999999 → v ≡ noNumber → ⊥

@@ -66,6 +66,10 @@ momentDoor told c = record {
 abbrev pub noNumber : ℤ
 noNumber = negsuc 9223372036854775807
 
+-- and the largest, for a count
+abbrev pub noCount : ℕ
+noCount = 18446744073709551615
+
 -- a place that is absent, or not there
 abbrev pub noPlace : ℕ → StoredPlace
 noPlace number = record { refusal = number; absent = true; x = noNumber; y = noNumber; z = noNumber }
@@ -113,16 +117,15 @@ noteDoor noteMark.NoRecord = noteParts 0 false
 noteDoor noteMark.NotThere = noteParts 13 false
 
 -- a deviation of a note: no record, unknown and too large are marks; what is not there is no record too
-abbrev pub noteDeviationParts : ℕ → Bool → Bool → Bool → ℕ → NoteDeviationAnswer
-noteDeviationParts number none unknown large value =
-    record { refusal = number; «no_record» = none; unknown = unknown; «too_large» = large; value = value }
+abbrev pub noDeviation : ℕ → Bool → Bool → Bool → NoteDeviationAnswer
+noDeviation number none unknown large = record { refusal = number; «no_record» = none; unknown = unknown; «too_large» = large; value = noCount }
 
 unfoldable pub noteDeviationDoor : NoteDeviation → NoteDeviationAnswer
-noteDeviationDoor (noteDeviation.Value n) = noteDeviationParts 0 false false false n
-noteDeviationDoor noteDeviation.Unknown = noteDeviationParts 0 false true false 0
-noteDeviationDoor noteDeviation.TooLarge = noteDeviationParts 0 false false true 0
-noteDeviationDoor noteDeviation.NoRecord = noteDeviationParts 0 true false false 0
-noteDeviationDoor noteDeviation.NotThere = noteDeviationParts 13 true false false 0
+noteDeviationDoor (noteDeviation.Value n) = record { refusal = 0; «no_record» = false; unknown = false; «too_large» = false; value = n }
+noteDeviationDoor noteDeviation.Unknown = noDeviation 0 false true false
+noteDeviationDoor noteDeviation.TooLarge = noDeviation 0 false false true
+noteDeviationDoor noteDeviation.NoRecord = noDeviation 0 true false false
+noteDeviationDoor noteDeviation.NotThere = noDeviation 13 true false false
 
 -- a correlation that is unknown, not recorded, or not there
 abbrev pub noCorrelation : ℕ → Bool → Bool → NoteCorrelationAnswer

@@ -2,7 +2,7 @@
 ghost use mathlib.Core.Path.{_≡_};
 ghost use mathlib.Core.Bool.{Bool};
 ghost use Rattle.stored_row.specs.Stored.{placeIn, clockIn, deviationIn, flagIn, noteIn, noteDeviationIn, noteCorrelationIn};
-ghost use Rattle.sp3.specs.Doors.{noPlace, noClock, exponentParts, flagParts, noteParts, noteDeviationParts, noCorrelation, placeDoor, clockDoor, exponentDoor, flagDoor, noteDoor, noteDeviationDoor, noteCorrelationDoor};
+ghost use Rattle.sp3.specs.Doors.{noPlace, noClock, exponentParts, flagParts, noteParts, noDeviation, noCorrelation, placeDoor, clockDoor, exponentDoor, flagDoor, noteDoor, noteDeviationDoor, noteCorrelationDoor};
 use crate::types::NoteCorrelationAnswer;
 use crate::types::NoteDeviationAnswer;
 use crate::types::StoredClock;
@@ -20,6 +20,9 @@ use stored_row::Place;
 
 // What stands for a number that is not there: the least of 64 bits, which no field of a file can hold.
 const NO_NUMBER: i64 = -9_223_372_036_854_775_808;
+
+// The same for a count: the largest of 64 bits.
+const NO_COUNT: u64 = 18_446_744_073_709_551_615;
 
 // No place, absent or not there.
 fn no_place(refusal: usize) -> StoredPlace
@@ -177,22 +180,21 @@ pub extern "C" fn sp3_note_of(rows: &[i64], k: usize) -> StoredNote
     note_answer(stored_row::note_of(rows, k))
 }
 
-// The parts of a deviation.
-fn note_deviation(
+// No deviation: unknown, too large, not recorded or not there.
+fn no_deviation(
     refusal: usize,
     no_record: bool,
     unknown: bool,
     too_large: bool,
-    value: u64,
 ) -> NoteDeviationAnswer
-    ensures { λ r. ⌜ r ≡ noteDeviationParts refusal «no_record» unknown «too_large» value ⌝ }
+    ensures { λ r. ⌜ r ≡ noDeviation refusal «no_record» unknown «too_large» ⌝ }
 {
     NoteDeviationAnswer {
         refusal,
         no_record,
         unknown,
         too_large,
-        value,
+        value: NO_COUNT,
     }
 }
 
@@ -201,11 +203,17 @@ fn note_deviation_answer(found: NoteDeviation) -> NoteDeviationAnswer
     ensures { λ r. ⌜ r ≡ noteDeviationDoor found ⌝ }
 {
     match found {
-        NoteDeviation::Value(value) => note_deviation(0, false, false, false, value),
-        NoteDeviation::Unknown => note_deviation(0, false, true, false, 0),
-        NoteDeviation::TooLarge => note_deviation(0, false, false, true, 0),
-        NoteDeviation::NoRecord => note_deviation(0, true, false, false, 0),
-        NoteDeviation::NotThere => note_deviation(13, true, false, false, 0),
+        NoteDeviation::Value(value) => NoteDeviationAnswer {
+            refusal: 0,
+            no_record: false,
+            unknown: false,
+            too_large: false,
+            value,
+        },
+        NoteDeviation::Unknown => no_deviation(0, false, true, false),
+        NoteDeviation::TooLarge => no_deviation(0, false, false, true),
+        NoteDeviation::NoRecord => no_deviation(0, true, false, false),
+        NoteDeviation::NotThere => no_deviation(13, true, false, false),
     }
 }
 

@@ -80,8 +80,8 @@ pub struct StoredNote {
     pub stands: bool,
 }
 
-// A deviation of such a line: the refusal (0 or 13); no record, unknown and too large each a mark of its own. The value is 0 beside any of them, and
-// what is not there is marked as no record.
+// A deviation of such a line: the refusal (0 or 13); no record, unknown and too large each a mark of its own, beside which the value is the largest
+// number of 64 bits; what is not there is marked as no record.
 #[repr(C)]
 pub struct NoteDeviationAnswer {
     pub refusal: usize,

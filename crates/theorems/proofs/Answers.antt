@@ -1,7 +1,7 @@
 -- Each number of the answers exactly when: judging, reading, the questions, the beginning of a walk and dividing; the file's own refusal first.
 -- Assumes nothing.
 use mathlib.Core.Path.{_≡_, refl, sym, ap, _∙_}
-use mathlib.Core.Bool.{Bool, true, false, cond, _&&_}
+use mathlib.Core.Bool.{Bool, true, false, cond, _&&_, false≢true}
 use mathlib.Core.Logic.{_⊎_, inl, inr, _↔_}
 use mathlib.Core.List.{List, [], _∷_, _++_}
 use Prim.Native.Nat.{ℕ, zero, suc, _+_, _/_, _≤_, _<_}
@@ -19,7 +19,9 @@ use Rattle.reader.specs.Reading.{refusedWith, linesTo, frontOf, fileOf, judged,
 use Rattle.questions.specs.Questions.{textIn, noComment, commentLine, commentAnswer, commentWords, indexOf, noSatellite, satelliteIn, satelliteAnswer}
 use Rattle.field.specs.Sign.{isNegative}
 use Rattle.record.specs.Absence.{clockAbsent, isUnknown, isTooLarge}
-use Rattle.stored_row.specs.Stored.{isThere, numberAt, isPlaceAbsent, placeIn, clockIn, deviationIn, flagIn}
+use Rattle.layout.specs.Kind.{unnoted}
+use Rattle.record.specs.Notes.{largestDeviation}
+use Rattle.stored_row.specs.Stored.{isThere, numberAt, isPlaceAbsent, hasNote, placeIn, clockIn, deviationIn, flagIn, noteIn, noteDeviationIn, noteCorrelationIn}
 use Rattle.scan_laws.proofs.Files.{file-plain, whole-taken}
 use Rattle.scan_laws.proofs.Local.{whole-ends}
 use Rattle.scan_laws.proofs.Used.{accepted-front}
@@ -41,6 +43,9 @@ use Rattle.stored_row.specs.declared.types.Place.the-variants as place
 use Rattle.stored_row.specs.declared.types.ClockRead.the-variants as clock
 use Rattle.stored_row.specs.declared.types.Deviation.the-variants as deviation
 use Rattle.stored_row.specs.declared.types.Flag.the-variants as flag
+use Rattle.stored_row.specs.declared.types.NoteMark.the-variants as noteMark
+use Rattle.stored_row.specs.declared.types.NoteDeviation.the-variants as noteDeviation
+use Rattle.stored_row.specs.declared.types.NoteCorrelation.the-variants as noteCorrelation
 use Rattle.scan.specs.declared.Tally.{Tally}
 use Rattle.scan.specs.declared.Front.{Front}
 use Rattle.scan.specs.declared.Front.the-variants as front
@@ -351,44 +356,73 @@ begin-twelve bytes old = (there (fileOf d bytes) refl, λ b. ap (λ (a : Reading
         let n : 12 ≡ number = sym twelve ∙ ap (λ (a : Reading). a .refusal) (begin-refused bytes number line column e old .0) in
         absurd (omega (arith, found-numbers bytes number line column e .1))
 
--- A STORED ROW is 13 exactly where the lent numbers do not have it; an exponent or flag also where it is none of the four.
+-- what is answered under a test is not there exactly where the test fails
+not-there : {A : Type 0} (t : Bool) (found none : A) → (found ≡ none → ⊥) → (cond t found none ≡ none) ↔ (t ≡ false)
+not-there true found none apart = (λ e. absurd (apart e), λ e. absurd (false≢true (sym e)))
+not-there false found none apart = (λ e. refl, λ e. refl)
+
+-- A STORED ROW is 13 exactly where the lent numbers do not have it; an exponent or flag also where it is none of the four,
 pub stored-thirteen : (rows : List ℤ) (k : ℕ)
     → ((placeIn rows k ≡ place.NotThere) ↔ (isThere rows k ≡ false)) × ((clockIn rows k ≡ clock.NotThere) ↔ (isThere rows k ≡ false))
 unfolding placeIn clockIn
 stored-thirteen rows k = (
-  ((λ e. by-place (isThere rows k) (isPlaceAbsent rows k) (numberAt rows k 0) (numberAt rows k 1) (numberAt rows k 2) refl e), (λ e. rw e)),
-  ((λ e. by-clock (isThere rows k) (clockAbsent (isNegative (numberAt rows k 3)) (natAbs (numberAt rows k 3))) (numberAt rows k 3) refl e), (λ e. rw e)),
+  not-there (isThere rows k) _ place.NotThere (by-place (isPlaceAbsent rows k) (numberAt rows k 0) (numberAt rows k 1) (numberAt rows k 2)),
+  not-there (isThere rows k) _ clock.NotThere (by-clock (clockAbsent (isNegative (numberAt rows k 3)) (natAbs (numberAt rows k 3))) (numberAt rows k 3)),
 )
   where
-    by-place : (t a : Bool) (x y z : ℤ) → isThere rows k ≡ t → cond t (cond a place.Absent (place.At x y z)) place.NotThere ≡ place.NotThere → isThere rows k ≡ false
-    by-place true true x y z p e = let n : _≡_ {A = ℕ} 0 1 = cc in absurd (omega arith)
-    by-place true false x y z p e = let n : _≡_ {A = ℕ} 0 1 = cc in absurd (omega arith)
-    by-place false a x y z p e = p
+    by-place : (a : Bool) (x y z : ℤ) → cond a place.Absent (place.At x y z) ≡ place.NotThere → ⊥
+    by-place true x y z e = let n : _≡_ {A = ℕ} 0 1 = cc in omega arith
+    by-place false x y z e = let n : _≡_ {A = ℕ} 0 1 = cc in omega arith
 
-    by-clock : (t a : Bool) (v : ℤ) → isThere rows k ≡ t → cond t (cond a clock.Absent (clock.At v)) clock.NotThere ≡ clock.NotThere → isThere rows k ≡ false
-    by-clock true true v p e = let z : _≡_ {A = ℕ} 0 1 = cc in absurd (omega arith)
-    by-clock true false v p e = let z : _≡_ {A = ℕ} 0 1 = cc in absurd (omega arith)
-    by-clock false a v p e = p
+    by-clock : (a : Bool) (v : ℤ) → cond a clock.Absent (clock.At v) ≡ clock.NotThere → ⊥
+    by-clock true v e = let z : _≡_ {A = ℕ} 0 1 = cc in omega arith
+    by-clock false v e = let z : _≡_ {A = ℕ} 0 1 = cc in omega arith
 
 pub stored-parts-thirteen : (rows : List ℤ) (k which : ℕ)
     → ((deviationIn rows k which ≡ deviation.NotThere) ↔ ((isThere rows k && leb which 3) ≡ false))
     × ((flagIn rows k which ≡ flag.NotThere) ↔ ((isThere rows k && leb which 3) ≡ false))
 unfolding deviationIn flagIn
-stored-parts-thirteen rows k which = (
-  ((λ e. let n = natAbs (numberAt rows k (4 + which)) in by-exponent (isThere rows k && leb which 3) (isUnknown n) (isTooLarge (eqb which 3) n) n refl e), (λ e. rw e)),
-  ((λ e. by-flag (isThere rows k && leb which 3) (eqb (natAbs (numberAt rows k (8 + which))) 0) refl e), (λ e. rw e)),
-)
+stored-parts-thirteen rows k which =
+    let n = natAbs (numberAt rows k (4 + which)) in (
+      not-there (isThere rows k && leb which 3) _ deviation.NotThere (by-exponent (isUnknown n) (isTooLarge (eqb which 3) n) n),
+      not-there (isThere rows k && leb which 3) _ flag.NotThere (by-flag (eqb (natAbs (numberAt rows k (8 + which))) 0)),
+    )
   where
-    by-exponent : (t a b : Bool) (n : ℕ) → (isThere rows k && leb which 3) ≡ t
-        → cond t (cond a deviation.Unknown (cond b deviation.TooLarge (deviation.Value n))) deviation.NotThere ≡ deviation.NotThere
-        → (isThere rows k && leb which 3) ≡ false
-    by-exponent true true b n p e = let z : _≡_ {A = ℕ} 0 1 = cc in absurd (omega arith)
-    by-exponent true false true n p e = let z : _≡_ {A = ℕ} 0 1 = cc in absurd (omega arith)
-    by-exponent true false false n p e = let z : _≡_ {A = ℕ} 0 1 = cc in absurd (omega arith)
-    by-exponent false a b n p e = p
+    by-exponent : (a b : Bool) (n : ℕ) → cond a deviation.Unknown (cond b deviation.TooLarge (deviation.Value n)) ≡ deviation.NotThere → ⊥
+    by-exponent true b n e = let z : _≡_ {A = ℕ} 0 1 = cc in omega arith
+    by-exponent false true n e = let z : _≡_ {A = ℕ} 0 1 = cc in omega arith
+    by-exponent false false n e = let z : _≡_ {A = ℕ} 0 1 = cc in omega arith
 
-    by-flag : (t a : Bool) → (isThere rows k && leb which 3) ≡ t → cond t (cond a flag.NotSet flag.Set) flag.NotThere ≡ flag.NotThere
-        → (isThere rows k && leb which 3) ≡ false
-    by-flag true true p e = let z : _≡_ {A = ℕ} 0 1 = cc in absurd (omega arith)
-    by-flag true false p e = let z : _≡_ {A = ℕ} 0 1 = cc in absurd (omega arith)
-    by-flag false a p e = p
+    by-flag : (a : Bool) → cond a flag.NotSet flag.Set ≡ flag.NotThere → ⊥
+    by-flag true e = let z : _≡_ {A = ℕ} 0 1 = cc in omega arith
+    by-flag false e = let z : _≡_ {A = ℕ} 0 1 = cc in omega arith
+
+-- a deviation of its note where it is none of the four, a correlation where it is none of the six.
+pub notes-thirteen : (rows : List ℤ) (k which : ℕ)
+    → ((noteIn rows k ≡ noteMark.NotThere) ↔ (isThere rows k ≡ false))
+    × ((noteDeviationIn rows k which ≡ noteDeviation.NotThere) ↔ ((isThere rows k && leb which 3) ≡ false))
+    × ((noteCorrelationIn rows k which ≡ noteCorrelation.NotThere) ↔ ((isThere rows k && leb which 5) ≡ false))
+unfolding noteIn noteDeviationIn noteCorrelationIn
+notes-thirteen rows k which =
+    let n = natAbs (numberAt rows k (13 + which)) in
+    let v = numberAt rows k (17 + which) in (
+      not-there (isThere rows k) _ noteMark.NotThere (by-mark (hasNote rows k)),
+      not-there (isThere rows k && leb which 3) _ noteDeviation.NotThere (by-deviation (hasNote rows k) (eqb n unnoted) (eqb n (largestDeviation (eqb which 3))) n),
+      not-there (isThere rows k && leb which 5) _ noteCorrelation.NotThere (by-correlation (hasNote rows k) (eqb (natAbs v) unnoted) v),
+    )
+  where
+    by-mark : (t : Bool) → cond t noteMark.Stands noteMark.NoRecord ≡ noteMark.NotThere → ⊥
+    by-mark true e = let z : _≡_ {A = ℕ} 0 1 = cc in omega arith
+    by-mark false e = let z : _≡_ {A = ℕ} 0 1 = cc in omega arith
+
+    by-deviation : (t a b : Bool) (n : ℕ)
+        → cond t (cond a noteDeviation.Unknown (cond b noteDeviation.TooLarge (noteDeviation.Value n))) noteDeviation.NoRecord ≡ noteDeviation.NotThere → ⊥
+    by-deviation true true b n e = let z : _≡_ {A = ℕ} 0 1 = cc in omega arith
+    by-deviation true false true n e = let z : _≡_ {A = ℕ} 0 1 = cc in omega arith
+    by-deviation true false false n e = let z : _≡_ {A = ℕ} 0 1 = cc in omega arith
+    by-deviation false a b n e = let z : _≡_ {A = ℕ} 0 1 = cc in omega arith
+
+    by-correlation : (t a : Bool) (v : ℤ) → cond t (cond a noteCorrelation.Unknown (noteCorrelation.Value v)) noteCorrelation.NoRecord ≡ noteCorrelation.NotThere → ⊥
+    by-correlation true true v e = let z : _≡_ {A = ℕ} 0 1 = cc in omega arith
+    by-correlation true false v e = let z : _≡_ {A = ℕ} 0 1 = cc in omega arith
+    by-correlation false a v e = let z : _≡_ {A = ℕ} 0 1 = cc in omega arith
