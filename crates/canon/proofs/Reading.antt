@@ -5,15 +5,17 @@ use mathlib.Core.List.{List}
 use mathlib.Core.Path.{_≡_, refl, sym, ap, _∙_}
 use Prim.Native.Nat.{ℕ, suc, _-_, _^_, _<_}
 use native.Mathlib.Omega.{arith}
-use borrow.Author.Tests.{ne-eqb, eqb-true, le-leb}
-use lib.Dec.{eqb}
+use borrow.Author.Tests.{ne-eqb, eqb-true, le-leb, lt-leb, leb-true, leb-false}
+use lib.Dec.{T, eqb, leb}
 use lib.IntN.{ℤ, pos, negsuc, natAbs}
-use lib.Signed.{mag}
+use lib.Signed.{mag, ltZ, leZ, nonNeg}
 use mir.Syntax.{w64}
-use mir.Val.{hbits, toZ, ofZ}
+use mir.Val.{Fits, hbits, toZ, ofZ}
 use mir.ValLaws.{toZ-ofZ}
+use Rattle.laws.proofs.Bools.{and-true}
 use Rattle.field.specs.Sign.{isNegative}
-use Rattle.canon.specs.Valid.{entry, flagValid}
+use Rattle.field.proofs.Signs.{negative-test, plain-fits}
+use Rattle.canon.specs.Valid.{entry, amountValid, flagValid}
 
 module _ (row : List ℤ) (i : ℕ) (fits : mag (entry row i) < 2 ^ hbits w64) where
   kept : toZ w64 (ofZ w64 (entry row i)) ≡ entry row i
@@ -25,13 +27,28 @@ module _ (row : List ℤ) (i : ℕ) (fits : mag (entry row i) < 2 ^ hbits w64) w
   pub sign-read : {s : Bool} → s ≡ isNegative (toZ w64 (ofZ w64 (entry row i))) → s ≡ isNegative (entry row i)
   sign-read e = e ∙ ap isNegative kept
 
-  -- compared at once with a number that is not negative
-  pub same-read : (n : ℕ) → n < 2 ^ hbits w64 → eqb (ofZ w64 (entry row i)) n ≡ (not (isNegative (entry row i)) && eqb (natAbs (entry row i)) n)
-  same-read n h = go (entry row i) fits
+  -- the test of its sign, and of one that has none as a count
+  pub negative-read : ltZ (toZ w64 (ofZ w64 (entry row i))) (pos 0) ≡ isNegative (entry row i)
+  negative-read = negative-test (entry row i) (record { sfits = fits })
+
+  pub count-fits : isNegative (entry row i) ≡ false → T (nonNeg (toZ w64 (ofZ w64 (entry row i)))) × Fits w64 (natAbs (toZ w64 (ofZ w64 (entry row i))))
+  count-fits = plain-fits (entry row i) (record { sfits = fits })
+
+  pub count-read : (test : ℕ → Bool) → isNegative (entry row i) ≡ false
+      → test (natAbs (toZ w64 (ofZ w64 (entry row i)))) ≡ (not (isNegative (entry row i)) && test (natAbs (entry row i)))
+  count-read test none = rw none (ap (λ (v : ℤ). test (natAbs v)) kept)
+
+  -- within the bounds of x, y, z and clock, by both ends
+  pub amount-read : (leZ (toZ w64 (ofZ w64 (entry row i))) (pos 999999999999) && leZ (negsuc 999999999998) (toZ w64 (ofZ w64 (entry row i)))) ≡ amountValid (entry row i)
+  amount-read = rw kept (go (entry row i))
     where
-      go : (v : ℤ) → mag v < 2 ^ hbits w64 → eqb (ofZ w64 v) n ≡ (not (isNegative v) && eqb (natAbs v) n)
-      go (pos m) f = refl
-      go (negsuc m) f = ne-eqb (2 ^ 64 - suc m) n (λ e. omega arith)
+      go : (v : ℤ) → (leZ v (pos 999999999999) && leZ (negsuc 999999999998) v) ≡ amountValid v
+      go (pos n) = and-true (leb n 999999999999)
+      go (negsuc n) = one-more (leb n 999999999998) refl
+        where
+          one-more : (t : Bool) → leb n 999999999998 ≡ t → t ≡ leb (suc n) 999999999999
+          one-more true e = sym (le-leb (suc n) 999999999999 (omega (arith, leb-true n 999999999998 e)))
+          one-more false e = sym (lt-leb (suc n) 999999999999 (omega (arith, leb-false n 999999999998 e)))
 
   pub mark-read : not (eqb (ofZ w64 (entry row i)) 0) ≡ cond (eqb (natAbs (entry row i)) 0) false true
   mark-read = go (entry row i) fits

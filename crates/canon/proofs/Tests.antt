@@ -1,6 +1,6 @@
 -- Tests that are one by their parts, and tests that end a chain.
 -- Assumes nothing.
-use mathlib.Core.Bool.{Bool, true, false, _&&_, _||_, false≢true}
+use mathlib.Core.Bool.{Bool, true, false, not, _&&_, _||_, false≢true}
 use mathlib.Core.Path.{_≡_, refl, sym}
 
 -- two tests, each by its own answer
@@ -10,6 +10,11 @@ both p q = rw (p, q)
 -- one of two tests, each by its own answer
 pub one-of : {s t s′ t′ : Bool} → s ≡ s′ → t ≡ t′ → (s || t) ≡ (s′ || t′)
 one-of p q = rw (p, q)
+
+-- one of two tests, each where a third fails
+pub both-not : (n s t : Bool) → ((not n && s) || (not n && t)) ≡ (not n && (s || t))
+both-not true s t = refl
+both-not false s t = refl
 
 -- four tests in two pairs
 pub two-pairs : {s t u v s′ t′ u′ v′ : Bool} → s ≡ s′ → t ≡ t′ → u ≡ u′ → v ≡ v′ → ((s && t) && (u && v)) ≡ ((s′ && t′) && (u′ && v′))

@@ -10,7 +10,9 @@ use crate::lists;
 use crate::numbers;
 use crate::types::Spent;
 use field::sign::magnitude_of;
+use record::notes::LARGEST_CLOCK_DEVIATION;
 use record::notes::LARGEST_CORRELATION;
+use record::notes::LARGEST_DEVIATION;
 use record::notes::UNNOTED;
 
 // Whether a number is the one that stands for unknown.
@@ -18,7 +20,7 @@ fn is_unnoted(note: &[i64], i: usize) -> bool
     requires { ⌜ i + 1 ≤ length (now note) ⌝ }
     ensures { λ r. ⌜ r ≡ isUnnoted (entry (now (note .entry)) i) ⌝ }
 {
-    note[i] == 100_000_000
+    numbers::is_count(note, i, UNNOTED)
 }
 
 // Whether none of the ten is known.
@@ -38,9 +40,10 @@ fn deviations_valid(note: &[i64]) -> bool
     requires { ⌜ length (now note) ≡ noteWidth ⌝ }
     ensures { λ r. ⌜ r ≡ fourValid (deviationValid false) (deviationValid true) 1 (now (note .entry)) ⌝ }
 {
-    (numbers::known_valid(note, 1, 9_999, UNNOTED) & numbers::known_valid(note, 2, 9_999, UNNOTED))
-        & (numbers::known_valid(note, 3, 9_999, UNNOTED)
-            & numbers::known_valid(note, 4, 9_999_999, UNNOTED))
+    (numbers::known_valid(note, 1, LARGEST_DEVIATION, UNNOTED)
+        & numbers::known_valid(note, 2, LARGEST_DEVIATION, UNNOTED))
+        & (numbers::known_valid(note, 3, LARGEST_DEVIATION, UNNOTED)
+            & numbers::known_valid(note, 4, LARGEST_CLOCK_DEVIATION, UNNOTED))
 }
 
 // Whether a number is a correlation.
@@ -107,7 +110,7 @@ pub(crate) fn note_spent(note: &[i64], left: usize) -> Spent
         };
     }
     Spent {
-        valid: numbers::flag_valid(note, 0, 1) & ten_valid(note),
+        valid: numbers::at_most(note, 0, 1) & ten_valid(note),
         left: lists::spend(left, line_length(note)),
     }
 }

@@ -14,19 +14,48 @@ use crate::bounds;
 use crate::lists;
 use crate::notes;
 use crate::types::Spent;
-use field::sign::is_negative;
+use field::sign::LARGEST;
 use field::sign::magnitude_of;
 use record::rows::BARE_WIDTH;
 use record::rows::BOTH_WIDTH;
 use record::rows::ROW_WIDTH;
 use record::rows::UNKNOWN;
 
+// The bounds of x, y, z and clock.
+const MOST: i64 = LARGEST as i64;
+
+const LEAST: i64 = -(LARGEST as i64);
+
 // Whether a number is one of x, y, z or clock.
 fn amount_valid(row: &[i64], i: usize) -> bool
     requires { ⌜ i + 1 ≤ length (now row) ⌝ }
     ensures { λ r. ⌜ r ≡ amountValid (entry (now (row .entry)) i) ⌝ }
 {
-    magnitude_of(row[i]) <= 999_999_999_999
+    (row[i] <= MOST) & (LEAST <= row[i])
+}
+
+// Whether a number is a count of at most so much.
+pub(crate) fn at_most(row: &[i64], i: usize, most: u64) -> bool
+    requires { ⌜ i + 1 ≤ length (now row) ⌝ }
+    ensures { λ r. ⌜ r ≡ (not (isNegative (entry (now (row .entry)) i)) && leb (natAbs (entry (now (row .entry)) i)) most) ⌝ }
+{
+    let v = row[i];
+    if v < 0 {
+        return false;
+    }
+    v as u64 <= most
+}
+
+// Whether a number is this count.
+pub(crate) fn is_count(row: &[i64], i: usize, n: u64) -> bool
+    requires { ⌜ i + 1 ≤ length (now row) ⌝ }
+    ensures { λ r. ⌜ r ≡ (not (isNegative (entry (now (row .entry)) i)) && eqb (natAbs (entry (now (row .entry)) i)) n) ⌝ }
+{
+    let v = row[i];
+    if v < 0 {
+        return false;
+    }
+    v as u64 == n
 }
 
 // Whether a number is at most so much, or the one that stands for unknown.
@@ -34,8 +63,7 @@ pub(crate) fn known_valid(row: &[i64], i: usize, most: u64, unknown: u64) -> boo
     requires { ⌜ i + 1 ≤ length (now row) ⌝ }
     ensures { λ r. ⌜ r ≡ (not (isNegative (entry (now (row .entry)) i)) && (leb (natAbs (entry (now (row .entry)) i)) most || eqb (natAbs (entry (now (row .entry)) i)) unknown)) ⌝ }
 {
-    let n = magnitude_of(row[i]);
-    !is_negative(row[i]) & ((n <= most) | (n == unknown))
+    at_most(row, i, most) | is_count(row, i, unknown)
 }
 
 // The largest flag: 1, in a V row 0.
@@ -43,14 +71,6 @@ fn most_flag(velocity: bool) -> u64
     ensures { λ r. ⌜ r ≡ mostFlag velocity ⌝ }
 {
     if velocity { 0 } else { 1 }
-}
-
-// Whether a number is a flag of at most so much.
-pub(crate) fn flag_valid(row: &[i64], i: usize, most: u64) -> bool
-    requires { ⌜ i + 1 ≤ length (now row) ⌝ }
-    ensures { λ r. ⌜ r ≡ (not (isNegative (entry (now (row .entry)) i)) && leb (natAbs (entry (now (row .entry)) i)) most) ⌝ }
-{
-    !is_negative(row[i]) & (magnitude_of(row[i]) <= most)
 }
 
 // Whether the first four numbers of a row are x, y, z and clock.
@@ -76,8 +96,8 @@ fn flags_valid(row: &[i64], velocity: bool) -> bool
     ensures { λ r. ⌜ r ≡ fourValid (flagValid velocity) (flagValid velocity) 8 (now (row .entry)) ⌝ }
 {
     let most = most_flag(velocity);
-    (flag_valid(row, 8, most) & flag_valid(row, 9, most))
-        & (flag_valid(row, 10, most) & flag_valid(row, 11, most))
+    (at_most(row, 8, most) & at_most(row, 9, most))
+        & (at_most(row, 10, most) & at_most(row, 11, most))
 }
 
 // Whether the first twelve numbers are a P row, or a V row where `velocity` says so.
@@ -129,12 +149,10 @@ fn row_spent(row: &[i64], velocity: bool, left: usize) -> Spent
     requires { ⌜ length (now row) ≡ rowWidth ⌝ }
     ensures { λ r. ⌜ (r .valid ≡ notedValid velocity (now (row .entry))) × (r .left ≡ left - notedLength (now (row .entry))) ⌝ }
 {
-    let valid = row_valid(row, velocity);
-    let rest = lists::spend(left, row_length(row));
-    let note = notes::note_spent(&row[BARE_WIDTH..ROW_WIDTH], rest);
+    let note = notes::note_spent(&row[BARE_WIDTH..ROW_WIDTH], left);
     Spent {
-        valid: valid & note.valid,
-        left: note.left,
+        valid: row_valid(row, velocity) & note.valid,
+        left: lists::spend(note.left, row_length(row)),
     }
 }
 

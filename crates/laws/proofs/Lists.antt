@@ -1,6 +1,6 @@
 -- Lists from a place on, one element more at the end, and tests of every byte.
 -- Assumes nothing.
-use mathlib.Core.Path.{_≡_, refl, _∙_}
+use mathlib.Core.Path.{_≡_, refl, ap, _∙_}
 use mathlib.Core.List.{List, [], _∷_, _++_}
 use mathlib.Core.Bool.{Bool, true}
 use Prim.Native.Nat.{ℕ, zero, suc, _+_, _-_, _<_, _≤_}
@@ -29,6 +29,12 @@ rest-part s i = take-all (length s - i) (drop i s) (omega (arith, length-drop i 
 -- one byte more
 pub snoc-length : (s : List ℕ) (b : ℕ) → length (s ++ (b ∷ [])) ≡ suc (length s)
 snoc-length s b = length-append s (b ∷ []) ∙ add-one (length s)
+
+-- the first n of m times the same byte
+pub first-same : (n m b : ℕ) → n ≤ m → take n (replicate m b) ≡ replicate n b
+first-same zero m b h = refl
+first-same (suc n) zero b h = absurd (omega arith)
+first-same (suc n) (suc m) b h = ap (λ (l : List ℕ). b ∷ l) (first-same n m b (omega arith))
 
 -- a test of every byte of two texts together
 pub every-append : (test : ℕ → Bool) (s t : List ℕ) → every test s ≡ true → every test t ≡ true → every test (s ++ t) ≡ true

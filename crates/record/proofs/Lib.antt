@@ -2,7 +2,6 @@ pub mod Answers
 pub mod Same
 pub mod Letters
 pub mod Reading
-pub mod Placeholders
 pub mod SlotKinds
 pub mod Tiled
 pub mod Taking

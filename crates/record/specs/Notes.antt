@@ -4,6 +4,7 @@
 use mathlib.Core.Bool.{Bool, true, false}
 use mathlib.Core.List.{List, [], _∷_, _++_}
 use Prim.Native.Nat.{ℕ}
+use lib.ListN.{getD}
 use Rattle.layout.specs.Kind.{Kind, Held, unnoted, numberIn, negativeIn, magnitudeIn, heldIn}
 use Rattle.layout.specs.Kind.Kind.{unused, fixed, maybe, maybeSigned}
 use Rattle.layout.specs.Kind.Held.{one, amount}
@@ -97,6 +98,13 @@ pairValues n =
 
 abbrev pub noteValues : Note → Values
 noteValues n = deviationValues n ++ pairValues n
+
+-- the deviations of a note by 0 to 3 (x, y, z, clock), and its correlations by 0 to 5 (xy, xz, xc, yz, yc, zc)
+abbrev pub deviationAt : Note → ℕ → ℕ
+deviationAt n which = getD (n .«x_deviation» ∷ n .«y_deviation» ∷ n .«z_deviation» ∷ n .«clock_deviation» ∷ []) which 0
+
+abbrev pub correlationAt : Note → ℕ → Signed
+correlationAt n which = getD (n .xy ∷ n .xz ∷ n .xc ∷ n .yz ∷ n .yc ∷ n .zc ∷ []) which (n .xy)
 
 -- what a field of a correlation holds
 abbrev pub correlationIn : List ℕ → Signed

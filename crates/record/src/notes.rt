@@ -16,6 +16,11 @@ use field::Amount;
 // Stands for an unknown deviation or correlation: no field of eight columns has it.
 pub const UNNOTED: u64 = 100_000_000;
 
+// The largest deviation of x, y and z, and that of the clock: each means too large.
+pub const LARGEST_DEVIATION: u64 = 9_999;
+
+pub const LARGEST_CLOCK_DEVIATION: u64 = 9_999_999;
+
 // The largest magnitude of a correlation, in 10^-7.
 pub const LARGEST_CORRELATION: u64 = 9_999_999;
 

@@ -2,7 +2,7 @@
 -- correlation unknown exactly where it stands for that; where none was stored there is no record, whatever is asked.
 -- Assumes nothing.
 use mathlib.Core.Path.{_≡_, refl, sym, _∙_, ap}
-use mathlib.Core.List.{List, [], _∷_, _++_}
+use mathlib.Core.List.{List, _++_}
 use mathlib.Core.Bool.{Bool, true, false, cond}
 use Prim.Native.Nat.{ℕ, zero, suc, _+_, _*_, _≤_}
 use native.Mathlib.Omega.{arith}
@@ -14,11 +14,10 @@ use lib.Seq.{getD-append-add}
 use Rattle.field.specs.Sign.{largest, signedInt}
 use Rattle.field.proofs.Signs.{magnitude-back}
 use Rattle.layout.specs.Kind.{unnoted}
-use Rattle.record.specs.Notes.{largestDeviation}
+use Rattle.record.specs.Notes.{largestDeviation, deviationAt, correlationAt}
 use Rattle.record.specs.Rows.{bareWidth, noteWidth, rowWidth}
 use Rattle.record.specs.declared.types.Note.{Note}
 use Rattle.record.specs.declared.types.Row.{Row}
-use Rattle.record.specs.declared.types.Signed.{Signed}
 use Rattle.file.proofs.Exact.{stored-exact}
 use Rattle.file.proofs.Wide.{row-wide, note-wide, no-note-wide}
 use Rattle.file.specs.Table.{storedInt, storedSigned, storedCount, rowNumbers, noteNumbers, noNote}
@@ -27,13 +26,6 @@ use Rattle.stored_row.specs.declared.types.NoteMark.the-variants as note
 use Rattle.stored_row.specs.declared.types.NoteDeviation.the-variants as noteDeviation
 use Rattle.stored_row.specs.declared.types.NoteCorrelation.the-variants as noteCorrelation
 use Rattle.stored_row.proofs.Theorems.{row-there, number-back}
-
--- the deviations of a note by 0 to 3, and its correlations by 0 to 5
-abbrev pub deviationAt : Note → ℕ → ℕ
-deviationAt n which = getD (n .«x_deviation» ∷ n .«y_deviation» ∷ n .«z_deviation» ∷ n .«clock_deviation» ∷ []) which 0
-
-abbrev pub correlationAt : Note → ℕ → Signed
-correlationAt n which = getD (n .xy ∷ n .xz ∷ n .xc ∷ n .yz ∷ n .yc ∷ n .zc ∷ []) which (n .xy)
 
 -- the k-th row among the lent numbers
 module _ (before more : List ℤ) (p : Row) (k : ℕ) (at : length before ≡ k * rowWidth) where

@@ -11,6 +11,8 @@ use crate::rows;
 use crate::types::NoteCorrelation;
 use crate::types::NoteDeviation;
 use crate::types::NoteMark;
+use record::notes::LARGEST_CLOCK_DEVIATION;
+use record::notes::LARGEST_DEVIATION;
 use record::notes::UNNOTED;
 use record::rows::BARE_WIDTH;
 use record::rows::ROW_WIDTH;
@@ -31,11 +33,14 @@ fn has_note(rows: &[i64], k: usize) -> bool
     size_at(rows, k, BARE_WIDTH) != 0
 }
 
-// Whether a deviation is the largest, which means too large: 9999, or 9999999 of the clock.
+// Whether a deviation is the largest, which means too large.
 fn is_largest(clock: bool, n: u64) -> bool
     ensures { λ r. ⌜ r ≡ eqb n (largestDeviation clock) ⌝ }
 {
-    if clock { n == 9_999_999 } else { n == 9999 }
+    if clock {
+        return n == LARGEST_CLOCK_DEVIATION;
+    }
+    n == LARGEST_DEVIATION
 }
 
 // Whether an EP or EV line stood directly after the line of the k-th row.

@@ -21,7 +21,7 @@ use Rattle.layout.specs.Line.{padded}
 use Rattle.lines.specs.Lines.{linesOf}
 use Rattle.record.specs.LineKinds.{toldKind}
 use Rattle.record.specs.Rows.{bareWidth, rowWidth}
-use Rattle.record.specs.Notes.{largestDeviation, largestCorrelation, correlationItems, noteFrom, noteTaken, noteOf, noteFault}
+use Rattle.record.specs.Notes.{largestDeviation, largestCorrelation, correlationItems, noteFrom, noteTaken, noteOf, noteFault, deviationAt, correlationAt}
 use Rattle.record.specs.declared.types.Signed.{Signed}
 use Rattle.field.proofs.Signs.{magnitude-back}
 use Rattle.file.specs.Exact.{exactSigned, exactNote}
@@ -39,7 +39,7 @@ use Rattle.file_laws.proofs.Sorting.{note-kind, row-kind}
 use Rattle.file_laws.proofs.Clean.{record-clean}
 use Rattle.file_laws.proofs.Exact.{note-exact}
 use Rattle.file_laws.proofs.Following.{isNoteKind, note-told, after-row, file-follows}
-use Rattle.stored_row.proofs.Noted.{deviationAt, correlationAt, note-stands, deviation-back, deviation-unknown-at, deviation-unknown-only, deviation-large-at, deviation-large-only, correlation-back, correlation-unknown-at, correlation-unknown-only, no-record, no-deviation-recorded, no-correlation-recorded}
+use Rattle.stored_row.proofs.Noted.{note-stands, deviation-back, deviation-unknown-at, deviation-unknown-only, deviation-large-at, deviation-large-only, correlation-back, correlation-unknown-at, correlation-unknown-only, no-record, no-deviation-recorded, no-correlation-recorded}
 use Rattle.theorems.specs.Files.{header, lineAsked, tableRow, There, linesAfter, HasNote, held, deviationField, correlationField}
 use Rattle.theorems.proofs.NoteFields.{known-blank, known-within, known-few, deviation-known, deviation-low, correlation-known}
 use Rattle.theorems.proofs.Reading.{line-in-table, row-in-table}

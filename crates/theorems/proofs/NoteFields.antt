@@ -19,7 +19,7 @@ use Rattle.layout.specs.Kind.{unnoted, isBlank, maybeHeld, heldAmount, magnitud
 use Rattle.layout.specs.Kind.Held.{amount}
 use Rattle.layout.specs.Line.{padded}
 use Rattle.record.specs.Rows.{cut}
-use Rattle.record.specs.Notes.{largestDeviation, largestCorrelation, correlation, correlationIn, noteTaken, noteOf, noteFault}
+use Rattle.record.specs.Notes.{largestDeviation, largestCorrelation, correlation, correlationIn, noteTaken, noteOf, noteFault, deviationAt, correlationAt}
 use Rattle.field.specs.declared.Whole.{Whole}
 use Rattle.field.specs.declared.Whole.the-variants as whole
 use Rattle.field.specs.declared.Exponent.the-variants as exponents
@@ -31,7 +31,6 @@ use Rattle.field.proofs.Reading.{exponent-blank, exponent-read}
 use Rattle.layout.proofs.Lines.{padded-length}
 use Rattle.file_laws.proofs.Clean.{amount-bounds}
 use Rattle.file_laws.proofs.Exact.{field-clean}
-use Rattle.stored_row.proofs.Noted.{deviationAt, correlationAt}
 use Rattle.theorems.specs.Files.{deviationField, correlationField}
 
 -- what a field holds: unknown where it is blank, else a number up to the most

@@ -1,10 +1,9 @@
 -- The records that the lines of a table show, from what the calendar tells and from stored numbers.
 -- Assumes nothing.
-use mathlib.Core.Path.{_≡_, refl, ap, _∙_}
+use mathlib.Core.Path.{_≡_, refl, sym, ap, _∙_}
 use mathlib.Core.Bool.{Bool, true, false, cond, not}
 use mathlib.Core.List.{List, [], _∷_, _++_}
 use Prim.Native.Nat.{ℕ, zero, suc, _+_, _-_, _*_, _/_, _%_, _≤_, _<_, _^_}
-use native.Mathlib.Nat.{le-of-suc-le-suc}
 use native.Mathlib.Omega.{arith}
 use mir.Syntax.{w64}
 use mir.Val.{hbits, toZ, ofZ}
@@ -13,6 +12,7 @@ use lib.Dec.{eqb}
 use lib.IntN.{ℤ, natAbs}
 use lib.Signed.{mag}
 use lib.ListN.{length, take, drop, replicate}
+use Rattle.laws.proofs.Lists.{first-same}
 use Rattle.calendar.specs.Gregorian.{firstMjd, dateOf, civilAnswer, toldNamed}
 use Rattle.calendar.specs.Clock.{dayUnits, clockOf, weekAnswer, toldWeek}
 use Rattle.calendar.specs.Fraction.{fractionAnswer, toldFraction}
@@ -66,14 +66,9 @@ unfolding toldFraction
 fractional time f h told = toldFraction-one f (F.Of ((125 * time + 54) / 108)) (told ∙ fraction-at time h)
 
 -- numbers laid over zeros are followed by zeros
-zeros-front : (n m : ℕ) → n ≤ m → replicate {A = ℕ} n 0 ≡ take n (replicate {A = ℕ} m 0)
-zeros-front zero m h = refl
-zeros-front (suc n) zero h = absurd (omega arith)
-zeros-front (suc n) (suc m) h = ap {B = List ℕ} (λ t. 0 ∷ t) (zeros-front n m (le-of-suc-le-suc h))
-
 over-zeros : (s : List ℕ) (n m : ℕ) → n ≤ m → take n s ++ drop (length s) (replicate {A = ℕ} n 0) ≡ take n (s ++ replicate {A = ℕ} m 0)
 over-zeros [] zero m h = refl
-over-zeros [] (suc n) m h = zeros-front (suc n) m h
+over-zeros [] (suc n) m h = sym (first-same (suc n) m 0 h)
 over-zeros (a ∷ s) zero m h = refl
 over-zeros (a ∷ s) (suc n) m h = ap {B = List ℕ} (λ t. a ∷ t) (over-zeros s n m (omega arith))
 

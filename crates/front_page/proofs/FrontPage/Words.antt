@@ -92,11 +92,10 @@ pub use Rattle.layout.specs.Layout.{valuesOf}
 pub use Rattle.layout.specs.Kind.{unnoted, isBlank}
 pub use Rattle.layout.specs.Line.{padded, ended}
 pub use Rattle.record.specs.Rows.{rowItems, rowFrom, bareWidth, rowWidth}
-pub use Rattle.record.specs.Notes.{correlationItems, correlationSymbol, largestDeviation, largestCorrelation, noteFrom, noteOf, noteLine}
+pub use Rattle.record.specs.Notes.{correlationItems, correlationSymbol, largestDeviation, largestCorrelation, noteFrom, noteOf, noteLine, deviationAt, correlationAt}
 pub use Rattle.record.specs.Absence.{placeAbsent, clockAbsent}
 pub use Rattle.reader.specs.Reading as read-as
 pub use Rattle.stored_row.specs.Stored.{isThere, placeIn, clockIn, deviationOf, deviationIn, flagIn, noteIn, noteDeviationOf, noteDeviationIn, noteCorrelationIn}
-pub use Rattle.stored_row.proofs.Noted.{deviationAt, correlationAt}
 pub use Rattle.stored_row.specs.declared.types.Place.the-variants as place
 pub use Rattle.stored_row.specs.declared.types.ClockRead.the-variants as clock
 pub use Rattle.stored_row.specs.declared.types.Deviation.the-variants as deviation

@@ -29,7 +29,7 @@ returns-2 c =
     let start = asked .before in
     let stood : isNoted (start .args .note .now) ≡ true = sym (asked .is-noted .ensures) ∙ not-false _ (ten .before .before .if1 .left) in
     rw stood (
-      both (ten .before .flag-valid .ensures) (ten .ten-valid .ensures),
+      both (ten .before .at-most .ensures) (ten .ten-valid .ensures),
       c .spend .ensures ∙ ap (λ (n : ℕ). start .args .left - n) (c .before .line-length .ensures),
     )
 

@@ -11,7 +11,7 @@ returns c =
     let second = third .before in
     let first = second .before in
     rw (← first .before .most-flag .ensures)
-    (two-pairs (first .flag-valid .ensures) (second .flag-valid2 .ensures) (third .flag-valid3 .ensures) (c .flag-valid4 .ensures))
+    (two-pairs (first .at-most .ensures) (second .at-most2 .ensures) (third .at-most3 .ensures) (c .at-most4 .ensures))
 
 pub flags-valid-spec : {M : Type 1} → statement M
 flags-valid-spec = tie.close (tie.spec (λ c κs. search needs) (λ c κs. search needs) (λ c κs. search needs) (λ c κs. search needs) (λ c κs. search needs) returns)

@@ -15,25 +15,25 @@ use Rattle.canon.proofs.numbers.row_spent.Tie as tie
 returns : tie.Need-returns
 unfolding notedValid notedLength
 returns c =
-    let note = c .before in
-    let rest = note .before .before in
-    let judged = rest .before .before in
-    let start = judged .before in
+    let measured = c .before in
+    let judged = measured .before .before in
+    let note = judged .before in
+    let start = note .before .before in
     let row = start .args .row .now in
     let all = take-all noteWidth (drop bareWidth row) (omega (arith, length-drop bareWidth row, start .pre)) in (
       both (judged .row-valid .ensures) (note .note-spent .ensures .0 ∙ ap noteValid all),
-      omega (arith, note .note-spent .ensures .1, ap noteLength all, rest .spend .ensures, rest .before .row-length .ensures .0),
+      omega (arith, c .spend .ensures, measured .row-length .ensures .0, note .note-spent .ensures .1, ap noteLength all),
     )
 
 pub row-spent-spec : {M : Type 1} → statement M
 row-spent-spec =
     tie.close
     (tie.spec
-    (λ c κs. search needs)
-    (λ c κs. search needs)
-    (λ c κs. search needs)
     (λ c. search needs)
     (λ c. search needs)
     (λ c. search needs)
+    (λ c κs. search needs)
+    (λ c κs. search needs)
+    (λ c κs. search needs)
     (λ c κs. search needs)
     returns)

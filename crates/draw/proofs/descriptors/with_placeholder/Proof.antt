@@ -7,7 +7,7 @@ use native.Mathlib.Omega.{arith}
 use borrow.Author.Needs.{needs}
 use lib.Seq.{length-take-le}
 use Rattle.layout.specs.Layout.{overlaid}
-use Rattle.record.proofs.Placeholders.{first-of}
+use Rattle.laws.proofs.Lists.{first-same}
 use Rattle.draw.proofs.descriptors.with_placeholder.Statement.{statement}
 use Rattle.draw.proofs.descriptors.with_placeholder.Tie as tie
 
@@ -22,7 +22,7 @@ returns c =
     let a = c .before .before .args in
     let width = a .last - (a .first - 1) in
     let short : width ≤ 5 = omega arith in
-    c .with-fixed .ensures ∙ ap (λ (these : List ℕ). overlaid (a .first) (a .last) these (a .line)) (first-of width 5 99 short)
+    c .with-fixed .ensures ∙ ap (λ (these : List ℕ). overlaid (a .first) (a .last) these (a .line)) (first-same width 5 99 short)
 
 pub with-placeholder-spec : {M : Type 1} → statement M
 with-placeholder-spec =

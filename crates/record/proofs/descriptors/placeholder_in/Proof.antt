@@ -11,7 +11,7 @@ use Rattle.layout.specs.Kind.Kind.{unused, fixed}
 use Rattle.layout.specs.Layout.{column, columns, faultAt}
 use Rattle.record.specs.Descriptors.{cs}
 use Rattle.layout.proofs.Reading.{judged, judges, past}
-use Rattle.record.proofs.Placeholders.{first-of}
+use Rattle.laws.proofs.Lists.{first-same}
 use Rattle.record.proofs.descriptors.placeholder_in.Statement.{statement}
 use Rattle.record.proofs.descriptors.placeholder_in.Tie as tie
 
@@ -26,7 +26,7 @@ returns c =
     let after = c .before .before .unused-in .result in
     judges (column (a .blank) unused ∷ columns (a .blank + 1) (a .last) (cs width) ∷ []) (a .line .now) (a .lowest)
     (past (c .before .before .unused-in .ensures)
-    (past (c .fixed-in .ensures ∙ ap (λ (these : List ℕ). lower after (faultAt (columns (a .blank + 1) (a .last) (fixed 5 these)) (a .line .now))) (first-of width 5 99 short))
+    (past (c .fixed-in .ensures ∙ ap (λ (these : List ℕ). lower after (faultAt (columns (a .blank + 1) (a .last) (fixed 5 these)) (a .line .now))) (first-same width 5 99 short))
     judged))
 
 pub placeholder-in-spec : {M : Type 1} → statement M
