@@ -7,7 +7,7 @@ use header::Texts;
 use record::plain::COMMENT_WIDTH;
 use record::rows::ROW_WIDTH;
 use stored_row::ClockRead;
-use stored_row::Deviation;
+use stored_row::ExponentRead;
 use stored_row::Flag;
 use stored_row::NoteCorrelation;
 use stored_row::NoteDeviation;
@@ -141,10 +141,10 @@ fn clock(rows: &[i64], k: usize) {
 // An exponent of a row.
 fn exponent(rows: &[i64], k: usize, which: usize) {
     match stored_row::exponent_of(rows, k, which) {
-        Deviation::Value(n) => print::value(n),
-        Deviation::Unknown => print::text(b" unknown"),
-        Deviation::TooLarge => print::text(b" large"),
-        Deviation::NotThere => print::text(b" none"),
+        ExponentRead::Value(n) => print::value(n),
+        ExponentRead::Unknown => print::text(b" unknown"),
+        ExponentRead::TooLarge => print::text(b" large"),
+        ExponentRead::NotThere => print::text(b" none"),
     }
 }
 

@@ -160,8 +160,8 @@ module _ (bytes : List ℕ) (accepted : IsFile d bytes) (identifiers exponents c
   row-clock = lent.lent-clock bytes accepted identifiers exponents comments old read k j there v mode
 
   -- the exponents of x, y, z and clock are a value, unknown, or too large,
-  pub row-exponents : (deviationIn rows r 0 ≡ deviationOf 0 (row .«x_exponent»)) × (deviationIn rows r 1 ≡ deviationOf 1 (row .«y_exponent»))
-      × (deviationIn rows r 2 ≡ deviationOf 2 (row .«z_exponent»)) × (deviationIn rows r 3 ≡ deviationOf 3 (row .«clock_exponent»))
+  pub row-exponents : (exponentReadIn rows r 0 ≡ exponentReadOf 0 (row .«x_exponent»)) × (exponentReadIn rows r 1 ≡ exponentReadOf 1 (row .«y_exponent»))
+      × (exponentReadIn rows r 2 ≡ exponentReadOf 2 (row .«z_exponent»)) × (exponentReadIn rows r 3 ≡ exponentReadOf 3 (row .«clock_exponent»))
   row-exponents = lent.lent-exponents bytes accepted identifiers exponents comments old read k j there v mode
 
   -- and the flags are those of columns 75, 76, 79 and 80.
@@ -222,7 +222,7 @@ pub stored-thirteen : (rows : List ℤ) (k : ℕ)
 stored-thirteen rows k = answers.stored-thirteen rows k
 
 pub stored-parts-thirteen : (rows : List ℤ) (k which : ℕ)
-    → ((deviationIn rows k which ≡ deviation.NotThere) ↔ ((isThere rows k && leb which 3) ≡ false))
+    → ((exponentReadIn rows k which ≡ exponentRead.NotThere) ↔ ((isThere rows k && leb which 3) ≡ false))
     × ((flagIn rows k which ≡ flag.NotThere) ↔ ((isThere rows k && leb which 3) ≡ false))
 stored-parts-thirteen rows k which = answers.stored-parts-thirteen rows k which
 

@@ -6,7 +6,7 @@ use Prim.Native.Nat.{ℕ}
 use lib.ListN.{getD}
 use Rattle.calendar.specs.Gregorian.{toldDate, toldNamed}
 use Rattle.machine.specs.Told.{toldRead}
-use Rattle.stored_row.specs.Stored.{toldPlace, toldClock, toldDeviation, toldFlag, toldNote, toldNoteDeviation, toldNoteCorrelation}
+use Rattle.stored_row.specs.Stored.{toldPlace, toldClock, toldExponentRead, toldFlag, toldNote, toldNoteDeviation, toldNoteCorrelation}
 use Rattle.row_walk.specs.Told.{toldStep}
 use Rattle.calendar.specs.declared.types.Dated.{Dated}
 use Rattle.calendar.specs.declared.types.Named.{Named}
@@ -17,8 +17,8 @@ use Rattle.stored_row.specs.declared.types.Place.{Place}
 use Rattle.stored_row.specs.declared.types.Place.the-variants as place
 use Rattle.stored_row.specs.declared.types.ClockRead.{ClockRead}
 use Rattle.stored_row.specs.declared.types.ClockRead.the-variants as clock
-use Rattle.stored_row.specs.declared.types.Deviation.{Deviation}
-use Rattle.stored_row.specs.declared.types.Deviation.the-variants as deviation
+use Rattle.stored_row.specs.declared.types.ExponentRead.{ExponentRead}
+use Rattle.stored_row.specs.declared.types.ExponentRead.the-variants as exponentRead
 use Rattle.stored_row.specs.declared.types.Flag.{Flag}
 use Rattle.stored_row.specs.declared.types.Flag.the-variants as flag
 use Rattle.stored_row.specs.declared.types.NoteMark.{NoteMark}
@@ -57,12 +57,12 @@ clock-door-number (clock.At v) = refl
 clock-door-number clock.Absent = refl
 clock-door-number clock.NotThere = refl
 
-pub exponent-door-number : (a : Deviation) → exponentDoor a .refusal ≡ numberTold (toldDeviation a)
+pub exponent-door-number : (a : ExponentRead) → exponentDoor a .refusal ≡ numberTold (toldExponentRead a)
 unfolding exponentDoor
-exponent-door-number (deviation.Value n) = refl
-exponent-door-number deviation.Unknown = refl
-exponent-door-number deviation.TooLarge = refl
-exponent-door-number deviation.NotThere = refl
+exponent-door-number (exponentRead.Value n) = refl
+exponent-door-number exponentRead.Unknown = refl
+exponent-door-number exponentRead.TooLarge = refl
+exponent-door-number exponentRead.NotThere = refl
 
 pub flag-door-number : (a : Flag) → flagDoor a .refusal ≡ numberTold (toldFlag a)
 unfolding flagDoor

@@ -11,8 +11,8 @@ use Rattle.stored_row.specs.declared.types.Place.{Place}
 use Rattle.stored_row.specs.declared.types.Place.the-variants as place
 use Rattle.stored_row.specs.declared.types.ClockRead.{ClockRead}
 use Rattle.stored_row.specs.declared.types.ClockRead.the-variants as clock
-use Rattle.stored_row.specs.declared.types.Deviation.{Deviation}
-use Rattle.stored_row.specs.declared.types.Deviation.the-variants as deviation
+use Rattle.stored_row.specs.declared.types.ExponentRead.{ExponentRead}
+use Rattle.stored_row.specs.declared.types.ExponentRead.the-variants as exponentRead
 use Rattle.stored_row.specs.declared.types.Flag.{Flag}
 use Rattle.stored_row.specs.declared.types.Flag.the-variants as flag
 use Rattle.stored_row.specs.declared.types.NoteMark.{NoteMark}
@@ -92,11 +92,11 @@ clockDoor clock.NotThere = noClock 13
 abbrev pub exponentParts : ℕ → Bool → Bool → ℕ → StoredExponent
 exponentParts number unknown large value = record { refusal = number; unknown = unknown; «too_large» = large; value = value }
 
-unfoldable pub exponentDoor : Deviation → StoredExponent
-exponentDoor (deviation.Value n) = exponentParts 0 false false n
-exponentDoor deviation.Unknown = exponentParts 0 true false 0
-exponentDoor deviation.TooLarge = exponentParts 0 false true 0
-exponentDoor deviation.NotThere = exponentParts 13 true false 0
+unfoldable pub exponentDoor : ExponentRead → StoredExponent
+exponentDoor (exponentRead.Value n) = exponentParts 0 false false n
+exponentDoor exponentRead.Unknown = exponentParts 0 true false 0
+exponentDoor exponentRead.TooLarge = exponentParts 0 false true 0
+exponentDoor exponentRead.NotThere = exponentParts 13 true false 0
 
 -- a flag
 abbrev pub flagParts : ℕ → Bool → StoredFlag

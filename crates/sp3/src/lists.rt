@@ -1,7 +1,7 @@
 // Rows in lent memory, asked for by name.
 ghost use mathlib.Core.Path.{_≡_};
 ghost use mathlib.Core.Bool.{Bool};
-ghost use Rattle.stored_row.specs.Stored.{placeIn, clockIn, deviationIn, flagIn, noteIn, noteDeviationIn, noteCorrelationIn};
+ghost use Rattle.stored_row.specs.Stored.{placeIn, clockIn, exponentReadIn, flagIn, noteIn, noteDeviationIn, noteCorrelationIn};
 ghost use Rattle.sp3.specs.Doors.{noPlace, noClock, exponentParts, flagParts, noteParts, noDeviation, noCorrelation, placeDoor, clockDoor, exponentDoor, flagDoor, noteDoor, noteDeviationDoor, noteCorrelationDoor};
 use crate::types::NoteCorrelationAnswer;
 use crate::types::NoteDeviationAnswer;
@@ -11,7 +11,7 @@ use crate::types::StoredFlag;
 use crate::types::StoredNote;
 use crate::types::StoredPlace;
 use stored_row::ClockRead;
-use stored_row::Deviation;
+use stored_row::ExponentRead;
 use stored_row::Flag;
 use stored_row::NoteCorrelation;
 use stored_row::NoteDeviation;
@@ -109,21 +109,21 @@ fn exponent(refusal: usize, unknown: bool, too_large: bool, value: u64) -> Store
 }
 
 // An exponent, for C.
-fn exponent_answer(found: Deviation) -> StoredExponent
+fn exponent_answer(found: ExponentRead) -> StoredExponent
     ensures { λ r. ⌜ r ≡ exponentDoor found ⌝ }
 {
     match found {
-        Deviation::Value(value) => exponent(0, false, false, value),
-        Deviation::Unknown => exponent(0, true, false, 0),
-        Deviation::TooLarge => exponent(0, false, true, 0),
-        Deviation::NotThere => exponent(13, true, false, 0),
+        ExponentRead::Value(value) => exponent(0, false, false, value),
+        ExponentRead::Unknown => exponent(0, true, false, 0),
+        ExponentRead::TooLarge => exponent(0, false, true, 0),
+        ExponentRead::NotThere => exponent(13, true, false, 0),
     }
 }
 
 // The exponent of x, y, z or clock (0 to 3) of the k-th stored row.
 #[no_mangle]
 pub extern "C" fn sp3_exponent_of(rows: &[i64], k: usize, which: usize) -> StoredExponent
-    ensures result { λ r. ⌜ r ≡ exponentDoor (deviationIn (now (rows .entry)) k which) ⌝ }
+    ensures result { λ r. ⌜ r ≡ exponentDoor (exponentReadIn (now (rows .entry)) k which) ⌝ }
 {
     exponent_answer(stored_row::exponent_of(rows, k, which))
 }

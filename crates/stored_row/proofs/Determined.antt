@@ -1,7 +1,7 @@
 -- Any two outcomes that a contract allows agree.
 -- Assumes nothing.
 use mathlib.Core.Path.{_≡_, sym, _∙_}
-use Rattle.stored_row.proofs.Told.{toldPlace-one, toldClock-one, toldDeviation-one, toldFlag-one, toldNote-one, toldNoteDeviation-one, toldNoteCorrelation-one}
+use Rattle.stored_row.proofs.Told.{toldPlace-one, toldClock-one, toldExponentRead-one, toldFlag-one, toldNote-one, toldNoteDeviation-one, toldNoteCorrelation-one}
 use Rattle.stored_row.proofs.rows.stored_number.Reads as stored-number
 use Rattle.stored_row.proofs.rows.place_of.Reads as place-of
 use Rattle.stored_row.proofs.rows.clock_of.Reads as clock-of
@@ -21,7 +21,7 @@ pub clock-of-determined : (κs : _) (a : _) (r r′ : _) (s s′ : _) → clock-
 clock-of-determined κs a r r′ s s′ p q = toldClock-one r r′ (p ∙ sym q)
 
 pub exponent-of-determined : (κs : _) (a : _) (r r′ : _) (s s′ : _) → exponent-of.Post κs a r s → exponent-of.Post κs a r′ s′ → r ≡ r′
-exponent-of-determined κs a r r′ s s′ p q = toldDeviation-one r r′ (p ∙ sym q)
+exponent-of-determined κs a r r′ s s′ p q = toldExponentRead-one r r′ (p ∙ sym q)
 
 pub flag-of-determined : (κs : _) (a : _) (r r′ : _) (s s′ : _) → flag-of.Post κs a r s → flag-of.Post κs a r′ s′ → r ≡ r′
 flag-of-determined κs a r r′ s s′ p q = toldFlag-one r r′ (p ∙ sym q)

@@ -22,10 +22,10 @@ use Rattle.layout.specs.Kind.{unnoted}
 use Rattle.record.specs.Notes.{largestDeviation}
 use Rattle.record.specs.Rows.{bareWidth, rowWidth}
 use Rattle.file.specs.Table.{storedInt}
-use Rattle.stored_row.specs.Stored.{isThere, numberAt, isPlaceAbsent, placeIn, clockIn, deviationOf, deviationIn, flagIn, hasNote, noteIn, noteDeviationOf, noteDeviationIn, noteCorrelationIn}
+use Rattle.stored_row.specs.Stored.{isThere, numberAt, isPlaceAbsent, placeIn, clockIn, exponentReadOf, exponentReadIn, flagIn, hasNote, noteIn, noteDeviationOf, noteDeviationIn, noteCorrelationIn}
 use Rattle.stored_row.specs.declared.types.Place.the-variants as place
 use Rattle.stored_row.specs.declared.types.ClockRead.the-variants as clock
-use Rattle.stored_row.specs.declared.types.Deviation.the-variants as deviation
+use Rattle.stored_row.specs.declared.types.ExponentRead.the-variants as exponentRead
 use Rattle.stored_row.specs.declared.types.Flag.the-variants as flag
 use Rattle.stored_row.specs.declared.types.NoteMark.the-variants as noteMark
 use Rattle.stored_row.specs.declared.types.NoteDeviation.the-variants as noteDeviation
@@ -140,9 +140,9 @@ module _ (rows : List ℤ) (k : ℕ) where
     abbrev asked : Bool
     asked = isThere rows k && leb which 3
 
-    pub no-deviation : asked ≡ false → deviation.NotThere ≡ deviationIn rows k which
-    unfolding deviationIn
-    no-deviation e = rw e refl
+    pub no-exponent : asked ≡ false → exponentRead.NotThere ≡ exponentReadIn rows k which
+    unfolding exponentReadIn
+    no-exponent e = rw e refl
 
     pub no-flag : asked ≡ false → flag.NotThere ≡ flagIn rows k which
     unfolding flagIn
@@ -151,22 +151,22 @@ module _ (rows : List ℤ) (k : ℕ) where
     module _ (there : asked ≡ true) {n : ℕ} where
       -- an exponent, by its tests
       module _ (f : Read rows k (4 + which)) (e : n ≡ natAbs (readAt rows k (4 + which))) where
-        pub deviation-is : deviationOf which n ≡ deviationIn rows k which
-        unfolding deviationIn
+        pub deviation-is : exponentReadOf which n ≡ exponentReadIn rows k which
+        unfolding exponentReadIn
         deviation-is = rw (there, abs-read (4 + which) f e)
 
-        pub unknown-is : {u : Bool} → u ≡ isUnknown n → u ≡ true → deviation.Unknown ≡ deviationIn rows k which
+        pub unknown-is : {u : Bool} → u ≡ isUnknown n → u ≡ true → exponentRead.Unknown ≡ exponentReadIn rows k which
         unknown-is {u} eu t =
             let test : isUnknown n ≡ true = sym eu ∙ t in
-            let shown : deviation.Unknown ≡ deviationOf which n = rw test refl in
+            let shown : exponentRead.Unknown ≡ exponentReadOf which n = rw test refl in
             shown ∙ deviation-is
 
         pub known-is : (t : Bool) {u l : Bool} → u ≡ isUnknown n → u ≡ false → l ≡ isTooLarge (eqb which 3) n → l ≡ t
-            → cond t deviation.TooLarge (deviation.Value n) ≡ deviationIn rows k which
+            → cond t exponentRead.TooLarge (exponentRead.Value n) ≡ exponentReadIn rows k which
         known-is t {u} {l} eu known el is =
             let test : isUnknown n ≡ false = sym eu ∙ known in
             let large : isTooLarge (eqb which 3) n ≡ t = sym el ∙ is in
-            let shown : cond t deviation.TooLarge (deviation.Value n) ≡ deviationOf which n = rw (test, large) refl in
+            let shown : cond t exponentRead.TooLarge (exponentRead.Value n) ≡ exponentReadOf which n = rw (test, large) refl in
             shown ∙ deviation-is
 
       -- a flag, by its number

@@ -20,7 +20,7 @@ use Rattle.record.specs.declared.types.Row.{Row}
 use Rattle.record.specs.declared.types.Signed.{Signed}
 use Rattle.file.proofs.Exact.{stored-exact}
 use Rattle.file.specs.Table.{storedInt, storedSigned, storedCount, storedMark, markNumber, rowNumbers}
-use Rattle.stored_row.specs.Stored.{isThere, numberAt, placeIn, clockIn, deviationOf, deviationIn, flagIn}
+use Rattle.stored_row.specs.Stored.{isThere, numberAt, placeIn, clockIn, exponentReadOf, exponentReadIn, flagIn}
 use Rattle.stored_row.specs.declared.types.Place.the-variants as place
 use Rattle.stored_row.specs.declared.types.ClockRead.the-variants as clock
 use Rattle.stored_row.specs.declared.types.Flag.the-variants as flag
@@ -141,8 +141,8 @@ module _ (before note more : List ℤ) (p : Row) (k : ℕ) (at : length before �
 
   -- the exponents and the flags, by their places
   deviation-back : (which n : ℕ) → leb which 3 ≡ true → getD own (4 + which) (pos 0) ≡ storedCount n → n ≤ largest
-      → deviationIn rows k which ≡ deviationOf which n
-  unfolding deviationIn
+      → exponentReadIn rows k which ≡ exponentReadOf which n
+  unfolding exponentReadIn
   deviation-back which n w is h =
       let size : natAbs (numberAt rows k (4 + which)) ≡ n = ap natAbs (number-back (4 + which) ∙ is) ∙ stored-size false n h in
       rw (row-there, w, size)
@@ -164,8 +164,8 @@ module _ (before note more : List ℤ) (p : Row) (k : ℕ) (at : length before �
       shown false = refl
 
   pub exponents-back : p .«x_exponent» ≤ largest → p .«y_exponent» ≤ largest → p .«z_exponent» ≤ largest → p .«clock_exponent» ≤ largest
-      → (deviationIn rows k 0 ≡ deviationOf 0 (p .«x_exponent»)) × (deviationIn rows k 1 ≡ deviationOf 1 (p .«y_exponent»))
-      × (deviationIn rows k 2 ≡ deviationOf 2 (p .«z_exponent»)) × (deviationIn rows k 3 ≡ deviationOf 3 (p .«clock_exponent»))
+      → (exponentReadIn rows k 0 ≡ exponentReadOf 0 (p .«x_exponent»)) × (exponentReadIn rows k 1 ≡ exponentReadOf 1 (p .«y_exponent»))
+      × (exponentReadIn rows k 2 ≡ exponentReadOf 2 (p .«z_exponent»)) × (exponentReadIn rows k 3 ≡ exponentReadOf 3 (p .«clock_exponent»))
   unfolding rowNumbers
   exponents-back hx hy hz hc = (
     deviation-back 0 (p .«x_exponent») refl refl hx,

@@ -3,13 +3,13 @@
 use mathlib.Core.Path.{_≡_, refl}
 use lib.IntN.{ℤ, pos, negsuc, natAbs}
 use Rattle.field.specs.Sign.{isNegative}
-use Rattle.stored_row.specs.Stored.{signNumber, toldPlace, toldClock, toldDeviation, toldFlag, toldNote, toldNoteDeviation, toldNoteCorrelation}
+use Rattle.stored_row.specs.Stored.{signNumber, toldPlace, toldClock, toldExponentRead, toldFlag, toldNote, toldNoteDeviation, toldNoteCorrelation}
 use Rattle.stored_row.specs.declared.types.Place.{Place}
 use Rattle.stored_row.specs.declared.types.Place.the-variants as place
 use Rattle.stored_row.specs.declared.types.ClockRead.{ClockRead}
 use Rattle.stored_row.specs.declared.types.ClockRead.the-variants as clock
-use Rattle.stored_row.specs.declared.types.Deviation.{Deviation}
-use Rattle.stored_row.specs.declared.types.Deviation.the-variants as deviation
+use Rattle.stored_row.specs.declared.types.ExponentRead.{ExponentRead}
+use Rattle.stored_row.specs.declared.types.ExponentRead.the-variants as exponentRead
 use Rattle.stored_row.specs.declared.types.Flag.{Flag}
 use Rattle.stored_row.specs.declared.types.Flag.the-variants as flag
 use Rattle.stored_row.specs.declared.types.NoteMark.{NoteMark}
@@ -62,23 +62,23 @@ toldClock-one clock.NotThere (clock.At u) e = cc
 toldClock-one clock.NotThere clock.Absent e = cc
 toldClock-one clock.NotThere clock.NotThere e = refl
 
-pub toldDeviation-one : (a b : Deviation) → toldDeviation a ≡ toldDeviation b → a ≡ b
-toldDeviation-one (deviation.Value n) (deviation.Value m) e = cc
-toldDeviation-one (deviation.Value n) deviation.Unknown e = cc
-toldDeviation-one (deviation.Value n) deviation.TooLarge e = cc
-toldDeviation-one (deviation.Value n) deviation.NotThere e = cc
-toldDeviation-one deviation.Unknown (deviation.Value m) e = cc
-toldDeviation-one deviation.Unknown deviation.Unknown e = refl
-toldDeviation-one deviation.Unknown deviation.TooLarge e = cc
-toldDeviation-one deviation.Unknown deviation.NotThere e = cc
-toldDeviation-one deviation.TooLarge (deviation.Value m) e = cc
-toldDeviation-one deviation.TooLarge deviation.Unknown e = cc
-toldDeviation-one deviation.TooLarge deviation.TooLarge e = refl
-toldDeviation-one deviation.TooLarge deviation.NotThere e = cc
-toldDeviation-one deviation.NotThere (deviation.Value m) e = cc
-toldDeviation-one deviation.NotThere deviation.Unknown e = cc
-toldDeviation-one deviation.NotThere deviation.TooLarge e = cc
-toldDeviation-one deviation.NotThere deviation.NotThere e = refl
+pub toldExponentRead-one : (a b : ExponentRead) → toldExponentRead a ≡ toldExponentRead b → a ≡ b
+toldExponentRead-one (exponentRead.Value n) (exponentRead.Value m) e = cc
+toldExponentRead-one (exponentRead.Value n) exponentRead.Unknown e = cc
+toldExponentRead-one (exponentRead.Value n) exponentRead.TooLarge e = cc
+toldExponentRead-one (exponentRead.Value n) exponentRead.NotThere e = cc
+toldExponentRead-one exponentRead.Unknown (exponentRead.Value m) e = cc
+toldExponentRead-one exponentRead.Unknown exponentRead.Unknown e = refl
+toldExponentRead-one exponentRead.Unknown exponentRead.TooLarge e = cc
+toldExponentRead-one exponentRead.Unknown exponentRead.NotThere e = cc
+toldExponentRead-one exponentRead.TooLarge (exponentRead.Value m) e = cc
+toldExponentRead-one exponentRead.TooLarge exponentRead.Unknown e = cc
+toldExponentRead-one exponentRead.TooLarge exponentRead.TooLarge e = refl
+toldExponentRead-one exponentRead.TooLarge exponentRead.NotThere e = cc
+toldExponentRead-one exponentRead.NotThere (exponentRead.Value m) e = cc
+toldExponentRead-one exponentRead.NotThere exponentRead.Unknown e = cc
+toldExponentRead-one exponentRead.NotThere exponentRead.TooLarge e = cc
+toldExponentRead-one exponentRead.NotThere exponentRead.NotThere e = refl
 
 pub toldFlag-one : (a b : Flag) → toldFlag a ≡ toldFlag b → a ≡ b
 toldFlag-one flag.Set flag.Set e = refl

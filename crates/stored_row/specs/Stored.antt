@@ -15,8 +15,8 @@ use Rattle.stored_row.specs.declared.types.Place.{Place}
 use Rattle.stored_row.specs.declared.types.Place.the-variants as place
 use Rattle.stored_row.specs.declared.types.ClockRead.{ClockRead}
 use Rattle.stored_row.specs.declared.types.ClockRead.the-variants as clock
-use Rattle.stored_row.specs.declared.types.Deviation.{Deviation}
-use Rattle.stored_row.specs.declared.types.Deviation.the-variants as deviation
+use Rattle.stored_row.specs.declared.types.ExponentRead.{ExponentRead}
+use Rattle.stored_row.specs.declared.types.ExponentRead.the-variants as exponentRead
 use Rattle.stored_row.specs.declared.types.Flag.{Flag}
 use Rattle.stored_row.specs.declared.types.Flag.the-variants as flag
 use Rattle.stored_row.specs.declared.types.NoteMark.{NoteMark}
@@ -52,12 +52,12 @@ clockIn rows k =
     clock.NotThere
 
 -- the exponents of x, y, z and clock are asked for by 0 to 3
-abbrev pub deviationOf : ℕ → ℕ → Deviation
-deviationOf which n = cond (isUnknown n) deviation.Unknown (cond (isTooLarge (eqb which 3) n) deviation.TooLarge (deviation.Value n))
+abbrev pub exponentReadOf : ℕ → ℕ → ExponentRead
+exponentReadOf which n = cond (isUnknown n) exponentRead.Unknown (cond (isTooLarge (eqb which 3) n) exponentRead.TooLarge (exponentRead.Value n))
 
-unfoldable pub deviationIn : List ℤ → ℕ → ℕ → Deviation
-deviationIn rows k which =
-    cond (isThere rows k && leb which 3) (deviationOf which (natAbs (numberAt rows k (4 + which)))) deviation.NotThere
+unfoldable pub exponentReadIn : List ℤ → ℕ → ℕ → ExponentRead
+exponentReadIn rows k which =
+    cond (isThere rows k && leb which 3) (exponentReadOf which (natAbs (numberAt rows k (4 + which)))) exponentRead.NotThere
 
 -- the flags of columns 75, 76, 79 and 80 by 0 to 3
 unfoldable pub flagIn : List ℤ → ℕ → ℕ → Flag
@@ -112,11 +112,11 @@ toldClock (clock.At v) = 0 ∷ toldInt v []
 toldClock clock.Absent = 0 ∷ []
 toldClock clock.NotThere = 13 ∷ []
 
-abbrev pub toldDeviation : Deviation → List ℕ
-toldDeviation (deviation.Value n) = 0 ∷ 0 ∷ n ∷ []
-toldDeviation deviation.Unknown = 0 ∷ 1 ∷ []
-toldDeviation deviation.TooLarge = 0 ∷ 2 ∷ []
-toldDeviation deviation.NotThere = 13 ∷ []
+abbrev pub toldExponentRead : ExponentRead → List ℕ
+toldExponentRead (exponentRead.Value n) = 0 ∷ 0 ∷ n ∷ []
+toldExponentRead exponentRead.Unknown = 0 ∷ 1 ∷ []
+toldExponentRead exponentRead.TooLarge = 0 ∷ 2 ∷ []
+toldExponentRead exponentRead.NotThere = 13 ∷ []
 
 abbrev pub toldFlag : Flag → List ℕ
 toldFlag flag.NotSet = 0 ∷ 0 ∷ []

@@ -12,7 +12,7 @@ pub use rows::flag_of;
 pub use rows::place_of;
 pub use rows::stored_number;
 pub use types::ClockRead;
-pub use types::Deviation;
+pub use types::ExponentRead;
 pub use types::Flag;
 pub use types::NoteCorrelation;
 pub use types::NoteDeviation;

@@ -1,9 +1,9 @@
 // The row of a P or V line: the first twelve numbers of a stored row, asked for by name.
 ghost use mathlib.Core.Path.{_≡_};
 ghost use Rattle.file.specs.Table.{storedInt};
-ghost use Rattle.stored_row.specs.Stored.{isThere, placeIn, clockIn, deviationIn, flagIn, toldPlace, toldClock, toldDeviation, toldFlag};
+ghost use Rattle.stored_row.specs.Stored.{isThere, placeIn, clockIn, exponentReadIn, flagIn, toldPlace, toldClock, toldExponentRead, toldFlag};
 use crate::types::ClockRead;
-use crate::types::Deviation;
+use crate::types::ExponentRead;
 use crate::types::Flag;
 use crate::types::Place;
 use field::Number;
@@ -64,20 +64,20 @@ pub fn clock_of(rows: &[i64], k: usize) -> ClockRead
 }
 
 // The exponent of x, y, z or clock (0 to 3) of the k-th row.
-pub fn exponent_of(rows: &[i64], k: usize, which: usize) -> Deviation
-    ensures result { λ r. ⌜ toldDeviation r ≡ toldDeviation (deviationIn (now (rows .entry)) k which) ⌝ }
+pub fn exponent_of(rows: &[i64], k: usize, which: usize) -> ExponentRead
+    ensures result { λ r. ⌜ toldExponentRead r ≡ toldExponentRead (exponentReadIn (now (rows .entry)) k which) ⌝ }
 {
     if !(is_there(rows, k) & (which <= 3)) {
-        return Deviation::NotThere;
+        return ExponentRead::NotThere;
     }
     let n = field::sign::magnitude_of(rows[k * ROW_WIDTH + (4 + which)]);
     if record::absence::is_unknown(n) {
-        return Deviation::Unknown;
+        return ExponentRead::Unknown;
     }
     if record::absence::is_too_large(which == 3, n) {
-        return Deviation::TooLarge;
+        return ExponentRead::TooLarge;
     }
-    Deviation::Value(n)
+    ExponentRead::Value(n)
 }
 
 // The flag of column 75, 76, 79 or 80 (0 to 3) of the k-th row: clock event, clock predicted, maneuver, orbit predicted.

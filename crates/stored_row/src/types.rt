@@ -13,7 +13,7 @@ pub enum ClockRead {
 }
 
 // The exponent of a standard deviation.
-pub enum Deviation {
+pub enum ExponentRead {
     Value(u64),
     Unknown,
     TooLarge,

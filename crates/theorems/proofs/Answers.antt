@@ -21,7 +21,7 @@ use Rattle.field.specs.Sign.{isNegative}
 use Rattle.record.specs.Absence.{clockAbsent, isUnknown, isTooLarge}
 use Rattle.layout.specs.Kind.{unnoted}
 use Rattle.record.specs.Notes.{largestDeviation}
-use Rattle.stored_row.specs.Stored.{isThere, numberAt, isPlaceAbsent, hasNote, placeIn, clockIn, deviationIn, flagIn, noteIn, noteDeviationIn, noteCorrelationIn}
+use Rattle.stored_row.specs.Stored.{isThere, numberAt, isPlaceAbsent, hasNote, placeIn, clockIn, exponentReadIn, flagIn, noteIn, noteDeviationIn, noteCorrelationIn}
 use Rattle.scan_laws.proofs.Files.{file-plain, whole-taken}
 use Rattle.scan_laws.proofs.Local.{whole-ends}
 use Rattle.scan_laws.proofs.Used.{accepted-front}
@@ -41,7 +41,7 @@ use Rattle.questions.specs.declared.types.SatelliteAnswer.{SatelliteAnswer}
 use Rattle.questions.specs.declared.types.RowAnswer.{RowAnswer}
 use Rattle.stored_row.specs.declared.types.Place.the-variants as place
 use Rattle.stored_row.specs.declared.types.ClockRead.the-variants as clock
-use Rattle.stored_row.specs.declared.types.Deviation.the-variants as deviation
+use Rattle.stored_row.specs.declared.types.ExponentRead.the-variants as exponentRead
 use Rattle.stored_row.specs.declared.types.Flag.the-variants as flag
 use Rattle.stored_row.specs.declared.types.NoteMark.the-variants as noteMark
 use Rattle.stored_row.specs.declared.types.NoteDeviation.the-variants as noteDeviation
@@ -379,16 +379,16 @@ stored-thirteen rows k = (
     by-clock false v e = let z : _≡_ {A = ℕ} 0 1 = cc in omega arith
 
 pub stored-parts-thirteen : (rows : List ℤ) (k which : ℕ)
-    → ((deviationIn rows k which ≡ deviation.NotThere) ↔ ((isThere rows k && leb which 3) ≡ false))
+    → ((exponentReadIn rows k which ≡ exponentRead.NotThere) ↔ ((isThere rows k && leb which 3) ≡ false))
     × ((flagIn rows k which ≡ flag.NotThere) ↔ ((isThere rows k && leb which 3) ≡ false))
-unfolding deviationIn flagIn
+unfolding exponentReadIn flagIn
 stored-parts-thirteen rows k which =
     let n = natAbs (numberAt rows k (4 + which)) in (
-      not-there (isThere rows k && leb which 3) _ deviation.NotThere (by-exponent (isUnknown n) (isTooLarge (eqb which 3) n) n),
+      not-there (isThere rows k && leb which 3) _ exponentRead.NotThere (by-exponent (isUnknown n) (isTooLarge (eqb which 3) n) n),
       not-there (isThere rows k && leb which 3) _ flag.NotThere (by-flag (eqb (natAbs (numberAt rows k (8 + which))) 0)),
     )
   where
-    by-exponent : (a b : Bool) (n : ℕ) → cond a deviation.Unknown (cond b deviation.TooLarge (deviation.Value n)) ≡ deviation.NotThere → ⊥
+    by-exponent : (a b : Bool) (n : ℕ) → cond a exponentRead.Unknown (cond b exponentRead.TooLarge (exponentRead.Value n)) ≡ exponentRead.NotThere → ⊥
     by-exponent true b n e = let z : _≡_ {A = ℕ} 0 1 = cc in omega arith
     by-exponent false true n e = let z : _≡_ {A = ℕ} 0 1 = cc in omega arith
     by-exponent false false n e = let z : _≡_ {A = ℕ} 0 1 = cc in omega arith

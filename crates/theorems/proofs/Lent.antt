@@ -21,7 +21,7 @@ use Rattle.file.specs.Table.{rowNumbers, noteAfter, rowsIn}
 use Rattle.file.proofs.Wide.{after-wide}
 use Rattle.file_laws.proofs.Stored.{noteAt}
 use Rattle.scan.specs.Run.{IsFile}
-use Rattle.stored_row.specs.Stored.{placeIn, clockIn, deviationOf, deviationIn, flagIn}
+use Rattle.stored_row.specs.Stored.{placeIn, clockIn, exponentReadOf, exponentReadIn, flagIn}
 use Rattle.reader.specs.Reading.{fileOf, readAnswer, rowsAfter}
 use Rattle.file_laws.proofs.Exact.{Bounded, row-bounded, row-held, row-in, row-exact, exponents-bounded}
 use Rattle.file.specs.Exact.{exactSigned, exactNumbers}
@@ -85,12 +85,12 @@ module _ (numbers : List ℤ) (r : ℕ) (row : Row) (bounded : Bounded row) (not
       ∙ clock-back before note behind row r before-long noted (bounded .clock)
 
   stored-exponents : (row .«x_exponent» ≤ 1000) × (row .«y_exponent» ≤ 1000) × (row .«z_exponent» ≤ 1000) × (row .«clock_exponent» ≤ 1000)
-      → (deviationIn numbers r 0 ≡ deviationOf 0 (row .«x_exponent»)) × (deviationIn numbers r 1 ≡ deviationOf 1 (row .«y_exponent»))
-      × (deviationIn numbers r 2 ≡ deviationOf 2 (row .«z_exponent»)) × (deviationIn numbers r 3 ≡ deviationOf 3 (row .«clock_exponent»))
+      → (exponentReadIn numbers r 0 ≡ exponentReadOf 0 (row .«x_exponent»)) × (exponentReadIn numbers r 1 ≡ exponentReadOf 1 (row .«y_exponent»))
+      × (exponentReadIn numbers r 2 ≡ exponentReadOf 2 (row .«z_exponent»)) × (exponentReadIn numbers r 3 ≡ exponentReadOf 3 (row .«clock_exponent»))
   stored-exponents low =
       subst
-      (λ (s : List ℤ). (deviationIn s r 0 ≡ deviationOf 0 (row .«x_exponent»)) × (deviationIn s r 1 ≡ deviationOf 1 (row .«y_exponent»))
-      × (deviationIn s r 2 ≡ deviationOf 2 (row .«z_exponent»)) × (deviationIn s r 3 ≡ deviationOf 3 (row .«clock_exponent»)))
+      (λ (s : List ℤ). (exponentReadIn s r 0 ≡ exponentReadOf 0 (row .«x_exponent»)) × (exponentReadIn s r 1 ≡ exponentReadOf 1 (row .«y_exponent»))
+      × (exponentReadIn s r 2 ≡ exponentReadOf 2 (row .«z_exponent»)) × (exponentReadIn s r 3 ≡ exponentReadOf 3 (row .«clock_exponent»)))
       parts
       (exponents-back before note behind row r before-long noted
       (omega (arith, low .0)) (omega (arith, low .1)) (omega (arith, low .2)) (omega (arith, low .3)))
@@ -179,8 +179,8 @@ module _ (bytes : List ℕ) (accepted : IsFile d bytes) (identifiers exponents c
 
     -- Its exponents are those of its columns: a value, unknown where they are blank, too large at 99, for the clock at 999.
     pub lent-exponents : let row = held v bytes k j in let r = tableRow v bytes k j in
-        (deviationIn lent r 0 ≡ deviationOf 0 (row .«x_exponent»)) × (deviationIn lent r 1 ≡ deviationOf 1 (row .«y_exponent»))
-        × (deviationIn lent r 2 ≡ deviationOf 2 (row .«z_exponent»)) × (deviationIn lent r 3 ≡ deviationOf 3 (row .«clock_exponent»))
+        (exponentReadIn lent r 0 ≡ exponentReadOf 0 (row .«x_exponent»)) × (exponentReadIn lent r 1 ≡ exponentReadOf 1 (row .«y_exponent»))
+        × (exponentReadIn lent r 2 ≡ exponentReadOf 2 (row .«z_exponent»)) × (exponentReadIn lent r 3 ≡ exponentReadOf 3 (row .«clock_exponent»))
     lent-exponents =
         stored-exponents lent (tableRow v bytes k j) (held v bytes k j) bounded behindRow behind-wide as-stored
         (exponents-bounded d v (identifier bytes j) (nth (rowAt bytes k j) (rowLinesOf v bytes)) named)

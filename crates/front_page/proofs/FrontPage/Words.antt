@@ -95,10 +95,10 @@ pub use Rattle.record.specs.Rows.{rowItems, rowFrom, bareWidth, rowWidth}
 pub use Rattle.record.specs.Notes.{correlationItems, correlationSymbol, largestDeviation, largestCorrelation, noteFrom, noteOf, noteLine, deviationAt, correlationAt}
 pub use Rattle.record.specs.Absence.{placeAbsent, clockAbsent}
 pub use Rattle.reader.specs.Reading as read-as
-pub use Rattle.stored_row.specs.Stored.{isThere, placeIn, clockIn, deviationOf, deviationIn, flagIn, noteIn, noteDeviationOf, noteDeviationIn, noteCorrelationIn}
+pub use Rattle.stored_row.specs.Stored.{isThere, placeIn, clockIn, exponentReadOf, exponentReadIn, flagIn, noteIn, noteDeviationOf, noteDeviationIn, noteCorrelationIn}
 pub use Rattle.stored_row.specs.declared.types.Place.the-variants as place
 pub use Rattle.stored_row.specs.declared.types.ClockRead.the-variants as clock
-pub use Rattle.stored_row.specs.declared.types.Deviation.the-variants as deviation
+pub use Rattle.stored_row.specs.declared.types.ExponentRead.the-variants as exponentRead
 pub use Rattle.stored_row.specs.declared.types.Flag.the-variants as flag
 pub use Rattle.stored_row.specs.declared.types.NoteMark.the-variants as noteMark
 pub use Rattle.stored_row.specs.declared.types.NoteDeviation.the-variants as noteDeviation

@@ -10,8 +10,8 @@ use lib.Dec.{leb}
 use lib.ListN.{length}
 use Rattle.record.specs.Rows.{rowWidth}
 use Rattle.laws.proofs.Bools.{and-left, and-right}
-use Rattle.stored_row.specs.Stored.{isThere, toldDeviation}
-use Rattle.stored_row.proofs.Storing.{row-within, no-deviation, unknown-is, known-is}
+use Rattle.stored_row.specs.Stored.{isThere, toldExponentRead}
+use Rattle.stored_row.proofs.Storing.{row-within, no-exponent, unknown-is, known-is}
 use Rattle.stored_row.proofs.rows.exponent_of.Statement.{statement}
 use Rattle.stored_row.proofs.rows.exponent_of.Tie as tie
 
@@ -33,15 +33,15 @@ within c =
 returns : tie.Need-returns
 returns c =
     let start = c .before .before in
-    ap toldDeviation
-    (no-deviation (start .args .rows .now) (start .args .k) (start .args .which)
+    ap toldExponentRead
+    (no-exponent (start .args .rows .now) (start .args .k) (start .args .which)
     (ap (λ (t : Bool). t && leb (start .args .which) 3) (sym (c .before .is-there .ensures)) ∙ not-true _ (c .if1 .taken)))
 
 returns-2 : tie.Need-returns-2
 returns-2 c =
     let read = c .before .before .before in
     let start = read .before .before .before in
-    ap toldDeviation
+    ap toldExponentRead
     (unknown-is (start .args .rows .now) (start .args .k) (start .args .which) (asked (read .before)) (read .magnitude-of-arg .given)
     (c .before .before .magnitude-of .ensures) (c .before .is-unknown .ensures) (c .if2 .taken))
 
@@ -50,7 +50,7 @@ returns-3 c =
     let known = c .before .before in
     let read = known .before .before .before in
     let start = read .before .before .before in
-    ap toldDeviation
+    ap toldExponentRead
     (known-is (start .args .rows .now) (start .args .k) (start .args .which) (asked (read .before)) (read .magnitude-of-arg .given)
     (known .before .before .magnitude-of .ensures) true (known .before .is-unknown .ensures) (known .if2 .left) (c .before .is-too-large .ensures)
     (c .if3 .taken))
@@ -60,7 +60,7 @@ returns-4 c =
     let known = c .before .before in
     let read = known .before .before .before in
     let start = read .before .before .before in
-    ap toldDeviation
+    ap toldExponentRead
     (known-is (start .args .rows .now) (start .args .k) (start .args .which) (asked (read .before)) (read .magnitude-of-arg .given)
     (known .before .before .magnitude-of .ensures) false (known .before .is-unknown .ensures) (known .if2 .left) (c .before .is-too-large .ensures)
     (c .if3 .left))
