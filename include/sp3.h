@@ -10,18 +10,19 @@
  * THREADS. No function keeps a state: an answer follows from what the call is given. So they may be called from several threads at once, each call
  * with lent memory of its own; a slice that is only looked at (`const`) may be lent to several calls at the same time.
  *
- * REFUSALS. Each answer has a `refusal`, 0 for accepted, and where a file is judged its `line`, counted from 1 (0 where the refusal names no line).
- * A refusal changes nothing that was lent, and every other part of the answer is then empty: 0, blank, or absent. After success the places past those
- * that are filled are unchanged too. The first faulty line decides, in a line the lowest number:
+ * REFUSALS. Each answer has a `refusal`, 0 for accepted, and where a file is judged its `line` and `column`, counted from 1 (0 where the refusal names
+ * none). A refusal changes nothing that was lent, and every other part of the answer is then empty: 0, blank, or absent. After success the places past those
+ * that are filled are unchanged too. The first faulty line decides, in a line the lowest number, of several faults with that number the leftmost:
  *
  *    0  accepted
  *    1  no line end is left before the file's EOF line is complete
- *    2  a byte outside 32 to 126 stands in the line
- *    3  the line has more than 80 characters
+ *    2  a byte outside 32 to 126 stands in the line; column: that byte, also past 80
+ *    3  the line has more than 80 characters; column: 81
  *    4  the line is not of a kind that may stand here
- *    5  an unused column is not blank, or a placeholder is not all `c` or a zero
- *    6  a field is malformed, or a letter, file type or time system is not listed
- *    7  a number or date is outside its bounds
+ *    5  an unused column is not blank, or a placeholder is not all `c` or a zero; column: that column, or the placeholder's first
+ *    6  a field is malformed, or a letter, file type or time system is not listed; column: the field's first, also where the line ends before it;
+ *       4 for year, month and day
+ *    7  a number or date is outside its bounds; column: as for 6
  *    8  line 2 disagrees with the start, a slot after the last satellite is not `  0`, an identifier repeats, or the file type disagrees
  *    9  an epoch stands at the wrong instant
  *   10  a row names another satellite than the header has here
@@ -86,7 +87,7 @@ typedef struct {
 typedef struct {
     size_t refusal;
     uint64_t line;
-    size_t length;
+    size_t column, length;
     sp3_header_t header;
 } sp3_reading_t;
 
@@ -211,11 +212,12 @@ sp3_note_correlation_t sp3_note_correlation_of(const int64_t *rows, size_t row_n
 
 /* ---- Dividing ---- */
 
-/* The number of accepted files at the front, the byte where the rest begins, and the refusal and line there, counted from that byte. */
+/* The number of accepted files at the front, the byte where the rest begins, and the refusal, line and column there, counted from that byte. */
 typedef struct {
     uint64_t count;
     size_t rest, refusal;
     uint64_t line;
+    size_t column;
 } sp3_division_t;
 
 /* Divides a stretch of files laid end to end; their lengths go to the first places of `lengths`, also where the rest is refused. An empty stretch
@@ -229,7 +231,7 @@ sp3_division_t sp3_divide(const uint8_t *stretch, size_t length, uint64_t *lengt
 typedef struct {
     size_t refusal;
     uint64_t line;
-    size_t at, length;
+    size_t column, at, length;
 } sp3_comment_answer_t;
 
 /* Where the text of comment k lies: from column 4 on, trailing blanks cut. Refused: 13 for comment 4 of a file that has four. */
@@ -241,7 +243,9 @@ uint64_t sp3_identifier(const uint8_t *text, size_t length);
 
 typedef struct {
     size_t refusal;
-    uint64_t line, number;
+    uint64_t line;
+    size_t column;
+    uint64_t number;
 } sp3_satellite_answer_t;
 
 /* The number in the header of the satellite with this identifier. Refused: 13 where the header has none such. */
@@ -256,6 +260,7 @@ typedef struct {
 typedef struct {
     size_t refusal;
     uint64_t line;
+    size_t column;
     sp3_row_t row;
 } sp3_row_answer_t;
 
@@ -317,6 +322,19 @@ sp3_line_answer_t sp3_read_line(const uint8_t *file, size_t length, sp3_spot_t s
  * 12. */
 sp3_line_answer_t sp3_next_line(const uint8_t *file, size_t length, const uint64_t *identifiers, size_t identifier_count, sp3_spot_t spot);
 
+/* What must stand at a spot: the kind of line that must come, and the kind that may stand there before it (0 for none). Kinds are 1 `#d`, 2 `##`,
+ * 3 `+ `, 4 `++`, 5 `%c`, 6 `%f`, 7 `%i`, 8 comment, 9 epoch, 10 P, 11 V, 12 EP, 13 EV, 14 EOF. `instant8` is the instant at which the next epoch must
+ * stand, `identifier` the satellite that the next row must name; each is 0 where no epoch (no row) must come. `repeats` says that a `+ ` line stands
+ * there which names an identifier again, in itself or after the lines before it. */
+typedef struct {
+    uint64_t kind, also, instant8, identifier;
+    bool repeats;
+} sp3_due_t;
+
+/* What a refused line should have been: with the spot before that line (sp3_after_lines, one line fewer than its number) and the identifiers that the
+ * lines before it left. Has no refusal. */
+sp3_due_t sp3_due(const uint8_t *file, size_t length, const uint64_t *identifiers, size_t identifier_count, sp3_spot_t spot);
+
 /* The walker's steps: the spot so many lines further, each line read as by sp3_read_line. Afterwards `identifiers` (255 places suffice) holds those
  * of the `+ ` lines that were passed; to go on from there lend it as it is. The spot stays at a line that is refused, with 12 too, and at the one
  * that ends the file. Every step costs a line, also one that stays. Has no refusal. */
@@ -335,6 +353,7 @@ typedef struct {
 typedef struct {
     size_t refusal;
     uint64_t line;
+    size_t column;
     bool end;
     uint64_t epoch, satellite;
     sp3_row_t row;

@@ -21,28 +21,29 @@ pub data Divides (rules : Rules) : List ℕ → List ℕ → Type 0 where
   none : Divides rules [] []
   one : (a : List ℕ) {b ls : List ℕ} → IsFile rules a → Divides rules b ls → Divides rules (a ++ b) (length a ∷ ls)
 
--- the lengths of the accepted files at the front, and the refusal and line of the rest
+-- the lengths of the accepted files at the front, and the refusal, line and column of the rest
 pub record Cuts : Type 0 where
   pub lengths : List ℕ
   pub refusal : ℕ
   pub line : ℕ
+  pub column : ℕ
 
 -- nothing is left
 abbrev pub noCuts : Cuts
-noCuts = record { lengths = []; refusal = 0; line = 0 }
+noCuts = record { lengths = []; refusal = 0; line = 0; column = 0 }
 
 -- a rest that is refused
-abbrev pub refusedCuts : ℕ → ℕ → Cuts
-refusedCuts number line = record { lengths = []; refusal = number; line = line }
+abbrev pub refusedCuts : ℕ → ℕ → ℕ → Cuts
+refusedCuts number line column = record { lengths = []; refusal = number; line = line; column = column }
 
 -- one file before what follows it
 abbrev pub after : ℕ → Cuts → Cuts
-after end c = record { lengths = end ∷ c .lengths; refusal = c .refusal; line = c .line }
+after end c = record { lengths = end ∷ c .lengths; refusal = c .refusal; line = c .line; column = c .column }
 
 -- what stands at the front: a file, and then what follows it; or a refusal
 abbrev pub cutFront : Front → (ℕ → Cuts) → Cuts
 cutFront (front.File t) more = after (t .end) (more (t .end))
-cutFront (front.Refused number line column) more = refusedCuts number line
+cutFront (front.Refused number line column) more = refusedCuts number line column
 
 abbrev pub unlessEmpty : List ℕ → Cuts → Cuts
 unlessEmpty [] c = noCuts
@@ -61,16 +62,16 @@ unfoldable pub sum : List ℕ → ℕ
 sum [] = 0
 sum (n ∷ ns) = n + sum ns
 
-abbrev pub division : ℕ → ℕ → ℕ → ℕ → Division
-division count rest number line = record { count = count; rest = rest; refusal = number; line = line }
+abbrev pub division : ℕ → ℕ → ℕ → ℕ → ℕ → Division
+division count rest number line column = record { count = count; rest = rest; refusal = number; line = line; column = column }
 
--- the number of the files, the byte where the rest begins, the refusal and line there; so many files and bytes stand before
+-- the number of the files, the byte where the rest begins, the refusal, line and column there; so many files and bytes stand before
 abbrev pub divisionFrom : ℕ → ℕ → Cuts → Division
-divisionFrom count rest c = division (count + length (c .lengths)) (rest + sum (c .lengths)) (c .refusal) (c .line)
+divisionFrom count rest c = division (count + length (c .lengths)) (rest + sum (c .lengths)) (c .refusal) (c .line) (c .column)
 
 -- 12 only, every other part being 0
 abbrev pub noRoom : Division
-noRoom = division 0 0 12 0
+noRoom = division 0 0 12 0 0
 
 unfoldable pub divideOf : Rules → List ℕ → ℕ → Division
 divideOf rules bytes room =

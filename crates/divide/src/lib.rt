@@ -10,25 +10,27 @@ use header::Rules;
 use record::kind::END_KIND;
 use scan::Front;
 
-// What a stretch divides into: the number of accepted files at its front, the byte where the rest begins, and the refusal and line there, counted
-// from that byte; both 0 where nothing is left.
+// What a stretch divides into: the number of accepted files at its front, the byte where the rest begins, and the refusal, line and column
+// there, counted from that byte; all 0 where nothing is left.
 #[repr(C)]
 pub struct Division {
     pub count: u64,
     pub rest: usize,
     pub refusal: usize,
     pub line: u64,
+    pub column: usize,
 }
 
 // The parts of an answer.
-fn answer(count: u64, rest: usize, refusal: usize, line: u64) -> Division
-    ensures { λ r. ⌜ r ≡ division count rest refusal line ⌝ }
+fn answer(count: u64, rest: usize, refusal: usize, line: u64, column: usize) -> Division
+    ensures { λ r. ⌜ r ≡ division count rest refusal line column ⌝ }
 {
     Division {
         count,
         rest,
         refusal,
         line,
+        column,
     }
 }
 
@@ -43,20 +45,20 @@ fn count_files(rules: Rules, stretch: &[u8], room: u64) -> Division
             Front::Refused {
                 number,
                 line,
-                column: _,
+                column,
             } => {
-                return answer(count, rest, number, line);
+                return answer(count, rest, number, line, column);
             }
             Front::File(tally) => {
                 count += 1;
                 if count > room {
-                    return answer(0, 0, 12, 0);
+                    return answer(0, 0, 12, 0, 0);
                 }
                 rest += tally.end;
             }
         }
     }
-    answer(count, rest, 0, 0)
+    answer(count, rest, 0, 0, 0)
 }
 
 // The length of the file at the front, which is known to be accepted: it ends with its first EOF line.

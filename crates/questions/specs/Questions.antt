@@ -27,8 +27,8 @@ use Rattle.questions.specs.declared.types.RowAnswer.{RowAnswer}
 abbrev pub textIn : List ℕ → List ℕ
 textIn line = trimmed (drop 3 line)
 
-abbrev pub noComment : ℕ → ℕ → CommentAnswer
-noComment number line = record { refusal = number; line = line; at = 0; length = 0 }
+abbrev pub noComment : ℕ → ℕ → ℕ → CommentAnswer
+noComment number line column = record { refusal = number; line = line; column = column; at = 0; length = 0 }
 
 -- the k-th comment's line, and the byte at which it begins
 abbrev pub commentLine : Rules → List (List ℕ) → ℕ → List ℕ
@@ -42,13 +42,14 @@ abbrev pub commentAt : Rules → List (List ℕ) → ℕ → CommentAnswer
 commentAt rules lines k = record {
   refusal = 0;
   line = 0;
+  column = 0;
   at = commentBegins rules lines k + min 3 (length (commentLine rules lines k));
   length = length (textIn (commentLine rules lines k));
 }
 
 unfoldable pub commentAnswer : Rules → List ℕ → Front → ℕ → CommentAnswer
-commentAnswer rules bytes (front.File t) k = cond (ltb k (t .comments)) (commentAt rules (linesTo (t .end) bytes) k) (noComment 13 0)
-commentAnswer rules bytes (front.Refused number line column) k = noComment number line
+commentAnswer rules bytes (front.File t) k = cond (ltb k (t .comments)) (commentAt rules (linesTo (t .end) bytes) k) (noComment 13 0 0)
+commentAnswer rules bytes (front.Refused number line column) k = noComment number line column
 
 -- the text itself, empty on a refusal
 unfoldable pub commentWords : Rules → List ℕ → Front → ℕ → List ℕ
@@ -64,17 +65,17 @@ unfoldable pub indexOf : ℕ → List ℕ → ℕ
 indexOf identifier [] = 0
 indexOf identifier (x ∷ xs) = cond (eqb identifier x) 0 (suc (indexOf identifier xs))
 
-abbrev pub noSatellite : ℕ → ℕ → SatelliteAnswer
-noSatellite number line = record { refusal = number; line = line; number = 0 }
+abbrev pub noSatellite : ℕ → ℕ → ℕ → SatelliteAnswer
+noSatellite number line column = record { refusal = number; line = line; column = column; number = 0 }
 
 -- the number of an identifier among those of the header
 abbrev pub satelliteIn : ℕ → List ℕ → SatelliteAnswer
 satelliteIn identifier identifiers =
-    cond (ltb (indexOf identifier identifiers) (length identifiers)) (record { refusal = 0; line = 0; number = indexOf identifier identifiers }) (noSatellite 13 0)
+    cond (ltb (indexOf identifier identifiers) (length identifiers)) (record { refusal = 0; line = 0; column = 0; number = indexOf identifier identifiers }) (noSatellite 13 0 0)
 
 unfoldable pub satelliteAnswer : Rules → List ℕ → Front → ℕ → SatelliteAnswer
 satelliteAnswer rules bytes (front.File t) identifier = satelliteIn identifier (identifiersOf rules (linesTo (t .end) bytes))
-satelliteAnswer rules bytes (front.Refused number line column) identifier = noSatellite number line
+satelliteAnswer rules bytes (front.Refused number line column) identifier = noSatellite number line column
 
 -- Where the P line of (epoch, satellite) lies in an accepted file: it is the (epoch times n plus satellite)-th P line.
 abbrev pub epochsOf : Rules → List (List ℕ) → ℕ
@@ -83,8 +84,8 @@ epochsOf rules lines = firstIn rules lines .epochs
 abbrev pub rowIndex : Rules → List (List ℕ) → ℕ → ℕ → ℕ
 rowIndex rules lines epoch satellite = epoch * countOf rules lines + satellite
 
-abbrev pub noRow : ℕ → ℕ → RowBegins
-noRow number line = record { refusal = number; line = line; at = 0 }
+abbrev pub noRow : ℕ → ℕ → ℕ → RowBegins
+noRow number line column = record { refusal = number; line = line; column = column; at = 0 }
 
 abbrev pub hasRow : Rules → List (List ℕ) → ℕ → ℕ → Bool
 hasRow rules lines epoch satellite = ltb epoch (epochsOf rules lines) && ltb satellite (countOf rules lines)
@@ -92,16 +93,16 @@ hasRow rules lines epoch satellite = ltb epoch (epochsOf rules lines) && ltb sat
 abbrev pub rowAt : Rules → List (List ℕ) → ℕ → ℕ → RowBegins
 rowAt rules lines epoch satellite =
     cond (hasRow rules lines epoch satellite)
-    (record { refusal = 0; line = 0; at = beginsFrom (isKind rules positionKind) (rowIndex rules lines epoch satellite) 0 lines })
-    (noRow 13 0)
+    (record { refusal = 0; line = 0; column = 0; at = beginsFrom (isKind rules positionKind) (rowIndex rules lines epoch satellite) 0 lines })
+    (noRow 13 0 0)
 
 unfoldable pub rowBegins : Rules → List ℕ → Front → ℕ → ℕ → RowBegins
 rowBegins rules bytes (front.File t) epoch satellite = rowAt rules (linesTo (t .end) bytes) epoch satellite
-rowBegins rules bytes (front.Refused number line column) epoch satellite = noRow number line
+rowBegins rules bytes (front.Refused number line column) epoch satellite = noRow number line column
 
 -- its row as floats, or the refusal with both absent
 unfoldable pub rowAnswer : List ℕ → RowBegins → RowAnswer
 rowAnswer bytes found =
     cond (eqb (found .refusal) 0)
-    (record { refusal = 0; line = 0; row = floatRow (rowOf false (lineFrom (found .at) bytes)) })
-    (record { refusal = found .refusal; line = found .line; row = absentRow })
+    (record { refusal = 0; line = 0; column = 0; row = floatRow (rowOf false (lineFrom (found .at) bytes)) })
+    (record { refusal = found .refusal; line = found .line; column = found .column; row = absentRow })

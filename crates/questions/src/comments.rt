@@ -27,12 +27,13 @@ fn text_of(line: &[u8]) -> &[u8]
 }
 
 // A refusal beside no comment.
-fn no_comment(number: usize, line: u64) -> CommentAnswer
-    ensures { λ r. ⌜ r ≡ noComment number line ⌝ }
+fn no_comment(number: usize, line: u64, column: usize) -> CommentAnswer
+    ensures { λ r. ⌜ r ≡ noComment number line column ⌝ }
 {
     CommentAnswer {
         refusal: number,
         line,
+        column,
         at: 0,
         length: 0,
     }
@@ -49,6 +50,7 @@ fn comment_at(rules: Rules, bytes: &[u8], k: u64) -> CommentAnswer
     CommentAnswer {
         refusal: 0,
         line: 0,
+        column: 0,
         at: place + indent,
         length: text.len(),
     }
@@ -63,14 +65,14 @@ pub fn comment_answer(file: &[u8], k: u64) -> CommentAnswer
         Front::Refused {
             number,
             line,
-            column: _,
-        } => no_comment(number, line),
+            column,
+        } => no_comment(number, line, column),
         Front::File(tally) => {
             if k < tally.comments {
                 let end = tally.end;
                 return comment_at(rules, &file[0..end], k);
             }
-            no_comment(13, 0)
+            no_comment(13, 0, 0)
         }
     }
 }

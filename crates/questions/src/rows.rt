@@ -13,12 +13,13 @@ use record::kind::POSITION_KIND;
 use scan::Front;
 
 // A refusal beside no row.
-fn no_row(number: usize, line: u64) -> RowBegins
-    ensures { λ r. ⌜ r ≡ noRow number line ⌝ }
+fn no_row(number: usize, line: u64, column: usize) -> RowBegins
+    ensures { λ r. ⌜ r ≡ noRow number line column ⌝ }
 {
     RowBegins {
         refusal: number,
         line,
+        column,
         at: 0,
     }
 }
@@ -34,10 +35,11 @@ fn row_at(rules: Rules, bytes: &[u8], epoch: u64, satellite: u64) -> RowBegins
         return RowBegins {
             refusal: 0,
             line: 0,
+            column: 0,
             at: file::line_begins(rules, bytes, POSITION_KIND, epoch * n + satellite),
         };
     }
-    no_row(13, 0)
+    no_row(13, 0, 0)
 }
 
 // Where the P line of an epoch and a satellite begins in a file, each counted from 0, in mode V too: 13 where it has no such row.
@@ -49,8 +51,8 @@ pub fn row_begins(file: &[u8], epoch: u64, satellite: u64) -> RowBegins
         Front::Refused {
             number,
             line,
-            column: _,
-        } => no_row(number, line),
+            column,
+        } => no_row(number, line, column),
         Front::File(tally) => {
             let end = tally.end;
             row_at(rules, &file[0..end], epoch, satellite)
@@ -67,6 +69,7 @@ pub fn row(file: &[u8], epoch: u64, satellite: u64) -> RowAnswer
         return RowAnswer {
             refusal: found.refusal,
             line: found.line,
+            column: found.column,
             row: float_row::absent_row(),
         };
     }
@@ -74,6 +77,7 @@ pub fn row(file: &[u8], epoch: u64, satellite: u64) -> RowAnswer
     RowAnswer {
         refusal: 0,
         line: 0,
+        column: 0,
         row: float_row::float_row(record::rows::row_of(line, false)),
     }
 }

@@ -30,12 +30,13 @@ fn index_of(identifier: u64, identifiers: &[u64]) -> usize
 }
 
 // A refusal beside no satellite.
-fn no_satellite(number: usize, line: u64) -> SatelliteAnswer
-    ensures { λ r. ⌜ r ≡ noSatellite number line ⌝ }
+fn no_satellite(number: usize, line: u64, column: usize) -> SatelliteAnswer
+    ensures { λ r. ⌜ r ≡ noSatellite number line column ⌝ }
 {
     SatelliteAnswer {
         refusal: number,
         line,
+        column,
         number: 0,
     }
 }
@@ -49,10 +50,11 @@ fn satellite_in(identifier: u64, identifiers: &[u64]) -> SatelliteAnswer
         return SatelliteAnswer {
             refusal: 0,
             line: 0,
+            column: 0,
             number: number as u64,
         };
     }
-    no_satellite(13, 0)
+    no_satellite(13, 0, 0)
 }
 
 // The number of an identifier among the identifiers of some lines, as many as they say and at most so many as there may be.
@@ -128,8 +130,8 @@ pub fn satellite_of(file: &[u8], identifier: u64) -> SatelliteAnswer
         Front::Refused {
             number,
             line,
-            column: _,
-        } => no_satellite(number, line),
+            column,
+        } => no_satellite(number, line, column),
         Front::File(tally) => {
             let end = tally.end;
             satellite_among(rules, &file[0..end], identifier)

@@ -5,6 +5,7 @@ use float_row::FloatRow;
 pub struct CommentAnswer {
     pub refusal: usize,
     pub line: u64,
+    pub column: usize,
     pub at: usize,
     pub length: usize,
 }
@@ -14,6 +15,7 @@ pub struct CommentAnswer {
 pub struct SatelliteAnswer {
     pub refusal: usize,
     pub line: u64,
+    pub column: usize,
     pub number: u64,
 }
 
@@ -22,6 +24,7 @@ pub struct SatelliteAnswer {
 pub struct RowBegins {
     pub refusal: usize,
     pub line: u64,
+    pub column: usize,
     pub at: usize,
 }
 
@@ -30,5 +33,6 @@ pub struct RowBegins {
 pub struct RowAnswer {
     pub refusal: usize,
     pub line: u64,
+    pub column: usize,
     pub row: FloatRow,
 }

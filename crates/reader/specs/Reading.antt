@@ -24,8 +24,8 @@ use Rattle.scan.specs.declared.Front.the-variants as front
 use Rattle.reader.specs.declared.types.Reading.{Reading}
 
 -- a refusal beside nothing
-abbrev pub refusedWith : ℕ → ℕ → Reading
-refusedWith number line = record { refusal = number; line = line; length = 0; header = noHeader }
+abbrev pub refusedWith : ℕ → ℕ → ℕ → Reading
+refusedWith number line column = record { refusal = number; line = line; column = column; length = 0; header = noHeader }
 
 -- the lines of the file at the front of some bytes, which ends at this byte
 abbrev pub linesTo : ℕ → List ℕ → List (List ℕ)
@@ -33,12 +33,12 @@ linesTo end bytes = linesOf (take end bytes)
 
 -- a file: its length and the header that its lines hold
 abbrev pub acceptedAs : Rules → List ℕ → Tally → Reading
-acceptedAs rules bytes t = record { refusal = 0; line = 0; length = t .end; header = headerIn rules (linesTo (t .end) bytes) }
+acceptedAs rules bytes t = record { refusal = 0; line = 0; column = 0; length = t .end; header = headerIn rules (linesTo (t .end) bytes) }
 
 -- what was found at the front of some bytes, as an answer
 unfoldable pub judged : Rules → List ℕ → Front → Reading
 judged rules bytes (front.File t) = acceptedAs rules bytes t
-judged rules bytes (front.Refused number line column) = refusedWith number line
+judged rules bytes (front.Refused number line column) = refusedWith number line column
 
 -- one file at the front of some bytes, and one whole file
 abbrev pub frontOf : Rules → List ℕ → Front
@@ -67,8 +67,8 @@ enough rules bytes (front.Refused number line column) i x c r = false
 -- the answer where so much room is lent
 unfoldable pub delivered : Rules → List ℕ → Front → ℕ → ℕ → ℕ → ℕ → Reading
 delivered rules bytes (front.File t) i x c r =
-    cond (roomFor (countOf rules (linesTo (t .end) bytes)) t i x c r) (acceptedAs rules bytes t) (refusedWith 12 0)
-delivered rules bytes (front.Refused number line column) i x c r = refusedWith number line
+    cond (roomFor (countOf rules (linesTo (t .end) bytes)) t i x c r) (acceptedAs rules bytes t) (refusedWith 12 0 0)
+delivered rules bytes (front.Refused number line column) i x c r = refusedWith number line column
 
 -- the lines of what was found: those of the file, or none
 abbrev pub linesIn : List ℕ → Front → List (List ℕ)

@@ -75,8 +75,8 @@ fn deliver(
         Front::Refused {
             number,
             line,
-            column: _,
-        } => judging::refused(number, line),
+            column,
+        } => judging::refused(number, line, column),
         Front::File(tally) => {
             let end = tally.end;
             let used = &bytes[0..end];
@@ -101,7 +101,7 @@ fn deliver(
                 rows,
             );
             if !enough {
-                return judging::refused(12, 0);
+                return judging::refused(12, 0, 0);
             }
             judging::answer(rules, bytes, found)
         }

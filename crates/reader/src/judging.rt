@@ -14,12 +14,13 @@ use record::kind::SECOND_KIND;
 use scan::Front;
 
 // A refusal beside nothing.
-pub(crate) fn refused(number: usize, line: u64) -> Reading
-    ensures { λ r. ⌜ r ≡ refusedWith number line ⌝ }
+pub(crate) fn refused(number: usize, line: u64, column: usize) -> Reading
+    ensures { λ r. ⌜ r ≡ refusedWith number line column ⌝ }
 {
     Reading {
         refusal: number,
         line,
+        column,
         length: 0,
         header: Header::none(),
     }
@@ -74,13 +75,14 @@ pub(crate) fn answer(rules: Rules, bytes: &[u8], found: Front) -> Reading
         Front::Refused {
             number,
             line,
-            column: _,
-        } => refused(number, line),
+            column,
+        } => refused(number, line, column),
         Front::File(tally) => {
             let end = tally.end;
             Reading {
                 refusal: 0,
                 line: 0,
+                column: 0,
                 length: end,
                 header: header_of(rules, &bytes[0..end], tally.comments),
             }

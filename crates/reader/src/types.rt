@@ -6,6 +6,7 @@ use header::Header;
 pub struct Reading {
     pub refusal: usize,
     pub line: u64,
+    pub column: usize,
     pub length: usize,
     pub header: Header,
 }

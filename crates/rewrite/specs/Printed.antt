@@ -24,9 +24,12 @@ tooLong = 116 ∷ 111 ∷ 111 ∷ 32 ∷ 108 ∷ 111 ∷ 110 ∷ 103 ∷ 10 ∷ 
 abbrev pub refusedWord : List ℕ
 refusedWord = 114 ∷ 101 ∷ 102 ∷ 117 ∷ 115 ∷ 101 ∷ 100 ∷ 32 ∷ []
 
--- ` line `
+-- ` line ` and ` column `
 abbrev pub lineWord : List ℕ
 lineWord = 32 ∷ 108 ∷ 105 ∷ 110 ∷ 101 ∷ 32 ∷ []
+
+abbrev pub columnWord : List ℕ
+columnWord = 32 ∷ 99 ∷ 111 ∷ 108 ∷ 117 ∷ 109 ∷ 110 ∷ 32 ∷ []
 
 -- a number in decimal digits, without leading zeros
 abbrev pub numberText : ℕ → List ℕ
@@ -36,15 +39,15 @@ numberText n = digitsIn 20 n
 abbrev pub said : List ℕ → ℕ → List ℕ
 said word n = word ++ numberText n
 
--- `refused N line L` and LF
-unfoldable pub refusedText : ℕ → ℕ → List ℕ
-refusedText number line = (said refusedWord number ++ said lineWord line) ++ (10 ∷ [])
+-- `refused N line L column C` and LF, the column 0 where the refusal names none
+unfoldable pub refusedText : ℕ → ℕ → ℕ → List ℕ
+refusedText number line column = ((said refusedWord number ++ said lineWord line) ++ said columnWord column) ++ (10 ∷ [])
 
 -- of a file that is accepted, the canonical form where there is room; the refusal of another
 unfoldable pub answered : List ℕ → Front → List ℕ
 answered bytes (front.File t) =
-    cond (leb (headerIn d (linesOf bytes) .comments) mostComments && leb (length (rewritten d bytes)) mostBytes) (rewritten d bytes) (refusedText 12 0)
-answered bytes (front.Refused number line column) = refusedText number line
+    cond (leb (headerIn d (linesOf bytes) .comments) mostComments && leb (length (rewritten d bytes)) mostBytes) (rewritten d bytes) (refusedText 12 0 0)
+answered bytes (front.Refused number line column) = refusedText number line column
 
 -- all that is printed
 unfoldable pub printed : List ℕ → List ℕ

@@ -13,12 +13,12 @@ use Rattle.reader.specs.declared.types.Reading.{Reading}
 use Rattle.canon.specs.declared.types.Measured.{Measured}
 use Rattle.rewrite.specs.declared.types.Rewritten.{Rewritten}
 
--- the refusal of a reading with its line; what a writing answers, with line 0
+-- the refusal of a reading with its line and column; what a writing answers, with neither
 abbrev pub asRead : Reading → Rewritten
-asRead r = record { refusal = r .refusal; line = r .line; length = 0 }
+asRead r = record { refusal = r .refusal; line = r .line; column = r .column; length = 0 }
 
 abbrev pub asWritten : Measured → Rewritten
-asWritten m = record { refusal = m .refusal; line = 0; length = m .length }
+asWritten m = record { refusal = m .refusal; line = 0; column = 0; length = m .length }
 
 -- Of these bytes, with these lists lent.
 module _ (bytes identifiers exponents comments : List ℕ) (rows : List ℤ) where

@@ -41,7 +41,7 @@ fn answer_short(file: &[u8], out: &mut [u8]) -> usize
         out,
     );
     if done.refusal != 0 {
-        return text::put_refusal(done.refusal, done.line, out);
+        return text::put_refusal(done.refusal, done.line, done.column, out);
     }
     done.length
 }

@@ -4,8 +4,8 @@ ghost use lib.ListN.{length};
 ghost use Rattle.rewrite.specs.Rewriting.{rewriteAnswer, outRewritten};
 use crate::types::Rewritten;
 
-// Reads a whole file into the lent lists and writes its table into `out`: the refusal of the reading with its line, else that of the writing, with
-// line 0. On a refusal `out` is as it was.
+// Reads a whole file into the lent lists and writes its table into `out`: the refusal of the reading with its line and column, else that of the
+// writing, with neither. On a refusal `out` is as it was.
 pub(crate) fn read_and_write(
     file: &[u8],
     identifiers: &mut [u64],
@@ -22,6 +22,7 @@ pub(crate) fn read_and_write(
         return Rewritten {
             refusal: read.refusal,
             line: read.line,
+            column: read.column,
             length: 0,
         };
     }
@@ -30,6 +31,7 @@ pub(crate) fn read_and_write(
     Rewritten {
         refusal: written.refusal,
         line: 0,
+        column: 0,
         length: written.length,
     }
 }

@@ -32,12 +32,13 @@ fn put_said(word: &[u8], n: u64, out: &mut [u8]) -> usize
     at + put_number(n, &mut out[at..])
 }
 
-// `refused N line L` and LF.
-pub(crate) fn put_refusal(number: usize, line: u64, out: &mut [u8]) -> usize
-    requires { ⌜ length (refusedText number line) ≤ length (now out) ⌝ }
-    ensures { λ r. ⌜ Lays (refusedText number line) (now (out .entry)) r (now (out .exit)) ⌝ }
+// `refused N line L column C` and LF.
+pub(crate) fn put_refusal(number: usize, line: u64, column: usize, out: &mut [u8]) -> usize
+    requires { ⌜ length (refusedText number line column) ≤ length (now out) ⌝ }
+    ensures { λ r. ⌜ Lays (refusedText number line column) (now (out .entry)) r (now (out .exit)) ⌝ }
 {
     let mut at = put_said(b"refused ", number as u64, out);
     at += put_said(b" line ", line, &mut out[at..]);
+    at += put_said(b" column ", column as u64, &mut out[at..]);
     at + put_bytes(b"\n", &mut out[at..])
 }

@@ -14,7 +14,7 @@ use Rattle.reader.specs.declared.types.Reading.{Reading}
 
 -- the judgement of a file, or 12 where so much room is less than its satellites
 unfoldable pub begunAs : Reading → ℕ → Reading
-begunAs r room = cond (eqb (r .refusal) 0) (cond (leb (r .header .satellites) room) r (refusedWith 12 0)) r
+begunAs r room = cond (eqb (r .refusal) 0) (cond (leb (r .header .satellites) room) r (refusedWith 12 0 0)) r
 
 -- accepted, and room for the identifiers
 abbrev pub begins : Reading → ℕ → Bool

@@ -74,8 +74,8 @@ walkOn at s passed = record { spot = record { at = at; state = s }; passed = (pa
 
 -- what the line at a spot is to a walk over rows, where it is a P line, or the last, or refused
 unfoldable pub stepAt : List ℕ → Spot → ℕ → LineRead → RowStep
-stepAt file p passed found.NoLine = step.Refused 1 (lineNumber file (p .at))
-stepAt file p passed (found.Fault number column) = step.Refused number (lineNumber file (p .at))
+stepAt file p passed found.NoLine = step.Refused 1 (lineNumber file (p .at)) 0
+stepAt file p passed (found.Fault number column) = step.Refused number (lineNumber file (p .at)) column
 stepAt file p passed (found.Next at s) = rowGiven file (p .at) (p .state .satellites) passed (walkOn at s passed)
 stepAt file p passed (found.Finished at) = step.End
 

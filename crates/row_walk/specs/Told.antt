@@ -12,6 +12,7 @@ pub record ToldStep : Type 0 where
   pub number : ℕ
   pub which : ℕ
   pub line : ℕ
+  pub column : ℕ
   pub epoch : ℕ
   pub satellite : ℕ
   pub row : FloatRow
@@ -19,9 +20,9 @@ pub record ToldStep : Type 0 where
 
 unfoldable pub toldStep : RowStep → ToldStep
 toldStep (step.At epoch satellite row next) =
-    record { number = 0; which = 1; line = 0; epoch = epoch; satellite = satellite; row = row; next = next }
+    record { number = 0; which = 1; line = 0; column = 0; epoch = epoch; satellite = satellite; row = row; next = next }
 toldStep (step.Absent epoch satellite row next) =
-    record { number = 0; which = 2; line = 0; epoch = epoch; satellite = satellite; row = row; next = next }
-toldStep step.End = record { number = 0; which = 0; line = 0; epoch = 0; satellite = 0; row = absentRow; next = firstWalk }
-toldStep (step.Refused number line) =
-    record { number = number; which = 3; line = line; epoch = 0; satellite = 0; row = absentRow; next = firstWalk }
+    record { number = 0; which = 2; line = 0; column = 0; epoch = epoch; satellite = satellite; row = row; next = next }
+toldStep step.End = record { number = 0; which = 0; line = 0; column = 0; epoch = 0; satellite = 0; row = absentRow; next = firstWalk }
+toldStep (step.Refused number line column) =
+    record { number = number; which = 3; line = line; column = column; epoch = 0; satellite = 0; row = absentRow; next = firstWalk }

@@ -10,11 +10,12 @@ use reader::Reading;
 
 // Too little room, beside nothing.
 fn no_room() -> Reading
-    ensures { λ r. ⌜ r ≡ refusedWith 12 0 ⌝ }
+    ensures { λ r. ⌜ r ≡ refusedWith 12 0 0 ⌝ }
 {
     Reading {
         refusal: 12,
         line: 0,
+        column: 0,
         length: 0,
         header: Header::none(),
     }

@@ -152,10 +152,12 @@ pub fn next_row<'a>(file: &'a [u8], identifiers: &'a [u64], from: RowWalk) -> Ro
         LineRead::NoLine => RowStep::Refused {
             number: 1,
             line: line_number(file, at),
+            column: 0,
         },
-        LineRead::Fault { number, column: _ } => RowStep::Refused {
+        LineRead::Fault { number, column } => RowStep::Refused {
             number,
             line: line_number(file, at),
+            column,
         },
         LineRead::Finished { at: _ } => RowStep::End,
         LineRead::Next {

@@ -27,5 +27,6 @@ pub enum RowStep {
     Refused {
         number: usize,
         line: u64,
+        column: usize,
     },
 }

@@ -150,14 +150,14 @@ lineDoor p (found.Finished at) = lineParts 0 0 true (record { at = at; state = p
 -- the next row of a walk: without one both its parts are absent and the walk stays where it was
 abbrev pub rowFound : ℕ → ℕ → FloatRow → RowWalk → RowStepAnswer
 rowFound epoch satellite row next =
-    record { refusal = 0; line = 0; end = false; epoch = epoch; satellite = satellite; row = row; next = next }
+    record { refusal = 0; line = 0; column = 0; end = false; epoch = epoch; satellite = satellite; row = row; next = next }
 
-abbrev pub noRow : ℕ → ℕ → Bool → RowWalk → RowStepAnswer
-noRow number line ends from =
-    record { refusal = number; line = line; end = ends; epoch = 0; satellite = 0; row = absentRow; next = from }
+abbrev pub noRow : ℕ → ℕ → ℕ → Bool → RowWalk → RowStepAnswer
+noRow number line column ends from =
+    record { refusal = number; line = line; column = column; end = ends; epoch = 0; satellite = 0; row = absentRow; next = from }
 
 unfoldable pub rowDoor : RowWalk → RowStep → RowStepAnswer
 rowDoor from (step.At epoch satellite row next) = rowFound epoch satellite row next
 rowDoor from (step.Absent epoch satellite row next) = rowFound epoch satellite row next
-rowDoor from step.End = noRow 0 0 true from
-rowDoor from (step.Refused number line) = noRow number line false from
+rowDoor from step.End = noRow 0 0 0 true from
+rowDoor from (step.Refused number line column) = noRow number line column false from

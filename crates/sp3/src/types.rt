@@ -110,12 +110,13 @@ pub struct LineAnswer {
     pub next: Spot,
 }
 
-// The next row of a walk: the refusal and its line, whether the file is at its end, epoch and satellite counted from 0, the row, and the walk
+// The next row of a walk: the refusal, its line and its column, whether the file is at its end, epoch and satellite counted from 0, the row, and the walk
 // after it. Beside a refusal and at the end both parts of the row are absent and the walk is as it was.
 #[repr(C)]
 pub struct RowStepAnswer {
     pub refusal: usize,
     pub line: u64,
+    pub column: usize,
     pub end: bool,
     pub epoch: u64,
     pub satellite: u64,

@@ -108,13 +108,14 @@ pub extern "C" fn sp3_first_row() -> RowWalk
 }
 
 // No row: both parts absent.
-fn no_row(refusal: usize, line: u64, end: bool, from: RowWalk) -> RowStepAnswer
-    ensures { λ r. ⌜ r ≡ noRow refusal line end from ⌝ }
+fn no_row(refusal: usize, line: u64, column: usize, end: bool, from: RowWalk) -> RowStepAnswer
+    ensures { λ r. ⌜ r ≡ noRow refusal line column end from ⌝ }
 {
     let none = 0.0 / 0.0;
     RowStepAnswer {
         refusal,
         line,
+        column,
         end,
         epoch: 0,
         satellite: 0,
@@ -137,6 +138,7 @@ fn row_found(epoch: u64, satellite: u64, row: FloatRow, next: RowWalk) -> RowSte
     RowStepAnswer {
         refusal: 0,
         line: 0,
+        column: 0,
         end: false,
         epoch,
         satellite,
@@ -162,8 +164,12 @@ fn row_answer(found: RowStep, from: RowWalk) -> RowStepAnswer
             row,
             next,
         } => row_found(epoch, satellite, row, next),
-        RowStep::End => no_row(0, 0, true, from),
-        RowStep::Refused { number, line } => no_row(number, line, false, from),
+        RowStep::End => no_row(0, 0, 0, true, from),
+        RowStep::Refused {
+            number,
+            line,
+            column,
+        } => no_row(number, line, column, false, from),
     }
 }
 
