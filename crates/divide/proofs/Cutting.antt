@@ -65,7 +65,7 @@ module _ (rules : Rules) where
   cut-end xs h = no-bytes (length xs) xs h
 
   pub cut-refused : (xs : List ℕ) (number line column : ℕ) → 0 < length xs → scanOf rules xs ≡ front.Refused number line column
-      → cutsOf rules xs ≡ refusedCuts number line
+      → cutsOf rules xs ≡ refusedCuts number line column
   unfolding cuts
   cut-refused [] number line column h e = absurd (omega arith)
   cut-refused (b ∷ bs) number line column h e = rw e
@@ -119,26 +119,26 @@ module _ (rules : Rules) (bytes : List ℕ) (room count rest : ℕ) (g : Countin
   many = ap (λ (x : Division). x .count) (g .same) ∙ omega arith
 
   -- no file more
-  counted-all : (number line : ℕ) → cutsOf rules (drop rest bytes) ≡ refusedCuts number line → division count rest number line ≡ divideOf rules bytes room
+  counted-all : (number line column : ℕ) → cutsOf rules (drop rest bytes) ≡ refusedCuts number line column → division count rest number line column ≡ divideOf rules bytes room
   unfolding sum divideOf
-  counted-all number line e =
+  counted-all number line column e =
       let none : length (cutsOf rules (drop rest bytes) .lengths) ≡ 0 = ap (λ (c : Cuts). length (c .lengths)) e in
-      ap₂ (λ (a b : ℕ). division a b number line) (sym (add-zero count)) (sym (add-zero rest))
+      ap₂ (λ (a b : ℕ). division a b number line column) (sym (add-zero count)) (sym (add-zero rest))
       ∙ ap (divisionFrom count rest) (sym e)
       ∙ g .same
       ∙ rw (le-leb (length (cutsOf rules bytes .lengths)) room (omega (arith, many, g .fits)))
 
-  pub counted-end : length bytes ≤ rest → division count rest 0 0 ≡ divideOf rules bytes room
-  counted-end h = counted-all 0 0 (cut-end rules (drop rest bytes) (omega (arith, length-drop rest bytes)))
+  pub counted-end : length bytes ≤ rest → division count rest 0 0 0 ≡ divideOf rules bytes room
+  counted-end h = counted-all 0 0 0 (cut-end rules (drop rest bytes) (omega (arith, length-drop rest bytes)))
 
   module _ (f : Front) (is : toldFront f ≡ toldFront (scanOf rules (take (length bytes - rest) (drop rest bytes)))) where
     here : scanOf rules (drop rest bytes) ≡ f
     here = sym (toldFront-one f _ is ∙ ap (scanOf rules) (rest-part bytes rest))
 
     pub counted-refused : (number line column : ℕ) → rest < length bytes → f ≡ front.Refused number line column
-        → division count rest number line ≡ divideOf rules bytes room
+        → division count rest number line column ≡ divideOf rules bytes room
     counted-refused number line column h e =
-        counted-all number line (cut-refused rules (drop rest bytes) number line column (omega (arith, length-drop rest bytes)) (here ∙ e))
+        counted-all number line column (cut-refused rules (drop rest bytes) number line column (omega (arith, length-drop rest bytes)) (here ∙ e))
 
     module _ (t : Tally) (e : f ≡ front.File t) where
       pub file-here : Cut rules bytes rest (t .end)
@@ -163,7 +163,7 @@ module _ (rules : Rules) (bytes : List ℕ) (room count rest : ℕ) (g : Countin
             few = omega (arith, g .few, file-here .byte);
             fits = h;
             same =
-                ap₂ (λ (a b : ℕ). division a b (c .refusal) (c .line)) files (add-assoc rest (t .end) (sum (c .lengths)))
+                ap₂ (λ (a b : ℕ). division a b (c .refusal) (c .line) (c .column)) files (add-assoc rest (t .end) (sum (c .lengths)))
                 ∙ ap (divisionFrom count rest) (sym (file-here .same))
                 ∙ g .same;
           }

@@ -70,7 +70,7 @@ module _ (identifier : ℕ) (identifiers : List ℕ) (i : ℕ) where
 -- where a comment's text lies, by its line's place, its line and the text
 pub comment-told : (rules : Rules) (lines : List (List ℕ)) (k place indent : ℕ) (line text : List ℕ)
     → place ≡ commentBegins rules lines k → line ≡ commentLine rules lines k → indent ≡ min 3 (length line) → text ≡ textIn line
-    → _≡_ {A = CommentAnswer} (record { refusal = 0; line = 0; at = place + indent; length = length text }) (commentAt rules lines k)
+    → _≡_ {A = CommentAnswer} (record { refusal = 0; line = 0; column = 0; at = place + indent; length = length text }) (commentAt rules lines k)
 comment-told rules lines k place indent line text p l i t = rw (p, i, t, l)
 
 -- and it begins within the bytes
@@ -119,12 +119,12 @@ module _ (rules : Rules) (lines : List (List ℕ)) (epoch satellite : ℕ) (f : 
   has-row b e = sym (ap (λ (x : First). ltb epoch (x .epochs) && ltb satellite (countOf rules lines)) is-first) ∙ sym (ap (λ (m : ℕ). ltb epoch (f .epochs) && ltb satellite m) is-count) ∙ e
 
   pub row-told : (place : ℕ) → (ltb epoch (f .epochs) && ltb satellite n) ≡ true → place ≡ beginsFrom (isKind rules positionKind) (epoch * n + satellite) 0 lines
-      → _≡_ {A = RowBegins} (record { refusal = 0; line = 0; at = place }) (rowAt rules lines epoch satellite)
+      → _≡_ {A = RowBegins} (record { refusal = 0; line = 0; column = 0; at = place }) (rowAt rules lines epoch satellite)
   row-told place has e =
-      ap (λ (a : ℕ). record { refusal = 0; line = 0; at = a }) (e ∙ ap (λ (m : ℕ). beginsFrom (isKind rules positionKind) (epoch * m + satellite) 0 lines) is-count)
+      ap (λ (a : ℕ). record { refusal = 0; line = 0; column = 0; at = a }) (e ∙ ap (λ (m : ℕ). beginsFrom (isKind rules positionKind) (epoch * m + satellite) 0 lines) is-count)
       ∙ rw (has-row true has)
 
-  pub row-missing : (ltb epoch (f .epochs) && ltb satellite n) ≡ false → noRow 13 0 ≡ rowAt rules lines epoch satellite
+  pub row-missing : (ltb epoch (f .epochs) && ltb satellite n) ≡ false → noRow 13 0 0 ≡ rowAt rules lines epoch satellite
   row-missing has = rw (has-row false has)
 
 -- what was found, under the rules that were asked for
@@ -173,7 +173,7 @@ module _ (rules : Rules) (r : rules ≡ d) (bytes : List ℕ) (t : Tally) where
   pub bounded-as : fileOf d bytes ≡ front.File t → (epochsOf rules (linesTo (t .end - 0) bytes) ≤ maxEpochs) × (countOf rules (linesTo (t .end - 0) bytes) ≤ maxSatellites)
   bounded-as e = rw (r, lines-as) (bounded bytes t e)
 
-pub no-comment-there : (bytes : List ℕ) (t : Tally) (k : ℕ) (a : CommentAnswer) → t .comments ≤ k → a ≡ noComment 13 0 → a ≡ commentAnswer d bytes (front.File t) k
+pub no-comment-there : (bytes : List ℕ) (t : Tally) (k : ℕ) (a : CommentAnswer) → t .comments ≤ k → a ≡ noComment 13 0 0 → a ≡ commentAnswer d bytes (front.File t) k
 unfolding commentAnswer
 no-comment-there bytes t k a h is = is ∙ rw (le-ltb k (t .comments) h)
 

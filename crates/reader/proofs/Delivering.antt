@@ -111,7 +111,7 @@ comments-within k n h = omega arith
 module _ (rules : Rules) (bytes : List ℕ) (f : Front) (i x c r : ℕ) where
   -- a refusal that was found
   module _ (number line column : ℕ) (e : f ≡ front.Refused number line column) where
-    pub refusal-delivered : refusedWith number line ≡ delivered rules bytes f i x c r
+    pub refusal-delivered : refusedWith number line column ≡ delivered rules bytes f i x c r
     unfolding delivered
     refusal-delivered = rw e
 
@@ -145,7 +145,7 @@ module _ (rules : Rules) (bytes : List ℕ) (f : Front) (i x c r : ℕ) where
     unfolding enough
     room-enough = rw is (sym room-is)
 
-    pub short-delivered : room ≡ false → refusedWith 12 0 ≡ delivered rules bytes f i x c r
+    pub short-delivered : room ≡ false → refusedWith 12 0 0 ≡ delivered rules bytes f i x c r
     unfolding delivered
     short-delivered e = rw (is, sym room-is ∙ e)
 

@@ -45,11 +45,11 @@ front-part n bytes = ap (λ (k : ℕ). take k bytes) (sub-zero n)
 
 -- an answer that accepts
 abbrev accepted : ℕ → Header → Reading
-accepted length h = record { refusal = 0; line = 0; length = length; header = h }
+accepted length h = record { refusal = 0; line = 0; column = 0; length = length; header = h }
 
 module _ (rules : Rules) (bytes : List ℕ) where
   -- a refusal that was found
-  pub refusal-judged : (f : Front) (number line column : ℕ) → f ≡ front.Refused number line column → refusedWith number line ≡ judged rules bytes f
+  pub refusal-judged : (f : Front) (number line column : ℕ) → f ≡ front.Refused number line column → refusedWith number line column ≡ judged rules bytes f
   unfolding judged
   refusal-judged f number line column e = rw e
 

@@ -78,7 +78,7 @@ module _ (r : Reading) (file old : List ℕ) where
   refused-begins some = let no = ne-eqb (r .refusal) 0 some in (rw no, rw no)
 
   module _ (zero : r .refusal ≡ 0) where
-    pub short-begins : length old < r .header .satellites → (refusedWith 12 0 ≡ begunAs r (length old)) × (old ≡ identifiersBegun r file old)
+    pub short-begins : length old < r .header .satellites → (refusedWith 12 0 0 ≡ begunAs r (length old)) × (old ≡ identifiersBegun r file old)
     unfolding begunAs identifiersBegun
     short-begins h =
         let yes = eq-eqb (r .refusal) 0 zero in

@@ -26,20 +26,21 @@ toldStep-one (step.At e s r n) (step.At e′ s′ r′ n′) t =
     same-at e e′ s s′ r r′ n n′ (ap (λ (x : ToldStep). x .epoch) t) (ap (λ (x : ToldStep). x .satellite) t) (ap (λ (x : ToldStep). x .row) t) (ap (λ (x : ToldStep). x .next) t)
 toldStep-one (step.At e s r n) (step.Absent e′ s′ r′ n′) t = absurd (omega (arith, which-one (step.At e s r n) (step.Absent e′ s′ r′ n′) t))
 toldStep-one (step.At e s r n) step.End t = absurd (omega (arith, which-one (step.At e s r n) step.End t))
-toldStep-one (step.At e s r n) (step.Refused m l) t = absurd (omega (arith, which-one (step.At e s r n) (step.Refused m l) t))
+toldStep-one (step.At e s r n) (step.Refused m l c) t = absurd (omega (arith, which-one (step.At e s r n) (step.Refused m l c) t))
 toldStep-one (step.Absent e s r n) (step.At e′ s′ r′ n′) t = absurd (omega (arith, which-one (step.Absent e s r n) (step.At e′ s′ r′ n′) t))
 toldStep-one (step.Absent e s r n) (step.Absent e′ s′ r′ n′) t =
     same-absent e e′ s s′ r r′ n n′ (ap (λ (x : ToldStep). x .epoch) t) (ap (λ (x : ToldStep). x .satellite) t) (ap (λ (x : ToldStep). x .row) t) (ap (λ (x : ToldStep). x .next) t)
 toldStep-one (step.Absent e s r n) step.End t = absurd (omega (arith, which-one (step.Absent e s r n) step.End t))
-toldStep-one (step.Absent e s r n) (step.Refused m l) t = absurd (omega (arith, which-one (step.Absent e s r n) (step.Refused m l) t))
+toldStep-one (step.Absent e s r n) (step.Refused m l c) t = absurd (omega (arith, which-one (step.Absent e s r n) (step.Refused m l c) t))
 toldStep-one step.End (step.At e′ s′ r′ n′) t = absurd (omega (arith, which-one step.End (step.At e′ s′ r′ n′) t))
 toldStep-one step.End (step.Absent e′ s′ r′ n′) t = absurd (omega (arith, which-one step.End (step.Absent e′ s′ r′ n′) t))
 toldStep-one step.End step.End t = refl
-toldStep-one step.End (step.Refused m l) t = absurd (omega (arith, which-one step.End (step.Refused m l) t))
-toldStep-one (step.Refused m l) (step.At e′ s′ r′ n′) t = absurd (omega (arith, which-one (step.Refused m l) (step.At e′ s′ r′ n′) t))
-toldStep-one (step.Refused m l) (step.Absent e′ s′ r′ n′) t = absurd (omega (arith, which-one (step.Refused m l) (step.Absent e′ s′ r′ n′) t))
-toldStep-one (step.Refused m l) step.End t = absurd (omega (arith, which-one (step.Refused m l) step.End t))
-toldStep-one (step.Refused m l) (step.Refused m′ l′) t = same (ap (λ (x : ToldStep). x .number) t) (ap (λ (x : ToldStep). x .line) t)
+toldStep-one step.End (step.Refused m l c) t = absurd (omega (arith, which-one step.End (step.Refused m l c) t))
+toldStep-one (step.Refused m l c) (step.At e′ s′ r′ n′) t = absurd (omega (arith, which-one (step.Refused m l c) (step.At e′ s′ r′ n′) t))
+toldStep-one (step.Refused m l c) (step.Absent e′ s′ r′ n′) t = absurd (omega (arith, which-one (step.Refused m l c) (step.Absent e′ s′ r′ n′) t))
+toldStep-one (step.Refused m l c) step.End t = absurd (omega (arith, which-one (step.Refused m l c) step.End t))
+toldStep-one (step.Refused m l c) (step.Refused m′ l′ c′) t =
+    same (ap (λ (x : ToldStep). x .number) t) (ap (λ (x : ToldStep). x .line) t) (ap (λ (x : ToldStep). x .column) t)
   where
-    same : m ≡ m′ → l ≡ l′ → step.Refused m l ≡ step.Refused m′ l′
-    same p q = cc
+    same : m ≡ m′ → l ≡ l′ → c ≡ c′ → step.Refused m l c ≡ step.Refused m′ l′ c′
+    same p q r = cc

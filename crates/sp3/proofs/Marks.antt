@@ -116,8 +116,8 @@ no-field v small e = go (natAbs v) small (ap natAbs e)
     go n s q = omega arith
 
 -- a step of a walk that gives no row gives no coordinates, and the walk stays
-pub no-row : (from : RowWalk) (s : RowStep) → (s ≡ step.End) ⊎ ((number : ℕ) × (line : ℕ) × (s ≡ step.Refused number line))
+pub no-row : (from : RowWalk) (s : RowStep) → (s ≡ step.End) ⊎ ((number : ℕ) × (line : ℕ) × (column : ℕ) × (s ≡ step.Refused number line column))
     → (rowDoor from s .row ≡ absentRow) × (rowDoor from s .next ≡ from)
 unfolding rowDoor
 no-row from s (inl e) = rw e (refl, refl)
-no-row from s (inr (number, line, e)) = rw e (refl, refl)
+no-row from s (inr (number, line, column, e)) = rw e (refl, refl)

@@ -103,4 +103,4 @@ unfolding rowDoor toldStep
 row-door-number from (step.At epoch satellite row next) = refl
 row-door-number from (step.Absent epoch satellite row next) = refl
 row-door-number from step.End = refl
-row-door-number from (step.Refused number line) = refl
+row-door-number from (step.Refused number line column) = refl

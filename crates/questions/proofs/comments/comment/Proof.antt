@@ -59,7 +59,7 @@ returns-2 c =
       c .nothing-at .ensures .1 ∙ ap (byteOf (start .args .file)) (first-byte (start .args .file .now)) ∙ ap (λ (a : CommentAnswer). byteOf (start .args .file) (a .at))
           (comment-as (start .args .file .now) _
           (found-as (ran .before .d .result) (start .args .file .now) (ran .scan-whole .result) _ (ran .before .d .ensures) (toldFront-one _ _ (ran .scan-whole .ensures)) (known .enum-told .given .1))
-          (start .args .k) (noComment _ _) refl),
+          (start .args .k) (noComment _ _ _) refl),
     )
 
 returns-3 : tie.Need-returns-3
@@ -70,8 +70,8 @@ returns-3 c =
       words-as (start .args .file .now) (front.File t) (found-file known) (start .args .k) (now (c .nothing-at2 .result))
           (c .nothing-at2 .ensures .0 ∙ no-words-there (start .args .file .now) t (start .args .k) (c .before .if1 .left)),
       c .nothing-at2 .ensures .1 ∙ ap (byteOf (start .args .file)) (first-byte (start .args .file .now)) ∙ ap (λ (a : CommentAnswer). byteOf (start .args .file) (a .at))
-          (comment-as (start .args .file .now) (front.File t) (found-file known) (start .args .k) (noComment 13 0)
-          (no-comment-there (start .args .file .now) t (start .args .k) (noComment 13 0) (c .before .if1 .left) refl)),
+          (comment-as (start .args .file .now) (front.File t) (found-file known) (start .args .k) (noComment 13 0 0)
+          (no-comment-there (start .args .file .now) t (start .args .k) (noComment 13 0 0) (c .before .if1 .left) refl)),
     )
 
 pub comment-spec : {M : Type 1} → statement M

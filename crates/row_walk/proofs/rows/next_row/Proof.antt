@@ -25,11 +25,13 @@ read c w x is so =
 
 returns : tie.Need-returns
 unfolding stepAt
-returns c = read (c .before .before .before) _ _ (c .before .enum-told .given .1) (ap (step.Refused 1) (c .line-number .ensures))
+returns c = read (c .before .before .before) _ _ (c .before .enum-told .given .1) (ap (λ (l : ℕ). step.Refused 1 l 0) (c .line-number .ensures))
 
 returns-2 : tie.Need-returns-2
 unfolding stepAt
-returns-2 c = read (c .before .before .before .before) _ _ (c .before .before .number .given .1) (ap (step.Refused (c .before .before .number .given .0 .0)) (c .line-number2 .ensures))
+returns-2 c =
+    let known = c .before .before .number .given in
+    read (c .before .before .before .before) _ _ (known .1) (ap (λ (l : ℕ). step.Refused (known .0 .0) l (known .0 .1 .0)) (c .line-number2 .ensures))
 
 returns-3 : tie.Need-returns-3
 unfolding stepAt
