@@ -6,6 +6,7 @@ use Rattle.machine.proofs.Told.{toldVerdict-one, toldRead-one}
 use Rattle.machine.proofs.checks.instant_in.Reads as instant-in
 use Rattle.machine.proofs.checks.repeats_identifier.Reads as repeats-identifier
 use Rattle.machine.proofs.checks.type_agrees.Reads as type-agrees
+use Rattle.machine.proofs.due.due_at.Reads as due-at
 use Rattle.machine.proofs.faults.kind_number.Reads as kind-number
 use Rattle.machine.proofs.step.start.Reads as start
 use Rattle.machine.proofs.step.step_line.Reads as step-line
@@ -21,6 +22,9 @@ repeats-identifier-determined κs a r r′ s s′ p q = p ∙ sym q
 
 pub type-agrees-determined : (κs : _) (a : _) (r r′ : _) (s s′ : _) → type-agrees.Post κs a r s → type-agrees.Post κs a r′ s′ → r ≡ r′
 type-agrees-determined κs a r r′ s s′ p q = p ∙ sym q
+
+pub due-at-determined : (κs : _) (a : _) (r r′ : _) (s s′ : _) → due-at.Post κs a r s → due-at.Post κs a r′ s′ → r ≡ r′
+due-at-determined κs a r r′ s s′ p q = p ∙ sym q
 
 pub kind-number-determined : (κs : _) (a : _) (r r′ : _) (s s′ : _) → kind-number.Post κs a r s → kind-number.Post κs a r′ s′ → r ≡ r′
 kind-number-determined κs a r r′ s s′ p q = p ∙ sym q

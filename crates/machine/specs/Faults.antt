@@ -32,11 +32,17 @@ firstUnprintable (b ∷ bs) = cond (isPrintable b) (suc (firstUnprintable bs)) 1
 unfoldable pub secondFault : State → List ℕ → ℕ
 secondFault s line = lower (secondOf line .fault) (unless (secondAgrees (s .at8) (secondOf line)) 8 0)
 
+-- the fault of the columns of a `+ ` line: the first, or a further one
+abbrev pub slotsFault : Rules → State → List ℕ → ℕ
+slotsFault rules s line = cond (isFirst s) (satellitesOf rules line .fault) (moreOf false (s .left) line .fault)
+
+-- it names an identifier again that stands before in it or in the lines before
+abbrev pub namesAgain : Rules → State → List ℕ → List ℕ → Bool
+namesAgain rules s identifiers line = repeats (knownIdentifiers s identifiers) (identifiersIn rules s line)
+
 -- a `+ ` line: no identifier repeats
 unfoldable pub satellitesFault : Rules → State → List ℕ → List ℕ → ℕ
-satellitesFault rules s identifiers line =
-    lower (cond (isFirst s) (satellitesOf rules line .fault) (moreOf false (s .left) line .fault))
-    (unless (not (repeats (knownIdentifiers s identifiers) (identifiersIn rules s line))) 8 0)
+satellitesFault rules s identifiers line = lower (slotsFault rules s line) (unless (not (namesAgain rules s identifiers line)) 8 0)
 
 -- the first `%c` agrees with the identifiers; the second has placeholders alone
 unfoldable pub charactersFault : State → List ℕ → List ℕ → ℕ

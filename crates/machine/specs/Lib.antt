@@ -1,4 +1,5 @@
 pub mod State
+pub mod Due
 pub mod Faults
 pub mod Next
 pub mod Step

@@ -21,6 +21,23 @@ pub struct State {
     pub interval8: u64,
 }
 
+// What the slots of a `+ ` line say: the fault of its columns, and whether it names an identifier again.
+pub(crate) struct SlotsSaid {
+    pub fault: usize,
+    pub again: bool,
+}
+
+// What must stand at a byte: the kind of line that must come, and the kind that may stand there before it (none: `NO_KIND`); the instant at which an
+// epoch must stand and the satellite that a row must name, each 0 where none must come; whether the `+ ` line that stands there names an identifier again.
+#[repr(C)]
+pub struct Due {
+    pub kind: u64,
+    pub also: u64,
+    pub instant8: u64,
+    pub identifier: u64,
+    pub repeats: bool,
+}
+
 // What a line does: its fault, by the paper's number and the column that it names (0 for none), or the state after it, or it ends the file.
 pub enum Verdict {
     Fault { number: usize, column: usize },

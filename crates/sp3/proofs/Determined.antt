@@ -25,6 +25,7 @@ use Rattle.sp3.proofs.lists.sp3_note_deviation_of.Reads as sp3-note-dev
 use Rattle.sp3.proofs.lists.sp3_note_correlation_of.Reads as sp3-note-correlation-of
 use Rattle.sp3.proofs.walking.sp3_first_spot.Reads as sp3-first-spot
 use Rattle.sp3.proofs.walking.sp3_read_line.Reads as sp3-read-line
+use Rattle.sp3.proofs.walking.sp3_due.Reads as sp3-due
 use Rattle.sp3.proofs.walking.sp3_next_line.Reads as sp3-next-line
 use Rattle.sp3.proofs.walking.sp3_after_lines.Reads as sp3-after-lines
 use Rattle.sp3.proofs.walking.sp3_begin.Reads as sp3-begin
@@ -105,6 +106,9 @@ sp3-first-spot-determined κs a r r′ s s′ p q = p ∙ sym q
 pub sp3-read-line-determined : (κs : _) (a : _) (r r′ : _) (s s′ : _) → sp3-read-line.Post κs a r s → sp3-read-line.Post κs a r′ s′
     → (r ≡ r′) × (now (s .1 .1 .0) ≡ now (s′ .1 .1 .0))
 sp3-read-line-determined κs a r r′ s s′ p q = (p .0 ∙ sym (q .0), p .1 ∙ sym (q .1))
+
+pub sp3-due-determined : (κs : _) (a : _) (r r′ : _) (s s′ : _) → sp3-due.Post κs a r s → sp3-due.Post κs a r′ s′ → r ≡ r′
+sp3-due-determined κs a r r′ s s′ p q = p ∙ sym q
 
 pub sp3-next-line-determined : (κs : _) (a : _) (r r′ : _) (s s′ : _) → sp3-next-line.Post κs a r s → sp3-next-line.Post κs a r′ s′ → r ≡ r′
 sp3-next-line-determined κs a r r′ s s′ p q = p ∙ sym q

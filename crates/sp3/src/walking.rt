@@ -2,6 +2,7 @@
 ghost use mathlib.Core.Path.{_≡_};
 ghost use lib.ListN.{length};
 ghost use Rattle.header.specs.Rules.{d};
+ghost use Rattle.machine.specs.Due.{dueAt};
 ghost use Rattle.machine.specs.Step.{lineKnown, lineRead, lineIdentifiers};
 ghost use Rattle.reader.specs.Reading.{fileOf, judged};
 ghost use Rattle.line_walk.specs.Spots.{firstSpot, spotsAfter, identifiersPast};
@@ -13,6 +14,7 @@ use crate::types::RowStepAnswer;
 use float_row::FloatRow;
 use header::Rules;
 use line_walk::Spot;
+use machine::Due;
 use machine::LineRead;
 use reader::Reading;
 use row_walk::RowStep;
@@ -74,6 +76,15 @@ pub extern "C" fn sp3_next_line<'a>(
 {
     let found = row_walk::read_known(file, identifiers, spot);
     line_answer(found, spot)
+}
+
+// What must stand at a spot, where the identifiers are those of the lines before it.
+#[no_mangle]
+pub extern "C" fn sp3_due<'a>(file: &'a [u8], identifiers: &'a [u64], spot: Spot) -> Due
+    ensures result { λ r. ⌜ r ≡ dueAt d (now (file .entry)) (spot .at) (spot .state) (now (identifiers .entry)) ⌝ }
+{
+    let state = spot.state;
+    machine::due_at(Rules::d(), file, spot.at, state, identifiers)
 }
 
 // A walk: the spot so many lines further. A `+ ` line leaves its identifiers in `identifiers`.
