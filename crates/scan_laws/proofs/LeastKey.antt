@@ -6,7 +6,7 @@ use mathlib.Core.List.{List, [], _∷_, _++_, map}
 use Prim.Native.Nat.{ℕ, _≤_, _<_, min}
 use native.Mathlib.Decide.{decLe}
 use native.Mathlib.Omega.{arith}
-use Rattle.layout.specs.Fault.{clean, keyNumber, lower}
+use Rattle.layout.specs.Fault.{clean, lower}
 use Rattle.layout.specs.Layout.{Item, faultAt, faultFrom}
 use Rattle.layout.proofs.Keys.{lower-both, lower-second}
 use Rattle.scan_laws.specs.Earned.{Among}
@@ -69,7 +69,3 @@ pub items-lowest : (items : List Item) (line : List ℕ) (lowest : ℕ) (keys : 
     → lowestOf lowest (map (λ (item : Item). faultAt item line) items ++ keys) ≡ lowestOf (faultFrom lowest items line) keys
 items-lowest [] line lowest keys = refl
 items-lowest (item ∷ items) line lowest keys = items-lowest items line (lower lowest (faultAt item line)) keys
-
--- a lower fault has no higher number
-pub number-monotone : (a b : ℕ) → a ≤ b → keyNumber a ≤ keyNumber b
-number-monotone a b h = omega arith

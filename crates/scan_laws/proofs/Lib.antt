@@ -1,6 +1,6 @@
 pub mod LeastKey
+pub mod Blamed
 pub mod Lowest
-pub mod Numbered
 pub mod Used
 pub mod Local
 pub mod Room

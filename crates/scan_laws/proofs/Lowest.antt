@@ -1,19 +1,26 @@
--- In a line the lowest number decides: a line is refused with the lowest of the numbers that it earns, each by a test of its own, and it is
--- refused exactly when it earns one. Assumes nothing.
-use mathlib.Core.Path.{_≡_, refl, sym, ap, _∙_, subst}
-use mathlib.Core.Logic.{_⊎_, inl, inr, _↔_}
-use mathlib.Core.Bool.{Bool, true, false, false≢true}
-use mathlib.Core.List.{List, [], _∷_, _++_}
-use Prim.Native.Nat.{ℕ, _+_, _≤_, _<_}
+-- In a line the lowest number decides, and of several faults with that number the leftmost: a line is refused with exactly that number and column, and
+-- it is refused exactly when it earns a fault. Assumes nothing.
+use mathlib.Core.Path.{_≡_, refl, sym, ap, ap₂, _∙_, subst}
+use mathlib.Core.Logic.{_⊎_, inl, inr, ⊎-elim, _↔_}
+use mathlib.Core.Bool.{Bool, true, false, false≢true, cond, _&&_}
+use mathlib.Core.List.{List, [], _∷_, _++_, map, append-nil}
+use Prim.Native.Nat.{ℕ, zero, suc, _+_, _-_, _≤_, _<_}
+use native.Mathlib.Decide.{decLe}
 use native.Mathlib.Omega.{arith}
-use borrow.Author.Tests.{eqb-true, eqb-false}
+use borrow.Author.Tests.{eqb-true, eqb-false, leb-true, leb-false, le-leb, lt-leb}
 use lib.Dec.{eqb, leb}
-use lib.ListN.{length}
+use lib.ListN.{length, getD, take}
+use Rattle.laws.specs.Tests.{within}
 use Rattle.laws.specs.Texts.{every, isPrintable}
-use Rattle.layout.specs.Fault.{clean, keyNumber, columnOf, lowerOf}
-use Rattle.layout.specs.Layout.{faultOf}
+use Rattle.laws.proofs.Bools.{and-left, and-right}
+use Rattle.laws.proofs.Bounds.{within-true}
+use Rattle.layout.specs.Fault.{clean, keyed, keyNumber, columnOf, lowerOf}
+use Rattle.layout.specs.Kind.{unless, isUnused}
+use Rattle.layout.specs.Layout.{Item, faultAt, faultOf}
 use Rattle.layout.specs.Line.{padded}
 use Rattle.record.specs.LineKinds.{longest}
+use Rattle.record.specs.Agrees.{typeAgrees}
+use Rattle.record.specs.Descriptors.{descriptorOf}
 use Rattle.header.specs.declared.types.Rules.{Rules}
 use Rattle.record.specs.declared.types.LineKind.{LineKind}
 use Rattle.record.specs.declared.types.LineKind.the-variants as kind
@@ -24,14 +31,21 @@ use Rattle.machine.specs.Step.{onKey, judgedLine, printedLine, stepOf}
 use Rattle.machine.specs.declared.types.State.{State}
 use Rattle.machine.specs.declared.types.Verdict.{Verdict}
 use Rattle.machine.specs.declared.types.Verdict.the-variants as verdict
-use Rattle.scan_laws.proofs.LeastKey.{lowestOf, Lowest, lowest-is, items-lowest, number-monotone}
-use Rattle.scan_laws.specs.Earned.{Among}
-use Rattle.scan_laws.specs.Earned.{itemsAt, checksAt, partsAt, kindAt, LookedAt, Earns}
-use Rattle.scan_laws.specs.Earned.Earns.{by-byte, by-length, by-kind, by-part}
+use Rattle.scan_laws.proofs.Blamed.{standsRight, layouts-right, among-right, unused-named, unused-earned, field-named, field-earned, field-columns, last-bound, key-number, key-column}
+use Rattle.scan_laws.proofs.LeastKey.{lowestOf, Lowest, lowest-is, items-lowest}
+use Rattle.scan_laws.specs.Earned.{Among, Check, must, itemsAt, checksAt, kindAt, byteAt, fieldNumber, fieldColumn, NotBlank, WrongField, Failed, Earns, Before, Decides}
+use Rattle.scan_laws.specs.Earned.Earns.{by-byte, by-length, by-kind, by-unused, by-field, by-check}
+
+-- the keys of what a line's tests earn; 0 is none
+abbrev checkKey : Check → ℕ
+checkKey c = unless (c .passes) (c .number) (c .column)
+
+abbrev checkKeys : List Check → List ℕ
+checkKeys checks = map checkKey checks
 
 -- the fault of a record is the lowest of its parts'
 record-lowest : (k : LineKind) (rules : Rules) (s : State) (identifiers line : List ℕ)
-    → recordFault k rules s identifiers line ≡ lowestOf (faultOf (itemsAt k rules s line) line) (checksAt k rules s identifiers line)
+    → recordFault k rules s identifiers line ≡ lowestOf (faultOf (itemsAt k rules s line) line) (checkKeys (checksAt k rules s identifiers line))
 unfolding secondFault satellitesFault charactersFault floatsFault epochFault namedFault lowerOf
 record-lowest kind.Other rules s identifiers line = refl
 record-lowest kind.First rules s identifiers line = refl
@@ -39,14 +53,14 @@ record-lowest kind.Second rules s identifiers line = refl
 record-lowest kind.Satellites rules s identifiers line = go (isFirst s) refl
   where
     go : (t : Bool) → isFirst s ≡ t
-        → satellitesFault rules s identifiers line ≡ lowestOf (faultOf (itemsAt kind.Satellites rules s line) line) (checksAt kind.Satellites rules s identifiers line)
+        → satellitesFault rules s identifiers line ≡ lowestOf (faultOf (itemsAt kind.Satellites rules s line) line) (checkKeys (checksAt kind.Satellites rules s identifiers line))
     go true e = rw e refl
     go false e = rw e refl
 record-lowest kind.Accuracies rules s identifiers line = refl
 record-lowest kind.Characters rules s identifiers line = go (eqb (s .lines) 2) refl
   where
     go : (t : Bool) → eqb (s .lines) 2 ≡ t
-        → charactersFault s identifiers line ≡ lowestOf (faultOf (itemsAt kind.Characters rules s line) line) (checksAt kind.Characters rules s identifiers line)
+        → charactersFault s identifiers line ≡ lowestOf (faultOf (itemsAt kind.Characters rules s line) line) (checkKeys (checksAt kind.Characters rules s identifiers line))
     go true e = rw e refl
     go false e = rw e refl
 record-lowest kind.Floats rules s identifiers line = go (eqb (s .lines) 2) refl
@@ -94,122 +108,419 @@ not-refused : (v : Verdict) → isFault v ≡ false → NotRefused v
 unfolding isFault
 not-refused v e m c f = false≢true (sym e ∙ ap isFault f)
 
--- what a verdict on a line says of the numbers that it earns
-data Decides (rules : Rules) (s : State) (identifiers line : List ℕ) (v : Verdict) : Type 0 where
-  refused : (m c : ℕ) → v ≡ verdict.Fault m c → Earns rules s identifiers line m → ((m′ : ℕ) → Earns rules s identifiers line m′ → m ≤ m′) → Decides rules s identifiers line v
-  passed : NotRefused v → ((m : ℕ) → Earns rules s identifiers line m → ⊥) → Decides rules s identifiers line v
+-- THE BYTES: the first that is outside 32 to 126 is named, and no such byte stands before it.
+unprintable-first : (line : List ℕ) → every isPrintable line ≡ false
+    → (i : ℕ) × (firstUnprintable line ≡ suc i) × (i < length line) × (isPrintable (getD line i 32) ≡ false)
+unfolding firstUnprintable
+unprintable-first [] e = absurd (false≢true (sym e))
+unprintable-first (b ∷ bs) e = go (isPrintable b) refl (unprintable-first bs)
+  where
+    go : (t : Bool) → isPrintable b ≡ t
+        → (every isPrintable bs ≡ false → (i : ℕ) × (firstUnprintable bs ≡ suc i) × (i < length bs) × (isPrintable (getD bs i 32) ≡ false))
+        → (i : ℕ) × (firstUnprintable (b ∷ bs) ≡ suc i) × (i < suc (length bs)) × (isPrintable (getD (b ∷ bs) i 32) ≡ false)
+    go false f later = (0, rw f refl, omega arith, f)
+    go true f later =
+        let found = later (sym (ap (λ (t : Bool). t && every isPrintable bs) f) ∙ e) in
+        let here : firstUnprintable (b ∷ bs) ≡ suc (firstUnprintable bs) = rw f refl in
+        (suc (found .0), here ∙ ap suc (found .1), omega (arith, found .2), found .3)
+
+unprintable-before : (line : List ℕ) (i : ℕ) → isPrintable (getD line i 32) ≡ false → (every isPrintable line ≡ false) × (firstUnprintable line ≤ suc i)
+unfolding firstUnprintable
+unprintable-before [] i e = absurd (false≢true (sym e))
+unprintable-before (b ∷ bs) i e = go (isPrintable b) refl i e (unprintable-before bs)
+  where
+    go : (t : Bool) → isPrintable b ≡ t → (i : ℕ) → isPrintable (getD (b ∷ bs) i 32) ≡ false
+        → ((i : ℕ) → isPrintable (getD bs i 32) ≡ false → (every isPrintable bs ≡ false) × (firstUnprintable bs ≤ suc i))
+        → (every isPrintable (b ∷ bs) ≡ false) × (firstUnprintable (b ∷ bs) ≤ suc i)
+    go false f i e later = (rw f refl, rw f (omega arith))
+    go true f zero e later = absurd (false≢true (sym e ∙ f))
+    go true f (suc i) e later = let before = later i e in (rw f (before .0), rw f (omega (arith, before .1)))
+
+-- LISTS of keys
+among-map : {A : Type 0} (f : A → ℕ) (xs : List A) (x : A) (more : List ℕ) → Among x xs → Among (f x) (map f xs ++ more)
+among-map f [] x more a = absurd a
+among-map f (y ∷ ys) x more (inl e) = inl (ap f e)
+among-map f (y ∷ ys) x more (inr a) = inr (among-map f ys x more a)
+
+among-more : {A : Type 0} (f : A → ℕ) (xs : List A) (key : ℕ) (more : List ℕ) → Among key more → Among key (map f xs ++ more)
+among-more f [] key more a = a
+among-more f (y ∷ ys) key more a = inr (among-more f ys key more a)
+
+among-of : {A : Type 0} (f : A → ℕ) (xs : List A) (key : ℕ) (more : List ℕ) → Among key (map f xs ++ more) → ((x : A) × Among x xs × (key ≡ f x)) ⊎ Among key more
+among-of f [] key more a = inr a
+among-of f (y ∷ ys) key more (inl e) = inl (y, inl refl, e)
+among-of f (y ∷ ys) key more (inr a) = ⊎-elim (λ found. inl (found .0, inr (found .1), found .2)) (λ later. inr later) (among-of f ys key more a)
+
+-- CHECKS: every one has a number from 4 to 10, and a column of 4 for 7, else of 0
+abbrev checkRight : Check → Bool
+checkRight c = within 4 10 (c .number) && eqb (c .column) (cond (eqb (c .number) 7) 4 0)
+
+abbrev checksRight : List Check → Bool
+checksRight [] = true
+checksRight (c ∷ checks) = checkRight c && checksRight checks
+
+checks-right : (k : LineKind) (rules : Rules) (s : State) (identifiers line : List ℕ) → checksRight (checksAt k rules s identifiers line) ≡ true
+checks-right kind.Other rules s identifiers line = refl
+checks-right kind.First rules s identifiers line = refl
+checks-right kind.Second rules s identifiers line = refl
+checks-right kind.Satellites rules s identifiers line = refl
+checks-right kind.Accuracies rules s identifiers line = refl
+checks-right kind.Characters rules s identifiers line = go (eqb (s .lines) 2)
+  where
+    go : (t : Bool) → checksRight (cond t (must (typeAgrees (descriptorOf line .«file_type») (take (s .satellites) identifiers)) 8 0 ∷ []) []) ≡ true
+    go true = refl
+    go false = refl
+checks-right kind.Floats rules s identifiers line = refl
+checks-right kind.Integers rules s identifiers line = refl
+checks-right kind.Comment rules s identifiers line = refl
+checks-right kind.Epoch rules s identifiers line = refl
+checks-right kind.Position rules s identifiers line = refl
+checks-right kind.Velocity rules s identifiers line = refl
+checks-right kind.PositionCorrelation rules s identifiers line = refl
+checks-right kind.VelocityCorrelation rules s identifiers line = refl
+checks-right kind.EndOfFile rules s identifiers line = refl
+
+check-right : (checks : List Check) (c : Check) → Among c checks → checksRight checks ≡ true → checkRight c ≡ true
+check-right [] c a e = absurd a
+check-right (d ∷ checks) c (inl is) e = ap checkRight is ∙ and-left (checkRight d) _ e
+check-right (d ∷ checks) c (inr a) e = check-right checks c a (and-right (checkRight d) _ e)
+
+pub check-bounds : (c : Check) → checkRight c ≡ true → (4 ≤ c .number) × (c .number ≤ 10) × (c .column ≡ cond (eqb (c .number) 7) 4 0) × (c .column < 128)
+check-bounds c e =
+    let range = within-true 4 10 (c .number) (and-left (within 4 10 (c .number)) _ e) in
+    let column = eqb-true (c .column) (cond (eqb (c .number) 7) 4 0) (and-right (within 4 10 (c .number)) _ e) in
+    (range .0, range .1, column, small (eqb (c .number) 7) column)
+  where
+    small : (t : Bool) → c .column ≡ cond t 4 0 → c .column < 128
+    small true e = omega arith
+    small false e = omega arith
+
+-- faults in order
+before-both : (n c m e : ℕ) → Before n c m e → Before m e n c → (n ≡ m) × (c ≡ e)
+before-both n c m e (inl p) (inl q) = absurd (omega arith)
+before-both n c m e (inl p) (inr (q, r)) = absurd (omega arith)
+before-both n c m e (inr (p, q)) (inl r) = absurd (omega arith)
+before-both n c m e (inr (p, q)) (inr (r, t)) = (p, omega arith)
+
+key-before : (n c m e : ℕ) → c < 128 → e < 128 → keyed n c ≤ keyed m e → Before n c m e
+key-before n c m e p q h = go (decLe m n)
+  where
+    go : Dec (m ≤ n) → Before n c m e
+    go (yes o) = inr (omega arith, omega arith)
+    go (no o) = inl (omega arith)
 
 both : {b : Bool} → b ≡ true → b ≡ false → ⊥
 both p q = false≢true (sym q ∙ p)
 
+-- A LINE
 module _ (rules : Rules) (s : State) (identifiers line : List ℕ) where
+  abbrev k : LineKind
+  k = kindAt rules line
+
+  abbrev items : List Item
+  items = itemsAt k rules s (padded line)
+
+  abbrev checks : List Check
+  checks = checksAt k rules s identifiers (padded line)
+
+  abbrev itemKey : Item → ℕ
+  itemKey item = faultAt item (padded line)
+
+  -- the keys of its parts
+  abbrev keys : List ℕ
+  keys = map itemKey items ++ checkKeys checks
+
+  abbrev Fault : ℕ → ℕ → Type 0
+  Fault number column = Earns rules s identifiers line number column
+
+  item-right : (item : Item) → Among item items → standsRight k item ≡ true
+  item-right item a = among-right k items item a (layouts-right k rules s (padded line))
+
+  -- the key of a part is that of a fault that the line earns
+  record Keyed (key : ℕ) : Type 0 where
+    number : ℕ
+    column : ℕ
+    is : key ≡ keyed number column
+    small : column < 128
+    earned : Fault number column
+
+  item-keyed : (item : Item) → Among item items → 0 < itemKey item → Keyed (itemKey item)
+  item-keyed item a h = go (isUnused (item .kind)) refl
+    where
+      right : standsRight k item ≡ true
+      right = item-right item a
+
+      go : (t : Bool) → isUnused (item .kind) ≡ t → Keyed (itemKey item)
+      go true u =
+          let found = unused-named k item (padded line) right u h in
+          record {
+            number = 5;
+            column = found .0;
+            is = found .4;
+            small = omega (arith, found .2, last-bound k item (padded line) right);
+            earned = by-unused (record { item = item; listed = a; unused = u; from = found .1; to = found .2; filled = found .3 }) refl;
+          }
+      go false u =
+          let found = field-named k item (padded line) right u h in
+          let n = fieldNumber item (padded line) in
+          record {
+            number = n;
+            column = fieldColumn k item n;
+            is = found .2;
+            small = omega (arith, field-columns k item (padded line) right n .0);
+            earned = by-field (record { item = item; listed = a; used = u; some = omega (arith, found .0); earned = refl; names = refl });
+          }
+
+  check-keyed : (c : Check) → Among c checks → 0 < checkKey c → Keyed (checkKey c)
+  check-keyed c a h = go (c .passes) refl
+    where
+      go : (t : Bool) → c .passes ≡ t → Keyed (checkKey c)
+      go true p = absurd (omega (arith, ap (λ (t : Bool). unless t (c .number) (c .column)) p, h))
+      go false p =
+          let bounds = check-bounds c (check-right checks c a (checks-right k rules s identifiers (padded line))) in
+          record {
+            number = c .number;
+            column = c .column;
+            is = ap (λ (t : Bool). unless t (c .number) (c .column)) p;
+            small = bounds .3;
+            earned = by-check (record { check = c; asked = a; fails = p; earned = refl; names = refl });
+          }
+
+  part-keyed : (key : ℕ) → Among key keys → 0 < key → Keyed key
+  part-keyed key a h = go (among-of itemKey items key (checkKeys checks) a)
+    where
+      checked : ((c : Check) × Among c checks × (key ≡ checkKey c)) ⊎ Among key [] → Keyed key
+      checked (inl (c, b, is)) = subst Keyed (sym is) (check-keyed c b (subst (λ (n : ℕ). 0 < n) is h))
+      checked (inr none) = absurd none
+
+      go : ((item : Item) × Among item items × (key ≡ itemKey item)) ⊎ Among key (checkKeys checks) → Keyed key
+      go (inl (item, b, is)) = subst Keyed (sym is) (item-keyed item b (subst (λ (n : ℕ). 0 < n) is h))
+      go (inr b) = checked (among-of checkKey checks key [] (subst (Among key) (sym (append-nil (checkKeys checks))) b))
+
+  -- a fault that the line earns by a part is not before the key of that part
+  record Part (number column : ℕ) : Type 0 where
+    key : ℕ
+    among : Among key keys
+    some : 0 < key
+    below : key ≤ keyed number column
+    low : 4 ≤ number
+    high : number ≤ 10
+    small : column < 128
+
+  unused-part : (column : ℕ) → NotBlank rules s line column → Part 5 column
+  unused-part column b =
+      let right = item-right (b .item) (b .listed) in
+      let found = unused-earned k (b .item) (padded line) right (b .unused) column (b .from) (b .to) (b .filled) in
+      record {
+        key = itemKey (b .item);
+        among = among-map itemKey items (b .item) (checkKeys checks) (b .listed);
+        some = found .0;
+        below = found .1;
+        low = omega arith;
+        high = omega arith;
+        small = omega (arith, b .to, last-bound k (b .item) (padded line) right);
+      }
+
+  field-part : (number column : ℕ) → WrongField rules s line number column → Part number column
+  field-part number column w =
+      let right = item-right (w .item) (w .listed) in
+      let some : 0 < fieldNumber (w .item) (padded line) = omega (arith, w .some, w .earned) in
+      let found = field-earned k (w .item) (padded line) right (w .used) some in
+      let is : itemKey (w .item) ≡ keyed number column =
+      found .2 ∙ ap (λ (n : ℕ). keyed n (fieldColumn k (w .item) n)) (sym (w .earned)) ∙ ap (keyed number) (sym (w .names)) in
+      record {
+        key = itemKey (w .item);
+        among = among-map itemKey items (w .item) (checkKeys checks) (w .listed);
+        some = omega (arith, is, w .some);
+        below = omega (arith, is);
+        low = omega (arith, found .0, w .earned);
+        high = omega (arith, found .1, w .earned);
+        small = omega (arith, w .names, field-columns k (w .item) (padded line) right number .0);
+      }
+
+  check-part : (number column : ℕ) → Failed rules s identifiers line number column → Part number column
+  check-part number column f =
+      let bounds = check-bounds (f .check) (check-right checks (f .check) (f .asked) (checks-right k rules s identifiers (padded line))) in
+      let is : checkKey (f .check) ≡ keyed number column =
+      ap (λ (t : Bool). unless t (f .check .number) (f .check .column)) (f .fails) ∙ ap₂ keyed (sym (f .earned)) (sym (f .names)) in
+      record {
+        key = checkKey (f .check);
+        among = among-more itemKey items (checkKey (f .check)) (checkKeys checks) (subst (Among (checkKey (f .check))) (append-nil (checkKeys checks)) (among-map checkKey checks (f .check) [] (f .asked)));
+        some = omega (arith, is, bounds .0, f .earned);
+        below = omega (arith, is);
+        low = omega (arith, bounds .0, f .earned);
+        high = omega (arith, bounds .1, f .earned);
+        small = omega (arith, bounds .3, f .names);
+      }
+
+  -- what it earns with 2 is a byte that is outside; else it earns 3, 4 or a part
+  data Way (number column : ℕ) : Type 0 where
+    byte-way : number ≡ 2 → every isPrintable line ≡ false → firstUnprintable line ≤ column → Way number column
+    length-way : number ≡ 3 → leb (length line) (longest rules k) ≡ false → column ≡ longest rules k + 1 → Way number column
+    kind-way : number ≡ 4 → stands s k ≡ false → Way number column
+    part-way : Part number column → Way number column
+
+  ways : (number column : ℕ) → Fault number column → Way number column
+  ways number column (by-byte p q e n) =
+      let before = unprintable-before line (column - 1) e in
+      byte-way n (before .0) (omega (arith, before .1))
+  ways number column (by-length h n c) = length-way n (lt-leb (length line) (longest rules k) h) c
+  ways number column (by-kind h n c) = kind-way n h
+  ways number column (by-unused b n) = part-way (subst (λ (m : ℕ). Part m column) (sym n) (unused-part column b))
+  ways number column (by-field w) = part-way (field-part number column w)
+  ways number column (by-check f) = part-way (check-part number column f)
+
+  -- A line earns numbers from 2 to 10 alone.
+  pub earned-numbered : (number column : ℕ) → Fault number column → (2 ≤ number) × (number ≤ 10)
+  earned-numbered number column e = go (ways number column e)
+    where
+      go : Way number column → (2 ≤ number) × (number ≤ 10)
+      go (byte-way n b f) = (omega arith, omega arith)
+      go (length-way n h c) = (omega arith, omega arith)
+      go (kind-way n h) = (omega arith, omega arith)
+      go (part-way p) = (omega (arith, p .low), p .high)
+
+  -- what a verdict on a line says of the faults that it earns
+  data Settles (v : Verdict) : Type 0 where
+    refused : (m c : ℕ) → v ≡ verdict.Fault m c → Decides rules s identifiers line m c → Settles v
+    passed : NotRefused v → ((m c : ℕ) → Fault m c → ⊥) → Settles v
+
   abbrev Short : Bool
-  Short = leb (length line) (longest rules (kindAt rules line))
-
-  abbrev parts : List ℕ
-  parts = partsAt (kindAt rules line) rules s identifiers (padded line)
-
-  abbrev key : ℕ
-  key = lowestOf clean parts
+  Short = leb (length line) (longest rules k)
 
   -- a byte outside 32 to 126
-  decides-two : every isPrintable line ≡ false → Decides rules s identifiers line (stepOf rules s identifiers line)
+  settles-two : every isPrintable line ≡ false → Settles (stepOf rules s identifiers line)
   unfolding stepOf
-  decides-two b = refused 2 (firstUnprintable line) (rw b refl) (by-byte b refl) least
+  settles-two b = refused 2 (firstUnprintable line) (rw b refl) (record { earned = here; before = λ m e f. go m e (ways m e f) })
     where
-      least : (m : ℕ) → Earns rules s identifiers line m → 2 ≤ m
-      least m (by-byte p e) = omega arith
-      least m (by-length p e) = omega arith
-      least m (by-kind p e) = omega arith
-      least m (by-part l k a h e) = absurd (both (l .plain) b)
+      here : Fault 2 (firstUnprintable line)
+      here =
+          let found = unprintable-first line b in
+          let place : firstUnprintable line - 1 ≡ found .0 = omega (arith, found .1) in
+          by-byte (omega (arith, found .1)) (omega (arith, found .1, found .2)) (ap (λ (i : ℕ). isPrintable (getD line i 32)) place ∙ found .3) refl
+
+      go : (m e : ℕ) → Way m e → Before 2 (firstUnprintable line) m e
+      go m e (byte-way n _ f) = inr (sym n, f)
+      go m e (length-way n h c) = inl (omega arith)
+      go m e (kind-way n h) = inl (omega arith)
+      go m e (part-way p) = inl (omega (arith, p .low))
 
   -- a line that is too long
-  decides-three : every isPrintable line ≡ true → Short ≡ false → Decides rules s identifiers line (stepOf rules s identifiers line)
+  settles-three : every isPrintable line ≡ true → Short ≡ false → Settles (stepOf rules s identifiers line)
   unfolding stepOf printedLine
-  decides-three b n = refused 3 (longest rules (kindAt rules line) + 1) (rw (b, n) refl) (by-length n refl) least
+  settles-three b n =
+      refused 3 (longest rules k + 1) (rw (b, n) refl)
+      (record { earned = by-length (leb-false (length line) (longest rules k) n) refl refl; before = λ m e f. go m e (ways m e f) })
     where
-      least : (m : ℕ) → Earns rules s identifiers line m → 3 ≤ m
-      least m (by-byte p e) = absurd (both b p)
-      least m (by-length p e) = omega arith
-      least m (by-kind p e) = omega arith
-      least m (by-part l k a h e) = absurd (both (l .short) n)
+      go : (m e : ℕ) → Way m e → Before 3 (longest rules k + 1) m e
+      go m e (byte-way _ p f) = absurd (both b p)
+      go m e (length-way i h c) = inr (sym i, omega arith)
+      go m e (kind-way i h) = inl (omega arith)
+      go m e (part-way p) = inl (omega (arith, p .low))
 
   -- a line that may not stand here
-  decides-four : every isPrintable line ≡ true → Short ≡ true → stands s (kindAt rules line) ≡ false → Decides rules s identifiers line (stepOf rules s identifiers line)
+  settles-four : every isPrintable line ≡ true → Short ≡ true → stands s k ≡ false → Settles (stepOf rules s identifiers line)
   unfolding stepOf printedLine judgedLine onKey standingFault
-  decides-four b n p = refused 4 0 (rw (b, n, p) refl) (by-kind p refl) least
+  settles-four b n p = refused 4 0 (rw (b, n, p) refl) (record { earned = by-kind p refl refl; before = λ m e f. go m e (ways m e f) })
     where
-      least : (m : ℕ) → Earns rules s identifiers line m → 4 ≤ m
-      least m (by-byte q e) = absurd (both b q)
-      least m (by-length q e) = absurd (both n q)
-      least m (by-kind q e) = omega arith
-      least m (by-part l k a h e) = absurd (both (l .placed) p)
+      go : (m e : ℕ) → Way m e → Before 4 0 m e
+      go m e (byte-way _ q f) = absurd (both b q)
+      go m e (length-way _ q c) = absurd (both n q)
+      go m e (kind-way i q) = inr (sym i, omega arith)
+      go m e (part-way p) = four (decLe m 4)
+        where
+          four : Dec (m ≤ 4) → Before 4 0 m e
+          four (yes o) = inr (omega (arith, p .low), omega arith)
+          four (no o) = inl (omega arith)
 
   -- a line whose record is looked at
-  module _ (l : LookedAt rules s line) where
-    step-key : stepOf rules s identifiers line ≡ onKey key (nextOf (kindAt rules line) rules s (padded line))
+  module _ (plain : every isPrintable line ≡ true) (short : Short ≡ true) (placed : stands s k ≡ true) where
+    abbrev key : ℕ
+    key = lowestOf clean keys
+
+    step-key : stepOf rules s identifiers line ≡ onKey key (nextOf k rules s (padded line))
     unfolding stepOf printedLine judgedLine standingFault
     step-key =
-        let k = kindAt rules line in
         let record-key : recordFault k rules s identifiers (padded line) ≡ key =
-        record-lowest k rules s identifiers (padded line)
-        ∙ sym (items-lowest (itemsAt k rules s (padded line)) (padded line) clean (checksAt k rules s identifiers (padded line))) in
-        rw (l .plain, l .short, l .placed, record-key) refl
+        record-lowest k rules s identifiers (padded line) ∙ sym (items-lowest items (padded line) clean (checkKeys checks)) in
+        rw (plain, short, placed, record-key) refl
 
-    earned : (r : ℕ) → Lowest clean parts r → 0 < r → Among r parts
-    earned r low h = go (low .one)
+    -- a fault that it earns is that of a part
+    by-a-part : (m e : ℕ) → Way m e → Part m e
+    by-a-part m e (byte-way _ q f) = absurd (both plain q)
+    by-a-part m e (length-way _ q c) = absurd (both short q)
+    by-a-part m e (kind-way _ q) = absurd (both placed q)
+    by-a-part m e (part-way p) = p
+
+    lowest-key : Lowest clean keys key → 0 < key → Keyed key
+    lowest-key low h = go (low .one)
       where
-        go : (r ≡ clean) ⊎ Among r parts → Among r parts
+        go : (key ≡ clean) ⊎ Among key keys → Keyed key
         go (inl e) = absurd (omega arith)
-        go (inr a) = a
+        go (inr a) = part-keyed key a h
 
-    least : (r : ℕ) → Lowest clean parts r → (m : ℕ) → Earns rules s identifiers line m → (0 < r) × (keyNumber r ≤ m)
-    least r low m (by-byte p e) = absurd (both (l .plain) p)
-    least r low m (by-length p e) = absurd (both (l .short) p)
-    least r low m (by-kind p e) = absurd (both (l .placed) p)
-    least r low m (by-part _ k a h e) =
-        let below = low .each k a h in
-        (below .0, omega (arith, number-monotone r k (below .1), e))
-
-    decides-part : Decides rules s identifiers line (stepOf rules s identifiers line)
+    settles-part : Settles (stepOf rules s identifiers line)
     unfolding onKey
-    decides-part = go (eqb key 0) refl (lowest-is parts clean)
+    settles-part = go (eqb key 0) refl (lowest-is keys clean)
       where
-        go : (t : Bool) → eqb key 0 ≡ t → Lowest clean parts key → Decides rules s identifiers line (stepOf rules s identifiers line)
+        go : (t : Bool) → eqb key 0 ≡ t → Lowest clean keys key → Settles (stepOf rules s identifiers line)
         go true e low =
             let none : key ≡ 0 = eqb-true key 0 e in
-            let next : stepOf rules s identifiers line ≡ nextOf (kindAt rules line) rules s (padded line) = step-key ∙ rw e refl in
-            passed (not-refused (stepOf rules s identifiers line) (ap isFault next ∙ next-passes (kindAt rules line) rules s (padded line)))
-            (λ m e. omega (arith, none, least key low m e .0))
+            let next : stepOf rules s identifiers line ≡ nextOf k rules s (padded line) = step-key ∙ rw e refl in
+            passed (not-refused (stepOf rules s identifiers line) (ap isFault next ∙ next-passes k rules s (padded line)))
+            (λ m c f. let p = by-a-part m c (ways m c f) in omega (arith, none, low .each (p .key) (p .among) (p .some) .0))
         go false e low =
             let some : 0 < key = omega (arith, eqb-false key 0 e) in
-            refused (keyNumber key) (columnOf key) (step-key ∙ rw e refl) (by-part l key (earned key low some) some refl) (λ m e. least key low m e .1)
+            let found = lowest-key low some in
+            let number : keyNumber key ≡ found .number = ap keyNumber (found .is) ∙ key-number (found .number) (found .column) (found .small) in
+            let column : columnOf key ≡ found .column = ap columnOf (found .is) ∙ key-column (found .number) (found .column) (found .small) in
+            refused (found .number) (found .column) (step-key ∙ rw e (ap₂ verdict.Fault number column)) (record {
+              earned = found .earned;
+              before =
+                  λ m c f.
+                  let p = by-a-part m c (ways m c f) in
+                  key-before (found .number) (found .column) m c (found .small) (p .small)
+                  (omega (arith, found .is, low .each (p .key) (p .among) (p .some) .1, p .below));
+            })
 
-  decides : Decides rules s identifiers line (stepOf rules s identifiers line)
-  decides = go (every isPrintable line) Short (stands s (kindAt rules line)) refl refl refl
+  settles : Settles (stepOf rules s identifiers line)
+  settles = go (every isPrintable line) Short (stands s k) refl refl refl
     where
-      go : (b n p : Bool) → every isPrintable line ≡ b → Short ≡ n → stands s (kindAt rules line) ≡ p → Decides rules s identifiers line (stepOf rules s identifiers line)
-      go false n p eb en ep = decides-two eb
-      go true false p eb en ep = decides-three eb en
-      go true true false eb en ep = decides-four eb en ep
-      go true true true eb en ep = decides-part (record { plain = eb; short = en; placed = ep })
+      go : (b n p : Bool) → every isPrintable line ≡ b → Short ≡ n → stands s k ≡ p → Settles (stepOf rules s identifiers line)
+      go false n p eb en ep = settles-two eb
+      go true false p eb en ep = settles-three eb en
+      go true true false eb en ep = settles-four eb en ep
+      go true true true eb en ep = settles-part eb en ep
 
-  -- A line is refused with a number that it earns, and it earns none below that.
-  pub lowest : (m c : ℕ) → stepOf rules s identifiers line ≡ verdict.Fault m c
-      → Earns rules s identifiers line m × ((m′ : ℕ) → Earns rules s identifiers line m′ → m ≤ m′)
-  lowest m c e = go decides
+  -- A line is refused with a number and a column exactly when that fault decides it.
+  pub decided : (m c : ℕ) → stepOf rules s identifiers line ≡ verdict.Fault m c → Decides rules s identifiers line m c
+  decided m c e = go settles
     where
-      go : Decides rules s identifiers line (stepOf rules s identifiers line) → Earns rules s identifiers line m × ((m′ : ℕ) → Earns rules s identifiers line m′ → m ≤ m′)
+      go : Settles (stepOf rules s identifiers line) → Decides rules s identifiers line m c
       go (passed none nothing) = absurd (none m c e)
-      go (refused n d f earns least) =
+      go (refused n d f decides) =
           let faults : verdict.Fault n d ≡ verdict.Fault m c = sym f ∙ e in
-          let same : n ≡ m = cc in
-          (subst (Earns rules s identifiers line) same earns, λ m′ a. subst (λ (k : ℕ). k ≤ m′) same (least m′ a))
+          let number : n ≡ m = cc in
+          let column : d ≡ c = cc in
+          subst (λ (x : ℕ). Decides rules s identifiers line x c) number (subst (Decides rules s identifiers line n) column decides)
 
-  -- A line is not refused exactly when it earns no number.
-  pub none : ((m : ℕ) → Earns rules s identifiers line m → ⊥) ↔ ((m c : ℕ) → stepOf rules s identifiers line ≡ verdict.Fault m c → ⊥)
-  none = (λ nothing m c e. nothing m (lowest m c e .0), go decides)
+  pub deciding : (m c : ℕ) → Decides rules s identifiers line m c → stepOf rules s identifiers line ≡ verdict.Fault m c
+  deciding m c d = go settles
     where
-      go : Decides rules s identifiers line (stepOf rules s identifiers line) → NotRefused (stepOf rules s identifiers line) → (m : ℕ) → Earns rules s identifiers line m → ⊥
+      go : Settles (stepOf rules s identifiers line) → stepOf rules s identifiers line ≡ verdict.Fault m c
+      go (passed none nothing) = absurd (nothing m c (d .earned))
+      go (refused n e f decides) =
+          let same = before-both n e m c (decides .before m c (d .earned)) (d .before n e (decides .earned)) in
+          f ∙ ap₂ verdict.Fault (same .0) (same .1)
+
+  -- A line is not refused exactly when it earns no fault.
+  pub none : ((m c : ℕ) → Fault m c → ⊥) ↔ ((m c : ℕ) → stepOf rules s identifiers line ≡ verdict.Fault m c → ⊥)
+  none = (λ nothing m c e. nothing m c (decided m c e .earned), go settles)
+    where
+      go : Settles (stepOf rules s identifiers line) → NotRefused (stepOf rules s identifiers line) → (m c : ℕ) → Fault m c → ⊥
       go (passed n nothing) h = nothing
-      go (refused m c f earns least) h = absurd (h m c f)
+      go (refused m c f decides) h = absurd (h m c f)
+
+  -- A line is refused with a number from 2 to 10.
+  pub step-numbered : (m c : ℕ) → stepOf rules s identifiers line ≡ verdict.Fault m c → (2 ≤ m) × (m ≤ 10)
+  step-numbered m c e = earned-numbered m c (decided m c e .earned)

@@ -15,7 +15,7 @@ use Rattle.machine.specs.declared.types.State.{State}
 use Rattle.machine.specs.declared.types.Verdict.{Verdict}
 use Rattle.machine.specs.declared.types.Verdict.the-variants as verdict
 use Rattle.machine.specs.declared.types.LineRead.the-variants as found
-use Rattle.scan_laws.proofs.Numbered.{step-numbered}
+use Rattle.scan_laws.proofs.Lowest.{step-numbered}
 use Rattle.file.specs.Plain.{Sound}
 use Rattle.scan.specs.declared.Tally.{Tally}
 use Rattle.scan.specs.declared.Front.{Front}

@@ -16,7 +16,7 @@ use Rattle.machine.specs.State.{hasRoom}
 use Rattle.machine.specs.Step.{stepOf, ifRoom, stepWithin, readAs, readFirst, identifiersFirst, lineKnown, lineRead, lineIdentifiers, Overfull}
 use Rattle.machine.proofs.Stepping.{kept-within}
 use Rattle.scan_laws.proofs.Files.{d-sound}
-use Rattle.scan_laws.proofs.Numbered.{step-numbered}
+use Rattle.scan_laws.proofs.Lowest.{step-numbered}
 use Rattle.scan_laws.proofs.Room.{ready-first, never-short}
 use Rattle.scan_laws.proofs.Stepping.{ready-behind}
 use Rattle.scan.specs.Run.{atFirst}
