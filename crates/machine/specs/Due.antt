@@ -11,7 +11,10 @@ use Rattle.record.specs.LineKinds.{satellitesKind, epochKind, positionKind, vel
 use Rattle.header.specs.declared.types.Rules.{Rules}
 use Rattle.machine.specs.State.{identifierDue}
 use Rattle.machine.specs.Faults.{namesAgain}
+use Rattle.machine.specs.Step.{stepOf}
 use Rattle.machine.specs.declared.types.State.{State}
+use Rattle.machine.specs.declared.types.Verdict.{Verdict}
+use Rattle.machine.specs.declared.types.Verdict.the-variants as verdict
 use Rattle.machine.specs.declared.types.Due.{Due}
 
 -- the instant of the epoch that is due, or 0; that of a file is far below 2^64
@@ -22,10 +25,17 @@ instantDue s = cond (eqb (s .due) epochKind) ((s .at8 + s .gap8) % 2 ^ 64) 0
 unfoldable pub satelliteDue : State → List ℕ → ℕ
 satelliteDue s identifiers = cond (eqb (s .due) positionKind || eqb (s .due) velocityKind) (identifierDue s identifiers) 0
 
--- a `+ ` line is due and the first of these lines names an identifier again
+-- the line is refused with 8
+unfoldable pub isEight : Verdict → Bool
+isEight (verdict.Fault number column) = eqb number 8
+isEight (verdict.Next s) = false
+isEight verdict.Finished = false
+
+-- a `+ ` line is due, and the first of these lines is refused with 8 since it names an identifier again
 unfoldable pub againAt : Rules → State → List ℕ → List (List ℕ) → Bool
 againAt rules s identifiers [] = false
-againAt rules s identifiers (l ∷ ls) = cond (eqb (s .due) satellitesKind) (namesAgain rules s identifiers (padded l)) false
+againAt rules s identifiers (l ∷ ls) =
+    cond (eqb (s .due) satellitesKind) (cond (isEight (stepOf rules s identifiers l)) (namesAgain rules s identifiers (padded l)) false) false
 
 unfoldable pub dueAt : Rules → List ℕ → ℕ → State → List ℕ → Due
 dueAt rules bytes at s identifiers = record {

@@ -1,7 +1,7 @@
 pub mod State
-pub mod Due
 pub mod Faults
 pub mod Next
 pub mod Step
+pub mod Due
 pub mod Told
 pub mod Usual

@@ -4,8 +4,10 @@ ghost use lib.ListN.{drop};
 ghost use Rattle.lines.specs.Lines.{linesOf};
 ghost use Rattle.machine.specs.Due.{instantDue, satelliteDue, againAt, dueAt};
 use crate::faults;
+use crate::step;
 use crate::types::Due;
 use crate::types::State;
+use crate::types::Verdict;
 use header::Rules;
 use record::kind::EPOCH_KIND;
 use record::kind::POSITION_KIND;
@@ -32,7 +34,7 @@ fn satellite_due(state: State, identifiers: &[u64]) -> u64
     0
 }
 
-// Whether the `+ ` line at a byte, where one is due, names an identifier again.
+// Whether the line at a byte, where a `+ ` line is due, is refused with 8 since it names an identifier again.
 fn names_again(rules: Rules, bytes: &[u8], at: usize, state: State, identifiers: &[u64]) -> bool
     ensures { λ r. ⌜ r ≡ againAt rules state (now (identifiers .entry)) (linesOf (drop at (now (bytes .entry)))) ⌝ }
 {
@@ -43,7 +45,15 @@ fn names_again(rules: Rules, bytes: &[u8], at: usize, state: State, identifiers:
     if end >= bytes.len() {
         return false;
     }
-    let padded = layout::pad(&bytes[at..end]);
+    let line = &bytes[at..end];
+    let Verdict::Fault { number, column: _ } = step::step_line(rules, state, identifiers, line)
+    else {
+        return false;
+    };
+    if number != 8 {
+        return false;
+    }
+    let padded = layout::pad(line);
     let said = faults::slots_said(rules, state, identifiers, &padded);
     said.again
 }

@@ -28,7 +28,8 @@ pub(crate) struct SlotsSaid {
 }
 
 // What must stand at a byte: the kind of line that must come, and the kind that may stand there before it (none: `NO_KIND`); the instant at which an
-// epoch must stand and the satellite that a row must name, each 0 where none must come; whether the `+ ` line that stands there names an identifier again.
+// epoch must stand and the satellite that a row must name, each 0 where none must come; whether the `+ ` line that stands there is refused
+// with 8 since it names an identifier again.
 #[repr(C)]
 pub struct Due {
     pub kind: u64,
