@@ -28,9 +28,9 @@
 //! any other record does: `0 0 EP    55               222`, and `0 0 EP` where
 //! all of them are unknown.
 //!
-//! "The paper" is 01-scope.md as request 1 of 02-change-requests.md changed it,
-//! "000" is the SP3-d document; the words beside the columns below are those of
-//! its column-by-column description.
+//! "The paper" is 01-scope.md as requests 1 and 2 of 02-change-requests.md
+//! changed it, "000" is the SP3-d document; the words beside the columns below
+//! are those of its column-by-column description.
 
 use std::collections::{BTreeMap, HashSet};
 use std::io::{Read, Write};
