@@ -18,8 +18,8 @@
 //! * `BIN file MODE SATELLITES EPOCHS` prints a plain file, mode P or V;
 //! * `BIN bytes SEED COUNT`    prints so many bytes of any kind;
 //! * `BIN columns`             prints a batch of files with other bytes in the
-//!   columns of a row or of a note; `BIN columns case NUMBER` and `BIN columns
-//!   compare PROGRAM [ARGS..]` are as below;
+//!   columns of a line; `BIN columns case NUMBER` and `BIN columns compare
+//!   PROGRAM [ARGS..]` are as below;
 //! * `BIN cases`               prints the stored batch;
 //! * `BIN check CRATE_DIR`     compares `CRATE_DIR/stdin` with the stored batch
 //!   and `CRATE_DIR/stdout` with the answers to it;
@@ -3155,7 +3155,7 @@ fn stored_cases() -> Vec<Case> {
 }
 
 // ---------------------------------------------------------------------------
-// Rows and notes with other bytes in their columns
+// Lines with other bytes in their columns
 // ---------------------------------------------------------------------------
 
 /// Of every class of bytes both ends, and those with a use in a row.
@@ -3164,29 +3164,45 @@ const EDGES: &[u8] = &[
     b'E', b'G', b'M', b'P', b'V', b'Z', b'[', b'a', b'e', b'p', b'z', b'~', 127, 128, 255,
 ];
 const FEW: &[u8] = b"\n -0EP";
+/// Those of the lines that are no rows.
+const OTHERS: &[u8] = b"\n 0-x\x7f";
 const BESIDE_FLAGS: &[u8] = b"DFLNOQ";
-/// The columns of a row or a note, and the first that a line hasn't.
-const COLUMNS_OF_ROW: RangeInclusive<usize> = 1..=81;
+/// The columns of a line, and the first that it hasn't.
+const ALL_COLUMNS: RangeInclusive<usize> = 1..=81;
 
-/// Files, a line with a row or a note, columns of it, and the bytes that each is
-/// given.
+/// Files, a line, columns of it, and the bytes that each is given.
 const ALTERED: &[(Base, usize, RangeInclusive<usize>, &[u8])] = &[
-    (Rows, 24, COLUMNS_OF_ROW, EDGES),
-    (Rows, 25, COLUMNS_OF_ROW, EDGES),
-    (Rows, 27, COLUMNS_OF_ROW, FEW),
-    (Rows, 28, COLUMNS_OF_ROW, FEW),
-    (MovingRows, 24, COLUMNS_OF_ROW, FEW),
-    (MovingRows, 25, COLUMNS_OF_ROW, FEW),
-    (MovingRows, 32, COLUMNS_OF_ROW, FEW),
+    (Rows, 24, ALL_COLUMNS, EDGES),
+    (Rows, 25, ALL_COLUMNS, EDGES),
+    (Rows, 27, ALL_COLUMNS, FEW),
+    (Rows, 28, ALL_COLUMNS, FEW),
+    (MovingRows, 24, ALL_COLUMNS, FEW),
+    (MovingRows, 25, ALL_COLUMNS, FEW),
+    (MovingRows, 32, ALL_COLUMNS, FEW),
     (Rows, 24, 74..=80, BESIDE_FLAGS),
     (Rows, 25, 74..=80, BESIDE_FLAGS),
-    (Notes, 25, COLUMNS_OF_ROW, EDGES),
-    (Notes, 27, COLUMNS_OF_ROW, FEW),
-    (Notes, 30, COLUMNS_OF_ROW, FEW),
-    (Notes, 32, COLUMNS_OF_ROW, FEW),
-    (MovingNotes, 25, COLUMNS_OF_ROW, FEW),
-    (MovingNotes, 27, COLUMNS_OF_ROW, EDGES),
-    (MovingNotes, 31, COLUMNS_OF_ROW, FEW),
+    (Notes, 25, ALL_COLUMNS, EDGES),
+    (Notes, 27, ALL_COLUMNS, FEW),
+    (Notes, 30, ALL_COLUMNS, FEW),
+    (Notes, 32, ALL_COLUMNS, FEW),
+    (MovingNotes, 25, ALL_COLUMNS, FEW),
+    (MovingNotes, 27, ALL_COLUMNS, EDGES),
+    (MovingNotes, 31, ALL_COLUMNS, FEW),
+    // One line of each other kind.
+    (Rows, 1, ALL_COLUMNS, OTHERS),
+    (Rows, 2, ALL_COLUMNS, OTHERS),
+    (Rows, 3, ALL_COLUMNS, OTHERS),
+    (Rows, 4, ALL_COLUMNS, OTHERS),
+    (Rows, 8, ALL_COLUMNS, OTHERS),
+    (Rows, 9, ALL_COLUMNS, OTHERS),
+    (Rows, 13, ALL_COLUMNS, OTHERS),
+    (Rows, 14, ALL_COLUMNS, OTHERS),
+    (Rows, 15, ALL_COLUMNS, OTHERS),
+    (Rows, 16, ALL_COLUMNS, OTHERS),
+    (Rows, 17, ALL_COLUMNS, OTHERS),
+    (Rows, 19, ALL_COLUMNS, OTHERS),
+    (Rows, 26, ALL_COLUMNS, OTHERS),
+    (Rows, 29, ALL_COLUMNS, OTHERS),
 ];
 
 /// The numbers of a row: their first column and the last that a blank may
@@ -3275,7 +3291,7 @@ fn lines_doubled() -> Vec<Case> {
 }
 
 /// All of them, each once.
-fn altered_rows() -> Vec<Case> {
+fn altered_lines() -> Vec<Case> {
     let pairs = [pairs_of_bytes(Rows, 24, NUMBERS), pairs_of_bytes(Notes, 25, NOTED)].concat();
     let mut cases = [single_bytes(), pairs, names_alike(), lines_doubled()].concat();
     let mut files = HashSet::new();
@@ -4679,9 +4695,9 @@ pub(crate) fn obey<C: Compared>(
     }
 }
 
-/// The same of the rows with other bytes.
+/// The same of the lines with other bytes.
 fn obey_columns(words: &[&str], usage: &str) {
-    let cases = altered_rows();
+    let cases = altered_lines();
     let case_of = |place: u64| match cases.get((place as usize).wrapping_sub(1)) {
         Some(case) => case.clone(),
         None => fail(&format!("there are {} cases", cases.len())),
