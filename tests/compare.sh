@@ -15,9 +15,9 @@
 #   tests/compare.sh columns
 #   tests/compare.sh case columns NUMBER
 #
-# compares the doors on some 24,000 files that differ from an accepted one in one row or one EP or EV line: every class of bytes in each of its
-# columns, pairs of bytes side by side, identifiers that make the same number, and a line once more. They are always the same. A difference is shown
-# at once; the second shows any.
+# compares the doors on some 30,000 files that differ from an accepted one in one line: in a row, an EP or an EV every class of bytes in each of its
+# columns, and pairs of bytes side by side; some bytes in each column of the other lines; identifiers that make the same number; a line once more.
+# They are always the same. A difference is shown at once; the second shows any.
 #
 #   tests/compare.sh tables|forms|divide [SEED [COUNT]]
 #
@@ -131,7 +131,7 @@ compare_doors() {
 
 compare_columns() {
     begin
-    echo "doors, rows and notes with other bytes in their columns"
+    echo "doors, lines with other bytes in their columns"
     compare_format tables columns compare && return
     number=$(sed -n 's/^columns case \([0-9]*\):.*/\1/p' "$work/said")
     [ -z "$number" ] || show_case tables columns case "$number"

@@ -1,8 +1,8 @@
 //! A divider of stretches and a walker of SP3-d files, written from the
 //! documents. Where they are silent it follows the definitions: in what the
 //! state of a spot between two lines is (the kind of line due, satellites and
-//! epochs still to come), in what identifiers other than the file's do in a walk over
-//! rows, and in the column of a refusal.
+//! epochs still to come), and in what identifiers other than the file's do in a walk
+//! over rows.
 //!
 //! It says how a stretch of bytes divides into files, which rows a walk of one
 //! file gives, and where a walker stands after so many lines, which learns the
@@ -37,17 +37,17 @@
 //!
 //! ```text
 //! case LENGTH
-//! divide R LINE COUNT REST
+//! divide R LINE COLUMN COUNT REST
 //! length L                      of each file
 //! kept                          every lent place past them holds the mark
 //! (the rest only where WALK is 1)
-//! begin R LINE LENGTH SATELLITES EPOCHS
+//! begin R LINE COLUMN LENGTH SATELLITES EPOCHS
 //! identifier G07                each identifier
 //! kept
 //! row E S at X Y Z CLOCK        each P row; `absent` in place of `at X Y Z`
 //! row E S absent CLOCK          or of CLOCK
-//! end                           or  refused R line LINE
-//! spot K AT  DUE LEFT EPOCHS    after K lines, or as many as may be passed
+//! end                           or  refused R line LINE column COLUMN
+//! spot K AT DUE LEFT EPOCHS     after K lines, or as many as may be passed
 //! then K AT DUE LEFT EPOCHS     the same after half of the lines and the others
 //! short K AT DUE LEFT EPOCHS    after all lines, with room for I identifiers
 //! identifier G07                each identifier that they left there
@@ -68,8 +68,8 @@
 //! EP and EV are lines like others: they are judged, and a row is met before the
 //! note after it.
 //!
-//! "The paper" is 01-scope.md as request 1 of 02-change-requests.md changed it,
-//! "000" is the SP3-d document.
+//! "The paper" is 01-scope.md as requests 1 and 2 of 02-change-requests.md
+//! changed it, "000" is the SP3-d document.
 
 #[allow(dead_code)]
 #[path = "files.rs"]
@@ -83,11 +83,12 @@ use files::{Base, Compared, Edit, Refusal, Row, Table, BARE, NOTE, NO_ROOM};
 // Dividing
 // ---------------------------------------------------------------------------
 
-/// "When nothing is left .. refusal and line are both 0."
-const NOTHING_LEFT: Refusal = Refusal { number: 0, line: 0 };
+/// "When nothing is left .. refusal and line are both 0", and the column too.
+const NOTHING_LEFT: Refusal = Refusal { number: 0, line: 0, column: 0 };
 
 /// "the lengths of the accepted files at the front .., the byte where the rest
-/// begins, and the refusal and line there, counted from that byte"
+/// begins, and the refusal and line there, counted from that byte"; a rest that
+/// is refused has its column, as every refused reading.
 struct Division {
     lengths: Vec<usize>,
     rest: usize,
@@ -318,7 +319,8 @@ impl Compared for Case {
 
     fn show(&self) -> Vec<u8> {
         let way = WAYS.iter().position(|&way| way == self.way).unwrap_or_default();
-        let front = [self.room, way, self.identifier_room, self.identifiers.len(), self.stretch.len()];
+        let front =
+            [self.room, way, self.identifier_room, self.identifiers.len(), self.stretch.len()];
         let words: Vec<String> = front.iter().map(usize::to_string).collect();
         let identifiers: Vec<String> = self.identifiers.iter().map(u64::to_string).collect();
         let line = [words, identifiers].concat().join(" ") + "\n";
@@ -338,9 +340,8 @@ impl Compared for Case {
 
 fn show_division(division: &Division) -> String {
     let Division { lengths, rest, refusal } = division;
-    let Refusal { number, line } = refusal;
     let written: String = lengths.iter().map(|length| format!("length {length}\n")).collect();
-    format!("divide {number} {line} {} {rest}\n{written}kept\n", lengths.len())
+    format!("divide {} {} {rest}\n{written}kept\n", refusal.show(), lengths.len())
 }
 
 impl Case {
@@ -358,11 +359,11 @@ impl Case {
 /// many places.
 fn show_read(bytes: &[u8], room: usize) -> String {
     let walk = walk(bytes, room);
-    let (taken, column) = (walk.read.taken, walk.read.column);
+    let taken = walk.read.taken;
     let mut out: String = (1..taken).map(|k| walk.after(k).show("line", k)).collect();
     out += &match walk.read.refusal {
         None => format!("finished {taken} {}\n", walk.read.place),
-        Some(Refusal { number, line }) => format!("stopped {number} line {line} column {column}\n"),
+        Some(refusal) => show_refused("stopped", &refusal),
     };
     let mut identifiers = vec![7777; room];
     identifiers[..walk.identifiers().len()].copy_from_slice(walk.identifiers());
@@ -370,19 +371,25 @@ fn show_read(bytes: &[u8], room: usize) -> String {
     out + &format!("identifiers{shown}\n")
 }
 
+fn show_refused(word: &str, refusal: &Refusal) -> String {
+    let Refusal { number, line, column } = refusal;
+    format!("{word} {number} line {line} column {column}\n")
+}
+
 /// Identifiers that were left in a list; its other places are as they were.
 fn show_identifiers(identifiers: &[u64]) -> String {
-    let shown = identifiers.iter().map(|&number| format!("identifier {}\n", files::show_code(number)));
+    let shown =
+        identifiers.iter().map(|&number| format!("identifier {}\n", files::show_code(number)));
     shown.collect::<String>() + "kept\n"
 }
 
 fn show_begun(begun: &Result<(Table, usize), Refusal>) -> String {
     match begun {
-        Err(Refusal { number, line }) => format!("begin {number} {line} 0 0 0\nkept\n"),
+        Err(refusal) => format!("begin {} 0 0 0\nkept\n", refusal.show()),
         Ok((table, length)) => {
             let identifiers = &table.identifiers;
             let counts = format!("{} {}", identifiers.len(), table.epochs);
-            format!("begin 0 0 {length} {counts}\n{}", show_identifiers(identifiers))
+            format!("begin 0 0 0 {length} {counts}\n{}", show_identifiers(identifiers))
         }
     }
 }
@@ -397,7 +404,7 @@ fn show_rows(walk: &RowWalk) -> String {
     let rows: String = walk.rows.iter().map(show_row).collect();
     rows + &match walk.refusal {
         None => "end\n".to_string(),
-        Some(Refusal { number, line }) => format!("refused {number} line {line}\n"),
+        Some(refusal) => show_refused("refused", &refusal),
     }
 }
 
@@ -425,7 +432,9 @@ fn show_spots(walk: &Walk) -> String {
 
 fn parse_batch(bytes: &[u8]) -> Vec<Case> {
     let length_of = |numbers: &[usize]| match *numbers {
-        [_, way, _, identifiers, length, ref rest @ ..] if way < 3 && rest.len() == identifiers => Some(length),
+        [_, way, _, identifiers, length, ref rest @ ..] if way < 3 && rest.len() == identifiers => {
+            Some(length)
+        }
         _ => None,
     };
     files::parse_cases(bytes, length_of, |numbers, stretch| Case {
@@ -468,142 +477,159 @@ fn joined(parts: &[Part]) -> Vec<u8> {
 const P: Part = File(Paper, &[]);
 const N: Part = File(Night, &[]);
 const M: Part = File(Motion, &[]);
-/// Refused with 5 at line 24.
+/// Refused with 5 at line 24, column 61.
 const X: Part = File(Paper, &[Put(24, 61, "x")]);
 
-/// Parts and room; refusal, line, number of files, where the rest begins; lengths.
-type Divided = (&'static [Part], usize, [usize; 4], &'static [usize]);
+/// Parts and room; refusal, line, column, number of files, where the rest begins;
+/// lengths.
+type Divided = (&'static [Part], usize, [usize; 5], &'static [usize]);
 
 const DIVIDED: &[Divided] = &[
     // "When nothing is left, as with an empty stretch".
-    (&[], 0, [0, 0, 0, 0], &[]),
-    (&[], 3, [0, 0, 0, 0], &[]),
+    (&[], 0, [0, 0, 0, 0, 0], &[]),
+    (&[], 3, [0, 0, 0, 0, 0], &[]),
     // One to five files, of both modes.
-    (&[P], 1, [0, 0, 1, 1215], &[1215]),
-    (&[N], 1, [0, 0, 1, 1636], &[1636]),
-    (&[M], 1, [0, 0, 1, 1605], &[1605]),
-    (&[P, P], 2, [0, 0, 2, 2430], &[1215, 1215]),
-    (&[P, N], 2, [0, 0, 2, 2851], &[1215, 1636]),
-    (&[N, P], 2, [0, 0, 2, 2851], &[1636, 1215]),
-    (&[M, M], 2, [0, 0, 2, 3210], &[1605, 1605]),
-    (&[P, N, M], 3, [0, 0, 3, 4456], &[1215, 1636, 1605]),
-    (&[M, P, N, M], 4, [0, 0, 4, 6061], &[1605, 1215, 1636, 1605]),
-    (&[P, N, M, P, N], 5, [0, 0, 5, 7307], &[1215, 1636, 1605, 1215, 1636]),
+    (&[P], 1, [0, 0, 0, 1, 1215], &[1215]),
+    (&[N], 1, [0, 0, 0, 1, 1636], &[1636]),
+    (&[M], 1, [0, 0, 0, 1, 1605], &[1605]),
+    (&[P, P], 2, [0, 0, 0, 2, 2430], &[1215, 1215]),
+    (&[P, N], 2, [0, 0, 0, 2, 2851], &[1215, 1636]),
+    (&[N, P], 2, [0, 0, 0, 2, 2851], &[1636, 1215]),
+    (&[M, M], 2, [0, 0, 0, 2, 3210], &[1605, 1605]),
+    (&[P, N, M], 3, [0, 0, 0, 3, 4456], &[1215, 1636, 1605]),
+    (&[M, P, N, M], 4, [0, 0, 0, 4, 6061], &[1605, 1215, 1636, 1605]),
+    (&[P, N, M, P, N], 5, [0, 0, 0, 5, 7307], &[1215, 1636, 1605, 1215, 1636]),
     // Room: short by one, none, more than needed.
-    (&[P, N, M, P, N], 4, [12, 0, 0, 0], &[]),
-    (&[P, N, M, P, N], 0, [12, 0, 0, 0], &[]),
-    (&[P, N, M, P, N], 6, [0, 0, 5, 7307], &[1215, 1636, 1605, 1215, 1636]),
-    (&[P, N, M, P, N], 1000, [0, 0, 5, 7307], &[1215, 1636, 1605, 1215, 1636]),
-    (&[P], 0, [12, 0, 0, 0], &[]),
-    (&[P], 2, [0, 0, 1, 1215], &[1215]),
-    (&[P, P], 1, [12, 0, 0, 0], &[]),
-    (&[N, M], 1, [12, 0, 0, 0], &[]),
+    (&[P, N, M, P, N], 4, [12, 0, 0, 0, 0], &[]),
+    (&[P, N, M, P, N], 0, [12, 0, 0, 0, 0], &[]),
+    (&[P, N, M, P, N], 6, [0, 0, 0, 5, 7307], &[1215, 1636, 1605, 1215, 1636]),
+    (&[P, N, M, P, N], 1000, [0, 0, 0, 5, 7307], &[1215, 1636, 1605, 1215, 1636]),
+    (&[P], 0, [12, 0, 0, 0, 0], &[]),
+    (&[P], 2, [0, 0, 0, 1, 1215], &[1215]),
+    (&[P, P], 1, [12, 0, 0, 0, 0], &[]),
+    (&[N, M], 1, [12, 0, 0, 0, 0], &[]),
     // 12 though the rest is refused; the rest itself needs no room.
-    (&[P, P, X], 1, [12, 0, 0, 0], &[]),
-    (&[P, P, X], 2, [5, 24, 2, 2430], &[1215, 1215]),
-    (&[P, X], 0, [12, 0, 0, 0], &[]),
-    (&[X], 0, [5, 24, 0, 0], &[]),
-    (&[X, P], 0, [5, 24, 0, 0], &[]),
-    (&[Bytes(b"x")], 0, [1, 1, 0, 0], &[]),
+    (&[P, P, X], 1, [12, 0, 0, 0, 0], &[]),
+    (&[P, P, X], 2, [5, 24, 61, 2, 2430], &[1215, 1215]),
+    (&[P, X], 0, [12, 0, 0, 0, 0], &[]),
+    (&[X], 0, [5, 24, 61, 0, 0], &[]),
+    (&[X, P], 0, [5, 24, 61, 0, 0], &[]),
+    (&[Bytes(b"x")], 0, [1, 1, 0, 0, 0], &[]),
     // A line of 80 characters.
-    (&[File(Paper, &[Put(24, 80, " ")]), P], 2, [0, 0, 2, 2450], &[1235, 1215]),
+    (&[File(Paper, &[Put(24, 80, " ")]), P], 2, [0, 0, 0, 2, 2450], &[1235, 1215]),
     // EP and EV, and files without: their own lengths.
-    (&[File(Motion, &[Drop(27), Drop(25)]), P], 2, [0, 0, 2, 2658], &[1443, 1215]),
-    (&[File(Motion, &[Drop(25)])], 1, [0, 0, 1, 1524], &[1524]),
-    (&[File(Paper, &[Insert(25, "EP")]), M], 2, [0, 0, 2, 2823], &[1218, 1605]),
-    (&[File(Motion, &[Insert(30, "EV")]), P], 2, [0, 0, 2, 2823], &[1608, 1215]),
-    (&[P, File(Paper, &[Insert(25, "EV")])], 2, [4, 25, 1, 1215], &[1215]),
-    (&[File(Paper, &[NOTE]), P], 2, [0, 0, 2, 2511], &[1296, 1215]),
-    (&[P, File(Paper, &[BARE, Put(25, 5, "0055")])], 2, [0, 0, 2, 2439], &[1215, 1224]),
+    (&[File(Motion, &[Drop(27), Drop(25)]), P], 2, [0, 0, 0, 2, 2658], &[1443, 1215]),
+    (&[File(Motion, &[Drop(25)])], 1, [0, 0, 0, 1, 1524], &[1524]),
+    (&[File(Paper, &[Insert(25, "EP")]), M], 2, [0, 0, 0, 2, 2823], &[1218, 1605]),
+    (&[File(Motion, &[Insert(30, "EV")]), P], 2, [0, 0, 0, 2, 2823], &[1608, 1215]),
+    (&[P, File(Paper, &[Insert(25, "EV")])], 2, [4, 25, 0, 1, 1215], &[1215]),
+    (&[File(Paper, &[NOTE]), P], 2, [0, 0, 0, 2, 2511], &[1296, 1215]),
+    (&[P, File(Paper, &[BARE, Put(25, 5, "0055")])], 2, [0, 0, 0, 2, 2439], &[1215, 1224]),
     // Their columns: 5, 6, 7 in the second file.
-    (&[P, File(Paper, &[Insert(25, "EPx")])], 2, [5, 25, 1, 1215], &[1215]),
-    (&[P, File(Paper, &[NOTE, Put(25, 72, "x")]), P], 3, [5, 25, 1, 1215], &[1215]),
-    (&[P, File(Paper, &[BARE, Put(25, 5, "55  ")])], 2, [6, 25, 1, 1215], &[1215]),
-    (&[P, File(Motion, &[Put(27, 80, "x")]), P], 3, [6, 27, 1, 1215], &[1215]),
-    (&[P, File(Motion, &[Put(27, 28, "10000000")]), P], 3, [7, 27, 1, 1215], &[1215]),
-    (&[P, File(Paper, &[NOTE, Byte(25, 9, 9)])], 2, [2, 25, 1, 1215], &[1215]),
-    (&[P, File(Paper, &[NOTE, Put(25, 81, " ")])], 2, [3, 25, 1, 1215], &[1215]),
-    (&[P, File(Paper, &[NOTE, BARE])], 2, [4, 26, 1, 1215], &[1215]),
+    (&[P, File(Paper, &[Insert(25, "EPx")])], 2, [5, 25, 3, 1, 1215], &[1215]),
+    (&[P, File(Paper, &[NOTE, Put(25, 72, "x")]), P], 3, [5, 25, 72, 1, 1215], &[1215]),
+    (&[P, File(Paper, &[BARE, Put(25, 5, "55  ")])], 2, [6, 25, 5, 1, 1215], &[1215]),
+    (&[P, File(Motion, &[Put(27, 80, "x")]), P], 3, [6, 27, 73, 1, 1215], &[1215]),
+    (&[P, File(Motion, &[Put(27, 28, "10000000")]), P], 3, [7, 27, 28, 1, 1215], &[1215]),
+    (&[P, File(Paper, &[NOTE, Byte(25, 9, 9)])], 2, [2, 25, 9, 1, 1215], &[1215]),
+    (&[P, File(Paper, &[NOTE, Put(25, 81, " ")])], 2, [3, 25, 81, 1, 1215], &[1215]),
+    (&[P, File(Paper, &[NOTE, BARE])], 2, [4, 26, 0, 1, 1215], &[1215]),
     // A note is no file's beginning.
-    (&[P, Bytes(b"EP\n")], 2, [4, 1, 1, 1215], &[1215]),
-    (&[P, Bytes(b"EPx\n"), P], 2, [4, 1, 1, 1215], &[1215]),
+    (&[P, Bytes(b"EP\n")], 2, [4, 1, 0, 1, 1215], &[1215]),
+    (&[P, Bytes(b"EPx\n"), P], 2, [4, 1, 0, 1, 1215], &[1215]),
     // Rests that are no file: half of one, one byte, a lone LF, EOF.
-    (&[P, File(Night, &[Keep(16)])], 2, [1, 17, 1, 1215], &[1215]),
-    (&[P, File(Paper, &[Keep(24), After(b"EO")])], 2, [1, 25, 1, 1215], &[1215]),
-    (&[P, File(Motion, &[Keep(25), After(b"VG01")])], 2, [1, 26, 1, 1215], &[1215]),
-    (&[File(Paper, &[Keep(24)])], 2, [1, 25, 0, 0], &[]),
-    (&[P, Bytes(b"x")], 2, [1, 1, 1, 1215], &[1215]),
-    (&[P, Bytes(b"#")], 2, [1, 1, 1, 1215], &[1215]),
-    (&[P, Bytes(b"\x00")], 1, [1, 1, 1, 1215], &[1215]),
-    (&[P, Bytes(b"\n")], 2, [4, 1, 1, 1215], &[1215]),
-    (&[P, N, Bytes(b"\n\n\n")], 2, [4, 1, 2, 2851], &[1215, 1636]),
-    (&[P, Bytes(b"EOF")], 2, [1, 1, 1, 1215], &[1215]),
-    (&[P, Bytes(b"EOF\n")], 2, [4, 1, 1, 1215], &[1215]),
-    (&[Bytes(b"\n"), P], 2, [4, 1, 0, 0], &[]),
-    (&[P, Bytes(b" "), P], 2, [4, 1, 1, 1215], &[1215]),
-    (&[P, Bytes(b"\n"), P], 2, [4, 1, 1, 1215], &[1215]),
-    (&[P, Bytes(b"EP\n"), P], 2, [4, 1, 1, 1215], &[1215]),
-    (&[P, Bytes(b"#dP\n")], 1, [6, 1, 1, 1215], &[1215]),
-    (&[P, Bytes(b"#cP\n")], 1, [4, 1, 1, 1215], &[1215]),
+    (&[P, File(Night, &[Keep(16)])], 2, [1, 17, 0, 1, 1215], &[1215]),
+    (&[P, File(Paper, &[Keep(24), After(b"EO")])], 2, [1, 25, 0, 1, 1215], &[1215]),
+    (&[P, File(Motion, &[Keep(25), After(b"VG01")])], 2, [1, 26, 0, 1, 1215], &[1215]),
+    (&[File(Paper, &[Keep(24)])], 2, [1, 25, 0, 0, 0], &[]),
+    (&[P, Bytes(b"x")], 2, [1, 1, 0, 1, 1215], &[1215]),
+    (&[P, Bytes(b"#")], 2, [1, 1, 0, 1, 1215], &[1215]),
+    (&[P, Bytes(b"\x00")], 1, [1, 1, 0, 1, 1215], &[1215]),
+    (&[P, Bytes(b"\n")], 2, [4, 1, 0, 1, 1215], &[1215]),
+    (&[P, N, Bytes(b"\n\n\n")], 2, [4, 1, 0, 2, 2851], &[1215, 1636]),
+    (&[P, Bytes(b"EOF")], 2, [1, 1, 0, 1, 1215], &[1215]),
+    (&[P, Bytes(b"EOF\n")], 2, [4, 1, 0, 1, 1215], &[1215]),
+    (&[Bytes(b"\n"), P], 2, [4, 1, 0, 0, 0], &[]),
+    (&[P, Bytes(b" "), P], 2, [4, 1, 0, 1, 1215], &[1215]),
+    (&[P, Bytes(b"\n"), P], 2, [4, 1, 0, 1, 1215], &[1215]),
+    (&[P, Bytes(b"EP\n"), P], 2, [4, 1, 0, 1, 1215], &[1215]),
+    (&[P, Bytes(b"#dP\n")], 1, [6, 1, 4, 1, 1215], &[1215]),
+    (&[P, Bytes(b"#cP\n")], 1, [4, 1, 0, 1, 1215], &[1215]),
     // A last LF that is missing: of the last file, of one before another.
-    (&[File(Paper, &[Join(25)])], 1, [1, 25, 0, 0], &[]),
-    (&[N, File(Paper, &[Join(25)])], 2, [1, 25, 1, 1636], &[1636]),
-    (&[File(Paper, &[Join(25)]), P], 2, [5, 25, 0, 0], &[]),
-    (&[M, File(Night, &[Join(32)]), P], 3, [5, 32, 1, 1605], &[1605]),
+    (&[File(Paper, &[Join(25)])], 1, [1, 25, 0, 0, 0], &[]),
+    (&[N, File(Paper, &[Join(25)])], 2, [1, 25, 0, 1, 1636], &[1636]),
+    (&[File(Paper, &[Join(25)]), P], 2, [5, 25, 4, 0, 0], &[]),
+    (&[M, File(Night, &[Join(32)]), P], 3, [5, 32, 4, 1, 1605], &[1605]),
     // Garbage.
-    (&[P, Many(0xff, 300)], 2, [1, 1, 1, 1215], &[1215]),
-    (&[P, Many(0xff, 300), Bytes(b"\n")], 2, [2, 1, 1, 1215], &[1215]),
-    (&[P, Bytes(b"\x00\n")], 2, [2, 1, 1, 1215], &[1215]),
-    (&[Bytes(b"xyz\n"), P], 2, [4, 1, 0, 0], &[]),
-    (&[N, Many(b' ', 80), Bytes(b"\n")], 1, [4, 1, 1, 1636], &[1636]),
-    (&[N, Many(b' ', 81), Bytes(b"\n")], 1, [3, 1, 1, 1636], &[1636]),
-    (&[N, Many(b'x', 5000)], 1, [1, 1, 1, 1636], &[1636]),
-    (&[P, File(Paper, &[CarriageReturns])], 2, [2, 1, 1, 1215], &[1215]),
+    (&[P, Many(0xff, 300)], 2, [1, 1, 0, 1, 1215], &[1215]),
+    (&[P, Many(0xff, 300), Bytes(b"\n")], 2, [2, 1, 1, 1, 1215], &[1215]),
+    (&[P, Bytes(b"\x00\n")], 2, [2, 1, 1, 1, 1215], &[1215]),
+    (&[Bytes(b"xyz\n"), P], 2, [4, 1, 0, 0, 0], &[]),
+    (&[N, Many(b' ', 80), Bytes(b"\n")], 1, [4, 1, 0, 1, 1636], &[1636]),
+    (&[N, Many(b' ', 81), Bytes(b"\n")], 1, [3, 1, 81, 1, 1636], &[1636]),
+    (&[N, Many(b'x', 5000)], 1, [1, 1, 0, 1, 1636], &[1636]),
+    (&[P, File(Paper, &[CarriageReturns])], 2, [2, 1, 61, 1, 1215], &[1215]),
     // A second file refused with 1 to 10: the line counted from its first byte.
-    (&[N, File(Paper, &[Drop(25)])], 2, [1, 25, 1, 1636], &[1636]),
-    (&[N, File(Paper, &[Byte(24, 40, 0x80)])], 2, [2, 24, 1, 1636], &[1636]),
-    (&[N, File(Paper, &[Put(24, 81, " ")])], 2, [3, 24, 1, 1636], &[1636]),
-    (&[N, File(Paper, &[Drop(1)])], 2, [4, 1, 1, 1636], &[1636]),
-    (&[N, File(Paper, &[Drop(22)])], 2, [4, 22, 1, 1636], &[1636]),
-    (&[N, X], 2, [5, 24, 1, 1636], &[1636]),
-    (&[N, File(Paper, &[Put(3, 10, "G 7")])], 2, [6, 3, 1, 1636], &[1636]),
-    (&[N, File(Paper, &[Put(24, 5, "1000000.000000")])], 2, [7, 24, 1, 1636], &[1636]),
-    (&[N, File(ManyFile(256), &[Keep(40)])], 2, [7, 3, 1, 1636], &[1636]),
-    (&[N, File(Paper, &[Put(2, 4, "1735")])], 2, [8, 2, 1, 1636], &[1636]),
-    (&[P, File(Night, &[Put(26, 18, "15")])], 2, [9, 26, 1, 1215], &[1215]),
-    (&[P, File(Night, &[Swap(24, 25)])], 2, [10, 24, 1, 1215], &[1215]),
+    (&[N, File(Paper, &[Drop(25)])], 2, [1, 25, 0, 1, 1636], &[1636]),
+    (&[N, File(Paper, &[Byte(24, 40, 0x80)])], 2, [2, 24, 40, 1, 1636], &[1636]),
+    (&[N, File(Paper, &[Put(24, 81, " ")])], 2, [3, 24, 81, 1, 1636], &[1636]),
+    (&[N, File(Paper, &[Drop(1)])], 2, [4, 1, 0, 1, 1636], &[1636]),
+    (&[N, File(Paper, &[Drop(22)])], 2, [4, 22, 0, 1, 1636], &[1636]),
+    (&[N, X], 2, [5, 24, 61, 1, 1636], &[1636]),
+    (&[N, File(Paper, &[Put(3, 10, "G 7")])], 2, [6, 3, 10, 1, 1636], &[1636]),
+    (&[N, File(Paper, &[Put(24, 5, "1000000.000000")])], 2, [7, 24, 5, 1, 1636], &[1636]),
+    (&[N, File(ManyFile(256), &[Keep(40)])], 2, [7, 3, 4, 1, 1636], &[1636]),
+    (&[N, File(Paper, &[Put(2, 4, "1735")])], 2, [8, 2, 0, 1, 1636], &[1636]),
+    (&[P, File(Night, &[Put(26, 18, "15")])], 2, [9, 26, 0, 1, 1215], &[1215]),
+    (&[P, File(Night, &[Swap(24, 25)])], 2, [10, 24, 0, 1, 1215], &[1215]),
+    // The column of the rest: the leftmost of the lowest number, also far out.
+    (&[N, File(Paper, &[Put(24, 5, "  5000.0000001")]), P], 3, [6, 24, 5, 1, 1636], &[1636]),
+    (
+        &[P, File(Paper, &[Put(24, 300, " "), Byte(24, 200, 127)])],
+        2,
+        [2, 24, 200, 1, 1215],
+        &[1215],
+    ),
+    (&[P, Many(b'x', 200), Bytes(b"\xff\n")], 2, [2, 1, 201, 1, 1215], &[1215]),
+    (&[P, File(Paper, &[Put(24, 300, " ")])], 2, [3, 24, 81, 1, 1215], &[1215]),
+    (&[P, File(Paper, &[Put(1, 4, "201x"), Put(1, 8, "x")])], 2, [5, 1, 8, 1, 1215], &[1215]),
+    (&[P, File(Paper, &[Put(24, 61, "x"), Put(24, 70, "x")])], 2, [5, 24, 61, 1, 1215], &[1215]),
+    (&[P, Bytes(b"#d\n")], 1, [6, 1, 3, 1, 1215], &[1215]),
+    (&[P, File(Paper, &[Put(23, 9, "13"), Put(23, 15, "2x")])], 2, [6, 23, 15, 1, 1215], &[1215]),
+    (&[P, File(Paper, &[Whole(24, "PG07")]), P], 3, [6, 24, 5, 1, 1215], &[1215]),
+    (&[P, File(Paper, &[Put(23, 9, "13"), Put(23, 15, "24")])], 2, [7, 23, 4, 1, 1215], &[1215]),
     // The middle one of three or four damaged, at each kind of line: the files
     // after it don't count.
-    (&[P, File(Motion, &[Put(1, 61, "x")]), P], 3, [5, 1, 1, 1215], &[1215]),
-    (&[P, File(Motion, &[Put(2, 3, "x")]), P], 3, [5, 2, 1, 1215], &[1215]),
-    (&[P, File(Motion, &[Put(3, 9, "x")]), P], 3, [5, 3, 1, 1215], &[1215]),
-    (&[P, File(Motion, &[Put(4, 6, "0")]), P], 3, [5, 4, 1, 1215], &[1215]),
-    (&[P, File(Motion, &[Put(8, 3, "0")]), P], 3, [5, 8, 1, 1215], &[1215]),
-    (&[P, File(Motion, &[Put(12, 58, "  7")]), P], 3, [8, 12, 1, 1215], &[1215]),
-    (&[P, File(Motion, &[Put(13, 4, "R ")]), P], 3, [8, 13, 1, 1215], &[1215]),
-    (&[P, File(Motion, &[Put(14, 4, "G ")]), P], 3, [5, 14, 1, 1215], &[1215]),
-    (&[P, File(Motion, &[Put(15, 4, "-1.2500000")]), P], 3, [6, 15, 1, 1215], &[1215]),
-    (&[P, File(Motion, &[Put(16, 4, " 1.2500000")]), P], 3, [5, 16, 1, 1215], &[1215]),
-    (&[P, File(Motion, &[Put(17, 4, "   1")]), P], 3, [5, 17, 1, 1215], &[1215]),
-    (&[P, File(Motion, &[Put(18, 2, "I")]), P], 3, [4, 18, 1, 1215], &[1215]),
-    (&[P, File(Motion, &[Put(19, 3, "x")]), P], 3, [5, 19, 1, 1215], &[1215]),
-    (&[P, File(Motion, &[Put(23, 32, "x")]), P], 3, [5, 23, 1, 1215], &[1215]),
-    (&[P, File(Motion, &[Put(24, 2, "G02")]), P], 3, [10, 24, 1, 1215], &[1215]),
-    (&[P, File(Motion, &[Byte(25, 60, 200)]), P], 3, [2, 25, 1, 1215], &[1215]),
-    (&[P, File(Motion, &[Put(26, 75, "E")]), P], 3, [5, 26, 1, 1215], &[1215]),
-    (&[P, File(Motion, &[Put(27, 81, " ")]), P], 3, [3, 27, 1, 1215], &[1215]),
-    (&[P, File(Motion, &[Drop(29)]), P], 3, [4, 29, 1, 1215], &[1215]),
-    (&[P, N, File(Motion, &[Put(30, 4, "X")]), P], 4, [5, 30, 2, 2851], &[1215, 1636]),
-    (&[P, N, X, M], 4, [5, 24, 2, 2851], &[1215, 1636]),
-    (&[X, P, N, M], 4, [5, 24, 0, 0], &[]),
+    (&[P, File(Motion, &[Put(1, 61, "x")]), P], 3, [5, 1, 61, 1, 1215], &[1215]),
+    (&[P, File(Motion, &[Put(2, 3, "x")]), P], 3, [5, 2, 3, 1, 1215], &[1215]),
+    (&[P, File(Motion, &[Put(3, 9, "x")]), P], 3, [5, 3, 9, 1, 1215], &[1215]),
+    (&[P, File(Motion, &[Put(4, 6, "0")]), P], 3, [5, 4, 6, 1, 1215], &[1215]),
+    (&[P, File(Motion, &[Put(8, 3, "0")]), P], 3, [5, 8, 3, 1, 1215], &[1215]),
+    (&[P, File(Motion, &[Put(12, 58, "  7")]), P], 3, [8, 12, 0, 1, 1215], &[1215]),
+    (&[P, File(Motion, &[Put(13, 4, "R ")]), P], 3, [8, 13, 0, 1, 1215], &[1215]),
+    (&[P, File(Motion, &[Put(14, 4, "G ")]), P], 3, [5, 14, 4, 1, 1215], &[1215]),
+    (&[P, File(Motion, &[Put(15, 4, "-1.2500000")]), P], 3, [6, 15, 4, 1, 1215], &[1215]),
+    (&[P, File(Motion, &[Put(16, 4, " 1.2500000")]), P], 3, [5, 16, 4, 1, 1215], &[1215]),
+    (&[P, File(Motion, &[Put(17, 4, "   1")]), P], 3, [5, 17, 4, 1, 1215], &[1215]),
+    (&[P, File(Motion, &[Put(18, 2, "I")]), P], 3, [4, 18, 0, 1, 1215], &[1215]),
+    (&[P, File(Motion, &[Put(19, 3, "x")]), P], 3, [5, 19, 3, 1, 1215], &[1215]),
+    (&[P, File(Motion, &[Put(23, 32, "x")]), P], 3, [5, 23, 32, 1, 1215], &[1215]),
+    (&[P, File(Motion, &[Put(24, 2, "G02")]), P], 3, [10, 24, 0, 1, 1215], &[1215]),
+    (&[P, File(Motion, &[Byte(25, 60, 200)]), P], 3, [2, 25, 60, 1, 1215], &[1215]),
+    (&[P, File(Motion, &[Put(26, 75, "E")]), P], 3, [5, 26, 75, 1, 1215], &[1215]),
+    (&[P, File(Motion, &[Put(27, 81, " ")]), P], 3, [3, 27, 81, 1, 1215], &[1215]),
+    (&[P, File(Motion, &[Drop(29)]), P], 3, [4, 29, 0, 1, 1215], &[1215]),
+    (&[P, N, File(Motion, &[Put(30, 4, "X")]), P], 4, [5, 30, 4, 2, 2851], &[1215, 1636]),
+    (&[P, N, X, M], 4, [5, 24, 61, 2, 2851], &[1215, 1636]),
+    (&[X, P, N, M], 4, [5, 24, 61, 0, 0], &[]),
     // "an epoch too many": a file's rows once more, and then EOF.
-    (&[P, File(Paper, &[Insert(25, "*")]), P], 3, [4, 25, 1, 1215], &[1215]),
+    (&[P, File(Paper, &[Insert(25, "*")]), P], 3, [4, 25, 0, 1, 1215], &[1215]),
     // The EOF line twice, or with blanks after it.
-    (&[P, Bytes(b"EOF   \n"), P], 3, [4, 1, 1, 1215], &[1215]),
-    (&[File(Paper, &[Whole(25, "EOF   ")]), P], 2, [0, 0, 2, 2433], &[1218, 1215]),
+    (&[P, Bytes(b"EOF   \n"), P], 3, [4, 1, 0, 1, 1215], &[1215]),
+    (&[File(Paper, &[Whole(25, "EOF   ")]), P], 2, [0, 0, 0, 2, 2433], &[1218, 1215]),
     // 255 satellites, of 17,929 bytes.
-    (&[File(ManyFile(255), &[]), P], 2, [0, 0, 2, 19144], &[17929, 1215]),
-    (&[P, File(ManyFile(255), &[Join(299)])], 2, [1, 299, 1, 1215], &[1215]),
+    (&[File(ManyFile(255), &[]), P], 2, [0, 0, 0, 2, 19144], &[17929, 1215]),
+    (&[P, File(ManyFile(255), &[Join(299)])], 2, [1, 299, 0, 1, 1215], &[1215]),
 ];
 
 /// A file, room for identifiers, identifiers that stand for them where it is refused;
@@ -617,7 +643,7 @@ const WALKED: &[Walked] = &[
         1,
         &[],
         &[
-            "begin 0 0 1215 1 1",
+            "begin 0 0 0 1215 1 1",
             "identifier G07",
             "kept",
             "row 0 0 at 5000000001 -500000 0 absent",
@@ -640,7 +666,7 @@ const WALKED: &[Walked] = &[
         9,
         &[],
         &[
-            "begin 0 0 1636 2 3",
+            "begin 0 0 0 1636 2 3",
             "identifier G07",
             "identifier R24",
             "kept",
@@ -663,7 +689,7 @@ const WALKED: &[Walked] = &[
         2,
         &[],
         &[
-            "begin 0 0 1605 2 1",
+            "begin 0 0 0 1605 2 1",
             "identifier G01",
             "identifier G02",
             "kept",
@@ -680,7 +706,7 @@ const WALKED: &[Walked] = &[
         3,
         &[],
         &[
-            "begin 0 0 1443 2 1",
+            "begin 0 0 0 1443 2 1",
             "row 0 0 at -11044805800 -10475672350 21929418200 189163300",
             "row 0 1 at -12593593500 10170327650 -20354534400 -55976000",
             "end",
@@ -693,7 +719,7 @@ const WALKED: &[Walked] = &[
         1,
         &[],
         &[
-            "begin 0 0 1296 1 1",
+            "begin 0 0 0 1296 1 1",
             "row 0 0 at 5000000001 -500000 0 absent",
             "end",
             "then 26 1292 14 0 0",
@@ -706,10 +732,10 @@ const WALKED: &[Walked] = &[
         1,
         &[7107],
         &[
-            "begin 5 25 0 0 0",
+            "begin 5 25 3 0 0 0",
             "kept",
             "row 0 0 at 5000000001 -500000 0 absent",
-            "refused 5 line 25",
+            "refused 5 line 25 column 3",
             "then 26 1211 14 0 0",
             "short 26 1211 14 0 0",
         ],
@@ -719,7 +745,11 @@ const WALKED: &[Walked] = &[
         &[NOTE, Put(25, 28, "99999999"), Put(25, 73, "1234567 ")],
         1,
         &[7107],
-        &["begin 6 25 0 0 0", "row 0 0 at 5000000001 -500000 0 absent", "refused 6 line 25"],
+        &[
+            "begin 6 25 73 0 0 0",
+            "row 0 0 at 5000000001 -500000 0 absent",
+            "refused 6 line 25 column 73",
+        ],
     ),
     (
         Motion,
@@ -727,9 +757,9 @@ const WALKED: &[Walked] = &[
         2,
         &[7101, 7102],
         &[
-            "begin 7 25 0 0 0",
+            "begin 7 25 46 0 0 0",
             "row 0 0 at -11044805800 -10475672350 21929418200 189163300",
-            "refused 7 line 25",
+            "refused 7 line 25 column 46",
             "spot 30 1224 11 2 0",
         ],
     ),
@@ -739,9 +769,9 @@ const WALKED: &[Walked] = &[
         2,
         &[7101, 7102],
         &[
-            "begin 5 27 0 0 0",
+            "begin 5 27 3 0 0 0",
             "row 0 0 at -11044805800 -10475672350 21929418200 189163300",
-            "refused 5 line 27",
+            "refused 5 line 27 column 3",
             "spot 30 1379 10 1 0",
         ],
     ),
@@ -796,7 +826,7 @@ const WALKED: &[Walked] = &[
         1,
         &[7107, 8224],
         &[
-            "begin 12 0 0 0 0",
+            "begin 12 0 0 0 0 0",
             "kept",
             "row 0 0 at 15000000000 -20000500000 0 123456789",
             "end",
@@ -805,15 +835,27 @@ const WALKED: &[Walked] = &[
             "kept",
         ],
     ),
-    (Night, &[], 2, &[], &["end", "short 32 1632 14 0 0", "identifier G07", "identifier R24", "kept"]),
-    (Night, &[], 3, &[], &["end", "short 32 1632 14 0 0", "identifier G07", "identifier R24", "kept"]),
+    (
+        Night,
+        &[],
+        2,
+        &[],
+        &["end", "short 32 1632 14 0 0", "identifier G07", "identifier R24", "kept"],
+    ),
+    (
+        Night,
+        &[],
+        3,
+        &[],
+        &["end", "short 32 1632 14 0 0", "identifier G07", "identifier R24", "kept"],
+    ),
     (
         Paper,
         &[],
         0,
         &[7107],
         &[
-            "begin 12 0 0 0 0",
+            "begin 12 0 0 0 0 0",
             "kept",
             "row 0 0 at 5000000001 -500000 0 absent",
             "then 25 1211 14 0 0",
@@ -826,17 +868,17 @@ const WALKED: &[Walked] = &[
         &[],
         0,
         &[7108],
-        &["begin 12 0 0 0 0", "kept", "refused 10 line 24", "spot 30 1211 14 0 0"],
+        &["begin 12 0 0 0 0 0", "kept", "refused 10 line 24 column 0", "spot 30 1211 14 0 0"],
     ),
     // 18 satellites, of which 17 have their slots in the first line.
-    (ManyFile(18), &[], 16, &[], &["begin 12 0 0 0 0", "kept", "short 42 122 3 0 1", "kept"]),
+    (ManyFile(18), &[], 16, &[], &["begin 12 0 0 0 0 0", "kept", "short 42 122 3 0 1", "kept"]),
     (
         ManyFile(18),
         &[],
         17,
         &[],
         &[
-            "begin 12 0 0 0 0",
+            "begin 12 0 0 0 0 0",
             "kept",
             "spot 42 2248 14 0 0",
             "short 42 183 3 1 1",
@@ -845,7 +887,13 @@ const WALKED: &[Walked] = &[
             "kept",
         ],
     ),
-    (ManyFile(18), &[], 18, &[], &["short 42 2248 14 0 0", "identifier G17", "identifier G18", "kept"]),
+    (
+        ManyFile(18),
+        &[],
+        18,
+        &[],
+        &["short 42 2248 14 0 0", "identifier G17", "identifier G18", "kept"],
+    ),
     (
         ManyFile(40),
         &[Keep(5)],
@@ -858,9 +906,9 @@ const WALKED: &[Walked] = &[
         &[Keep(5), Put(4, 10, "G01")],
         20,
         &[],
-        &["begin 8 4 0 0 0", "then 5 183 3 23 1", "short 5 183 3 23 1", "identifier G17", "kept"],
+        &["begin 8 4 0 0 0 0", "then 5 183 3 23 1", "short 5 183 3 23 1", "identifier G17", "kept"],
     ),
-    (Paper, &[Join(25)], 0, &[7107], &["begin 1 25 0 0 0", "kept", "refused 1 line 25"]),
+    (Paper, &[Join(25)], 0, &[7107], &["begin 1 25 0 0 0 0", "kept", "refused 1 line 25 column 0"]),
     // No bytes, a byte, an empty line.
     (
         Nothing,
@@ -868,9 +916,9 @@ const WALKED: &[Walked] = &[
         1,
         &[],
         &[
-            "begin 1 1 0 0 0",
+            "begin 1 1 0 0 0 0",
             "kept",
-            "refused 1 line 1",
+            "refused 1 line 1 column 0",
             "spot 0 0 1 0 0",
             "spot 1 0 1 0 0",
             "spot 3 0 1 0 0",
@@ -880,8 +928,14 @@ const WALKED: &[Walked] = &[
             "spot 5 0 1 0 0",
         ],
     ),
-    (Nothing, &[After(b"x")], 1, &[], &["begin 1 1 0 0 0", "refused 1 line 1"]),
-    (Nothing, &[After(b"\n")], 1, &[], &["begin 4 1 0 0 0", "refused 4 line 1", "spot 1 0 1 0 0"]),
+    (Nothing, &[After(b"x")], 1, &[], &["begin 1 1 0 0 0 0", "refused 1 line 1 column 0"]),
+    (
+        Nothing,
+        &[After(b"\n")],
+        1,
+        &[],
+        &["begin 4 1 0 0 0 0", "refused 4 line 1 column 0", "spot 1 0 1 0 0"],
+    ),
     // Bytes after EOF: 11 at `begin`, and a walk that ends there.
     (
         Paper,
@@ -889,7 +943,7 @@ const WALKED: &[Walked] = &[
         1,
         &[7107],
         &[
-            "begin 11 26 0 0 0",
+            "begin 11 26 0 0 0 0",
             "kept",
             "row 0 0 at 5000000001 -500000 0 absent",
             "end",
@@ -902,7 +956,7 @@ const WALKED: &[Walked] = &[
         2,
         &[7101, 7102],
         &[
-            "begin 11 31 0 0 0",
+            "begin 11 31 0 0 0 0",
             "row 0 0 at -11044805800 -10475672350 21929418200 189163300",
             "row 0 1 at -12593593500 10170327650 -20354534400 -55976000",
             "end",
@@ -913,37 +967,48 @@ const WALKED: &[Walked] = &[
     ),
     // Other identifiers than the header's: none, another, of another letter, more; the
     // walker has the file's own.
-    (Paper, &[After(b"x")], 1, &[], &["begin 11 26 0 0 0", "refused 10 line 24"]),
-    (Paper, &[After(b"x")], 1, &[7108], &["begin 11 26 0 0 0", "refused 10 line 24"]),
+    (Paper, &[After(b"x")], 1, &[], &["begin 11 26 0 0 0 0", "refused 10 line 24 column 0"]),
+    (Paper, &[After(b"x")], 1, &[7108], &["begin 11 26 0 0 0 0", "refused 10 line 24 column 0"]),
     // A row of number 00 or of a small letter is faulty, also where such a name is given.
-    (Paper, &[Put(24, 2, "G00")], 1, &[7100], &["begin 7 24 0 0 0", "refused 7 line 24"]),
+    (
+        Paper,
+        &[Put(24, 2, "G00")],
+        1,
+        &[7100],
+        &["begin 7 24 2 0 0 0", "refused 7 line 24 column 2"],
+    ),
     (
         Paper,
         &[Put(13, 4, "M"), Put(24, 2, "g07")],
         1,
         &[10307],
-        &["begin 6 24 0 0 0", "refused 6 line 24"],
+        &["begin 6 24 2 0 0 0", "refused 6 line 24 column 2"],
     ),
     (
         Paper,
         &[After(b"x")],
         1,
         &[8207],
-        &["begin 11 26 0 0 0", "refused 8 line 13", "spot 12 732 5 0 1", "then 25 1211 14 0 0"],
+        &[
+            "begin 11 26 0 0 0 0",
+            "refused 8 line 13 column 0",
+            "spot 12 732 5 0 1",
+            "then 25 1211 14 0 0",
+        ],
     ),
     (
         Paper,
         &[After(b"x")],
         1,
         &[7107, 8207, 0],
-        &["begin 11 26 0 0 0", "row 0 0 at 5000000001 -500000 0 absent", "end"],
+        &["begin 11 26 0 0 0 0", "row 0 0 at 5000000001 -500000 0 absent", "end"],
     ),
     (
         Night,
         &[After(b"x")],
         2,
         &[7107],
-        &["row 0 0 at 15000000000 -20000500000 0 123456789", "refused 10 line 25"],
+        &["row 0 0 at 15000000000 -20000500000 0 123456789", "refused 10 line 25 column 0"],
     ),
     (
         Night,
@@ -952,8 +1017,20 @@ const WALKED: &[Walked] = &[
         &[7107, 8224, 7107],
         &["row 2 1 at 999999999999 -999999999999 999999999999 -999999999999", "end"],
     ),
-    (ManyFile(20), &[After(b"x")], 20, &[7118], &["begin 11 45 0 0 0", "refused 8 line 4"]),
-    (ManyFile(20), &[After(b"x")], 20, &[7117], &["begin 11 45 0 0 0", "refused 10 line 24"]),
+    (
+        ManyFile(20),
+        &[After(b"x")],
+        20,
+        &[7118],
+        &["begin 11 45 0 0 0 0", "refused 8 line 4 column 0"],
+    ),
+    (
+        ManyFile(20),
+        &[After(b"x")],
+        20,
+        &[7117],
+        &["begin 11 45 0 0 0 0", "refused 10 line 24 column 0"],
+    ),
     // Refused before the first row.
     (
         Paper,
@@ -961,20 +1038,32 @@ const WALKED: &[Walked] = &[
         1,
         &[7107],
         &[
-            "begin 8 2 0 0 0",
+            "begin 8 2 0 0 0 0",
             "kept",
-            "refused 8 line 2",
+            "refused 8 line 2 column 0",
             "spot 1 61 2 0 1",
             "spot 3 61 2 0 1",
             "spot 12 61 2 0 1",
             "then 25 61 2 0 1",
         ],
     ),
-    (Paper, &[Drop(22)], 1, &[7107], &["refused 4 line 22", "spot 24 1115 8 0 1"]),
-    (Paper, &[Drop(23)], 1, &[7107], &["refused 4 line 23", "spot 24 1118 9 0 1"]),
-    (Paper, &[Put(24, 61, "x")], 1, &[7107], &["refused 5 line 24", "spot 25 1150 10 1 0"]),
-    (Paper, &[Keep(24)], 1, &[7107], &["refused 1 line 25", "spot 24 1211 14 0 0"]),
-    (Night, &[Put(3, 13, "G07")], 2, &[7107, 8224], &["begin 8 3 0 0 0", "refused 8 line 3"]),
+    (Paper, &[Drop(22)], 1, &[7107], &["refused 4 line 22 column 0", "spot 24 1115 8 0 1"]),
+    (Paper, &[Drop(23)], 1, &[7107], &["refused 4 line 23 column 0", "spot 24 1118 9 0 1"]),
+    (
+        Paper,
+        &[Put(24, 61, "x")],
+        1,
+        &[7107],
+        &["refused 5 line 24 column 61", "spot 25 1150 10 1 0"],
+    ),
+    (Paper, &[Keep(24)], 1, &[7107], &["refused 1 line 25 column 0", "spot 24 1211 14 0 0"]),
+    (
+        Night,
+        &[Put(3, 13, "G07")],
+        2,
+        &[7107, 8224],
+        &["begin 8 3 0 0 0 0", "refused 8 line 3 column 0"],
+    ),
     // Refused between rows.
     (
         Night,
@@ -982,13 +1071,13 @@ const WALKED: &[Walked] = &[
         2,
         &[7107, 8224],
         &[
-            "begin 9 29 0 0 0",
+            "begin 9 29 0 0 0 0",
             "kept",
             "row 0 0 at 15000000000 -20000500000 0 123456789",
             "row 0 1 absent absent",
             "row 1 0 absent -1",
             "row 1 1 at 0 0 1 absent",
-            "refused 9 line 29",
+            "refused 9 line 29 column 0",
             "then 32 1459 9 0 1",
             "spot 37 1459 9 0 1",
         ],
@@ -999,9 +1088,9 @@ const WALKED: &[Walked] = &[
         2,
         &[7107, 8224],
         &[
-            "begin 10 27 0 0 0",
+            "begin 10 27 0 0 0 0",
             "row 0 1 absent absent",
-            "refused 10 line 27",
+            "refused 10 line 27 column 0",
             "spot 32 1304 10 2 1",
         ],
     ),
@@ -1010,7 +1099,12 @@ const WALKED: &[Walked] = &[
         &[Insert(26, "EP"), Insert(27, "EP")],
         2,
         &[7107, 8224],
-        &["begin 4 27 0 0 0", "row 0 1 absent absent", "refused 4 line 27", "spot 34 1275 9 0 2"],
+        &[
+            "begin 4 27 0 0 0 0",
+            "row 0 1 absent absent",
+            "refused 4 line 27 column 0",
+            "spot 34 1275 9 0 2",
+        ],
     ),
     (
         Motion,
@@ -1018,9 +1112,9 @@ const WALKED: &[Walked] = &[
         2,
         &[7101, 7102],
         &[
-            "begin 2 25 0 0 0",
+            "begin 2 25 60 0 0 0",
             "row 0 0 at -11044805800 -10475672350 21929418200 189163300",
-            "refused 2 line 25",
+            "refused 2 line 25 column 60",
             "spot 30 1224 11 2 0",
         ],
     ),
@@ -1030,9 +1124,9 @@ const WALKED: &[Walked] = &[
         2,
         &[7101, 7102],
         &[
-            "begin 10 26 0 0 0",
+            "begin 10 26 0 0 0 0",
             "row 0 0 at -11044805800 -10475672350 21929418200 189163300",
-            "refused 10 line 26",
+            "refused 10 line 26 column 0",
             "spot 30 1305 11 2 0",
         ],
     ),
@@ -1042,9 +1136,9 @@ const WALKED: &[Walked] = &[
         2,
         &[7101, 7102],
         &[
-            "begin 3 27 0 0 0",
+            "begin 3 27 81 0 0 0",
             "row 0 0 at -11044805800 -10475672350 21929418200 189163300",
-            "refused 3 line 27",
+            "refused 3 line 27 column 81",
             "spot 30 1379 10 1 0",
         ],
     ),
@@ -1054,9 +1148,9 @@ const WALKED: &[Walked] = &[
         2,
         &[7101, 7102],
         &[
-            "begin 7 28 0 0 0",
+            "begin 7 28 5 0 0 0",
             "row 0 0 at -11044805800 -10475672350 21929418200 189163300",
-            "refused 7 line 28",
+            "refused 7 line 28 column 5",
             "spot 30 1460 10 1 0",
         ],
     ),
@@ -1066,12 +1160,45 @@ const WALKED: &[Walked] = &[
         2,
         &[7101, 7102],
         &[
-            "begin 5 30 0 0 0",
+            "begin 5 30 4 0 0 0",
             "row 0 0 at -11044805800 -10475672350 21929418200 189163300",
             "row 0 1 at -12593593500 10170327650 -20354534400 -55976000",
-            "refused 5 line 30",
+            "refused 5 line 30 column 4",
             "spot 30 1601 14 0 0",
         ],
+    ),
+    // The column at `begin` and at the line where the walk stops.
+    (
+        Paper,
+        &[Put(24, 5, "  5000.0000001")],
+        1,
+        &[7107],
+        &["begin 6 24 5 0 0 0", "kept", "refused 6 line 24 column 5", "spot 25 1150 10 1 0"],
+    ),
+    (
+        Night,
+        &[Byte(27, 200, 127), Byte(27, 300, 9)],
+        2,
+        &[7107, 8224],
+        &["begin 2 27 200 0 0 0", "row 0 1 absent absent", "refused 2 line 27 column 200"],
+    ),
+    (
+        Motion,
+        &[Put(26, 61, "x"), Put(26, 70, "x")],
+        2,
+        &[7101, 7102],
+        &[
+            "begin 5 26 61 0 0 0",
+            "row 0 0 at -11044805800 -10475672350 21929418200 189163300",
+            "refused 5 line 26 column 61",
+        ],
+    ),
+    (
+        Night,
+        &[Put(29, 9, "13"), Put(29, 15, "24")],
+        2,
+        &[7107, 8224],
+        &["begin 7 29 4 0 0 0", "row 1 1 at 0 0 1 absent", "refused 7 line 29 column 4"],
     ),
     // Slots: 20 satellites in two lines, 86 in six.
     (
@@ -1080,7 +1207,7 @@ const WALKED: &[Walked] = &[
         20,
         &[],
         &[
-            "begin 0 0 2374 20 1",
+            "begin 0 0 0 2374 20 1",
             "identifier G18",
             "row 0 19 at 19000001 -500000 0 1000000",
             "spot 3 183 3 3 1",
@@ -1091,28 +1218,38 @@ const WALKED: &[Walked] = &[
         &[Keep(9), After(b"EOF\n")],
         86,
         &[],
-        &["begin 4 10 0 0 0", "refused 4 line 10", "spot 5 305 3 35 1", "then 10 549 4 69 1"],
+        &[
+            "begin 4 10 0 0 0 0",
+            "refused 4 line 10 column 0",
+            "spot 5 305 3 35 1",
+            "then 10 549 4 69 1",
+        ],
     ),
     (
         ManyFile(86),
         &[Keep(8)],
         86,
         &[],
-        &["refused 1 line 9", "spot 4 244 3 52 1", "then 8 488 4 86 1"],
+        &["refused 1 line 9 column 0", "spot 4 244 3 52 1", "then 8 488 4 86 1"],
     ),
     (
         ManyFile(255),
         &[],
         255,
         &[],
-        &["begin 0 0 17929 255 1", "identifier E57", "row 0 254 at 254000001 -500000 0 1000000", "end"],
+        &[
+            "begin 0 0 0 17929 255 1",
+            "identifier E57",
+            "row 0 254 at 254000001 -500000 0 1000000",
+            "end",
+        ],
     ),
     (
         ManyFile(255),
         &[Put(3, 4, "256")],
         300,
         &[],
-        &["begin 7 3 0 0 0", "kept", "refused 7 line 3"],
+        &["begin 7 3 4 0 0 0", "kept", "refused 7 line 3 column 4"],
     ),
 ];
 
@@ -1258,7 +1395,11 @@ const READ: &[ReadFile] = &[
     (Nothing, &[], 2, &["stopped 1 line 1 column 0", "identifiers 7777 7777"]),
     (Paper, &[Keep(24)], 1, &["line 24 1211 14 0 0", "stopped 1 line 25 column 0", "identifiers 7107"]),
     (Paper, &[Byte(24, 40, 0x80)], 1, &["stopped 2 line 24 column 40", "identifiers 7107"]),
+    (Paper, &[Put(24, 300, " "), Byte(24, 200, 127)], 1, &["stopped 2 line 24 column 200"]),
     (Paper, &[Put(24, 90, "x")], 1, &["stopped 3 line 24 column 81", "identifiers 7107"]),
+    (Paper, &[Put(1, 4, "201x"), Put(1, 8, "x")], 1, &["stopped 5 line 1 column 8"]),
+    (Paper, &[Put(23, 9, "13"), Put(23, 15, "2x")], 1, &["stopped 6 line 23 column 15"]),
+    (Paper, &[Whole(24, "PG07")], 1, &["stopped 6 line 24 column 5", "identifiers 7107"]),
     (
         Paper,
         &[Put(3, 13, "G08")],
@@ -1387,7 +1528,8 @@ fn choose_room(random: &mut Random, needed: usize, most: usize) -> usize {
 /// first, and the bytes.
 fn generate_stretch(random: &mut Random, part: MakePart) -> (bool, Vec<u64>, Vec<u8>) {
     let single = once_in(random, 2);
-    let (identifiers, mut stretch) = if single { part(random) } else { generate_files(random, part) };
+    let (identifiers, mut stretch) =
+        if single { part(random) } else { generate_files(random, part) };
     if once_in(random, if single { 6 } else { 3 }) {
         spoil(&mut stretch, random);
     }
@@ -1460,8 +1602,8 @@ fn stored_cases() -> Vec<Case> {
 fn test_divided(tally: &mut Tally) {
     for &(parts, room, wanted, lengths) in DIVIDED {
         let found = divide_into(&joined(parts), room);
-        let Refusal { number, line } = found.refusal;
-        let numbers = [number.into(), line, found.lengths.len(), found.rest];
+        let Refusal { number, line, column } = found.refusal;
+        let numbers = [number.into(), line, column, found.lengths.len(), found.rest];
         tally.holds(numbers == wanted && found.lengths == lengths, || {
             format!(
                 "{parts:?} {room}\n  wanted {wanted:?}\n  given  {numbers:?} {:?}",
@@ -1474,7 +1616,13 @@ fn test_divided(tally: &mut Tally) {
 fn test_walked(tally: &mut Tally) {
     for &(base, edits, identifier_room, identifiers, wanted) in WALKED {
         let stretch = files::hand_made(base, edits);
-        let case = Case { stretch, room: 1, way: Way::Walked, identifier_room, identifiers: identifiers.to_vec() };
+        let case = Case {
+            stretch,
+            room: 1,
+            way: Way::Walked,
+            identifier_room,
+            identifiers: identifiers.to_vec(),
+        };
         let answer = case.show_walked();
         let missing = files::missing_line(&answer, wanted);
         tally.holds(missing.is_none(), || {
@@ -1502,7 +1650,7 @@ fn test_rooms(tally: &mut Tally) {
         let file = files::hand_made(ManyFile(n), &[]);
         for room in 0..=n + 1 {
             let short = room < n;
-            let refusal = short.then_some(Refusal { number: 12, line: 3 + room / 17 });
+            let refusal = short.then_some(Refusal { number: 12, line: 3 + room / 17, column: 0 });
             let kept = if short { room / 17 * 17 } else { n };
             let found = walk(&file, room);
             let same = found.read.refusal == refusal && found.identifiers().len() == kept;
@@ -1522,7 +1670,7 @@ fn test_cuts(tally: &mut Tally) {
         let wanted = match length {
             0 | 1215 => (NOTHING_LEFT, usize::from(length > 0), first),
             2820 => (NOTHING_LEFT, 2, 2820),
-            _ => (Refusal { number: 1, line }, usize::from(first > 0), first),
+            _ => (Refusal { number: 1, line, column: 0 }, usize::from(first > 0), first),
         };
         let found = (found.refusal, found.lengths.len(), found.rest);
         tally.holds(found == wanted, || format!("cut to {length}: {found:?}"));

@@ -1,8 +1,9 @@
 //! A judge of whole SP3-d files, written only from the documents.
 //!
 //! It says of a stretch of bytes whether it is an SP3-d file, which number of
-//! the paper's table refuses it and at which line, what its table holds, what
-//! is laid into lent rooms, and what the questions about a file are answered.
+//! the paper's table refuses it, at which line and at which column, what its
+//! table holds, what is laid into lent rooms, and what the questions about a
+//! file are answered.
 //! It also makes the files on which another implementation is compared with
 //! it. It shares no code with that implementation; single lines are judged by
 //! `lines.rs`, from the same documents.
@@ -17,8 +18,8 @@
 //! * `BIN file MODE SATELLITES EPOCHS` prints a plain file, mode P or V;
 //! * `BIN bytes SEED COUNT`    prints so many bytes of any kind;
 //! * `BIN columns`             prints a batch of files with other bytes in the
-//!   columns of a row or of a note; `BIN columns case NUMBER` and `BIN columns
-//!   compare PROGRAM [ARGS..]` are as below;
+//!   columns of a line; `BIN columns case NUMBER` and `BIN columns compare
+//!   PROGRAM [ARGS..]` are as below;
 //! * `BIN cases`               prints the stored batch;
 //! * `BIN check CRATE_DIR`     compares `CRATE_DIR/stdin` with the stored batch
 //!   and `CRATE_DIR/stdout` with the answers to it;
@@ -36,16 +37,16 @@
 //!
 //! ```text
 //! case LENGTH
-//! front R LINE LENGTH           one file at the front of the bytes
-//! whole R LINE LENGTH           the bytes as one file
-//! read R LINE LENGTH            read whole into the lent rooms
+//! front R LINE COLUMN LENGTH    one file at the front of the bytes
+//! whole R LINE COLUMN LENGTH    the bytes as one file
+//! read R LINE COLUMN LENGTH     read whole into the lent rooms
 //! sums A B C D                  of everything lent, filled or not
 //! (the table, where `read` gave 0)
-//! read_front R LINE LENGTH
+//! read_front R LINE COLUMN LENGTH
 //! sums A B C D
-//! comment R LINE AT LENGTH |TEXT|
-//! satellite R LINE NUMBER
-//! row R LINE X Y Z CLOCK        `absent` in place of X Y Z or of CLOCK
+//! comment R LINE COLUMN AT LENGTH |TEXT|
+//! satellite R LINE COLUMN NUMBER
+//! row R LINE COLUMN X Y Z CLOCK `absent` in place of X Y Z or of CLOCK
 //! ```
 //!
 //! In the table each row has a line, in file order. It has more words where the
@@ -65,8 +66,8 @@
 //! P 0 G07 1 2 3 4 18 18 18 219 .... note 55 large unknown 222 -30 unknown 0 1 2 3
 //! ```
 //!
-//! "The paper" is 01-scope.md as request 1 of 02-change-requests.md changed it,
-//! "000" is the SP3-d document.
+//! "The paper" is 01-scope.md as requests 1 and 2 of 02-change-requests.md
+//! changed it, "000" is the SP3-d document.
 
 #[allow(dead_code)]
 #[path = "lines.rs"]
@@ -74,7 +75,7 @@ pub(crate) mod lines;
 
 use lines::{fail, without_trailing_blanks};
 use lines::{Exponent, Identifier, Line, Moment, Note, Random, Reader, Tally, EP, EV};
-use std::collections::{BTreeMap, HashSet};
+use std::collections::{BTreeMap, BTreeSet, HashSet};
 use std::io::{Read, Write};
 use std::ops::{Range, RangeInclusive};
 use std::process::{exit, Command, ExitStatus, Stdio};
@@ -83,11 +84,20 @@ use std::process::{exit, Command, ExitStatus, Stdio};
 // Refusals, and the lines of a file
 // ---------------------------------------------------------------------------
 
-/// A number of the paper's table and the line, counted from 1; 0 for none.
+/// A number of the paper's table, the line and the column, each counted from 1;
+/// 0 for none.
 #[derive(Clone, Copy, PartialEq, Eq, Debug)]
 pub(crate) struct Refusal {
     pub(crate) number: u8,
     pub(crate) line: usize,
+    pub(crate) column: usize,
+}
+
+impl Refusal {
+    /// The number, the line and the column.
+    pub(crate) fn show(&self) -> String {
+        format!("{} {} {}", self.number, self.line, self.column)
+    }
 }
 
 /// "no LF is left before the file's EOF line is complete"
@@ -105,22 +115,20 @@ const OTHER_SATELLITE: u8 = 10;
 /// "whole file: bytes stand after the EOF line"
 const BYTES_AFTER: u8 = 11;
 /// "lent room is too small"
-pub(crate) const NO_ROOM: Refusal = Refusal { number: 12, line: 0 };
+pub(crate) const NO_ROOM: Refusal = Refusal { number: 12, line: 0, column: 0 };
 /// "what is asked by number isn't there"
-const NOT_THERE: Refusal = Refusal { number: 13, line: 0 };
+const NOT_THERE: Refusal = Refusal { number: 13, line: 0, column: 0 };
 
-/// The bytes, where the next line begins, how many lines lie before it, and
-/// the column of a refusal, 0 where it has none.
+/// The bytes, where the next line begins, and how many lines lie before it.
 struct Lines<'a> {
     bytes: &'a [u8],
     place: usize,
     taken: usize,
-    column: usize,
 }
 
 impl<'a> Lines<'a> {
     fn new(bytes: &'a [u8]) -> Lines<'a> {
-        Lines { bytes, place: 0, taken: 0, column: 0 }
+        Lines { bytes, place: 0, taken: 0 }
     }
 
     /// "A line is the bytes up to the next LF." None where no LF is left.
@@ -136,13 +144,13 @@ impl<'a> Lines<'a> {
         Line::padded(&text[..text.len().min(lines::WIDTH)]).begins(symbol)
     }
 
+    /// A number that names no column.
     fn refuse<T>(&self, number: u8) -> Result<T, Refusal> {
-        Err(Refusal { number, line: self.taken })
+        self.refuse_at(number, 0)
     }
 
-    fn refuse_at<T>(&mut self, number: u8, column: usize) -> Result<T, Refusal> {
-        self.column = column;
-        self.refuse(number)
+    fn refuse_at<T>(&self, number: u8, column: usize) -> Result<T, Refusal> {
+        Err(Refusal { number, line: self.taken, column })
     }
 
     /// The line that follows, if it may be a line at all (1, 2, 3).
@@ -502,8 +510,6 @@ pub(crate) struct Followed {
     /// How many lines were read, the last of them too.
     pub(crate) taken: usize,
     pub(crate) refusal: Option<Refusal>,
-    /// The column of the refusal, 0 where it has none.
-    pub(crate) column: usize,
     /// Where the line after them begins.
     pub(crate) place: usize,
 }
@@ -524,7 +530,7 @@ pub(crate) fn follow_keeping(bytes: &[u8], room: usize) -> Followed {
 fn follow_with(bytes: &[u8], mut table: Table) -> Followed {
     let mut lines = Lines::new(bytes);
     let refusal = take_records(&mut lines, &mut table).err();
-    Followed { table, taken: lines.taken, refusal, column: lines.column, place: lines.place }
+    Followed { table, taken: lines.taken, refusal, place: lines.place }
 }
 
 fn take_records(lines: &mut Lines, table: &mut Table) -> Result<(), Refusal> {
@@ -545,7 +551,7 @@ pub(crate) fn judge_front(stretch: &[u8]) -> Judged {
 /// The bytes as one file: 11 if any follow, "and the line is the one after EOF".
 pub(crate) fn judge(file: &[u8]) -> Judged {
     let read = follow(file, None);
-    let after = Refusal { number: BYTES_AFTER, line: read.taken + 1 };
+    let after = Refusal { number: BYTES_AFTER, line: read.taken + 1, column: 0 };
     let more = (read.place < file.len()).then_some(after);
     read.refusal.or(more).map_or(Ok((read.table, read.place)), Err)
 }
@@ -721,11 +727,11 @@ fn length_of(judged: &Judged) -> Result<usize, Refusal> {
     judged.as_ref().map(|(_, length)| *length).map_err(|refusal| *refusal)
 }
 
-/// The refusal, its line, and a number that is 0 beside a refusal.
+/// The refusal, its line and column, and a number that is 0 beside a refusal.
 fn told(answer: &Result<usize, Refusal>) -> String {
     match answer {
-        Ok(number) => format!("0 0 {number}"),
-        Err(refusal) => format!("{} {} 0", refusal.number, refusal.line),
+        Ok(number) => format!("0 0 0 {number}"),
+        Err(refusal) => format!("{} 0", refusal.show()),
     }
 }
 
@@ -736,15 +742,15 @@ fn show_sums(lent: &Lent) -> String {
 
 fn show_comment(answer: Result<Range<usize>, Refusal>, file: &[u8]) -> String {
     match answer {
-        Ok(at) => format!("0 0 {} {} |{}|", at.start, at.len(), show_text(&file[at.clone()])),
-        Err(refusal) => format!("{} {} 0 0 ||", refusal.number, refusal.line),
+        Ok(at) => format!("0 0 0 {} {} |{}|", at.start, at.len(), show_text(&file[at.clone()])),
+        Err(refusal) => format!("{} 0 0 ||", refusal.show()),
     }
 }
 
 fn show_row_answer(answer: Result<Row, Refusal>) -> String {
     match answer {
-        Ok(row) => format!("0 0 {} {}", show_place(&row), show_clock(&row)),
-        Err(refusal) => format!("{} {} absent absent", refusal.number, refusal.line),
+        Ok(row) => format!("0 0 0 {} {}", show_place(&row), show_clock(&row)),
+        Err(refusal) => format!("{} absent absent", refusal.show()),
     }
 }
 
@@ -1246,446 +1252,536 @@ use Edit::{
     Line as Whole, Put, Swap,
 };
 
-type Hand = (Base, &'static [Edit], u8, usize);
+type Hand = (Base, &'static [Edit], u8, usize, usize);
 
-/// A file, and its refusal and line as a whole file by the documents.
+/// A file, and its refusal, line and column as a whole file by the documents.
 const HAND: &[Hand] = &[
     // 0: the files as they stand.
-    (Paper, &[], 0, 0),
-    (Night, &[], 0, 0),
-    (Motion, &[], 0, 0),
+    (Paper, &[], 0, 0, 0),
+    (Night, &[], 0, 0, 0),
+    (Motion, &[], 0, 0, 0),
     // 1: no LF is left. "No bytes: 1, line 1."
-    (Nothing, &[], 1, 1),
-    (Nothing, &[After(b"#d")], 1, 1),
-    (Nothing, &[After(b"\x80\x00")], 1, 1),
-    (Nothing, &[AfterMany(b'x', 20_000)], 1, 1),
-    (Paper, &[Keep(1)], 1, 2),
-    (Paper, &[Keep(22)], 1, 23),
-    (Paper, &[Keep(24)], 1, 25),
-    (Paper, &[Join(25)], 1, 25),
-    (Paper, &[Whole(25, "EOFX"), Join(25)], 1, 25),
-    (Paper, &[Whole(25, "\u{7f}"), Join(25)], 1, 25),
-    (Paper, &[Keep(24), After(b"EO")], 1, 25),
-    (Paper, &[Keep(24), AfterMany(b'P', 90)], 1, 25),
-    (Motion, &[Keep(25), After(b"VG01")], 1, 26),
+    (Nothing, &[], 1, 1, 0),
+    (Nothing, &[After(b"#d")], 1, 1, 0),
+    (Nothing, &[After(b"\x80\x00")], 1, 1, 0),
+    (Nothing, &[AfterMany(b'x', 20_000)], 1, 1, 0),
+    (Paper, &[Keep(1)], 1, 2, 0),
+    (Paper, &[Keep(22)], 1, 23, 0),
+    (Paper, &[Keep(24)], 1, 25, 0),
+    (Paper, &[Join(25)], 1, 25, 0),
+    (Paper, &[Whole(25, "EOFX"), Join(25)], 1, 25, 0),
+    (Paper, &[Whole(25, "\u{7f}"), Join(25)], 1, 25, 0),
+    (Paper, &[Keep(24), After(b"EO")], 1, 25, 0),
+    (Paper, &[Keep(24), AfterMany(b'P', 90)], 1, 25, 0),
+    (Motion, &[Keep(25), After(b"VG01")], 1, 26, 0),
     // A fault in an earlier line comes before it.
-    (Paper, &[Join(25), Put(24, 61, "x")], 5, 24),
+    (Paper, &[Join(25), Put(24, 61, "x")], 5, 24, 61),
     // 2: a byte outside 32-126, anywhere in the line, before 3, 4 and 5.
-    (Paper, &[CarriageReturns], 2, 1),
-    (Paper, &[Byte(25, 4, b'\r')], 2, 25),
-    (Paper, &[Byte(24, 40, 0x80)], 2, 24),
-    (Paper, &[Byte(24, 1, 0xff)], 2, 24),
-    (Paper, &[Byte(24, 2, 0)], 2, 24),
-    (Paper, &[Byte(24, 81, 127)], 2, 24),
-    (Paper, &[Byte(24, 200, 9)], 2, 24),
-    (Paper, &[Byte(19, 4, 31)], 2, 19),
-    (Paper, &[Byte(19, 4, 32)], 0, 0),
-    (Paper, &[Byte(19, 4, 126)], 0, 0),
-    (Paper, &[Byte(19, 4, 127)], 2, 19),
-    (Paper, &[Byte(19, 80, 9)], 2, 19),
-    (Paper, &[Byte(1, 61, 0)], 2, 1),
-    (Paper, &[Whole(14, "x"), Byte(14, 3, 200)], 2, 14),
-    (Motion, &[Byte(25, 60, 200)], 2, 25),
-    (Motion, &[Byte(27, 3, 31)], 2, 27),
-    (Nothing, &[AfterMany(b'x', 9000), After(b"\x1f\n")], 2, 1),
+    (Paper, &[CarriageReturns], 2, 1, 61),
+    (Paper, &[Byte(25, 4, b'\r')], 2, 25, 4),
+    (Paper, &[Byte(24, 40, 0x80)], 2, 24, 40),
+    (Paper, &[Byte(24, 1, 0xff)], 2, 24, 1),
+    (Paper, &[Byte(24, 2, 0)], 2, 24, 2),
+    (Paper, &[Byte(24, 81, 127)], 2, 24, 81),
+    (Paper, &[Byte(24, 200, 9)], 2, 24, 200),
+    (Paper, &[Byte(24, 90, 200)], 2, 24, 90),
+    (Paper, &[Byte(24, 128, 255)], 2, 24, 128),
+    (Paper, &[Put(24, 300, " "), Byte(24, 200, 127)], 2, 24, 200),
+    // The leftmost of several.
+    (Paper, &[Byte(24, 9, 127), Byte(24, 40, 127)], 2, 24, 9),
+    (Paper, &[Byte(24, 40, 0x80), Byte(24, 60, 0)], 2, 24, 40),
+    (Paper, &[Byte(24, 80, 0), Byte(24, 81, 0), Byte(24, 130, 0)], 2, 24, 80),
+    (Paper, &[Byte(19, 4, 9)], 2, 19, 4),
+    (Paper, &[Byte(19, 4, 31)], 2, 19, 4),
+    (Paper, &[Byte(19, 4, 32)], 0, 0, 0),
+    (Paper, &[Byte(19, 4, 126)], 0, 0, 0),
+    (Paper, &[Byte(19, 4, 127)], 2, 19, 4),
+    (Paper, &[Byte(19, 80, 9)], 2, 19, 80),
+    (Paper, &[Byte(1, 61, 0)], 2, 1, 61),
+    (Paper, &[Whole(14, "x"), Byte(14, 3, 200)], 2, 14, 3),
+    (Motion, &[Byte(25, 60, 200)], 2, 25, 60),
+    (Motion, &[Byte(27, 3, 31)], 2, 27, 3),
+    (Nothing, &[AfterMany(b'x', 9000), After(b"\x1f\n")], 2, 1, 9001),
     // 3: "80 and 81 characters", before 4 and 5.
-    (Paper, &[Put(24, 80, " ")], 0, 0),
-    (Paper, &[Put(24, 80, "P")], 0, 0),
-    (Paper, &[Put(24, 81, " ")], 3, 24),
-    (Paper, &[Put(24, 81, "x")], 3, 24),
-    (Paper, &[Put(1, 80, " ")], 0, 0),
-    (Paper, &[Put(1, 81, " ")], 3, 1),
-    (Paper, &[Put(19, 80, "x")], 0, 0),
-    (Paper, &[Put(19, 81, "x")], 3, 19),
-    (Paper, &[Put(25, 80, " ")], 0, 0),
-    (Paper, &[Put(25, 81, " ")], 3, 25),
-    (Motion, &[Put(25, 81, " ")], 3, 25),
-    (Motion, &[Put(25, 80, "~")], 6, 25),
-    (Paper, &[Put(24, 1, "x"), Put(24, 81, "x")], 3, 24),
-    (Paper, &[Join(1)], 3, 1),
-    (Nothing, &[AfterMany(b'x', 9000), After(b"\n")], 3, 1),
-    (Nothing, &[AfterMany(b' ', 81), After(b"\n")], 3, 1),
-    (Nothing, &[AfterMany(b' ', 80), After(b"\n")], 4, 1),
+    (Paper, &[Put(24, 80, " ")], 0, 0, 0),
+    (Paper, &[Put(24, 80, "P")], 0, 0, 0),
+    (Paper, &[Put(24, 81, " ")], 3, 24, 81),
+    (Paper, &[Put(24, 81, "x")], 3, 24, 81),
+    (Paper, &[Put(24, 85, "x")], 3, 24, 81),
+    (Paper, &[Put(24, 300, " ")], 3, 24, 81),
+    (Paper, &[Put(24, 300, "x"), Put(24, 61, "x")], 3, 24, 81),
+    (Paper, &[Put(1, 80, " ")], 0, 0, 0),
+    (Paper, &[Put(1, 81, " ")], 3, 1, 81),
+    (Paper, &[Put(19, 80, "x")], 0, 0, 0),
+    (Paper, &[Put(19, 81, "x")], 3, 19, 81),
+    (Paper, &[Put(25, 80, " ")], 0, 0, 0),
+    (Paper, &[Put(25, 81, " ")], 3, 25, 81),
+    (Motion, &[Put(25, 81, " ")], 3, 25, 81),
+    (Motion, &[Put(25, 80, "~")], 6, 25, 73),
+    (Paper, &[Put(24, 1, "x"), Put(24, 81, "x")], 3, 24, 81),
+    (Paper, &[Join(1)], 3, 1, 81),
+    (Nothing, &[AfterMany(b'x', 9000), After(b"\n")], 3, 1, 81),
+    (Nothing, &[AfterMany(b' ', 81), After(b"\n")], 3, 1, 81),
+    (Nothing, &[AfterMany(b' ', 80), After(b"\n")], 4, 1, 0),
     // 4: not a kind that may stand here.
-    (Nothing, &[AfterMany(b'\n', 1)], 4, 1),
-    (Nothing, &[AfterMany(b'\n', 5000)], 4, 1),
-    (Nothing, &[After(b"EOF\n")], 4, 1),
-    (Paper, &[Drop(1)], 4, 1),
-    (Paper, &[Double(1)], 4, 2),
-    (Paper, &[Swap(1, 2)], 4, 1),
-    (Paper, &[Put(1, 2, "c")], 4, 1),
-    (Paper, &[Put(1, 2, "D")], 4, 1),
-    (Paper, &[Insert(1, "")], 4, 1),
-    (Paper, &[Insert(1, "/* FIRST")], 4, 1),
-    (Paper, &[Drop(2)], 4, 2),
-    (Paper, &[Double(2)], 4, 3),
-    (Paper, &[Keep(1), After(b"EOF\n")], 4, 2),
+    (Nothing, &[AfterMany(b'\n', 1)], 4, 1, 0),
+    (Nothing, &[AfterMany(b'\n', 5000)], 4, 1, 0),
+    (Nothing, &[After(b"EOF\n")], 4, 1, 0),
+    (Paper, &[Drop(1)], 4, 1, 0),
+    (Paper, &[Double(1)], 4, 2, 0),
+    (Paper, &[Swap(1, 2)], 4, 1, 0),
+    (Paper, &[Put(1, 2, "c")], 4, 1, 0),
+    (Paper, &[Put(1, 2, "D")], 4, 1, 0),
+    (Paper, &[Insert(1, "")], 4, 1, 0),
+    (Paper, &[Insert(1, "/* FIRST")], 4, 1, 0),
+    (Paper, &[Drop(2)], 4, 2, 0),
+    (Paper, &[Double(2)], 4, 3, 0),
+    (Paper, &[Keep(1), After(b"EOF\n")], 4, 2, 0),
     // "Reading `+ ` lines until `++` comes, and not by n."
-    (Paper, &[Drop(7)], 4, 7),
-    (Paper, &[Double(7)], 4, 8),
-    (Paper, &[Swap(7, 8)], 4, 7),
-    (Paper, &[Swap(3, 8)], 4, 3),
-    (Paper, &[Drop(12)], 4, 12),
-    (Paper, &[Double(12)], 4, 13),
-    (Paper, &[Swap(12, 13)], 4, 12),
-    (Paper, &[Put(4, 2, "x")], 4, 4),
-    (Paper, &[Drop(7), Drop(7)], 4, 7),
-    (Paper, &[Double(7), Double(13)], 4, 8),
-    (Many(85), &[], 0, 0),
-    (Many(86), &[], 0, 0),
-    (Many(255), &[], 0, 0),
-    (Many(85), &[Double(7), Keep(12)], 4, 8),
-    (Many(86), &[Drop(8), Keep(12)], 4, 8),
-    (Many(86), &[Double(8), Keep(12)], 4, 9),
-    (Many(86), &[Insert(9, NO_SATELLITES), Keep(12)], 4, 9),
-    (Many(86), &[Drop(14), Keep(16)], 4, 14),
-    (Many(102), &[Put(3, 4, "103"), Keep(12)], 4, 9),
-    (Many(255), &[Drop(17), Keep(20)], 4, 17),
-    (Paper, &[Put(13, 2, "C")], 4, 13),
-    (Paper, &[Drop(14)], 4, 14),
-    (Paper, &[Double(14)], 4, 15),
-    (Paper, &[Swap(14, 15)], 4, 14),
-    (Paper, &[Drop(16)], 4, 16),
-    (Paper, &[Double(16)], 4, 17),
-    (Paper, &[Put(15, 2, "F")], 4, 15),
-    (Paper, &[Drop(18)], 4, 18),
-    (Paper, &[Double(18)], 4, 19),
-    (Paper, &[Put(17, 2, "I")], 4, 17),
+    (Paper, &[Drop(7)], 4, 7, 0),
+    (Paper, &[Double(7)], 4, 8, 0),
+    (Paper, &[Swap(7, 8)], 4, 7, 0),
+    (Paper, &[Swap(3, 8)], 4, 3, 0),
+    (Paper, &[Drop(12)], 4, 12, 0),
+    (Paper, &[Double(12)], 4, 13, 0),
+    (Paper, &[Swap(12, 13)], 4, 12, 0),
+    (Paper, &[Put(4, 2, "x")], 4, 4, 0),
+    (Paper, &[Drop(7), Drop(7)], 4, 7, 0),
+    (Paper, &[Double(7), Double(13)], 4, 8, 0),
+    (Many(85), &[], 0, 0, 0),
+    (Many(86), &[], 0, 0, 0),
+    (Many(255), &[], 0, 0, 0),
+    (Many(85), &[Double(7), Keep(12)], 4, 8, 0),
+    (Many(86), &[Drop(8), Keep(12)], 4, 8, 0),
+    (Many(86), &[Double(8), Keep(12)], 4, 9, 0),
+    (Many(86), &[Insert(9, NO_SATELLITES), Keep(12)], 4, 9, 0),
+    (Many(86), &[Drop(14), Keep(16)], 4, 14, 0),
+    (Many(102), &[Put(3, 4, "103"), Keep(12)], 4, 9, 0),
+    (Many(255), &[Drop(17), Keep(20)], 4, 17, 0),
+    (Paper, &[Put(13, 2, "C")], 4, 13, 0),
+    (Paper, &[Drop(14)], 4, 14, 0),
+    (Paper, &[Double(14)], 4, 15, 0),
+    (Paper, &[Swap(14, 15)], 4, 14, 0),
+    (Paper, &[Drop(16)], 4, 16, 0),
+    (Paper, &[Double(16)], 4, 17, 0),
+    (Paper, &[Put(15, 2, "F")], 4, 15, 0),
+    (Paper, &[Drop(18)], 4, 18, 0),
+    (Paper, &[Double(18)], 4, 19, 0),
+    (Paper, &[Put(17, 2, "I")], 4, 17, 0),
     // "three comments (4)"
-    (Paper, &[Drop(22)], 4, 22),
-    (Paper, &[Drop(22), Drop(21)], 4, 21),
-    (Talkative(0), &[], 4, 19),
-    (Talkative(3), &[], 4, 22),
-    (Talkative(4), &[], 0, 0),
-    (Talkative(5), &[], 0, 0),
-    (Talkative(103), &[], 0, 0),
-    (Paper, &[Put(20, 1, "//")], 4, 20),
-    (Paper, &[Put(20, 2, " ")], 4, 20),
-    (Paper, &[Insert(23, "")], 4, 23),
-    (Paper, &[Insert(23, "EOF")], 4, 23),
-    (Paper, &[Insert(23, "EOFX")], 4, 23),
-    (Paper, &[Insert(24, "/*")], 4, 24),
-    (Paper, &[Insert(25, "/*")], 4, 25),
-    (Paper, &[Insert(23, INTEGERS)], 4, 23),
+    (Paper, &[Drop(22)], 4, 22, 0),
+    (Paper, &[Drop(22), Drop(21)], 4, 21, 0),
+    (Talkative(0), &[], 4, 19, 0),
+    (Talkative(3), &[], 4, 22, 0),
+    (Talkative(4), &[], 0, 0, 0),
+    (Talkative(5), &[], 0, 0, 0),
+    (Talkative(103), &[], 0, 0, 0),
+    (Paper, &[Put(20, 1, "//")], 4, 20, 0),
+    (Paper, &[Put(20, 2, " ")], 4, 20, 0),
+    (Paper, &[Insert(23, "")], 4, 23, 0),
+    (Paper, &[Insert(23, "EOF")], 4, 23, 0),
+    (Paper, &[Insert(23, "EOFX")], 4, 23, 0),
+    (Paper, &[Insert(24, "/*")], 4, 24, 0),
+    (Paper, &[Insert(25, "/*")], 4, 25, 0),
+    (Paper, &[Insert(23, INTEGERS)], 4, 23, 0),
     // Epochs: too few, too many, EOF too early.
-    (Paper, &[Drop(23)], 4, 23),
-    (Paper, &[Double(23)], 4, 24),
-    (Paper, &[Put(23, 2, "x")], 4, 23),
-    (Paper, &[Put(23, 2, "*")], 4, 23),
-    (Paper, &[Put(1, 33, "      2")], 4, 25),
-    (Paper, &[Put(1, 33, " 100000")], 4, 25),
-    (Paper, &[Insert(25, "*")], 4, 25),
-    (Paper, &[Insert(25, "*  2013  4  3  0 15  0.00000000")], 4, 25),
-    (Night, &[Put(1, 39, "2")], 4, 29),
-    (Night, &[Put(1, 39, "4")], 4, 32),
-    (Night, &[Drop(26)], 4, 26),
-    (Night, &[Insert(26, "EOF")], 4, 26),
-    (Night, &[Keep(28), After(b"EOF\n")], 4, 29),
-    (Night, &[Keep(27), After(b"EOF\n")], 4, 28),
+    (Paper, &[Drop(23)], 4, 23, 0),
+    (Paper, &[Double(23)], 4, 24, 0),
+    (Paper, &[Put(23, 2, "x")], 4, 23, 0),
+    (Paper, &[Put(23, 2, "*")], 4, 23, 0),
+    (Paper, &[Put(1, 33, "      2")], 4, 25, 0),
+    (Paper, &[Put(1, 33, " 100000")], 4, 25, 0),
+    (Paper, &[Insert(25, "*")], 4, 25, 0),
+    (Paper, &[Insert(25, "*  2013  4  3  0 15  0.00000000")], 4, 25, 0),
+    (Night, &[Put(1, 39, "2")], 4, 29, 0),
+    (Night, &[Put(1, 39, "4")], 4, 32, 0),
+    (Night, &[Drop(26)], 4, 26, 0),
+    (Night, &[Insert(26, "EOF")], 4, 26, 0),
+    (Night, &[Keep(28), After(b"EOF\n")], 4, 29, 0),
+    (Night, &[Keep(27), After(b"EOF\n")], 4, 28, 0),
     // Rows.
-    (Paper, &[Drop(24)], 4, 24),
-    (Paper, &[Double(24)], 4, 25),
-    (Paper, &[Put(24, 1, "p")], 4, 24),
-    (Paper, &[Put(24, 1, "V")], 4, 24),
-    (Paper, &[Put(1, 3, "V")], 4, 25),
-    (Paper, &[Insert(25, "VG07      0.000000      0.000000      0.000000 999999.999999")], 4, 25),
-    (Night, &[Drop(25)], 4, 25),
-    (Night, &[Double(25)], 4, 26),
-    (Night, &[Drop(31)], 4, 31),
-    (Motion, &[Put(1, 3, "P")], 4, 26),
-    (Motion, &[Drop(26)], 4, 26),
-    (Motion, &[Drop(26), Drop(26)], 4, 26),
-    (Motion, &[Drop(29)], 4, 29),
-    (Motion, &[Double(26)], 4, 27),
-    (Motion, &[Double(29)], 4, 30),
-    (Motion, &[Drop(24)], 4, 24),
+    (Paper, &[Drop(24)], 4, 24, 0),
+    (Paper, &[Double(24)], 4, 25, 0),
+    (Paper, &[Put(24, 1, "p")], 4, 24, 0),
+    (Paper, &[Put(24, 1, "V")], 4, 24, 0),
+    (Paper, &[Put(1, 3, "V")], 4, 25, 0),
+    (
+        Paper,
+        &[Insert(25, "VG07      0.000000      0.000000      0.000000 999999.999999")],
+        4,
+        25,
+        0,
+    ),
+    (Night, &[Drop(25)], 4, 25, 0),
+    (Night, &[Double(25)], 4, 26, 0),
+    (Night, &[Drop(31)], 4, 31, 0),
+    (Motion, &[Put(1, 3, "P")], 4, 26, 0),
+    (Motion, &[Drop(26)], 4, 26, 0),
+    (Motion, &[Drop(26), Drop(26)], 4, 26, 0),
+    (Motion, &[Drop(29)], 4, 29, 0),
+    (Motion, &[Double(26)], 4, 27, 0),
+    (Motion, &[Double(29)], 4, 30, 0),
+    (Motion, &[Drop(24)], 4, 24, 0),
     // EP and EV.
-    (Paper, &[BARE], 0, 0),
-    (Paper, &[BARE, Put(25, 80, " ")], 0, 0),
-    (Paper, &[NOTE], 0, 0),
-    (Paper, &[ABSENT, BARE], 0, 0),
-    (Paper, &[ABSENT, NOTE], 0, 0),
-    (Notes, &[], 0, 0),
-    (MovingNotes, &[], 0, 0),
-    (Paper, &[Insert(25, "EPx ~ anything 77")], 5, 25),
-    (Paper, &[NOTE, Byte(25, 7, 9)], 2, 25),
-    (Paper, &[BARE, Byte(25, 3, 9)], 2, 25),
-    (Paper, &[NOTE, Put(25, 81, " ")], 3, 25),
-    (Paper, &[NOTE, Double(25)], 4, 26),
+    (Paper, &[BARE], 0, 0, 0),
+    (Paper, &[BARE, Put(25, 80, " ")], 0, 0, 0),
+    (Paper, &[NOTE], 0, 0, 0),
+    (Paper, &[ABSENT, BARE], 0, 0, 0),
+    (Paper, &[ABSENT, NOTE], 0, 0, 0),
+    (Notes, &[], 0, 0, 0),
+    (MovingNotes, &[], 0, 0, 0),
+    (Paper, &[Insert(25, "EPx ~ anything 77")], 5, 25, 3),
+    (Paper, &[NOTE, Byte(25, 7, 9)], 2, 25, 7),
+    (Paper, &[NOTE, Byte(25, 60, 9)], 2, 25, 60),
+    (Paper, &[BARE, Byte(25, 3, 9)], 2, 25, 3),
+    (Paper, &[NOTE, Put(25, 81, " ")], 3, 25, 81),
+    (Paper, &[NOTE, Double(25)], 4, 26, 0),
     // Their unused columns.
-    (Paper, &[Insert(25, "EPx")], 5, 25),
-    (Paper, &[BARE, Put(25, 9, "1")], 5, 25),
-    (Paper, &[NOTE, Put(25, 14, "0")], 5, 25),
-    (Paper, &[NOTE, Put(25, 19, "-")], 5, 25),
-    (Paper, &[NOTE, Put(25, 27, "x")], 5, 25),
-    (Paper, &[NOTE, Put(25, 36, "-")], 5, 25),
-    (Paper, &[NOTE, Put(25, 45, "1")], 5, 25),
-    (Paper, &[NOTE, Put(25, 54, "x")], 5, 25),
-    (Paper, &[NOTE, Put(25, 63, "0")], 5, 25),
-    (Paper, &[NOTE, Put(25, 72, "x")], 5, 25),
-    (Motion, &[Put(27, 3, "x")], 5, 27),
+    (Paper, &[Insert(25, "EPx")], 5, 25, 3),
+    (Paper, &[BARE, Put(25, 9, "1")], 5, 25, 9),
+    (Paper, &[NOTE, Put(25, 14, "0")], 5, 25, 14),
+    (Paper, &[NOTE, Put(25, 19, "-")], 5, 25, 19),
+    (Paper, &[NOTE, Put(25, 27, "x")], 5, 25, 27),
+    (Paper, &[NOTE, Put(25, 36, "-")], 5, 25, 36),
+    (Paper, &[NOTE, Put(25, 45, "1")], 5, 25, 45),
+    (Paper, &[NOTE, Put(25, 54, "x")], 5, 25, 54),
+    (Paper, &[NOTE, Put(25, 63, "0")], 5, 25, 63),
+    (Paper, &[NOTE, Put(25, 72, "x")], 5, 25, 72),
+    (Motion, &[Put(27, 3, "x")], 5, 27, 3),
     // Deviations: blank, or digits that fill the field from its right.
-    (Paper, &[BARE, Put(25, 5, "0055")], 0, 0),
-    (Paper, &[BARE, Put(25, 5, "1000")], 0, 0),
-    (Paper, &[BARE, Put(25, 5, "9999")], 0, 0),
-    (Paper, &[BARE, Put(25, 8, "0")], 0, 0),
-    (Paper, &[NOTE, Put(25, 20, "9999999")], 0, 0),
-    (Paper, &[BARE, Put(25, 5, "55  ")], 6, 25),
-    (Paper, &[BARE, Put(25, 5, "  -1")], 6, 25),
-    (Paper, &[NOTE, Put(25, 15, " 5.5")], 6, 25),
-    (Paper, &[NOTE, Put(25, 20, "222    ")], 6, 25),
-    (Motion, &[Put(27, 5, "22  ")], 6, 27),
+    (Paper, &[BARE, Put(25, 5, "0055")], 0, 0, 0),
+    (Paper, &[BARE, Put(25, 5, "1000")], 0, 0, 0),
+    (Paper, &[BARE, Put(25, 5, "9999")], 0, 0, 0),
+    (Paper, &[BARE, Put(25, 8, "0")], 0, 0, 0),
+    (Paper, &[NOTE, Put(25, 20, "9999999")], 0, 0, 0),
+    (Paper, &[BARE, Put(25, 5, "55  ")], 6, 25, 5),
+    (Paper, &[BARE, Put(25, 5, "  -1")], 6, 25, 5),
+    (Paper, &[NOTE, Put(25, 15, " 5.5")], 6, 25, 15),
+    (Paper, &[NOTE, Put(25, 20, "222    ")], 6, 25, 20),
+    (Motion, &[Put(27, 5, "22  ")], 6, 27, 5),
     // Correlations: a minus before the first digit; at most seven digits count.
-    (Paper, &[BARE, Put(25, 28, "09999999")], 0, 0),
-    (Paper, &[BARE, Put(25, 28, "-9999999")], 0, 0),
-    (Paper, &[BARE, Put(25, 28, "      -0")], 0, 0),
-    (Paper, &[BARE, Put(25, 28, "99999999")], 7, 25),
-    (Paper, &[BARE, Put(25, 28, "10000000")], 7, 25),
-    (Paper, &[NOTE, Put(25, 73, "10000000")], 7, 25),
-    (Paper, &[BARE, Put(25, 28, "     - 1")], 6, 25),
-    (Paper, &[BARE, Put(25, 28, "      +1")], 6, 25),
-    (Paper, &[BARE, Put(25, 28, "1234567 ")], 6, 25),
-    (Paper, &[NOTE, Put(25, 37, "     --1")], 6, 25),
-    (Paper, &[NOTE, Put(25, 55, "     3-0")], 6, 25),
-    (Paper, &[NOTE, Put(25, 80, "x")], 6, 25),
-    (Motion, &[Put(27, 46, "10000000")], 7, 27),
-    (Motion, &[Put(27, 64, "- 234567")], 6, 27),
+    (Paper, &[BARE, Put(25, 28, "09999999")], 0, 0, 0),
+    (Paper, &[BARE, Put(25, 28, "-9999999")], 0, 0, 0),
+    (Paper, &[BARE, Put(25, 28, "      -0")], 0, 0, 0),
+    (Paper, &[BARE, Put(25, 28, "99999999")], 7, 25, 28),
+    (Paper, &[BARE, Put(25, 28, "10000000")], 7, 25, 28),
+    (Paper, &[NOTE, Put(25, 73, "10000000")], 7, 25, 73),
+    (Paper, &[BARE, Put(25, 28, "     - 1")], 6, 25, 28),
+    (Paper, &[BARE, Put(25, 28, "      +1")], 6, 25, 28),
+    (Paper, &[BARE, Put(25, 28, "1234567 ")], 6, 25, 28),
+    (Paper, &[NOTE, Put(25, 37, "     --1")], 6, 25, 37),
+    (Paper, &[NOTE, Put(25, 55, "     3-0")], 6, 25, 55),
+    (Paper, &[NOTE, Put(25, 80, "x")], 6, 25, 73),
+    (Motion, &[Put(27, 80, "x")], 6, 27, 73),
+    (Motion, &[Put(27, 46, "10000000")], 7, 27, 46),
+    (Motion, &[Put(27, 64, "- 234567")], 6, 27, 64),
     // Two faults: the lower number.
-    (Paper, &[NOTE, Put(25, 5, "55  "), Put(25, 27, "x")], 5, 25),
-    (Paper, &[NOTE, Put(25, 28, "99999999"), Put(25, 73, "1234567 ")], 6, 25),
-    (Paper, &[NOTE, Put(25, 3, "x"), Put(25, 81, "x")], 3, 25),
-    (Paper, &[Insert(25, "EVx")], 4, 25),
-    (Paper, &[Insert(24, "EPx")], 4, 24),
-    (Motion, &[Put(25, 3, "x"), Double(26)], 5, 25),
-    (Motion, &[Insert(26, "EVx")], 4, 26),
-    (Motion, &[Insert(30, "EPx")], 4, 30),
+    (Paper, &[NOTE, Put(25, 5, "55  "), Put(25, 27, "x")], 5, 25, 27),
+    (Paper, &[NOTE, Put(25, 28, "99999999"), Put(25, 73, "1234567 ")], 6, 25, 73),
+    // Two of the same number: the leftmost.
+    (Paper, &[NOTE, Put(25, 45, "x"), Put(25, 36, "x")], 5, 25, 36),
+    (Paper, &[NOTE, Put(25, 26, "x"), Put(25, 35, "x")], 6, 25, 20),
+    (Motion, &[Put(27, 64, "99999999"), Put(27, 55, "10000000")], 7, 27, 55),
+    (Paper, &[NOTE, Put(25, 3, "x"), Put(25, 81, "x")], 3, 25, 81),
+    (Paper, &[Insert(25, "EVx")], 4, 25, 0),
+    (Paper, &[Insert(24, "EPx")], 4, 24, 0),
+    (Motion, &[Put(25, 3, "x"), Double(26)], 5, 25, 3),
+    (Motion, &[Insert(26, "EVx")], 4, 26, 0),
+    (Motion, &[Insert(30, "EPx")], 4, 30, 0),
     // Their places.
-    (Paper, &[Insert(25, "EP"), Insert(26, "EP")], 4, 26),
-    (Paper, &[Insert(25, "EV")], 4, 25),
-    (Paper, &[Insert(25, "EP"), Insert(26, "EV")], 4, 26),
-    (Paper, &[Insert(24, "EP")], 4, 24),
-    (Paper, &[Insert(23, "EP")], 4, 23),
-    (Paper, &[Insert(25, "E")], 4, 25),
-    (Paper, &[Insert(25, "Ep")], 4, 25),
-    (Paper, &[Insert(25, "EQ")], 4, 25),
-    (Paper, &[Insert(25, "EO")], 4, 25),
-    (Motion, &[Drop(25)], 0, 0),
-    (Motion, &[Drop(27)], 0, 0),
-    (Motion, &[Drop(27), Drop(25)], 0, 0),
-    (Motion, &[Double(25)], 4, 26),
-    (Motion, &[Double(27)], 4, 28),
-    (Motion, &[Swap(25, 26)], 4, 26),
-    (Motion, &[Swap(26, 27)], 4, 26),
-    (Motion, &[Swap(25, 27)], 4, 25),
-    (Motion, &[Insert(29, "EP")], 0, 0),
-    (Motion, &[Insert(29, "EV")], 4, 29),
-    (Motion, &[Insert(30, "EV")], 0, 0),
-    (Motion, &[Insert(30, "EP")], 4, 30),
-    (Night, &[Insert(25, "EP"), Insert(29, "EP")], 0, 0),
-    (Night, &[Insert(24, "EP")], 4, 24),
-    (Night, &[Insert(26, "EV")], 4, 26),
+    (Paper, &[Insert(25, "EP"), Insert(26, "EP")], 4, 26, 0),
+    (Paper, &[Insert(25, "EV")], 4, 25, 0),
+    (Paper, &[Insert(25, "EP"), Insert(26, "EV")], 4, 26, 0),
+    (Paper, &[Insert(24, "EP")], 4, 24, 0),
+    (Paper, &[Insert(23, "EP")], 4, 23, 0),
+    (Paper, &[Insert(25, "E")], 4, 25, 0),
+    (Paper, &[Insert(25, "Ep")], 4, 25, 0),
+    (Paper, &[Insert(25, "EQ")], 4, 25, 0),
+    (Paper, &[Insert(25, "EO")], 4, 25, 0),
+    (Motion, &[Drop(25)], 0, 0, 0),
+    (Motion, &[Drop(27)], 0, 0, 0),
+    (Motion, &[Drop(27), Drop(25)], 0, 0, 0),
+    (Motion, &[Double(25)], 4, 26, 0),
+    (Motion, &[Double(27)], 4, 28, 0),
+    (Motion, &[Swap(25, 26)], 4, 26, 0),
+    (Motion, &[Swap(26, 27)], 4, 26, 0),
+    (Motion, &[Swap(25, 27)], 4, 25, 0),
+    (Motion, &[Insert(29, "EP")], 0, 0, 0),
+    (Motion, &[Insert(29, "EV")], 4, 29, 0),
+    (Motion, &[Insert(30, "EV")], 0, 0, 0),
+    (Motion, &[Insert(30, "EP")], 4, 30, 0),
+    (Night, &[Insert(25, "EP"), Insert(29, "EP")], 0, 0, 0),
+    (Night, &[Insert(24, "EP")], 4, 24, 0),
+    (Night, &[Insert(26, "EV")], 4, 26, 0),
     // EOF.
-    (Paper, &[Whole(25, "EOX")], 4, 25),
-    (Paper, &[Whole(25, "EO")], 4, 25),
-    (Paper, &[Whole(25, "eof")], 4, 25),
-    (Paper, &[Whole(25, " EOF")], 4, 25),
-    (Paper, &[Insert(25, "")], 4, 25),
-    (Paper, &[Whole(25, "EOFX")], 5, 25),
-    (Paper, &[Put(25, 80, "x")], 5, 25),
-    (Paper, &[Put(25, 5, " ")], 0, 0),
+    (Paper, &[Whole(25, "EOX")], 4, 25, 0),
+    (Paper, &[Whole(25, "EO")], 4, 25, 0),
+    (Paper, &[Whole(25, "eof")], 4, 25, 0),
+    (Paper, &[Whole(25, " EOF")], 4, 25, 0),
+    (Paper, &[Insert(25, "")], 4, 25, 0),
+    (Paper, &[Whole(25, "EOFX")], 5, 25, 4),
+    (Paper, &[Put(25, 80, "x")], 5, 25, 80),
+    (Paper, &[Put(25, 5, " ")], 0, 0, 0),
     // 5: an unused column, or a placeholder.
-    (Paper, &[Put(1, 32, "x")], 5, 1),
-    (Paper, &[Put(1, 46, "x")], 5, 1),
-    (Paper, &[Put(1, 61, "x")], 5, 1),
-    (Paper, &[Put(1, 3, "v"), Put(1, 61, "x")], 5, 1),
-    (Paper, &[Put(2, 3, "x")], 5, 2),
-    (Paper, &[Put(2, 61, "0")], 5, 2),
-    (Paper, &[Put(3, 9, "x")], 5, 3),
-    (Paper, &[Put(3, 4, "  x"), Put(3, 8, "0")], 5, 3),
-    (Paper, &[Put(4, 6, "0")], 5, 4),
-    (Paper, &[Put(8, 3, "0")], 5, 8),
-    (Paper, &[Put(13, 7, "CC")], 5, 13),
-    (Paper, &[Put(13, 4, "X "), Put(13, 60, "x")], 5, 13),
-    (Paper, &[Put(14, 4, "G ")], 5, 14),
-    (Paper, &[Put(14, 10, "GPS")], 5, 14),
-    (Paper, &[Put(15, 28, "-0.00000000000")], 5, 15),
-    (Paper, &[Put(15, 43, " 0.000000000000001")], 5, 15),
-    (Paper, &[Put(16, 4, " 1.2500000")], 5, 16),
-    (Paper, &[Put(16, 4, "          ")], 5, 16),
-    (Paper, &[Put(16, 4, "00.0000000")], 0, 0),
-    (Paper, &[Put(17, 4, "   1")], 5, 17),
-    (Paper, &[Put(18, 52, "         ")], 5, 18),
-    (Paper, &[Put(18, 52, "000000000")], 0, 0),
-    (Paper, &[Put(19, 3, "x")], 5, 19),
-    (Paper, &[Join(22)], 5, 22),
-    (Paper, &[Put(23, 32, "x")], 5, 23),
-    (Paper, &[Put(24, 61, "x")], 5, 24),
-    (Paper, &[Put(24, 2, "G08"), Put(24, 77, "x")], 5, 24),
-    (Paper, &[Join(24)], 5, 24),
-    (Motion, &[Put(26, 75, "E")], 5, 26),
-    (Motion, &[Put(26, 80, "P")], 5, 26),
+    (Paper, &[Put(1, 32, "x")], 5, 1, 32),
+    (Paper, &[Put(1, 46, "x")], 5, 1, 46),
+    (Paper, &[Put(1, 61, "x")], 5, 1, 61),
+    (Paper, &[Put(1, 3, "v"), Put(1, 61, "x")], 5, 1, 61),
+    (Paper, &[Put(2, 3, "x")], 5, 2, 3),
+    (Paper, &[Put(2, 61, "0")], 5, 2, 61),
+    (Paper, &[Put(3, 9, "x")], 5, 3, 9),
+    (Paper, &[Put(3, 4, "  x"), Put(3, 8, "0")], 5, 3, 8),
+    (Paper, &[Put(4, 6, "0")], 5, 4, 6),
+    (Paper, &[Put(8, 3, "0")], 5, 8, 3),
+    (Paper, &[Put(13, 7, "CC")], 5, 13, 7),
+    (Paper, &[Put(13, 4, "X "), Put(13, 60, "x")], 5, 13, 56),
+    (Paper, &[Put(14, 4, "G ")], 5, 14, 4),
+    (Paper, &[Put(14, 10, "GPS")], 5, 14, 10),
+    (Paper, &[Put(15, 28, "-0.00000000000")], 5, 15, 28),
+    (Paper, &[Put(15, 43, " 0.000000000000001")], 5, 15, 43),
+    (Paper, &[Put(16, 4, " 1.2500000")], 5, 16, 4),
+    (Paper, &[Put(16, 4, "          ")], 5, 16, 4),
+    (Paper, &[Put(16, 4, "00.0000000")], 0, 0, 0),
+    (Paper, &[Put(17, 4, "   1")], 5, 17, 4),
+    (Paper, &[Put(18, 52, "         ")], 5, 18, 52),
+    (Paper, &[Put(18, 52, "000000000")], 0, 0, 0),
+    (Paper, &[Put(19, 3, "x")], 5, 19, 3),
+    (Paper, &[Join(22)], 5, 22, 3),
+    (Paper, &[Put(23, 32, "x")], 5, 23, 32),
+    (Paper, &[Put(24, 61, "x")], 5, 24, 61),
+    (Paper, &[Put(24, 2, "G08"), Put(24, 77, "x")], 5, 24, 77),
+    (Paper, &[Join(24)], 5, 24, 61),
+    (Motion, &[Put(26, 75, "E")], 5, 26, 75),
+    (Motion, &[Put(26, 80, "P")], 5, 26, 80),
+    // The unused column itself, not the first of those beside it.
+    (Paper, &[Put(3, 63, "x")], 5, 3, 63),
+    (Paper, &[Put(4, 7, "x")], 5, 4, 7),
+    (Paper, &[Put(23, 80, "x")], 5, 23, 80),
+    (Paper, &[Put(24, 78, "x")], 5, 24, 78),
+    (Paper, &[Whole(25, "EOF       x")], 5, 25, 11),
+    // The leftmost of several.
+    (Paper, &[Put(1, 61, "x"), Put(1, 70, "x")], 5, 1, 61),
+    (Paper, &[Put(24, 61, "x"), Put(24, 70, "x")], 5, 24, 61),
+    (Paper, &[Put(24, 74, "x"), Put(24, 61, "x")], 5, 24, 61),
+    (Paper, &[Put(18, 24, "     1"), Put(18, 52, "        1")], 5, 18, 24),
+    (Paper, &[Put(14, 43, "x"), Put(14, 48, "C")], 5, 14, 43),
+    (Paper, &[Put(14, 43, "x"), Put(14, 42, "C")], 5, 14, 38),
+    // A placeholder has its first column, also where its others are wrong.
+    (Paper, &[Put(14, 5, "C")], 5, 14, 4),
+    (Paper, &[Put(14, 58, "x")], 5, 14, 56),
+    (Paper, &[Put(15, 60, "1")], 5, 15, 43),
+    (Paper, &[Put(17, 29, "1")], 5, 17, 24),
+    // Columns 8 and 11 of a date are unused columns.
+    (Paper, &[Put(1, 8, "x")], 5, 1, 8),
+    (Paper, &[Put(1, 11, "x")], 5, 1, 11),
+    (Paper, &[Put(1, 4, "201x"), Put(1, 8, "x")], 5, 1, 8),
+    (Paper, &[Put(23, 11, "1")], 5, 23, 11),
+    (Paper, &[Put(23, 4, "201x"), Put(23, 14, "x")], 5, 23, 14),
+    // Placeholders past the end of a short line.
+    (Paper, &[Whole(13, "%c")], 5, 13, 7),
+    (Paper, &[Whole(13, "%c G  cc GPS")], 5, 13, 14),
+    (Paper, &[Whole(14, "%c")], 5, 14, 4),
+    (Paper, &[Whole(15, "%f")], 5, 15, 28),
+    (Paper, &[Whole(17, "%i    0    0")], 5, 17, 14),
     // 6: malformed fields, letters, file types and time systems.
-    (Paper, &[Put(1, 3, "v")], 6, 1),
-    (Paper, &[Put(1, 33, "       ")], 6, 1),
-    (Paper, &[Put(1, 4, "2013  4  x")], 6, 1),
-    (Paper, &[Put(2, 4, "    ")], 6, 2),
-    (Paper, &[Put(2, 25, " -900.00000000")], 6, 2),
-    (Paper, &[Put(3, 4, "   ")], 6, 3),
-    (Paper, &[Put(3, 4, "1  ")], 6, 3),
-    (Paper, &[Put(3, 4, " -1")], 6, 3),
-    (Paper, &[Put(3, 4, "  x"), Put(3, 10, "x00000")], 6, 3),
-    (Paper, &[Put(3, 4, "  2")], 6, 3),
-    (Paper, &[Put(3, 10, "  0")], 6, 3),
-    (Paper, &[Put(3, 10, "G 7")], 6, 3),
-    (Paper, &[Put(3, 10, "g07")], 6, 3),
-    (Paper, &[Put(3, 10, "007")], 6, 3),
-    (Paper, &[Put(3, 4, "256")], 6, 3),
-    (Paper, &[Put(8, 10, "   ")], 6, 8),
-    (Paper, &[Put(8, 10, " -1")], 6, 8),
-    (Paper, &[Put(13, 4, "X ")], 6, 13),
-    (Paper, &[Put(13, 4, "GG")], 6, 13),
-    (Paper, &[Put(13, 4, " G")], 6, 13),
-    (Paper, &[Put(13, 10, "gps")], 6, 13),
-    (Paper, &[Put(13, 4, "R  cc GPX")], 6, 13),
-    (Paper, &[Put(15, 4, "-1.2500000")], 6, 15),
-    (Paper, &[Put(15, 15, "            ")], 6, 15),
-    (Paper, &[Whole(23, "*")], 6, 23),
-    (Paper, &[Put(23, 4, "2013 13  x")], 6, 23),
-    (Paper, &[Whole(24, "P")], 6, 24),
-    (Paper, &[Put(24, 2, "G 7")], 6, 24),
-    (Paper, &[Put(24, 5, "       .500000")], 6, 24),
-    (Paper, &[Put(24, 5, "1000000.000000       .500000")], 6, 24),
-    (Paper, &[Put(24, 47, "              ")], 6, 24),
-    (Paper, &[Put(24, 62, "1 ")], 6, 24),
-    (Paper, &[Put(24, 75, "P")], 6, 24),
-    (Paper, &[Put(24, 76, "E")], 6, 24),
-    (Paper, &[Put(24, 79, "P")], 6, 24),
-    (Paper, &[Put(24, 80, "M")], 6, 24),
-    (Paper, &[Put(24, 80, "p")], 6, 24),
-    (Paper, &[Put(24, 2, "G08"), Put(24, 75, "x")], 6, 24),
-    (Motion, &[Whole(26, "V")], 6, 26),
-    (Motion, &[Put(26, 5, "     +0.000000")], 6, 26),
+    (Paper, &[Put(1, 3, "v")], 6, 1, 3),
+    (Paper, &[Put(1, 33, "       ")], 6, 1, 33),
+    (Paper, &[Put(1, 4, "2013  4  x")], 6, 1, 4),
+    (Paper, &[Put(2, 4, "    ")], 6, 2, 4),
+    (Paper, &[Put(2, 25, " -900.00000000")], 6, 2, 25),
+    (Paper, &[Put(3, 4, "   ")], 6, 3, 4),
+    (Paper, &[Put(3, 4, "1  ")], 6, 3, 4),
+    (Paper, &[Put(3, 4, " -1")], 6, 3, 4),
+    (Paper, &[Put(3, 4, "  x"), Put(3, 10, "x00000")], 6, 3, 4),
+    (Paper, &[Put(3, 4, "  2")], 6, 3, 13),
+    (Paper, &[Put(3, 10, "  0")], 6, 3, 10),
+    (Paper, &[Put(3, 10, "G 7")], 6, 3, 10),
+    (Paper, &[Put(3, 10, "g07")], 6, 3, 10),
+    (Paper, &[Put(3, 10, "007")], 6, 3, 10),
+    (Paper, &[Put(3, 4, "256")], 6, 3, 13),
+    (Paper, &[Put(8, 10, "   ")], 6, 8, 10),
+    (Paper, &[Put(8, 10, " -1")], 6, 8, 10),
+    (Paper, &[Put(13, 4, "X ")], 6, 13, 4),
+    (Paper, &[Put(13, 4, "GG")], 6, 13, 4),
+    (Paper, &[Put(13, 4, " G")], 6, 13, 4),
+    (Paper, &[Put(13, 10, "gps")], 6, 13, 10),
+    (Paper, &[Put(13, 4, "R  cc GPX")], 6, 13, 10),
+    (Paper, &[Put(15, 4, "-1.2500000")], 6, 15, 4),
+    (Paper, &[Put(15, 15, "            ")], 6, 15, 15),
+    (Paper, &[Whole(23, "*")], 6, 23, 4),
+    (Paper, &[Put(23, 4, "2013 13  x")], 6, 23, 4),
+    (Paper, &[Whole(24, "P")], 6, 24, 2),
+    (Paper, &[Put(24, 2, "G 7")], 6, 24, 2),
+    (Paper, &[Put(24, 5, "       .500000")], 6, 24, 5),
+    (Paper, &[Put(24, 5, "1000000.000000       .500000")], 6, 24, 19),
+    (Paper, &[Put(24, 47, "              ")], 6, 24, 47),
+    (Paper, &[Put(24, 62, "1 ")], 6, 24, 62),
+    (Paper, &[Put(24, 75, "P")], 6, 24, 75),
+    (Paper, &[Put(24, 76, "E")], 6, 24, 76),
+    (Paper, &[Put(24, 79, "P")], 6, 24, 79),
+    (Paper, &[Put(24, 80, "M")], 6, 24, 80),
+    (Paper, &[Put(24, 80, "p")], 6, 24, 80),
+    (Paper, &[Put(24, 2, "G08"), Put(24, 75, "x")], 6, 24, 75),
+    (Motion, &[Whole(26, "V")], 6, 26, 2),
+    (Motion, &[Put(26, 5, "     +0.000000")], 6, 26, 5),
+    (Paper, &[Put(24, 5, "  5000.0000001")], 6, 24, 5),
+    (Paper, &[Put(24, 75, "e")], 6, 24, 75),
+    (Paper, &[Put(13, 4, "Gx")], 6, 13, 4),
+    // Any fault of year, month or day has column 4; the hour has its own.
+    (Paper, &[Put(1, 4, "201x")], 6, 1, 4),
+    (Paper, &[Put(1, 9, "x4")], 6, 1, 4),
+    (Paper, &[Put(1, 12, "3 ")], 6, 1, 4),
+    (Paper, &[Put(23, 12, " x")], 6, 23, 4),
+    (Paper, &[Put(23, 9, "13"), Put(23, 15, "2x")], 6, 23, 15),
+    (Paper, &[Put(23, 12, "3 "), Put(23, 15, "2x")], 6, 23, 4),
+    (Paper, &[Put(1, 3, "v"), Put(1, 9, "x4")], 6, 1, 3),
+    // The leftmost of several.
+    (Paper, &[Put(2, 40, "    x"), Put(2, 25, " -900.00000000")], 6, 2, 25),
+    (Paper, &[Put(13, 4, "X  cc gps")], 6, 13, 4),
+    (Night, &[Put(3, 13, "R x"), Put(3, 16, "xxx")], 6, 3, 13),
+    (Night, &[Put(8, 10, " -1 -1")], 6, 8, 10),
+    (Paper, &[Put(24, 80, "x"), Put(24, 62, "x ")], 6, 24, 62),
+    // A field past the end of a short line has its first column too.
+    (Paper, &[Whole(1, "#d")], 6, 1, 3),
+    (Paper, &[Whole(1, "#dP2013  4  3")], 6, 1, 15),
+    (Paper, &[Whole(1, "#dP2013  4  3  0  0  0.00000000")], 6, 1, 33),
+    (Paper, &[Whole(2, "##")], 6, 2, 4),
+    (Paper, &[Whole(3, "+    1")], 6, 3, 10),
+    (Paper, &[Whole(8, "++")], 6, 8, 10),
+    (Paper, &[Whole(23, "*  2013  4  3  0  0")], 6, 23, 21),
+    (Paper, &[Whole(24, "PG07")], 6, 24, 5),
+    (Paper, &[Whole(24, "PG07   5000.000001")], 6, 24, 19),
+    (Paper, &[Whole(24, "PG07   5000.0000")], 6, 24, 5),
+    (Motion, &[Whole(26, "VG01")], 6, 26, 5),
     // 7: outside the bounds. "256 satellites (7)"
-    (Paper, &[Put(1, 33, "      0")], 7, 1),
-    (Paper, &[Put(1, 33, " 100001")], 7, 1),
-    (Paper, &[Put(1, 33, "9999999")], 7, 1),
-    (Paper, &[Put(1, 4, "1980  1  5")], 7, 1),
-    (Paper, &[Put(1, 4, "2001  2 29")], 7, 1),
-    (Paper, &[Put(1, 4, "2100  1  1")], 7, 1),
-    (Paper, &[Put(1, 4, "2013  0  3")], 7, 1),
-    (Paper, &[Put(1, 15, "24")], 7, 1),
-    (Paper, &[Put(1, 18, "60")], 7, 1),
-    (Paper, &[Put(1, 21, "60.00000000")], 7, 1),
-    (Paper, &[Put(2, 9, "604800.00000000")], 7, 2),
-    (Paper, &[Put(2, 25, "    0.00000000")], 7, 2),
-    (Paper, &[Put(2, 4, "9999"), Put(2, 46, "1.0000000000000")], 7, 2),
-    (Many(256), &[Keep(40)], 7, 3),
-    (Many(255), &[Put(3, 4, "256"), Keep(40)], 7, 3),
-    (Many(255), &[Put(3, 4, "999"), Keep(40)], 7, 3),
-    (Many(256), &[Put(3, 58, "  0"), Keep(40)], 6, 3),
-    (Paper, &[Put(3, 4, "  0")], 7, 3),
-    (Paper, &[Put(3, 4, "000"), Put(3, 10, "  0")], 7, 3),
-    (Paper, &[Put(3, 10, "G00")], 7, 3),
-    (Night, &[Put(3, 13, "G00"), Put(3, 16, "G07")], 7, 3),
-    (Night, &[Put(26, 4, "2012 12 32")], 7, 26),
-    (Night, &[Put(26, 4, "2012 12 31 24  0  0.00000000")], 7, 26),
-    (Night, &[Put(26, 4, "2012 12 31 23 60  0.00000000")], 7, 26),
-    (Night, &[Put(26, 4, "2012 12 31 23 59 60.00000000")], 7, 26),
-    (Paper, &[Put(24, 2, "G00")], 7, 24),
-    (Paper, &[Put(24, 5, "1000000.000000")], 7, 24),
-    (Paper, &[Put(24, 47, "9999999.999999")], 7, 24),
-    (Paper, &[Put(24, 2, "G08"), Put(24, 5, "1000000.000000")], 7, 24),
-    (Motion, &[Put(26, 2, "G00")], 7, 26),
+    (Paper, &[Put(1, 33, "      0")], 7, 1, 33),
+    (Paper, &[Put(1, 33, " 100001")], 7, 1, 33),
+    (Paper, &[Put(1, 33, "9999999")], 7, 1, 33),
+    (Paper, &[Put(1, 4, "1980  1  5")], 7, 1, 4),
+    (Paper, &[Put(1, 4, "2001  2 29")], 7, 1, 4),
+    (Paper, &[Put(1, 4, "2100  1  1")], 7, 1, 4),
+    (Paper, &[Put(1, 4, "2013  0  3")], 7, 1, 4),
+    (Paper, &[Put(1, 15, "24")], 7, 1, 15),
+    (Paper, &[Put(1, 18, "60")], 7, 1, 18),
+    (Paper, &[Put(1, 21, "60.00000000")], 7, 1, 21),
+    (Paper, &[Put(2, 9, "604800.00000000")], 7, 2, 9),
+    (Paper, &[Put(2, 25, "    0.00000000")], 7, 2, 25),
+    (Paper, &[Put(2, 4, "9999"), Put(2, 46, "1.0000000000000")], 7, 2, 46),
+    (Many(256), &[Keep(40)], 7, 3, 4),
+    (Many(255), &[Put(3, 4, "256"), Keep(40)], 7, 3, 4),
+    (Many(255), &[Put(3, 4, "999"), Keep(40)], 7, 3, 4),
+    (Many(256), &[Put(3, 58, "  0"), Keep(40)], 6, 3, 58),
+    (Many(256), &[Put(3, 13, "G 2"), Keep(40)], 6, 3, 13),
+    (Paper, &[Put(3, 4, "  0")], 7, 3, 4),
+    (Paper, &[Put(3, 4, "000"), Put(3, 10, "  0")], 7, 3, 4),
+    (Paper, &[Put(3, 10, "G00")], 7, 3, 10),
+    (Night, &[Put(3, 13, "G00"), Put(3, 16, "G07")], 7, 3, 13),
+    (Night, &[Put(26, 4, "2012 12 32")], 7, 26, 4),
+    (Night, &[Put(26, 4, "2012 12 31 24  0  0.00000000")], 7, 26, 15),
+    (Night, &[Put(26, 4, "2012 12 31 23 60  0.00000000")], 7, 26, 18),
+    (Night, &[Put(26, 4, "2012 12 31 23 59 60.00000000")], 7, 26, 21),
+    (Paper, &[Put(24, 2, "G00")], 7, 24, 2),
+    (Paper, &[Put(24, 5, "1000000.000000")], 7, 24, 5),
+    (Paper, &[Put(24, 47, "9999999.999999")], 7, 24, 47),
+    (Paper, &[Put(24, 2, "G08"), Put(24, 5, "1000000.000000")], 7, 24, 5),
+    (Motion, &[Put(26, 2, "G00")], 7, 26, 2),
+    // Of the date before the hour, of x before the clock.
+    (Paper, &[Put(1, 4, "2001  2 29 24")], 7, 1, 4),
+    (Paper, &[Put(23, 9, "13"), Put(23, 15, "24")], 7, 23, 4),
+    (Paper, &[Put(23, 15, "24 60")], 7, 23, 15),
+    (Paper, &[Put(24, 19, "1000000.000000")], 7, 24, 19),
+    (Paper, &[Put(24, 47, "1000000.000000"), Put(24, 5, "1000000.000000")], 7, 24, 5),
+    (Paper, &[Put(24, 2, "G00"), Put(24, 5, "1000000.000000")], 7, 24, 2),
     // 8: line two disagrees with the start.
-    (Paper, &[Put(1, 4, "1980  1  6")], 8, 2),
-    (Paper, &[Put(1, 4, "2099 12 31")], 8, 2),
-    (Paper, &[Put(2, 4, "1735")], 8, 2),
-    (Paper, &[Put(2, 4, "1733")], 8, 2),
-    (Paper, &[Put(2, 4, "9999")], 8, 2),
-    (Paper, &[Put(2, 9, "259200.00000001")], 8, 2),
-    (Paper, &[Put(2, 9, "259199.99999999")], 8, 2),
-    (Paper, &[Put(2, 9, "     0.00000000")], 8, 2),
-    (Paper, &[Put(2, 40, "56384")], 8, 2),
-    (Paper, &[Put(2, 40, "56386")], 8, 2),
-    (Paper, &[Put(2, 46, "0.0000000000001")], 8, 2),
-    (Paper, &[Put(2, 46, "0.9999999999999")], 8, 2),
-    (Paper, &[Put(2, 4, "1735"), Put(3, 3, "x")], 8, 2),
-    (Night, &[Put(2, 46, "0.9895833333332")], 8, 2),
-    (Night, &[Put(2, 46, "0.9895833333334")], 0, 0),
-    (Night, &[Put(2, 46, "0.9895833333335")], 8, 2),
+    (Paper, &[Put(1, 4, "1980  1  6")], 8, 2, 0),
+    (Paper, &[Put(1, 4, "2099 12 31")], 8, 2, 0),
+    (Paper, &[Put(2, 4, "1735")], 8, 2, 0),
+    (Paper, &[Put(2, 4, "1733")], 8, 2, 0),
+    (Paper, &[Put(2, 4, "9999")], 8, 2, 0),
+    (Paper, &[Put(2, 9, "259200.00000001")], 8, 2, 0),
+    (Paper, &[Put(2, 9, "259199.99999999")], 8, 2, 0),
+    (Paper, &[Put(2, 9, "     0.00000000")], 8, 2, 0),
+    (Paper, &[Put(2, 40, "56384")], 8, 2, 0),
+    (Paper, &[Put(2, 40, "56386")], 8, 2, 0),
+    (Paper, &[Put(2, 46, "0.0000000000001")], 8, 2, 0),
+    (Paper, &[Put(2, 46, "0.9999999999999")], 8, 2, 0),
+    (Paper, &[Put(2, 4, "1735"), Put(3, 3, "x")], 8, 2, 0),
+    (Night, &[Put(2, 46, "0.9895833333332")], 8, 2, 0),
+    (Night, &[Put(2, 46, "0.9895833333334")], 0, 0, 0),
+    (Night, &[Put(2, 46, "0.9895833333335")], 8, 2, 0),
     // A slot after n isn't `  0`.
-    (Paper, &[Put(3, 13, "000")], 8, 3),
-    (Paper, &[Put(3, 13, " 00")], 8, 3),
-    (Paper, &[Put(3, 13, "0  ")], 8, 3),
-    (Paper, &[Put(3, 13, "   ")], 8, 3),
-    (Paper, &[Put(3, 13, "G08")], 8, 3),
-    (Paper, &[Put(3, 58, "g08")], 8, 3),
-    (Night, &[Put(3, 4, "  1")], 8, 3),
-    (Paper, &[Put(7, 10, "G08")], 8, 7),
-    (Paper, &[Whole(4, "+")], 8, 4),
-    (Paper, &[Put(8, 13, "  1")], 8, 8),
-    (Paper, &[Put(8, 13, "000")], 8, 8),
-    (Paper, &[Put(8, 58, "   ")], 8, 8),
-    (Paper, &[Put(12, 58, "  7")], 8, 12),
-    (Paper, &[Whole(9, "++")], 8, 9),
+    (Paper, &[Put(3, 13, "000")], 8, 3, 0),
+    (Paper, &[Put(3, 13, " 00")], 8, 3, 0),
+    (Paper, &[Put(3, 13, "0  ")], 8, 3, 0),
+    (Paper, &[Put(3, 13, "   ")], 8, 3, 0),
+    (Paper, &[Put(3, 13, "G08")], 8, 3, 0),
+    (Paper, &[Put(3, 58, "g08")], 8, 3, 0),
+    (Night, &[Put(3, 4, "  1")], 8, 3, 0),
+    (Paper, &[Put(7, 10, "G08")], 8, 7, 0),
+    (Paper, &[Whole(4, "+")], 8, 4, 0),
+    (Paper, &[Put(8, 13, "  1")], 8, 8, 0),
+    (Paper, &[Put(8, 13, "000")], 8, 8, 0),
+    (Paper, &[Put(8, 58, "   ")], 8, 8, 0),
+    (Paper, &[Put(12, 58, "  7")], 8, 12, 0),
+    (Paper, &[Whole(9, "++")], 8, 9, 0),
     // An identifier repeats: the line of the later one.
-    (Night, &[Put(3, 13, "G07")], 8, 3),
-    (Night, &[Put(3, 13, "G07"), Put(3, 3, "x")], 5, 3),
-    (Many(20), &[], 0, 0),
-    (Many(20), &[Put(4, 10, "G01"), Keep(9)], 8, 4),
-    (Many(20), &[Put(4, 16, "G18"), Keep(9)], 8, 4),
-    (Many(20), &[Put(4, 16, "G17"), Put(4, 10, "G 9"), Keep(9)], 6, 4),
-    (Many(255), &[Put(17, 58, "  1"), Keep(20)], 6, 17),
-    (Many(255), &[Put(17, 58, "G01"), Keep(20)], 8, 17),
-    (Many(255), &[Put(17, 58, "Z99"), Keep(60)], 1, 61),
+    (Night, &[Put(3, 13, "G07")], 8, 3, 0),
+    (Night, &[Put(3, 13, "G07"), Put(3, 3, "x")], 5, 3, 3),
+    (Many(20), &[], 0, 0, 0),
+    (Many(20), &[Put(4, 10, "G01"), Keep(9)], 8, 4, 0),
+    (Many(20), &[Put(4, 16, "G18"), Keep(9)], 8, 4, 0),
+    (Many(20), &[Put(4, 16, "G17"), Put(4, 10, "G 9"), Keep(9)], 6, 4, 10),
+    (Many(255), &[Put(17, 58, "  1"), Keep(20)], 6, 17, 58),
+    (Many(255), &[Put(17, 58, "G01"), Keep(20)], 8, 17, 0),
+    (Many(255), &[Put(17, 58, "Z99"), Keep(60)], 1, 61, 0),
     // The file type disagrees.
-    (Paper, &[Put(13, 4, "R ")], 8, 13),
-    (Paper, &[Put(13, 4, "M ")], 0, 0),
-    (Paper, &[Put(3, 10, "A01")], 8, 13),
-    (Night, &[Put(13, 4, "G ")], 8, 13),
-    (Night, &[Put(13, 4, "R ")], 8, 13),
-    (Many(20), &[Put(3 + 10, 4, "G ")], 0, 0),
-    (Many(20), &[Put(13, 4, "G "), Put(4, 16, "E20"), Keep(16)], 8, 13),
+    (Paper, &[Put(13, 4, "R ")], 8, 13, 0),
+    (Paper, &[Put(13, 4, "M ")], 0, 0, 0),
+    (Paper, &[Put(3, 10, "A01")], 8, 13, 0),
+    (Night, &[Put(13, 4, "G ")], 8, 13, 0),
+    (Night, &[Put(13, 4, "R ")], 8, 13, 0),
+    (Many(20), &[Put(3 + 10, 4, "G ")], 0, 0, 0),
+    (Many(20), &[Put(13, 4, "G "), Put(4, 16, "E20"), Keep(16)], 8, 13, 0),
     // 9: the wrong instant. "an epoch that is one interval late after midnight"
-    (Paper, &[Put(23, 21, " 0.00000001")], 9, 23),
-    (Paper, &[Put(23, 4, "2013  4  4")], 9, 23),
-    (Paper, &[Put(23, 15, " 0 15")], 9, 23),
-    (Paper, &[Put(23, 4, "2013  4  2 23 59 59.99999999")], 9, 23),
-    (Night, &[Put(26, 18, "15")], 9, 26),
-    (Night, &[Put(26, 18, "15"), Put(29, 18, "30")], 9, 26),
-    (Night, &[Put(29, 18, "30")], 9, 29),
-    (Night, &[Put(26, 4, "2012 12 31")], 9, 26),
-    (Night, &[Put(26, 4, "2013 12 31")], 9, 26),
-    (Night, &[Put(26, 4, "2012  1  1")], 9, 26),
-    (Night, &[Put(26, 4, "2013  1  2")], 9, 26),
-    (Night, &[Put(29, 4, "2012 12 31")], 9, 29),
-    (Night, &[Put(29, 18, " 0")], 9, 29),
-    (Night, &[Swap(26, 29)], 9, 26),
-    (Night, &[Put(2, 25, "  899.99999999")], 9, 26),
-    (Night, &[Put(2, 25, "  900.00000001")], 9, 26),
-    (Night, &[Put(2, 25, "00900.00000000")], 0, 0),
+    (Paper, &[Put(23, 21, " 0.00000001")], 9, 23, 0),
+    (Paper, &[Put(23, 4, "2013  4  4")], 9, 23, 0),
+    (Paper, &[Put(23, 15, " 0 15")], 9, 23, 0),
+    (Paper, &[Put(23, 4, "2013  4  2 23 59 59.99999999")], 9, 23, 0),
+    (Night, &[Put(26, 18, "15")], 9, 26, 0),
+    (Night, &[Put(26, 18, "15"), Put(29, 18, "30")], 9, 26, 0),
+    (Night, &[Put(29, 18, "30")], 9, 29, 0),
+    (Night, &[Put(26, 4, "2012 12 31")], 9, 26, 0),
+    (Night, &[Put(26, 4, "2013 12 31")], 9, 26, 0),
+    (Night, &[Put(26, 4, "2012  1  1")], 9, 26, 0),
+    (Night, &[Put(26, 4, "2013  1  2")], 9, 26, 0),
+    (Night, &[Put(29, 4, "2012 12 31")], 9, 29, 0),
+    (Night, &[Put(29, 18, " 0")], 9, 29, 0),
+    (Night, &[Swap(26, 29)], 9, 26, 0),
+    (Night, &[Put(2, 25, "  899.99999999")], 9, 26, 0),
+    (Night, &[Put(2, 25, "  900.00000001")], 9, 26, 0),
+    (Night, &[Put(2, 25, "00900.00000000")], 0, 0, 0),
     // 10: another satellite than the header has here.
-    (Paper, &[Put(24, 2, "G08")], 10, 24),
-    (Paper, &[Put(24, 2, "R07")], 10, 24),
-    (Paper, &[Put(3, 10, "A01"), Put(13, 4, "M ")], 10, 24),
-    (Night, &[Swap(24, 25)], 10, 24),
-    (Night, &[Swap(30, 31)], 10, 30),
-    (Night, &[Drop(24)], 10, 24),
-    (Night, &[Double(24)], 10, 25),
-    (Motion, &[Put(26, 2, "G02")], 10, 26),
-    (Motion, &[Swap(26, 29)], 10, 26),
-    (Motion, &[Put(29, 2, "G01")], 10, 29),
+    (Paper, &[Put(24, 2, "G08")], 10, 24, 0),
+    (Paper, &[Put(24, 2, "R07")], 10, 24, 0),
+    (Paper, &[Put(3, 10, "A01"), Put(13, 4, "M ")], 10, 24, 0),
+    (Night, &[Swap(24, 25)], 10, 24, 0),
+    (Night, &[Swap(30, 31)], 10, 30, 0),
+    (Night, &[Drop(24)], 10, 24, 0),
+    (Night, &[Double(24)], 10, 25, 0),
+    (Motion, &[Put(26, 2, "G02")], 10, 26, 0),
+    (Motion, &[Swap(26, 29)], 10, 26, 0),
+    (Motion, &[Put(29, 2, "G01")], 10, 29, 0),
     // 11: bytes after the EOF line, not examined.
-    (Paper, &[After(b"\n")], 11, 26),
-    (Paper, &[After(b"\x00")], 11, 26),
-    (Paper, &[After(b"EOF\n")], 11, 26),
-    (Paper, &[After(b"EP\n")], 11, 26),
-    (Paper, &[AfterMany(b'\n', 4000)], 11, 26),
-    (Paper, &[AfterMany(0xff, 4000)], 11, 26),
-    (Paper, &[Double(25)], 11, 26),
-    (Paper, &[AfterItself], 11, 26),
-    (Night, &[AfterItself], 11, 33),
-    (Motion, &[After(b" ")], 11, 31),
+    (Paper, &[After(b"\n")], 11, 26, 0),
+    (Paper, &[After(b"\x00")], 11, 26, 0),
+    (Paper, &[After(b"EOF\n")], 11, 26, 0),
+    (Paper, &[After(b"EP\n")], 11, 26, 0),
+    (Paper, &[AfterMany(b'\n', 4000)], 11, 26, 0),
+    (Paper, &[AfterMany(0xff, 4000)], 11, 26, 0),
+    (Paper, &[Double(25)], 11, 26, 0),
+    (Paper, &[AfterItself], 11, 26, 0),
+    (Night, &[AfterItself], 11, 33, 0),
+    (Motion, &[After(b" ")], 11, 31, 0),
     // The paper's dates: 1, 2, 3, 4; the last day.
     (
         Paper,
@@ -1695,6 +1791,7 @@ const HAND: &[Hand] = &[
             Put(2, 40, "56201"),
             Put(23, 4, "2012 10  1"),
         ],
+        0,
         0,
         0,
     ),
@@ -1708,6 +1805,7 @@ const HAND: &[Hand] = &[
         ],
         0,
         0,
+        0,
     ),
     (
         Paper,
@@ -1719,6 +1817,7 @@ const HAND: &[Hand] = &[
         ],
         0,
         0,
+        0,
     ),
     (
         Paper,
@@ -1728,6 +1827,7 @@ const HAND: &[Hand] = &[
             Put(2, 40, "88068 0.9999999999999"),
             Put(23, 4, "2099 12 31 23 59 59.99999999"),
         ],
+        0,
         0,
         0,
     ),
@@ -1743,6 +1843,7 @@ const HAND: &[Hand] = &[
         ],
         7,
         25,
+        4,
     ),
     (
         Paper,
@@ -1755,29 +1856,30 @@ const HAND: &[Hand] = &[
         ],
         9,
         25,
+        0,
     ),
     // Its case 11: the fraction of 00:00:01.
-    (Paper, &[ONE_SECOND[0], ONE_SECOND[1], ONE_SECOND[2], Put(2, 46, "0.0000115740740")], 0, 0),
-    (Paper, &[ONE_SECOND[0], ONE_SECOND[1], ONE_SECOND[2], Put(2, 46, "0.0000115740741")], 0, 0),
-    (Paper, &[ONE_SECOND[0], ONE_SECOND[1], ONE_SECOND[2], Put(2, 46, "0.0000115740742")], 8, 2),
-    (Paper, &[ONE_SECOND[0], ONE_SECOND[1], ONE_SECOND[2], Put(2, 46, "0.0000115740739")], 8, 2),
+    (Paper, &[ONE_SECOND[0], ONE_SECOND[1], ONE_SECOND[2], Put(2, 46, "0.0000115740740")], 0, 0, 0),
+    (Paper, &[ONE_SECOND[0], ONE_SECOND[1], ONE_SECOND[2], Put(2, 46, "0.0000115740741")], 0, 0, 0),
+    (Paper, &[ONE_SECOND[0], ONE_SECOND[1], ONE_SECOND[2], Put(2, 46, "0.0000115740742")], 8, 2, 0),
+    (Paper, &[ONE_SECOND[0], ONE_SECOND[1], ONE_SECOND[2], Put(2, 46, "0.0000115740739")], 8, 2, 0),
     // Odd and right spellings.
-    (Paper, &[Put(24, 19, "    -00.500000")], 0, 0),
-    (Paper, &[Put(24, 5, "-000000.000000     -0.000000-000000.000000-999999.999999")], 0, 0),
-    (Paper, &[Put(24, 47, "0999999.999999")], 0, 0),
-    (Paper, &[Put(24, 47, " 999999.000000")], 0, 0),
-    (Paper, &[Put(24, 5, "      0.000000      0.000000      0.000000     12.734450")], 0, 0),
-    (Paper, &[Put(24, 5, "      0.000000      0.000000      0.000000 999999.999999")], 0, 0),
-    (Paper, &[Put(24, 61, "    00 99 999 E    P")], 0, 0),
-    (Paper, &[Put(1, 41, "                    ")], 0, 0),
-    (Paper, &[Put(1, 9, "04 03 00 00 00.00000000 0000001")], 0, 0),
-    (Paper, &[Put(2, 25, "    0.00000001")], 0, 0),
-    (Paper, &[Put(2, 25, "99999.99999999")], 0, 0),
-    (Paper, &[Put(3, 4, "001")], 0, 0),
-    (Paper, &[Put(8, 10, "999")], 0, 0),
-    (Paper, &[Put(8, 10, "000")], 0, 0),
-    (Paper, &[Put(15, 4, "00.0000000 99.999999999")], 0, 0),
-    (Paper, &[Put(20, 80, " "), Put(21, 3, " "), Put(22, 4, "   x   y")], 0, 0),
+    (Paper, &[Put(24, 19, "    -00.500000")], 0, 0, 0),
+    (Paper, &[Put(24, 5, "-000000.000000     -0.000000-000000.000000-999999.999999")], 0, 0, 0),
+    (Paper, &[Put(24, 47, "0999999.999999")], 0, 0, 0),
+    (Paper, &[Put(24, 47, " 999999.000000")], 0, 0, 0),
+    (Paper, &[Put(24, 5, "      0.000000      0.000000      0.000000     12.734450")], 0, 0, 0),
+    (Paper, &[Put(24, 5, "      0.000000      0.000000      0.000000 999999.999999")], 0, 0, 0),
+    (Paper, &[Put(24, 61, "    00 99 999 E    P")], 0, 0, 0),
+    (Paper, &[Put(1, 41, "                    ")], 0, 0, 0),
+    (Paper, &[Put(1, 9, "04 03 00 00 00.00000000 0000001")], 0, 0, 0),
+    (Paper, &[Put(2, 25, "    0.00000001")], 0, 0, 0),
+    (Paper, &[Put(2, 25, "99999.99999999")], 0, 0, 0),
+    (Paper, &[Put(3, 4, "001")], 0, 0, 0),
+    (Paper, &[Put(8, 10, "999")], 0, 0, 0),
+    (Paper, &[Put(8, 10, "000")], 0, 0, 0),
+    (Paper, &[Put(15, 4, "00.0000000 99.999999999")], 0, 0, 0),
+    (Paper, &[Put(20, 80, " "), Put(21, 3, " "), Put(22, 4, "   x   y")], 0, 0, 0),
 ];
 
 /// A note after the row of the paper's file: 000's own, and one of which nothing
@@ -2720,6 +2822,51 @@ fn line_cut(draft: &mut Draft, _: &Plan, random: &mut Random) {
     }
 }
 
+/// Other characters in some columns of a line.
+fn other_characters(draft: &mut Draft, _: &Plan, random: &mut Random) {
+    let line = choose_line(draft, random);
+    for _ in 0..2 + random.below(3) {
+        draft.put(line, 1 + random.below(80), &[*random.pick(b"0123456789 -.xcGRPVEM")]);
+    }
+}
+
+/// Some wrong bytes in a line, also far past the last column that it may have.
+fn wrong_bytes(draft: &mut Draft, _: &Plan, random: &mut Random) {
+    let line = choose_line(draft, random);
+    for _ in 0..1 + random.below(3) {
+        let last = *random.pick(&[80, 82, 130, 300]);
+        let byte = *random.pick(&[0, 9, 31, 127, 128, 255]);
+        draft.put(line, 1 + random.below(last), &[byte]);
+    }
+}
+
+/// A line that is too long by one column or by many, perhaps with another fault.
+fn line_lengthened(draft: &mut Draft, _: &Plan, random: &mut Random) {
+    let line = choose_line(draft, random);
+    if once_in(random, 2) && !draft.0.is_empty() {
+        spoil_line(draft, line, random, 1);
+    }
+    let column = *random.pick(&[81, 82, 100, 127, 128, 129, 300]);
+    draft.put(line, column, &[*random.pick(b" x0")]);
+}
+
+/// Two faults of a line that have the same number.
+fn one_number_twice(draft: &mut Draft, _: &Plan, random: &mut Random) {
+    let line = choose_line(draft, random);
+    if draft.0.is_empty() || kind_letter(draft, line) == b'z' {
+        return;
+    }
+    let spoilers = lines::spoilers_of(kind_letter(draft, line));
+    let one = *random.pick(&spoilers);
+    let beside = |other: &&lines::Spoiler| other.3 == one.3 && !lines::overlap(one, other);
+    let others: Vec<&lines::Spoiler> = spoilers.iter().copied().filter(beside).collect();
+    if !others.is_empty() {
+        for &(_, column, text, ..) in [one, *random.pick(&others)] {
+            draft.put(line, column, text.as_bytes());
+        }
+    }
+}
+
 /// Each damage as often as its weight.
 type Damages = &'static [(usize, &'static str, Damage)];
 
@@ -2748,7 +2895,11 @@ const DAMAGES: Damages = &[
 const FURTHER_DAMAGES: Damages = &[
     (3, "field: spoilt", field_spoilt),
     (3, "field: two of a line spoilt", two_fields_spoilt),
+    (4, "field: two faults of one number", one_number_twice),
     (6, "byte: any", any_byte),
+    (3, "byte: other characters in a line", other_characters),
+    (2, "byte: some wrong ones, also far out", wrong_bytes),
+    (1, "line: too long", line_lengthened),
     (1, "line: cut", line_cut),
     (4, "line: a note, spoilt or not", note_spoilt),
 ];
@@ -3004,7 +3155,7 @@ fn stored_cases() -> Vec<Case> {
 }
 
 // ---------------------------------------------------------------------------
-// Rows and notes with other bytes in their columns
+// Lines with other bytes in their columns
 // ---------------------------------------------------------------------------
 
 /// Of every class of bytes both ends, and those with a use in a row.
@@ -3013,29 +3164,45 @@ const EDGES: &[u8] = &[
     b'E', b'G', b'M', b'P', b'V', b'Z', b'[', b'a', b'e', b'p', b'z', b'~', 127, 128, 255,
 ];
 const FEW: &[u8] = b"\n -0EP";
+/// Those of the lines that are no rows.
+const OTHERS: &[u8] = b"\n 0-x\x7f";
 const BESIDE_FLAGS: &[u8] = b"DFLNOQ";
-/// The columns of a row or a note, and the first that a line hasn't.
-const COLUMNS_OF_ROW: RangeInclusive<usize> = 1..=81;
+/// The columns of a line, and the first that it hasn't.
+const ALL_COLUMNS: RangeInclusive<usize> = 1..=81;
 
-/// Files, a line with a row or a note, columns of it, and the bytes that each is
-/// given.
+/// Files, a line, columns of it, and the bytes that each is given.
 const ALTERED: &[(Base, usize, RangeInclusive<usize>, &[u8])] = &[
-    (Rows, 24, COLUMNS_OF_ROW, EDGES),
-    (Rows, 25, COLUMNS_OF_ROW, EDGES),
-    (Rows, 27, COLUMNS_OF_ROW, FEW),
-    (Rows, 28, COLUMNS_OF_ROW, FEW),
-    (MovingRows, 24, COLUMNS_OF_ROW, FEW),
-    (MovingRows, 25, COLUMNS_OF_ROW, FEW),
-    (MovingRows, 32, COLUMNS_OF_ROW, FEW),
+    (Rows, 24, ALL_COLUMNS, EDGES),
+    (Rows, 25, ALL_COLUMNS, EDGES),
+    (Rows, 27, ALL_COLUMNS, FEW),
+    (Rows, 28, ALL_COLUMNS, FEW),
+    (MovingRows, 24, ALL_COLUMNS, FEW),
+    (MovingRows, 25, ALL_COLUMNS, FEW),
+    (MovingRows, 32, ALL_COLUMNS, FEW),
     (Rows, 24, 74..=80, BESIDE_FLAGS),
     (Rows, 25, 74..=80, BESIDE_FLAGS),
-    (Notes, 25, COLUMNS_OF_ROW, EDGES),
-    (Notes, 27, COLUMNS_OF_ROW, FEW),
-    (Notes, 30, COLUMNS_OF_ROW, FEW),
-    (Notes, 32, COLUMNS_OF_ROW, FEW),
-    (MovingNotes, 25, COLUMNS_OF_ROW, FEW),
-    (MovingNotes, 27, COLUMNS_OF_ROW, EDGES),
-    (MovingNotes, 31, COLUMNS_OF_ROW, FEW),
+    (Notes, 25, ALL_COLUMNS, EDGES),
+    (Notes, 27, ALL_COLUMNS, FEW),
+    (Notes, 30, ALL_COLUMNS, FEW),
+    (Notes, 32, ALL_COLUMNS, FEW),
+    (MovingNotes, 25, ALL_COLUMNS, FEW),
+    (MovingNotes, 27, ALL_COLUMNS, EDGES),
+    (MovingNotes, 31, ALL_COLUMNS, FEW),
+    // One line of each other kind.
+    (Rows, 1, ALL_COLUMNS, OTHERS),
+    (Rows, 2, ALL_COLUMNS, OTHERS),
+    (Rows, 3, ALL_COLUMNS, OTHERS),
+    (Rows, 4, ALL_COLUMNS, OTHERS),
+    (Rows, 8, ALL_COLUMNS, OTHERS),
+    (Rows, 9, ALL_COLUMNS, OTHERS),
+    (Rows, 13, ALL_COLUMNS, OTHERS),
+    (Rows, 14, ALL_COLUMNS, OTHERS),
+    (Rows, 15, ALL_COLUMNS, OTHERS),
+    (Rows, 16, ALL_COLUMNS, OTHERS),
+    (Rows, 17, ALL_COLUMNS, OTHERS),
+    (Rows, 19, ALL_COLUMNS, OTHERS),
+    (Rows, 26, ALL_COLUMNS, OTHERS),
+    (Rows, 29, ALL_COLUMNS, OTHERS),
 ];
 
 /// The numbers of a row: their first column and the last that a blank may
@@ -3124,7 +3291,7 @@ fn lines_doubled() -> Vec<Case> {
 }
 
 /// All of them, each once.
-fn altered_rows() -> Vec<Case> {
+fn altered_lines() -> Vec<Case> {
     let pairs = [pairs_of_bytes(Rows, 24, NUMBERS), pairs_of_bytes(Notes, 25, NOTED)].concat();
     let mut cases = [single_bytes(), pairs, names_alike(), lines_doubled()].concat();
     let mut files = HashSet::new();
@@ -3225,22 +3392,30 @@ fn kinds_of(plan: &Plan, file: &[u8]) -> Vec<String> {
     kinds
 }
 
-/// Counts the kinds of the files that are generated, and how often a damage
-/// began in each column of each record.
+/// Counts the kinds of the files that are generated, the columns of their
+/// refusals, and how often a damage began in each column of each record.
 fn tell_kinds(seed: u64, count: u64) {
     let mut kinds: BTreeMap<String, usize> = BTreeMap::new();
     let mut columns: BTreeMap<u8, [usize; lines::WIDTH + 1]> = BTreeMap::new();
     let mut numbers: HashSet<usize> = HashSet::new();
+    let mut refused: BTreeMap<u8, BTreeSet<usize>> = BTreeMap::new();
     for place in 1..=count {
         let (plan, file) = generated(generate_any_file, seed, place);
         kinds_of(&plan, &file).into_iter().for_each(|kind| *kinds.entry(kind).or_default() += 1);
-        numbers.extend(judge(&file).map(|(table, _)| table.satellites()));
+        match judge(&file) {
+            Ok((table, _)) => drop(numbers.insert(table.satellites())),
+            Err(refusal) => drop(refused.entry(refusal.number).or_default().insert(refusal.column)),
+        }
         for done in plan.done.iter().filter(|done| done.column <= lines::WIDTH) {
             columns.entry(done.letter).or_insert([0; lines::WIDTH + 1])[done.column] += 1;
         }
     }
     kinds.iter().for_each(|(kind, count)| println!("{count:7} {kind}"));
     println!("{:7} different numbers of satellites", numbers.len());
+    for (number, columns) in refused {
+        let (first, last) = (columns.first().unwrap_or(&0), columns.last().unwrap_or(&0));
+        println!("{:7} different columns of {number}, {first} to {last}", columns.len());
+    }
     for (letter, counts) in columns {
         let all: usize = counts.iter().sum();
         let touched = counts[1..].iter().filter(|&&count| count > 0).count();
@@ -3405,9 +3580,9 @@ const ASKED: &[Asked] = &[
         [0, 0, 0, 7107],
         &[
             "case 1215",
-            "front 0 0 1215",
-            "whole 0 0 1215",
-            "read 0 0 1215",
+            "front 0 0 0 1215",
+            "whole 0 0 0 1215",
+            "read 0 0 0 1215",
             "sums 7107 0 10666195931946167104 9802001914446447297",
             "mode P",
             "start8 487166400000000000",
@@ -3426,11 +3601,11 @@ const ASKED: &[Asked] = &[
             "||",
             "P 0 G07 5000000001 -500000 0 absent unknown unknown unknown unknown ....",
             "rows 1 known 1 absent 0",
-            "read_front 0 0 1215",
+            "read_front 0 0 0 1215",
             "sums 7107 0 10666195931946167104 9802001914446447297",
-            "comment 0 0 1101 7 |ONE ROW|",
-            "satellite 0 0 0",
-            "row 0 0 5000000001 -500000 0 absent",
+            "comment 0 0 0 1101 7 |ONE ROW|",
+            "satellite 0 0 0 0",
+            "row 0 0 0 5000000001 -500000 0 absent",
         ],
     ),
     (
@@ -3440,8 +3615,8 @@ const ASKED: &[Asked] = &[
         [3, 2, 1, 8224],
         &[
             "case 1636",
-            "whole 0 0 1636",
-            "read 0 0 1636",
+            "whole 0 0 0 1636",
+            "read 0 0 0 1636",
             "sums 228541 168 10666195931946167104 17937299097973125974",
             "mode P",
             "start8 486371430000000000",
@@ -3460,9 +3635,9 @@ const ASKED: &[Asked] = &[
             "P 2 G07 -500000 0 0 999999000000 unknown unknown unknown unknown ....",
             "P 2 R24 999999999999 -999999999999 999999999999 -999999999999 0 unknown 9 7 ..M.",
             "rows 6 known 4 absent 2",
-            "comment 0 0 1117 0 ||",
-            "satellite 0 0 1",
-            "row 0 0 999999999999 -999999999999 999999999999 -999999999999",
+            "comment 0 0 0 1117 0 ||",
+            "satellite 0 0 0 1",
+            "row 0 0 0 999999999999 -999999999999 999999999999 -999999999999",
         ],
     ),
     (
@@ -3471,7 +3646,7 @@ const ASKED: &[Asked] = &[
         [2, 2, 308, 92],
         [1, 0, 1, 7102],
         &[
-            "read 0 0 1605",
+            "read 0 0 0 1605",
             "sums 227233 225 10666195931946167104 11604800878146835693",
             "mode V",
             "start8 450394560000000000",
@@ -3485,9 +3660,9 @@ const ASKED: &[Asked] = &[
             "P 0 G02 -12593593500 10170327650 -20354534400 -55976000 18 18 18 219 ..M.",
             "V 0 G02 absent absent unknown unknown unknown unknown ....",
             "rows 4 known 3 absent 1",
-            "comment 0 0 1111 0 ||",
-            "satellite 0 0 1",
-            "row 0 0 -12593593500 10170327650 -20354534400 -55976000",
+            "comment 0 0 0 1111 0 ||",
+            "satellite 0 0 0 1",
+            "row 0 0 0 -12593593500 10170327650 -20354534400 -55976000",
         ],
     ),
     // A room more in each list: its places stay as they were.
@@ -3497,12 +3672,12 @@ const ASKED: &[Asked] = &[
         [2, 2, 309, 24],
         [3, 0, 0, 7106],
         &[
-            "read 0 0 1215",
+            "read 0 0 0 1215",
             "sums 228094 7777 17057424637268802787 11884362191164528475",
-            "read_front 0 0 1215",
+            "read_front 0 0 0 1215",
             "sums 228094 7777 17057424637268802787 11884362191164528475",
-            "comment 0 0 1117 0 ||",
-            "satellite 13 0 0",
+            "comment 0 0 0 1117 0 ||",
+            "satellite 13 0 0 0",
         ],
     ),
     (
@@ -3510,7 +3685,7 @@ const ASKED: &[Asked] = &[
         &[],
         [1, 1, 384, 28],
         [4, 0, 0, 0],
-        &["read 0 0 1215", "comment 13 0 0 0 ||", "satellite 13 0 0"],
+        &["read 0 0 0 1215", "comment 13 0 0 0 0 ||", "satellite 13 0 0 0"],
     ),
     // A room too few in each list: nothing is filled.
     (
@@ -3519,15 +3694,15 @@ const ASKED: &[Asked] = &[
         [0, 1, 308, 23],
         [5, 1, 0, 7107 + 65_536],
         &[
-            "front 0 0 1215",
-            "whole 0 0 1215",
-            "read 12 0 0",
+            "front 0 0 0 1215",
+            "whole 0 0 0 1215",
+            "read 12 0 0 0",
             "sums 0 7777 3351868396646214080 4045731010258001686",
-            "read_front 12 0 0",
+            "read_front 12 0 0 0",
             "sums 0 7777 3351868396646214080 4045731010258001686",
-            "comment 13 0 0 0 ||",
-            "satellite 13 0 0",
-            "row 13 0 absent absent",
+            "comment 13 0 0 0 0 ||",
+            "satellite 13 0 0 0",
+            "row 13 0 0 absent absent",
         ],
     ),
     (
@@ -3536,10 +3711,10 @@ const ASKED: &[Asked] = &[
         [1, 0, 308, 23],
         [1, 0, 1, 100],
         &[
-            "read 12 0 0",
+            "read 12 0 0 0",
             "sums 7777 0 3351868396646214080 4045731010258001686",
-            "comment 0 0 1111 0 ||",
-            "row 13 0 absent absent",
+            "comment 0 0 0 1111 0 ||",
+            "row 13 0 0 absent absent",
         ],
     ),
     (
@@ -3547,21 +3722,31 @@ const ASKED: &[Asked] = &[
         &[],
         [1, 1, 307, 23],
         [2, 1, 1, 7100],
-        &["read 12 0 0", "comment 0 0 1114 0 ||", "satellite 13 0 0", "row 13 0 absent absent"],
+        &[
+            "read 12 0 0 0",
+            "comment 0 0 0 1114 0 ||",
+            "satellite 13 0 0 0",
+            "row 13 0 0 absent absent",
+        ],
     ),
     (
         Paper,
         &[],
         [1, 1, 308, 22],
         [999_999_999, 999_999_999, 999_999_999, 999_999_999],
-        &["read 12 0 0", "comment 13 0 0 0 ||", "satellite 13 0 0", "row 13 0 absent absent"],
+        &[
+            "read 12 0 0 0",
+            "comment 13 0 0 0 0 ||",
+            "satellite 13 0 0 0",
+            "row 13 0 0 absent absent",
+        ],
     ),
     (
         Paper,
         &[],
         [0, 0, 0, 0],
         [0, 0, 0, 8207],
-        &["read 12 0 0", "sums 0 0 0 0", "satellite 13 0 0"],
+        &["read 12 0 0 0", "sums 0 0 0 0", "satellite 13 0 0 0"],
     ),
     (
         Night,
@@ -3569,69 +3754,69 @@ const ASKED: &[Asked] = &[
         [2, 2, 308, 137],
         [0, 3, 0, 7107],
         &[
-            "read 12 0 0",
+            "read 12 0 0 0",
             "sums 248864 248864 3351868396646214080 12381452714405939882",
-            "read_front 12 0 0",
+            "read_front 12 0 0 0",
             "sums 248864 248864 3351868396646214080 12381452714405939882",
-            "satellite 0 0 0",
-            "row 13 0 absent absent",
+            "satellite 0 0 0 0",
+            "row 13 0 0 absent absent",
         ],
     ),
-    (Night, &[], [2, 2, 308, 138], [0, 0, 2, 7107], &["row 13 0 absent absent"]),
-    (Night, &[], [2, 2, 308, 138], [0, 1, 3, 7107], &["row 13 0 absent absent"]),
+    (Night, &[], [2, 2, 308, 138], [0, 0, 2, 7107], &["row 13 0 0 absent absent"]),
+    (Night, &[], [2, 2, 308, 138], [0, 1, 3, 7107], &["row 13 0 0 absent absent"]),
     (
         Motion,
         &[],
         [2, 2, 308, 92],
         [0, 1, 0, 7107],
-        &["satellite 13 0 0", "row 13 0 absent absent"],
+        &["satellite 13 0 0 0", "row 13 0 0 absent absent"],
     ),
     (
         Night,
         &[],
         [2, 1, 308, 138],
         [0, 2, 2, 7124],
-        &["read 12 0 0", "satellite 13 0 0", "row 13 0 absent absent"],
+        &["read 12 0 0 0", "satellite 13 0 0 0", "row 13 0 0 absent absent"],
     ),
     (
         Night,
         &[],
         [1, 2, 308, 138],
         [0, 0, 1, 8207],
-        &["read 12 0 0", "satellite 13 0 0", "row 0 0 absent absent"],
+        &["read 12 0 0 0", "satellite 13 0 0 0", "row 0 0 0 absent absent"],
     ),
     (
         Night,
         &[],
         [9, 9, 400, 150],
         [0, 1, 0, 8224],
-        &["read 0 0 1636", "satellite 0 0 1", "row 0 0 absent -1"],
+        &["read 0 0 0 1636", "satellite 0 0 0 1", "row 0 0 0 absent -1"],
     ),
-    (Night, &[], [2, 2, 308, 138], [0, 1, 1, 8225], &["read 0 0 1636", "row 0 0 0 0 1 absent"]),
+    (Night, &[], [2, 2, 308, 138], [0, 1, 1, 8225], &["read 0 0 0 1636", "row 0 0 0 0 0 1 absent"]),
     (
         Night,
         &[],
         [2, 2, 308, 138],
         [0, 2, 0, 8223],
-        &["read 0 0 1636", "row 0 0 -500000 0 0 999999000000"],
+        &["read 0 0 0 1636", "row 0 0 0 -500000 0 0 999999000000"],
     ),
     (
         Motion,
         &[],
         [2, 2, 308, 91],
         [0, 0, 2, 7101],
-        &["read 12 0 0", "satellite 0 0 0", "row 13 0 absent absent"],
+        &["read 12 0 0 0", "satellite 0 0 0 0", "row 13 0 0 absent absent"],
     ),
-    (Motion, &[], [2, 2, 308, 46], [0, 0, 0, 7101], &["read 12 0 0"]),
+    (Motion, &[], [2, 2, 308, 46], [0, 0, 0, 7101], &["read 12 0 0 0"]),
     (
         Motion,
         &[],
         [3, 3, 308, 103],
         [0, 0, 0, 7103],
         &[
-            "read 0 0 1605",
-            "satellite 13 0 0",
-            "row 0 0 -11044805800 -10475672350 21929418200 189163300",
+            "read 0 0 0 1605",
+            "satellite 13 0 0 0",
+            "row 0 0 0 -11044805800 -10475672350 21929418200 189163300",
         ],
     ),
     // 11 before 12 and 13; the front is read all the same.
@@ -3642,15 +3827,15 @@ const ASKED: &[Asked] = &[
         [0, 0, 0, 7107],
         &[
             "case 1216",
-            "front 0 0 1215",
-            "whole 11 26 0",
-            "read 11 26 0",
+            "front 0 0 0 1215",
+            "whole 11 26 0 0",
+            "read 11 26 0 0",
             "sums 7777 7777 3351868396646214080 4045731010258001686",
-            "read_front 0 0 1215",
+            "read_front 0 0 0 1215",
             "sums 7107 0 10666195931946167104 9802001914446447297",
-            "comment 11 26 0 0 ||",
-            "satellite 11 26 0",
-            "row 11 26 absent absent",
+            "comment 11 26 0 0 0 ||",
+            "satellite 11 26 0 0",
+            "row 11 26 0 absent absent",
         ],
     ),
     (
@@ -3659,13 +3844,13 @@ const ASKED: &[Asked] = &[
         [0, 1, 308, 23],
         [4, 1, 1, 0],
         &[
-            "front 0 0 1215",
-            "whole 11 26 0",
-            "read 11 26 0",
-            "read_front 12 0 0",
-            "comment 11 26 0 0 ||",
-            "satellite 11 26 0",
-            "row 11 26 absent absent",
+            "front 0 0 0 1215",
+            "whole 11 26 0 0",
+            "read 11 26 0 0",
+            "read_front 12 0 0 0",
+            "comment 11 26 0 0 0 ||",
+            "satellite 11 26 0 0",
+            "row 11 26 0 absent absent",
         ],
     ),
     // The file's own refusal before 12 and 13; "filling the table before a later line is refused".
@@ -3675,15 +3860,15 @@ const ASKED: &[Asked] = &[
         [1, 1, 308, 23],
         [0, 0, 0, 7107],
         &[
-            "front 1 25 0",
-            "whole 1 25 0",
-            "read 1 25 0",
+            "front 1 25 0 0",
+            "whole 1 25 0 0",
+            "read 1 25 0 0",
             "sums 7777 7777 3351868396646214080 4045731010258001686",
-            "read_front 1 25 0",
+            "read_front 1 25 0 0",
             "sums 7777 7777 3351868396646214080 4045731010258001686",
-            "comment 1 25 0 0 ||",
-            "satellite 1 25 0",
-            "row 1 25 absent absent",
+            "comment 1 25 0 0 0 ||",
+            "satellite 1 25 0 0",
+            "row 1 25 0 absent absent",
         ],
     ),
     (
@@ -3692,37 +3877,83 @@ const ASKED: &[Asked] = &[
         [0, 0, 0, 0],
         [9, 9, 9, 9],
         &[
-            "read 5 25 0",
-            "read_front 5 25 0",
-            "comment 5 25 0 0 ||",
-            "satellite 5 25 0",
-            "row 5 25 absent absent",
+            "read 5 25 4 0",
+            "read_front 5 25 4 0",
+            "comment 5 25 4 0 0 ||",
+            "satellite 5 25 4 0",
+            "row 5 25 4 absent absent",
         ],
     ),
+    (
+        Paper,
+        &[Put(24, 5, "  5000.0000001")],
+        [1, 1, 308, 23],
+        [0, 0, 0, 7107],
+        &[
+            "front 6 24 5 0",
+            "whole 6 24 5 0",
+            "read 6 24 5 0",
+            "sums 7777 7777 3351868396646214080 4045731010258001686",
+            "read_front 6 24 5 0",
+            "sums 7777 7777 3351868396646214080 4045731010258001686",
+            "comment 6 24 5 0 0 ||",
+            "satellite 6 24 5 0",
+            "row 6 24 5 absent absent",
+        ],
+    ),
+    (
+        Night,
+        &[Byte(27, 200, 127), Byte(27, 300, 9)],
+        [2, 2, 308, 138],
+        [9, 9, 9, 9],
+        &[
+            "front 2 27 200 0",
+            "whole 2 27 200 0",
+            "read 2 27 200 0",
+            "read_front 2 27 200 0",
+            "comment 2 27 200 0 0 ||",
+            "satellite 2 27 200 0",
+            "row 2 27 200 absent absent",
+        ],
+    ),
+    (
+        Motion,
+        &[Put(26, 61, "x"), Put(26, 70, "x")],
+        [0, 0, 0, 0],
+        [0, 0, 0, 7101],
+        &["whole 5 26 61 0", "read 5 26 61 0", "satellite 5 26 61 0", "row 5 26 61 absent absent"],
+    ),
+    (
+        Night,
+        &[Put(29, 9, "13"), Put(29, 15, "24")],
+        [2, 2, 308, 138],
+        [0, 0, 0, 7107],
+        &["front 7 29 4 0", "comment 7 29 4 0 0 ||", "row 7 29 4 absent absent"],
+    ),
     // Comments: from column 4 on, trailing blanks cut, leading ones kept.
-    (Paper, &[Put(20, 3, "    ")], [1, 1, 308, 23], [1, 0, 0, 7107], &["comment 0 0 1112 0 ||"]),
-    (Paper, &[Put(20, 3, " ")], [1, 1, 308, 23], [1, 0, 0, 7107], &["comment 0 0 1112 0 ||"]),
+    (Paper, &[Put(20, 3, "    ")], [1, 1, 308, 23], [1, 0, 0, 7107], &["comment 0 0 0 1112 0 ||"]),
+    (Paper, &[Put(20, 3, " ")], [1, 1, 308, 23], [1, 0, 0, 7107], &["comment 0 0 0 1112 0 ||"]),
     (
         Paper,
         &[Put(20, 4, "  a |b|   ")],
         [1, 1, 308, 23],
         [1, 0, 0, 7107],
-        &["|  a |b||", "comment 0 0 1112 7 |  a |b||"],
+        &["|  a |b||", "comment 0 0 0 1112 7 |  a |b||"],
     ),
-    (Paper, &[Put(20, 80, "z")], [1, 1, 308, 23], [2, 0, 0, 7107], &["comment 0 0 1192 0 ||"]),
+    (Paper, &[Put(20, 80, "z")], [1, 1, 308, 23], [2, 0, 0, 7107], &["comment 0 0 0 1192 0 ||"]),
     (
         Talkative(103),
         &[],
         [1, 1, 7931, 23],
         [102, 0, 0, 7107],
-        &["comments 103", "|COMMENT 102|", "comment 0 0 2521 11 |COMMENT 102|"],
+        &["comments 103", "|COMMENT 102|", "comment 0 0 0 2521 11 |COMMENT 102|"],
     ),
     (
         Talkative(103),
         &[],
         [1, 1, 7930, 23],
         [103, 0, 0, 7107],
-        &["read 12 0 0", "comment 13 0 0 0 ||"],
+        &["read 12 0 0 0", "comment 13 0 0 0 0 ||"],
     ),
     // Notes: 000's own, one of nothing, the largest numbers, zeros; 1000 is no mark.
     (
@@ -3735,7 +3966,7 @@ const ASKED: &[Asked] = &[
             "P 0 G07 5000000001 -500000 0 absent unknown unknown unknown unknown .... note \
              55 55 55 222 1234567 -1234567 5999999 -30 21 -1230000",
             "rows 1 known 1 absent 0",
-            "row 0 0 5000000001 -500000 0 absent",
+            "row 0 0 0 5000000001 -500000 0 absent",
         ],
     ),
     (
@@ -3748,7 +3979,7 @@ const ASKED: &[Asked] = &[
             "P 0 G07 5000000001 -500000 0 absent unknown unknown unknown unknown .... note \
              unknown unknown unknown unknown unknown unknown unknown unknown unknown unknown",
             "rows 1 known 1 absent 0",
-            "row 0 0 5000000001 -500000 0 absent",
+            "row 0 0 0 5000000001 -500000 0 absent",
         ],
     ),
     (
@@ -3760,7 +3991,7 @@ const ASKED: &[Asked] = &[
             "P 0 G07 5000000001 -500000 0 absent unknown unknown unknown unknown .... note \
              unknown unknown unknown unknown unknown unknown unknown unknown unknown unknown",
             "rows 1 known 1 absent 0",
-            "row 0 0 5000000001 -500000 0 absent",
+            "row 0 0 0 5000000001 -500000 0 absent",
         ],
     ),
     (
@@ -3772,7 +4003,7 @@ const ASKED: &[Asked] = &[
             "P 0 G07 5000000001 -500000 0 absent unknown unknown unknown unknown .... note \
              55 unknown unknown unknown unknown unknown unknown unknown unknown unknown",
             "rows 1 known 1 absent 0",
-            "row 0 0 5000000001 -500000 0 absent",
+            "row 0 0 0 5000000001 -500000 0 absent",
         ],
     ),
     (
@@ -3784,7 +4015,7 @@ const ASKED: &[Asked] = &[
             "P 0 G07 5000000001 -500000 0 absent unknown unknown unknown unknown .... note \
              large unknown unknown large unknown unknown unknown unknown unknown unknown",
             "rows 1 known 1 absent 0",
-            "row 0 0 5000000001 -500000 0 absent",
+            "row 0 0 0 5000000001 -500000 0 absent",
         ],
     ),
     (
@@ -3796,7 +4027,7 @@ const ASKED: &[Asked] = &[
             "P 0 G07 5000000001 -500000 0 absent unknown unknown unknown unknown .... note \
              9998 1000 large 9999998 unknown unknown unknown unknown unknown unknown",
             "rows 1 known 1 absent 0",
-            "row 0 0 5000000001 -500000 0 absent",
+            "row 0 0 0 5000000001 -500000 0 absent",
         ],
     ),
     (
@@ -3808,7 +4039,7 @@ const ASKED: &[Asked] = &[
             "P 0 G07 5000000001 -500000 0 absent unknown unknown unknown unknown .... note \
              unknown unknown unknown 9999 9999999 -9999999 0 -30 unknown unknown",
             "rows 1 known 1 absent 0",
-            "row 0 0 5000000001 -500000 0 absent",
+            "row 0 0 0 5000000001 -500000 0 absent",
         ],
     ),
     (
@@ -3820,7 +4051,7 @@ const ASKED: &[Asked] = &[
             "P 0 G07 5000000001 -500000 0 absent unknown unknown unknown unknown .... note \
              unknown unknown unknown unknown unknown unknown unknown unknown unknown -1",
             "rows 1 known 1 absent 0",
-            "row 0 0 5000000001 -500000 0 absent",
+            "row 0 0 0 5000000001 -500000 0 absent",
         ],
     ),
     (
@@ -3832,12 +4063,12 @@ const ASKED: &[Asked] = &[
             "P 0 G07 absent absent unknown unknown unknown unknown .... note \
              7 unknown unknown unknown unknown unknown unknown unknown unknown unknown",
             "rows 1 known 0 absent 1",
-            "row 0 0 absent absent",
+            "row 0 0 0 absent absent",
         ],
     ),
     // A number of rows too few.
-    (Paper, &[NOTE], [1, 1, 308, 22], [0, 0, 0, 7107], &["whole 0 0 1296", "read 12 0 0"]),
-    (MovingNotes, &[], [2, 2, 308, 183], [0, 0, 0, 7107], &["read 12 0 0"]),
+    (Paper, &[NOTE], [1, 1, 308, 22], [0, 0, 0, 7107], &["whole 0 0 0 1296", "read 12 0 0 0"]),
+    (MovingNotes, &[], [2, 2, 308, 183], [0, 0, 0, 7107], &["read 12 0 0 0"]),
     // Mode V: a note of P alone, of V alone.
     (
         Motion,
@@ -3888,7 +4119,7 @@ const ASKED: &[Asked] = &[
         &[
             "P 0 G07 absent -999999999999 unknown unknown unknown unknown ....",
             "rows 1 known 0 absent 1",
-            "row 0 0 absent -999999999999",
+            "row 0 0 0 absent -999999999999",
         ],
     ),
     (
@@ -3912,7 +4143,7 @@ const ASKED: &[Asked] = &[
         [255, 255, 308, 5865],
         [0, 0, 254, 6957],
         &[
-            "read 0 0 17929",
+            "read 0 0 0 17929",
             "satellites 255",
             "G01 0",
             "G99 686",
@@ -3920,8 +4151,8 @@ const ASKED: &[Asked] = &[
             "E57 778",
             "P 0 E57 254000001 -500000 0 1000000 unknown unknown unknown unknown ....",
             "rows 255 known 255 absent 0",
-            "satellite 0 0 254",
-            "row 0 0 254000001 -500000 0 1000000",
+            "satellite 0 0 0 254",
+            "row 0 0 0 254000001 -500000 0 1000000",
         ],
     ),
     (
@@ -3929,197 +4160,197 @@ const ASKED: &[Asked] = &[
         &[],
         [17, 18, 308, 414],
         [0, 0, 18, 7119],
-        &["read 12 0 0", "satellite 13 0 0", "row 13 0 absent absent"],
+        &["read 12 0 0 0", "satellite 13 0 0 0", "row 13 0 0 absent absent"],
     ),
     (
         Many(86),
         &[],
         [86, 86, 308, 1978],
         [0, 0, 85, 7186],
-        &["satellites 86", "G86 595", "satellite 0 0 85", "row 0 0 85000001 -500000 0 1000000"],
+        &["satellites 86", "G86 595", "satellite 0 0 0 85", "row 0 0 0 85000001 -500000 0 1000000"],
     ),
 ];
 
 /// Rows with other bytes in their columns; these aren't stored.
 const ROWS_BY_HAND: &[Hand] = &[
-    (Rows, &[], 0, 0),
-    (MovingRows, &[], 0, 0),
+    (Rows, &[], 0, 0, 0),
+    (MovingRows, &[], 0, 0, 0),
     // Column 1 tells the kind.
-    (Rows, &[Put(24, 1, "V")], 4, 24),
-    (Rows, &[Put(24, 1, "E")], 4, 24),
-    (Rows, &[Put(24, 1, "p")], 4, 24),
-    (Rows, &[Put(25, 1, " ")], 4, 25),
-    (MovingRows, &[Put(24, 1, "V")], 4, 24),
-    (MovingRows, &[Put(25, 1, "P")], 4, 25),
+    (Rows, &[Put(24, 1, "V")], 4, 24, 0),
+    (Rows, &[Put(24, 1, "E")], 4, 24, 0),
+    (Rows, &[Put(24, 1, "p")], 4, 24, 0),
+    (Rows, &[Put(25, 1, " ")], 4, 25, 0),
+    (MovingRows, &[Put(24, 1, "V")], 4, 24, 0),
+    (MovingRows, &[Put(25, 1, "P")], 4, 25, 0),
     // 2-4: a capital letter and two digits, not 00, the satellite of the header.
-    (Rows, &[Put(24, 2, "g")], 6, 24),
-    (Rows, &[Put(24, 3, ":")], 6, 24),
-    (Rows, &[Put(24, 3, " ")], 6, 24),
-    (Rows, &[Put(24, 2, "F:7")], 6, 24),
-    (Rows, &[Put(25, 4, "/")], 6, 25),
-    (Rows, &[Put(24, 4, "0")], 7, 24),
-    (Rows, &[Put(24, 4, "8")], 10, 24),
-    (Rows, &[Put(24, 2, "R20")], 10, 24),
+    (Rows, &[Put(24, 2, "g")], 6, 24, 2),
+    (Rows, &[Put(24, 3, ":")], 6, 24, 2),
+    (Rows, &[Put(24, 3, " ")], 6, 24, 2),
+    (Rows, &[Put(24, 2, "F:7")], 6, 24, 2),
+    (Rows, &[Put(25, 4, "/")], 6, 25, 2),
+    (Rows, &[Put(24, 4, "0")], 7, 24, 2),
+    (Rows, &[Put(24, 4, "8")], 10, 24, 0),
+    (Rows, &[Put(24, 2, "R20")], 10, 24, 0),
     // The first column of a number: a digit makes 10^12 or more of 123456, not of 12.5.
-    (Rows, &[Put(24, 5, "-")], 0, 0),
-    (Rows, &[Put(24, 5, "1")], 7, 24),
-    (Rows, &[Put(24, 5, "+")], 6, 24),
-    (Rows, &[Put(25, 5, "-")], 6, 25),
-    (Rows, &[Put(28, 5, "0")], 0, 0),
+    (Rows, &[Put(24, 5, "-")], 0, 0, 0),
+    (Rows, &[Put(24, 5, "1")], 7, 24, 5),
+    (Rows, &[Put(24, 5, "+")], 6, 24, 5),
+    (Rows, &[Put(25, 5, "-")], 6, 25, 5),
+    (Rows, &[Put(28, 5, "0")], 0, 0, 0),
     // Blanks, a minus, digits: in this order.
-    (Rows, &[Put(24, 8, " ")], 6, 24),
-    (Rows, &[Put(24, 8, "-")], 6, 24),
-    (Rows, &[Put(24, 6, "  ")], 0, 0),
-    (Rows, &[Put(24, 6, "--")], 6, 24),
-    (Rows, &[Put(24, 6, "- ")], 6, 24),
-    (Rows, &[Put(25, 10, "-")], 0, 0),
-    (Rows, &[Put(25, 9, "-")], 6, 25),
-    (Rows, &[Put(25, 9, "1")], 6, 25),
-    (Rows, &[Put(25, 11, " ")], 6, 25),
-    (Rows, &[Put(25, 11, "-")], 6, 25),
-    (Rows, &[Put(24, 53, "e")], 6, 24),
-    (Rows, &[Put(24, 39, ":")], 6, 24),
+    (Rows, &[Put(24, 8, " ")], 6, 24, 5),
+    (Rows, &[Put(24, 8, "-")], 6, 24, 5),
+    (Rows, &[Put(24, 6, "  ")], 0, 0, 0),
+    (Rows, &[Put(24, 6, "--")], 6, 24, 5),
+    (Rows, &[Put(24, 6, "- ")], 6, 24, 5),
+    (Rows, &[Put(25, 10, "-")], 0, 0, 0),
+    (Rows, &[Put(25, 9, "-")], 6, 25, 5),
+    (Rows, &[Put(25, 9, "1")], 6, 25, 5),
+    (Rows, &[Put(25, 11, " ")], 6, 25, 5),
+    (Rows, &[Put(25, 11, "-")], 6, 25, 5),
+    (Rows, &[Put(24, 53, "e")], 6, 24, 47),
+    (Rows, &[Put(24, 39, ":")], 6, 24, 33),
     // The point and the six digits after it.
-    (Rows, &[Put(24, 12, "0")], 6, 24),
-    (Rows, &[Put(24, 26, ",")], 6, 24),
-    (Rows, &[Put(24, 13, " ")], 6, 24),
-    (Rows, &[Put(24, 46, " ")], 6, 24),
-    (Rows, &[Put(24, 60, ":")], 6, 24),
-    (Rows, &[Put(25, 57, "-")], 6, 25),
+    (Rows, &[Put(24, 12, "0")], 6, 24, 5),
+    (Rows, &[Put(24, 26, ",")], 6, 24, 19),
+    (Rows, &[Put(24, 13, " ")], 6, 24, 5),
+    (Rows, &[Put(24, 46, " ")], 6, 24, 33),
+    (Rows, &[Put(24, 60, ":")], 6, 24, 47),
+    (Rows, &[Put(25, 57, "-")], 6, 25, 47),
     // Unused columns.
-    (Rows, &[Put(24, 61, "0")], 5, 24),
-    (Rows, &[Put(24, 64, "-")], 5, 24),
-    (Rows, &[Put(24, 67, ".")], 5, 24),
-    (Rows, &[Put(24, 70, "1")], 5, 24),
-    (Rows, &[Put(24, 74, "E")], 5, 24),
-    (Rows, &[Put(24, 77, "P")], 5, 24),
-    (Rows, &[Put(25, 78, "M")], 5, 25),
-    (Rows, &[Put(28, 61, "x")], 5, 28),
+    (Rows, &[Put(24, 61, "0")], 5, 24, 61),
+    (Rows, &[Put(24, 64, "-")], 5, 24, 64),
+    (Rows, &[Put(24, 67, ".")], 5, 24, 67),
+    (Rows, &[Put(24, 70, "1")], 5, 24, 70),
+    (Rows, &[Put(24, 74, "E")], 5, 24, 74),
+    (Rows, &[Put(24, 77, "P")], 5, 24, 77),
+    (Rows, &[Put(25, 78, "M")], 5, 25, 78),
+    (Rows, &[Put(28, 61, "x")], 5, 28, 61),
     // Exponents: blanks and then digits, or blank.
-    (Rows, &[Put(24, 62, " ")], 0, 0),
-    (Rows, &[Put(24, 63, " ")], 6, 24),
-    (Rows, &[Put(24, 62, "  ")], 0, 0),
-    (Rows, &[Put(24, 65, "-")], 6, 24),
-    (Rows, &[Put(27, 65, "9")], 6, 27),
-    (Rows, &[Put(27, 66, "0")], 0, 0),
-    (Rows, &[Put(24, 72, " ")], 6, 24),
-    (Rows, &[Put(24, 73, "E")], 6, 24),
-    (MovingRows, &[Put(32, 63, "x")], 6, 32),
+    (Rows, &[Put(24, 62, " ")], 0, 0, 0),
+    (Rows, &[Put(24, 63, " ")], 6, 24, 62),
+    (Rows, &[Put(24, 62, "  ")], 0, 0, 0),
+    (Rows, &[Put(24, 65, "-")], 6, 24, 65),
+    (Rows, &[Put(27, 65, "9")], 6, 27, 65),
+    (Rows, &[Put(27, 66, "0")], 0, 0, 0),
+    (Rows, &[Put(24, 72, " ")], 6, 24, 71),
+    (Rows, &[Put(24, 73, "E")], 6, 24, 71),
+    (MovingRows, &[Put(32, 63, "x")], 6, 32, 62),
     // Flags: each its own letter or blank; V has none.
-    (Rows, &[Put(24, 75, " ")], 0, 0),
-    (Rows, &[Put(25, 75, "E")], 0, 0),
-    (Rows, &[Put(27, 79, "M")], 0, 0),
-    (Rows, &[Put(24, 75, "P")], 6, 24),
-    (Rows, &[Put(24, 76, "E")], 6, 24),
-    (Rows, &[Put(24, 79, "P")], 6, 24),
-    (Rows, &[Put(24, 79, "m")], 6, 24),
-    (Rows, &[Put(28, 80, "M")], 6, 28),
-    (MovingRows, &[Put(25, 75, "E")], 5, 25),
-    (MovingRows, &[Put(32, 80, "P")], 5, 32),
+    (Rows, &[Put(24, 75, " ")], 0, 0, 0),
+    (Rows, &[Put(25, 75, "E")], 0, 0, 0),
+    (Rows, &[Put(27, 79, "M")], 0, 0, 0),
+    (Rows, &[Put(24, 75, "P")], 6, 24, 75),
+    (Rows, &[Put(24, 76, "E")], 6, 24, 76),
+    (Rows, &[Put(24, 79, "P")], 6, 24, 79),
+    (Rows, &[Put(24, 79, "m")], 6, 24, 79),
+    (Rows, &[Put(28, 80, "M")], 6, 28, 80),
+    (MovingRows, &[Put(25, 75, "E")], 5, 25, 75),
+    (MovingRows, &[Put(32, 80, "P")], 5, 32, 80),
     // 81 characters; bytes that aren't characters.
-    (Rows, &[Put(24, 81, " ")], 3, 24),
-    (Rows, &[Put(25, 81, "P")], 3, 25),
-    (Rows, &[Byte(24, 81, 127)], 2, 24),
-    (Rows, &[Byte(24, 30, 0)], 2, 24),
-    (Rows, &[Byte(24, 61, 31)], 2, 24),
-    (Rows, &[Byte(25, 80, 128)], 2, 25),
+    (Rows, &[Put(24, 81, " ")], 3, 24, 81),
+    (Rows, &[Put(25, 81, "P")], 3, 25, 81),
+    (Rows, &[Byte(24, 81, 127)], 2, 24, 81),
+    (Rows, &[Byte(24, 30, 0)], 2, 24, 30),
+    (Rows, &[Byte(24, 61, 31)], 2, 24, 61),
+    (Rows, &[Byte(25, 80, 128)], 2, 25, 80),
     // LF ends the line: what follows it is a line of no kind.
-    (Rows, &[Byte(24, 1, 10)], 4, 24),
-    (Rows, &[Byte(24, 12, 10)], 6, 24),
-    (Rows, &[Byte(24, 61, 10)], 4, 25),
-    (Rows, &[Byte(24, 80, 10)], 4, 25),
-    (Rows, &[Byte(25, 70, 10)], 4, 26),
+    (Rows, &[Byte(24, 1, 10)], 4, 24, 0),
+    (Rows, &[Byte(24, 12, 10)], 6, 24, 5),
+    (Rows, &[Byte(24, 61, 10)], 4, 25, 0),
+    (Rows, &[Byte(24, 80, 10)], 4, 25, 0),
+    (Rows, &[Byte(25, 70, 10)], 4, 26, 0),
     // The lowest number decides.
-    (Rows, &[Put(24, 8, " "), Put(24, 61, "x")], 5, 24),
-    (Rows, &[Put(24, 1, "V"), Byte(24, 80, 127)], 2, 24),
+    (Rows, &[Put(24, 8, " "), Put(24, 61, "x")], 5, 24, 61),
+    (Rows, &[Put(24, 1, "V"), Byte(24, 80, 127)], 2, 24, 80),
 ];
 
 /// Notes with other bytes in their columns; these aren't stored.
 const NOTES_BY_HAND: &[Hand] = &[
     // After the row of the paper's file, and of mode V.
-    (Paper, &[BARE, Put(25, 81, " ")], 3, 25),
-    (Paper, &[NOTE, Byte(25, 81, 9)], 2, 25),
-    (Paper, &[BARE, Put(25, 4, "0")], 5, 25),
-    (Paper, &[BARE, Put(25, 72, "x")], 5, 25),
-    (Motion, &[Put(27, 72, "-")], 5, 27),
-    (Paper, &[NOTE, Put(25, 5, "    ")], 0, 0),
-    (Paper, &[NOTE, Put(25, 20, "0000000")], 0, 0),
-    (Paper, &[BARE, Put(25, 5, "55")], 6, 25),
-    (Paper, &[BARE, Put(25, 5, "  -0")], 6, 25),
-    (Paper, &[BARE, Put(25, 5, "  +1")], 6, 25),
-    (Paper, &[NOTE, Put(25, 10, " 5 5")], 6, 25),
-    (Paper, &[NOTE, Put(25, 20, "     -1")], 6, 25),
-    (Paper, &[BARE, Put(25, 28, "-0000000")], 0, 0),
-    (Paper, &[NOTE, Put(25, 73, "        ")], 0, 0),
-    (Paper, &[BARE, Put(25, 80, "0")], 0, 0),
-    (Paper, &[BARE, Put(25, 28, "       -")], 6, 25),
-    (Paper, &[NOTE, Put(25, 80, " ")], 6, 25),
-    (Paper, &[NOTE, Put(25, 28, "99999999"), Put(25, 72, "x")], 5, 25),
+    (Paper, &[BARE, Put(25, 81, " ")], 3, 25, 81),
+    (Paper, &[NOTE, Byte(25, 81, 9)], 2, 25, 81),
+    (Paper, &[BARE, Put(25, 4, "0")], 5, 25, 4),
+    (Paper, &[BARE, Put(25, 72, "x")], 5, 25, 72),
+    (Motion, &[Put(27, 72, "-")], 5, 27, 72),
+    (Paper, &[NOTE, Put(25, 5, "    ")], 0, 0, 0),
+    (Paper, &[NOTE, Put(25, 20, "0000000")], 0, 0, 0),
+    (Paper, &[BARE, Put(25, 5, "55")], 6, 25, 5),
+    (Paper, &[BARE, Put(25, 5, "  -0")], 6, 25, 5),
+    (Paper, &[BARE, Put(25, 5, "  +1")], 6, 25, 5),
+    (Paper, &[NOTE, Put(25, 10, " 5 5")], 6, 25, 10),
+    (Paper, &[NOTE, Put(25, 20, "     -1")], 6, 25, 20),
+    (Paper, &[BARE, Put(25, 28, "-0000000")], 0, 0, 0),
+    (Paper, &[NOTE, Put(25, 73, "        ")], 0, 0, 0),
+    (Paper, &[BARE, Put(25, 80, "0")], 0, 0, 0),
+    (Paper, &[BARE, Put(25, 28, "       -")], 6, 25, 28),
+    (Paper, &[NOTE, Put(25, 80, " ")], 6, 25, 73),
+    (Paper, &[NOTE, Put(25, 28, "99999999"), Put(25, 72, "x")], 5, 25, 72),
     // Columns 1 and 2 tell the kind.
-    (Notes, &[Put(25, 1, "P")], 5, 25),
-    (Notes, &[Put(25, 1, "e")], 4, 25),
-    (Notes, &[Put(25, 2, "V")], 4, 25),
-    (Notes, &[Put(27, 2, "p")], 4, 27),
-    (MovingNotes, &[Put(27, 2, "P")], 4, 27),
-    (MovingNotes, &[Put(25, 2, "V")], 4, 25),
+    (Notes, &[Put(25, 1, "P")], 5, 25, 61),
+    (Notes, &[Put(25, 1, "e")], 4, 25, 0),
+    (Notes, &[Put(25, 2, "V")], 4, 25, 0),
+    (Notes, &[Put(27, 2, "p")], 4, 27, 0),
+    (MovingNotes, &[Put(27, 2, "P")], 4, 27, 0),
+    (MovingNotes, &[Put(25, 2, "V")], 4, 25, 0),
     // Unused columns.
-    (Notes, &[Put(25, 3, "0")], 5, 25),
-    (Notes, &[Put(25, 4, "1")], 5, 25),
-    (Notes, &[Put(25, 9, "-")], 5, 25),
-    (Notes, &[Put(25, 14, ".")], 5, 25),
-    (Notes, &[Put(25, 19, "9")], 5, 25),
-    (Notes, &[Put(25, 27, "E")], 5, 25),
-    (Notes, &[Put(25, 36, "0")], 5, 25),
-    (Notes, &[Put(27, 45, "0")], 5, 27),
-    (Notes, &[Put(27, 54, "0")], 5, 27),
-    (Notes, &[Put(30, 63, "P")], 5, 30),
-    (MovingNotes, &[Put(27, 72, "~")], 5, 27),
+    (Notes, &[Put(25, 3, "0")], 5, 25, 3),
+    (Notes, &[Put(25, 4, "1")], 5, 25, 4),
+    (Notes, &[Put(25, 9, "-")], 5, 25, 9),
+    (Notes, &[Put(25, 14, ".")], 5, 25, 14),
+    (Notes, &[Put(25, 19, "9")], 5, 25, 19),
+    (Notes, &[Put(25, 27, "E")], 5, 25, 27),
+    (Notes, &[Put(25, 36, "0")], 5, 25, 36),
+    (Notes, &[Put(27, 45, "0")], 5, 27, 45),
+    (Notes, &[Put(27, 54, "0")], 5, 27, 54),
+    (Notes, &[Put(30, 63, "P")], 5, 30, 63),
+    (MovingNotes, &[Put(27, 72, "~")], 5, 27, 72),
     // The first and the last column of a deviation.
-    (Notes, &[Put(25, 5, " ")], 0, 0),
-    (Notes, &[Put(25, 5, "-")], 6, 25),
-    (Notes, &[Put(25, 5, "0")], 0, 0),
-    (Notes, &[Put(25, 6, " ")], 6, 25),
-    (Notes, &[Put(25, 8, " ")], 6, 25),
-    (Notes, &[Put(25, 13, ":")], 6, 25),
-    (Notes, &[Put(25, 15, "/")], 6, 25),
-    (Notes, &[Put(25, 26, "x")], 6, 25),
-    (Notes, &[Put(27, 7, "5")], 6, 27),
-    (Notes, &[Put(27, 8, "5")], 0, 0),
-    (Notes, &[Put(27, 26, "0")], 0, 0),
-    (Notes, &[Put(27, 25, "0")], 6, 27),
+    (Notes, &[Put(25, 5, " ")], 0, 0, 0),
+    (Notes, &[Put(25, 5, "-")], 6, 25, 5),
+    (Notes, &[Put(25, 5, "0")], 0, 0, 0),
+    (Notes, &[Put(25, 6, " ")], 6, 25, 5),
+    (Notes, &[Put(25, 8, " ")], 6, 25, 5),
+    (Notes, &[Put(25, 13, ":")], 6, 25, 10),
+    (Notes, &[Put(25, 15, "/")], 6, 25, 15),
+    (Notes, &[Put(25, 26, "x")], 6, 25, 20),
+    (Notes, &[Put(27, 7, "5")], 6, 27, 5),
+    (Notes, &[Put(27, 8, "5")], 0, 0, 0),
+    (Notes, &[Put(27, 26, "0")], 0, 0, 0),
+    (Notes, &[Put(27, 25, "0")], 6, 27, 20),
     // Correlations: the first column has a minus, a zero, another digit, a blank.
-    (Notes, &[Put(25, 28, "1")], 7, 25),
-    (Notes, &[Put(25, 28, "0")], 0, 0),
-    (Notes, &[Put(25, 28, " ")], 0, 0),
-    (Notes, &[Put(25, 28, "+")], 6, 25),
-    (Notes, &[Put(25, 37, "1")], 7, 25),
-    (Notes, &[Put(25, 37, "-")], 0, 0),
-    (Notes, &[Put(25, 29, "-")], 6, 25),
-    (Notes, &[Put(25, 29, " ")], 6, 25),
-    (Notes, &[Put(25, 38, "-")], 6, 25),
-    (Notes, &[Put(25, 37, " -")], 0, 0),
-    (Notes, &[Put(25, 62, " ")], 6, 25),
-    (Notes, &[Put(27, 80, "0")], 0, 0),
-    (Notes, &[Put(27, 80, "-")], 6, 27),
-    (Notes, &[Put(27, 79, "-")], 6, 27),
-    (Notes, &[Put(27, 79, "-1")], 0, 0),
-    (Notes, &[Put(27, 73, "1")], 6, 27),
-    (MovingNotes, &[Put(27, 73, "9")], 7, 27),
-    (MovingNotes, &[Put(31, 80, "P")], 6, 31),
+    (Notes, &[Put(25, 28, "1")], 7, 25, 28),
+    (Notes, &[Put(25, 28, "0")], 0, 0, 0),
+    (Notes, &[Put(25, 28, " ")], 0, 0, 0),
+    (Notes, &[Put(25, 28, "+")], 6, 25, 28),
+    (Notes, &[Put(25, 37, "1")], 7, 25, 37),
+    (Notes, &[Put(25, 37, "-")], 0, 0, 0),
+    (Notes, &[Put(25, 29, "-")], 6, 25, 28),
+    (Notes, &[Put(25, 29, " ")], 6, 25, 28),
+    (Notes, &[Put(25, 38, "-")], 6, 25, 37),
+    (Notes, &[Put(25, 37, " -")], 0, 0, 0),
+    (Notes, &[Put(25, 62, " ")], 6, 25, 55),
+    (Notes, &[Put(27, 80, "0")], 0, 0, 0),
+    (Notes, &[Put(27, 80, "-")], 6, 27, 73),
+    (Notes, &[Put(27, 79, "-")], 6, 27, 73),
+    (Notes, &[Put(27, 79, "-1")], 0, 0, 0),
+    (Notes, &[Put(27, 73, "1")], 6, 27, 73),
+    (MovingNotes, &[Put(27, 73, "9")], 7, 27, 73),
+    (MovingNotes, &[Put(31, 80, "P")], 6, 31, 73),
     // 81 characters; bytes that aren't characters; LF.
-    (Notes, &[Put(25, 81, " ")], 3, 25),
-    (Notes, &[Put(27, 81, " ")], 3, 27),
-    (Notes, &[Byte(25, 81, 127)], 2, 25),
-    (Notes, &[Byte(25, 3, 9)], 2, 25),
-    (Notes, &[Byte(27, 80, 128)], 2, 27),
-    (Notes, &[Byte(25, 1, 10)], 4, 25),
-    (Notes, &[Byte(25, 3, 10)], 4, 26),
-    (Notes, &[Byte(25, 7, 10)], 6, 25),
-    (Notes, &[Byte(25, 9, 10)], 4, 26),
+    (Notes, &[Put(25, 81, " ")], 3, 25, 81),
+    (Notes, &[Put(27, 81, " ")], 3, 27, 81),
+    (Notes, &[Byte(25, 81, 127)], 2, 25, 81),
+    (Notes, &[Byte(25, 3, 9)], 2, 25, 3),
+    (Notes, &[Byte(27, 80, 128)], 2, 27, 80),
+    (Notes, &[Byte(25, 1, 10)], 4, 25, 0),
+    (Notes, &[Byte(25, 3, 10)], 4, 26, 0),
+    (Notes, &[Byte(25, 7, 10)], 6, 25, 5),
+    (Notes, &[Byte(25, 9, 10)], 4, 26, 0),
     // The lowest number decides.
-    (Notes, &[Put(25, 6, " "), Put(25, 72, "x")], 5, 25),
-    (Notes, &[Put(25, 28, "9"), Put(25, 73, "x")], 6, 25),
-    (Notes, &[Put(25, 2, "V"), Byte(25, 80, 127)], 2, 25),
+    (Notes, &[Put(25, 6, " "), Put(25, 72, "x")], 5, 25, 72),
+    (Notes, &[Put(25, 28, "9"), Put(25, 73, "x")], 6, 25, 73),
+    (Notes, &[Put(25, 2, "V"), Byte(25, 80, 127)], 2, 25, 80),
 ];
 
 const NOTES_ASKED: &[Asked] = &[
@@ -4138,7 +4369,7 @@ const NOTES_ASKED: &[Asked] = &[
             "P 1 R20 12500000 1000000 -500000 absent 0 1 10 12 ...P note \
              55 0 1000 0 0 -30 0 0 -21 -1230000",
             "rows 4 known 3 absent 1",
-            "row 0 0 -12500000 -23456789012 -3456789012 -1",
+            "row 0 0 0 -12500000 -23456789012 -3456789012 -1",
         ],
     ),
     (
@@ -4170,8 +4401,8 @@ const ROWS_ASKED: &[Asked] = &[
             "P 1 G07 -12500000 -23456789012 -3456789012 -1 5 unknown large 7 .P..",
             "P 1 R20 12500000 1000000 -500000 absent 0 1 10 12 ...P",
             "rows 4 known 3 absent 1",
-            "satellite 0 0 1",
-            "row 0 0 -12500000 -23456789012 -3456789012 -1",
+            "satellite 0 0 0 1",
+            "row 0 0 0 -12500000 -23456789012 -3456789012 -1",
         ],
     ),
     (
@@ -4181,7 +4412,7 @@ const ROWS_ASKED: &[Asked] = &[
         [0, 0, 0, 7107],
         &[
             "P 0 G07 -456789012 234567890123 999999999999 987654321098 8 large 7 unknown .PMP",
-            "row 0 0 -456789012 234567890123 999999999999 987654321098",
+            "row 0 0 0 -456789012 234567890123 999999999999 987654321098",
         ],
     ),
     (
@@ -4191,7 +4422,7 @@ const ROWS_ASKED: &[Asked] = &[
         [0, 0, 1, 7107],
         &[
             "P 0 R20 absent 999999999998 unknown unknown unknown 0 ..M.",
-            "row 0 0 absent 999999999998",
+            "row 0 0 0 absent 999999999998",
         ],
     ),
     (
@@ -4203,7 +4434,7 @@ const ROWS_ASKED: &[Asked] = &[
             "P 0 G07 123456789012 234567890123 999999999999 987654321098 18 large 7 219 EPMP",
             "V 0 G07 -123456789012 234567890123 999999999999 987654321098 18 large 7 219 ....",
             "V 0 R20 absent absent 9 unknown unknown unknown ....",
-            "row 0 0 123456789012 234567890123 999999999999 987654321098",
+            "row 0 0 0 123456789012 234567890123 999999999999 987654321098",
         ],
     ),
 ];
@@ -4212,18 +4443,20 @@ const ROWS_ASKED: &[Asked] = &[
 // Self-test
 // ---------------------------------------------------------------------------
 
-/// The numbers of an answer: 0 and 0 where it isn't a refusal.
-fn numbers<T>(answer: &Result<T, Refusal>) -> (u8, usize) {
-    answer.as_ref().map_or_else(|refusal| (refusal.number, refusal.line), |_| (0, 0))
+/// The numbers of an answer: 0, 0 and 0 where it isn't a refusal.
+fn numbers<T>(answer: &Result<T, Refusal>) -> (u8, usize, usize) {
+    let of_refusal = |refusal: &Refusal| (refusal.number, refusal.line, refusal.column);
+    answer.as_ref().map_or_else(of_refusal, |_| (0, 0, 0))
 }
 
 fn test_hand(tally: &mut Tally, list: &[Hand]) {
-    for &(base, edits, number, line) in list {
+    for &(base, edits, number, line, column) in list {
         let file = hand_made(base, edits);
         let (whole, front) = (numbers(&judge(&file)), numbers(&judge_front(&file)));
-        let wanted_front = if number == BYTES_AFTER { (0, 0) } else { (number, line) };
-        tally.holds(whole == (number, line), || {
-            format!("{base:?} {edits:?}\n  wanted {number} {line}\n  given  {whole:?}")
+        let wanted = (number, line, column);
+        let wanted_front = if number == BYTES_AFTER { (0, 0, 0) } else { wanted };
+        tally.holds(whole == wanted, || {
+            format!("{base:?} {edits:?}\n  wanted {wanted:?}\n  given  {whole:?}")
         });
         tally.holds(front == wanted_front, || format!("{base:?} {edits:?} front {front:?}"));
     }
@@ -4255,7 +4488,7 @@ fn test_types(tally: &mut Tally) {
             draft.put(3, 10, format!("{other}07").as_bytes());
             draft.put(13, 4, format!("{letter} ").as_bytes());
             draft.put(24, 2, format!("{other}07").as_bytes());
-            let wanted = if letter == 'M' || letter == other { (0, 0) } else { (8, 13) };
+            let wanted = if letter == 'M' || letter == other { (0, 0, 0) } else { (8, 13, 0) };
             let given = numbers(&judge(&draft.bytes()));
             tally.holds(given == wanted, || format!("type {letter} of {other}07: {given:?}"));
         }
@@ -4275,13 +4508,13 @@ fn test_lengths(tally: &mut Tally) {
         for length in 0..file.len() {
             let line = 1 + file[..length].iter().filter(|&&c| c == b'\n').count();
             let given = numbers(&judge(&file[..length]));
-            tally.holds(given == (1, line), || format!("{base:?} cut to {length}: {given:?}"));
+            tally.holds(given == (1, line, 0), || format!("{base:?} cut to {length}: {given:?}"));
         }
         let line = 1 + file.iter().filter(|&&c| c == b'\n').count();
         for byte in 0..=255 {
             let longer = [&file[..], &[byte]].concat();
             let given = (numbers(&judge(&longer)), length_of(&judge_front(&longer)));
-            let wanted = ((11, line), Ok(file.len()));
+            let wanted = ((11, line, 0), Ok(file.len()));
             tally.holds(given == wanted, || format!("{base:?} and {byte}: {given:?}"));
         }
     }
@@ -4314,74 +4547,54 @@ fn test_plans(tally: &mut Tally) {
     }
 }
 
-/// Files, and the column of the refusal; files with room for identifiers, and
-/// the refusal and line where they are kept there.
-const COLUMNS: &[(Base, &[Edit], usize)] = &[
-    (Paper, &[], 0),
-    (Paper, &[Keep(24)], 0),
-    (Paper, &[Byte(24, 40, 0x80), Byte(24, 60, 0)], 40),
-    (Paper, &[Byte(24, 90, 200)], 90),
-    (Paper, &[Put(24, 85, "x")], 81),
-    (Paper, &[Drop(22)], 0),
-    (Paper, &[Put(24, 61, "x"), Put(24, 74, "x")], 61),
-    (Paper, &[Put(14, 5, "C")], 4),
-    (Paper, &[Put(3, 10, "G 7")], 10),
-    (Paper, &[Put(23, 12, " x")], 4),
-    (Paper, &[Put(24, 19, "1000000.000000")], 19),
-    (Paper, &[Put(2, 4, "1735")], 0),
-    (Paper, &[Put(3, 13, "000")], 0),
-    (Paper, &[Put(23, 18, "15")], 0),
-    (Paper, &[Put(24, 2, "G08")], 0),
-    // Notes.
-    (Paper, &[NOTE], 0),
-    (Paper, &[BARE, Byte(25, 3, 9)], 3),
-    (Paper, &[NOTE, Byte(25, 60, 9)], 60),
-    (Paper, &[NOTE, Put(25, 81, " ")], 81),
-    (Paper, &[NOTE, Double(25)], 0),
-    (Paper, &[Insert(25, "EPx")], 3),
-    (Paper, &[BARE, Put(25, 9, "1")], 9),
-    (Paper, &[BARE, Put(25, 72, "x")], 72),
-    (Paper, &[NOTE, Put(25, 45, "x"), Put(25, 36, "x")], 36),
-    (Paper, &[BARE, Put(25, 5, "55  ")], 5),
-    (Paper, &[BARE, Put(25, 5, "  -1")], 5),
-    (Paper, &[NOTE, Put(25, 26, "x"), Put(25, 35, "x")], 20),
-    (Paper, &[BARE, Put(25, 28, "99999999")], 28),
-    (Paper, &[BARE, Put(25, 28, "10000000")], 28),
-    (Paper, &[BARE, Put(25, 28, "     - 1")], 28),
-    (Paper, &[BARE, Put(25, 28, "      +1")], 28),
-    (Paper, &[BARE, Put(25, 28, "1234567 ")], 28),
-    (Paper, &[NOTE, Put(25, 5, "55  "), Put(25, 27, "x")], 27),
-    (Paper, &[NOTE, Put(25, 28, "99999999"), Put(25, 73, "1234567 ")], 73),
-    (Motion, &[Put(27, 80, "x")], 73),
-    (Motion, &[Put(27, 64, "99999999"), Put(27, 55, "10000000")], 55),
-];
-const KEPT: &[(Base, &[Edit], usize, u8, usize)] = &[
-    (Paper, &[], 1, 0, 0),
-    (Paper, &[], 0, 12, 3),
-    (Night, &[], 300, 0, 0),
-    (Night, &[], 1, 12, 3),
-    (Many(20), &[], 20, 0, 0),
-    (Many(20), &[], 19, 12, 4),
-    (Many(20), &[], 17, 12, 4),
-    (Many(20), &[], 16, 12, 3),
-    (Many(86), &[], 85, 12, 8),
-    (Many(86), &[], 84, 12, 7),
+/// Files with room for identifiers, and the refusal, line and column where they
+/// are kept there.
+const KEPT: &[(Base, &[Edit], usize, u8, usize, usize)] = &[
+    (Paper, &[], 1, 0, 0, 0),
+    (Paper, &[], 0, 12, 3, 0),
+    (Night, &[], 300, 0, 0, 0),
+    (Night, &[], 1, 12, 3, 0),
+    (Many(20), &[], 20, 0, 0, 0),
+    (Many(20), &[], 19, 12, 4, 0),
+    (Many(20), &[], 17, 12, 4, 0),
+    (Many(20), &[], 16, 12, 3, 0),
+    (Many(86), &[], 85, 12, 8, 0),
+    (Many(86), &[], 84, 12, 7, 0),
     // "12 comes after all other checks" of its line; a later line isn't read.
-    (Many(20), &[Put(4, 10, "G17")], 17, 8, 4),
-    (Many(20), &[Put(4, 10, "G17")], 16, 12, 3),
-    (Many(20), &[Put(4, 13, "E19"), Put(13, 4, "G ")], 20, 8, 13),
-    (Many(20), &[Put(4, 13, "E19"), Put(13, 4, "G ")], 18, 12, 4),
+    (Many(20), &[Put(4, 10, "G17")], 17, 8, 4, 0),
+    (Many(20), &[Put(4, 10, "G17")], 16, 12, 3, 0),
+    (Many(20), &[Put(4, 13, "G 9")], 17, 6, 4, 13),
+    (Many(20), &[Put(4, 13, "E19"), Put(13, 4, "G ")], 20, 8, 13, 0),
+    (Many(20), &[Put(4, 13, "E19"), Put(13, 4, "G ")], 18, 12, 4, 0),
 ];
 
-fn test_columns(tally: &mut Tally) {
-    for &(base, edits, wanted) in COLUMNS {
-        let found = follow(&hand_made(base, edits), None).column;
-        tally.holds(found == wanted, || format!("{base:?} {edits:?}: column {found}"));
-    }
-    for &(base, edits, room, number, line) in KEPT {
+fn test_kept(tally: &mut Tally) {
+    for &(base, edits, room, number, line, column) in KEPT {
         let refusal = follow_keeping(&hand_made(base, edits), room).refusal;
-        let found = refusal.map_or((0, 0), |refusal| (refusal.number, refusal.line));
-        tally.holds(found == (number, line), || format!("{base:?} {edits:?} {room}: {found:?}"));
+        let found = numbers(&refusal.map_or(Ok(()), Err));
+        let wanted = (number, line, column);
+        tally.holds(found == wanted, || format!("{base:?} {edits:?} {room}: {found:?}"));
+    }
+}
+
+/// "the byte for 2, column 81 for 3, .. otherwise 0": which columns a number has.
+fn column_is_right(refusal: &Refusal, file: &[u8]) -> bool {
+    let wrong = |byte: &u8| !(32..=126).contains(byte);
+    let line = file.split(|&c| c == b'\n').nth(refusal.line - 1).unwrap_or_default();
+    match refusal.number {
+        2 => line.iter().position(wrong) == Some(refusal.column - 1),
+        3 => refusal.column == 81,
+        5..=7 => (1..=80).contains(&refusal.column),
+        _ => refusal.column == 0,
+    }
+}
+
+fn test_columns(tally: &mut Tally) {
+    for number in 1..=1000 {
+        let (_, file) = generated(generate_any_file, STORED_SEED + 4, number);
+        let refusal = judge(&file).err();
+        let right = refusal.map_or(true, |refusal| column_is_right(&refusal, &file));
+        tally.holds(right, || format!("columns {number}: {refusal:?}"));
     }
 }
 
@@ -4424,10 +4637,11 @@ fn self_test() {
     test_asked(&mut tally, NOTES_ASKED);
     test_types(&mut tally);
     test_days(&mut tally);
-    test_columns(&mut tally);
+    test_kept(&mut tally);
     let by_hand = tally.made;
     test_lengths(&mut tally);
     test_plans(&mut tally);
+    test_columns(&mut tally);
     test_batches(&mut tally, stored_cases(), parse_batch);
     tally.tell(by_hand);
 }
@@ -4481,9 +4695,9 @@ pub(crate) fn obey<C: Compared>(
     }
 }
 
-/// The same of the rows with other bytes.
+/// The same of the lines with other bytes.
 fn obey_columns(words: &[&str], usage: &str) {
-    let cases = altered_rows();
+    let cases = altered_lines();
     let case_of = |place: u64| match cases.get((place as usize).wrapping_sub(1)) {
         Some(case) => case.clone(),
         None => fail(&format!("there are {} cases", cases.len())),

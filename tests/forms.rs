@@ -49,15 +49,15 @@
 //!
 //! ```text
 //! file ROOM LENGTH      or  table ROOM LENGTH
-//! read R LINE               new R
+//! read R LINE COLUMN        new R
 //! (the rest only where that is 0)
 //! write R LENGTH
 //! (the bytes written)
 //! kept                      every byte past them still holds the mark
 //! ```
 //!
-//! "The paper" is 01-scope.md as request 1 of 02-change-requests.md changed it,
-//! "000" is the SP3-d document.
+//! "The paper" is 01-scope.md as requests 1 and 2 of 02-change-requests.md
+//! changed it, "000" is the SP3-d document.
 
 #[allow(dead_code)]
 #[path = "files.rs"]
@@ -616,13 +616,13 @@ impl Case {
     fn answer_file(&self, file: &[u8], rooms: [usize; 4]) -> String {
         let mut lists = Lent::marked(rooms);
         match files::read(file, &mut lists) {
-            Err(refusal) => format!("read {} {}\n", refusal.number, refusal.line),
+            Err(refusal) => format!("read {}\n", refusal.show()),
             Ok(_) => {
                 let head = given_of(file).and_then(|given| given.head().ok());
                 let Some(head) = head else {
                     fail("a file was read that has no header");
                 };
-                format!("read 0 0\n{}", show_written(write(&head, &lists, self.room)))
+                format!("read 0 0 0\n{}", show_written(write(&head, &lists, self.room)))
             }
         }
     }
@@ -764,7 +764,7 @@ use Change::{
     Argument, Comment, CommentByte, Epochs, Exponent as Accuracy, Field, Identifier as Name,
     Length, RowNumber, Start, System, Texts, Twice, Type,
 };
-use Edit::{Drop, Insert, Put};
+use Edit::{After, Byte, Drop, Insert, Put};
 
 /// A number of a row: both counted from 0.
 const fn at(row: usize, place: usize) -> usize {
@@ -1284,6 +1284,21 @@ const DATED: &[(Base, &[Change], Lines)] = &[
             (27, "EOF"),
         ],
     ),
+];
+
+/// Files that are refused, and what is said of their reading: refusal, line and
+/// column.
+const REFUSED: &[(Base, &[Edit], &str)] = &[
+    (Base::Nothing, &[], "read 1 1 0"),
+    (Paper, &[Put(25, 4, "x")], "read 5 25 4"),
+    (Paper, &[Byte(24, 200, 127)], "read 2 24 200"),
+    (Paper, &[Put(24, 300, " ")], "read 3 24 81"),
+    (Paper, &[Drop(22)], "read 4 22 0"),
+    (Paper, &[Put(24, 5, "  5000.0000001")], "read 6 24 5"),
+    (Paper, &[Put(24, 47, "1000000.000000")], "read 7 24 47"),
+    (Paper, &[Put(24, 2, "G08")], "read 10 24 0"),
+    (Paper, &[After(b"\n")], "read 11 26 0"),
+    (Talkative(104), &[], "read 12 0 0"),
 ];
 
 /// The canonical form of a base, by hand.
@@ -1984,6 +1999,10 @@ fn with_room(body: Body, more: isize) -> Case {
 
 /// Those worked out by hand, the longer of the judged tables in part, and small
 /// generated ones.
+fn refused_case(base: Base, edits: &[Edit]) -> Case {
+    Case { room: 1300, body: Body::File(files::hand_made(base, edits)) }
+}
+
 fn stored_cases() -> Vec<Case> {
     let mut cases: Vec<Case> = Vec::new();
     for &(base, edits, _) in WRITTEN {
@@ -2012,12 +2031,7 @@ fn stored_cases() -> Vec<Case> {
             cases.push(case);
         }
     }
-    for base in [Base::Nothing, Paper] {
-        cases.push(Case {
-            room: 1300,
-            body: Body::File(files::hand_made(base, &[Put(25, 4, "x")])),
-        });
-    }
+    cases.extend(REFUSED.iter().map(|&(base, edits, _)| refused_case(base, edits)));
     files::filled_up(cases, generate_case, |case| case.bytes().len() < 3000)
 }
 
@@ -2066,6 +2080,15 @@ fn test_judged(tally: &mut Tally) {
         let needed = given.write(usize::MAX).map_or(form_with(base, &[]).len(), |b| b.len());
         let found = numbers_of(&given, needed.saturating_add_signed(more));
         tally.holds(found == (0, number), || format!("{base:?} {changes:?} {more}: {found:?}"));
+    }
+}
+
+fn test_refused(tally: &mut Tally) {
+    for &(base, edits, read) in REFUSED {
+        let case = refused_case(base, edits);
+        let wanted = format!("file 1300 {}\n{read}\n", case.bytes().len());
+        let found = case.answer();
+        tally.holds(found == wanted, || format!("{base:?} {edits:?}: {found}"));
     }
 }
 
@@ -2135,6 +2158,7 @@ fn self_test() {
     let mut tally = Tally::default();
     test_forms(&mut tally);
     test_judged(&mut tally);
+    test_refused(&mut tally);
     let by_hand = tally.made;
     test_validity(&mut tally);
     test_files(&mut tally);

@@ -28,9 +28,9 @@
 //! any other record does: `0 0 EP    55               222`, and `0 0 EP` where
 //! all of them are unknown.
 //!
-//! "The paper" is 01-scope.md as request 1 of 02-change-requests.md changed it,
-//! "000" is the SP3-d document; the words beside the columns below are those of
-//! its column-by-column description.
+//! "The paper" is 01-scope.md as requests 1 and 2 of 02-change-requests.md
+//! changed it, "000" is the SP3-d document; the words beside the columns below
+//! are those of its column-by-column description.
 
 use std::collections::{BTreeMap, HashSet};
 use std::io::{Read, Write};
@@ -2218,6 +2218,18 @@ const BY_HAND: &[(&str, &str)] = &[
     ("l000*", "6 4"),
     ("l000*  2013  4  3  0  0", "6 21"),
     ("n000V", "6 2"),
+    ("m000PG07", "6 5"),
+    // Dates: column 4 for any fault of year, month or day, but columns 8 and 11 are
+    // unused; the number decides first, and then the leftmost column.
+    ("l000*  201x  4  3  0  0  0.00000000", "6 4"),
+    ("l000*  2013 x4  3  0  0  0.00000000", "6 4"),
+    ("a000#dP2013  4 3   0  0  0.00000000       1", "6 4"),
+    ("l000*  201xx 4  3  0  0  0.00000000", "5 8"),
+    ("l000*  2013 13x 3  0  0  0.00000000", "5 11"),
+    ("l000*  2013 13  3 24  0  0.00000000", "7 4"),
+    ("l000*  2013 13  3 2x  0  0.00000000", "6 15"),
+    ("l000*  2013 13  x 2x  0  0.00000000", "6 4"),
+    ("a000#dv2013  4  x  0  0  0.00000000       1", "6 3"),
     // Comments and the end.
     ("k000/*   two blanks before   ", "0 0 /*   two blanks before"),
     ("k000/* ", "0 0 /*"),

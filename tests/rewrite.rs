@@ -16,7 +16,8 @@
 //!
 //! 13 is no answer of `rewrite`: what was read from a file is a valid table.
 //!
-//! "The paper" is 01-scope.md as request 1 of 02-change-requests.md changed it.
+//! "The paper" is 01-scope.md as requests 1 and 2 of 02-change-requests.md changed
+//! it.
 
 #[allow(dead_code)]
 #[path = "forms.rs"]
@@ -39,9 +40,10 @@ const MOST_BYTES: usize = 65_536;
 /// "room for 800 comments"
 const MOST_COMMENTS: usize = 800;
 
-/// "one line `refused 9 line 23` (number, then line)"
-fn refused(number: u8, line: usize) -> Vec<u8> {
-    format!("refused {number} line {line}\n").into_bytes()
+/// "one line .. (number, then line)", and then the column: "`rewrite` prints
+/// `refused 6 line 24 column 5`", in one form also where there is none.
+fn refused(number: u8, line: usize, column: usize) -> Vec<u8> {
+    format!("refused {number} line {line} column {column}\n").into_bytes()
 }
 
 fn too_long() -> Vec<u8> {
@@ -49,12 +51,12 @@ fn too_long() -> Vec<u8> {
 }
 
 /// The canonical form of a file that was accepted; "past that it prints
-/// `refused 12 line 0`".
+/// `refused 12 line 0`" and column 0.
 fn printed_form(file: &[u8]) -> Vec<u8> {
     let Some(table) = forms::given_of(file) else {
         fail("a file was accepted that has no table");
     };
-    table.write(MOST_BYTES).unwrap_or_else(|number| refused(number, 0))
+    table.write(MOST_BYTES).unwrap_or_else(|number| refused(number, 0, 0))
 }
 
 fn printed(input: &[u8]) -> Vec<u8> {
@@ -62,8 +64,8 @@ fn printed(input: &[u8]) -> Vec<u8> {
         return too_long();
     }
     match files::judge(input) {
-        Err(refusal) => refused(refusal.number, refusal.line),
-        Ok((table, _)) if table.comments.len() > MOST_COMMENTS => refused(12, 0),
+        Err(refusal) => refused(refusal.number, refusal.line, refusal.column),
+        Ok((table, _)) if table.comments.len() > MOST_COMMENTS => refused(12, 0, 0),
         Ok(_) => printed_form(input),
     }
 }
@@ -213,96 +215,123 @@ const WRITTEN: &[(&str, Base, Edits, Edits)] = &[
     ("00-80-characters", Paper, &[Put(24, 80, " ")], &[]),
 ];
 
-/// Files that are refused: how they are made, the number and the line.
-const REFUSED: &[(&str, Base, Edits, u8, usize)] = &[
-    ("01-no-bytes", Nothing, &[], 1, 1),
-    ("01-one-byte", Nothing, &[After(b"#")], 1, 1),
-    ("01-eof-without-lf", Paper, &[Join(25)], 1, 25),
-    ("01-no-eof", Paper, &[Keep(24)], 1, 25),
-    ("01-one-line", Paper, &[Keep(1)], 1, 2),
-    ("02-carriage-returns", Paper, &[CarriageReturns], 2, 1),
-    ("02-byte-128", Paper, &[Byte(24, 40, 128)], 2, 24),
-    ("02-byte-127-in-a-comment", Paper, &[Byte(19, 4, 127)], 2, 19),
-    ("02-before-3", Paper, &[Byte(24, 81, 9)], 2, 24),
-    ("02-ep-tab", Paper, &[BARE, Byte(25, 3, 9)], 2, 25),
-    ("03-81-characters", Paper, &[Put(24, 81, " ")], 3, 24),
-    ("03-comment-of-81", Paper, &[Put(19, 81, "x")], 3, 19),
-    ("03-before-4", Paper, &[Put(24, 1, "x"), Put(24, 81, "x")], 3, 24),
-    ("03-ep-of-81", Paper, &[NOTE, Put(25, 81, " ")], 3, 25),
-    ("04-one-lf", Nothing, &[After(b"\n")], 4, 1),
-    ("04-three-comments", Paper, &[Drop(22)], 4, 22),
-    ("04-sp3-c", Paper, &[Put(1, 2, "c")], 4, 1),
-    ("04-slots-too-few", Paper, &[Drop(7)], 4, 7),
-    ("04-slots-too-many", Paper, &[Double(7)], 4, 8),
-    ("04-capital-c", Paper, &[Put(13, 2, "C")], 4, 13),
-    ("04-eof-too-early", Paper, &[Put(1, 39, "2")], 4, 25),
-    ("04-epoch-too-many", Paper, &[Insert(25, "*  2013  4  3  0 15  0.00000000")], 4, 25),
-    ("04-two-ep", Paper, &[Insert(25, "EP"), Insert(26, "EP")], 4, 26),
-    ("04-ev-in-mode-p", Paper, &[Insert(25, "EV")], 4, 25),
-    ("04-ev-before-v", Motion, &[Swap(26, 27)], 4, 26),
-    ("04-ep-after-v", Motion, &[Swap(25, 26)], 4, 26),
-    ("04-mode-v-without-v", Motion, &[Drop(26)], 4, 26),
-    ("05-unused-column", Paper, &[Put(1, 32, "x")], 5, 1),
-    ("05-placeholder-of-letters", Paper, &[Put(14, 4, "G ")], 5, 14),
-    ("05-placeholder-blank", Paper, &[Put(18, 52, "         ")], 5, 18),
-    ("05-eofx", Paper, &[Whole(25, "EOFX")], 5, 25),
-    ("05-flag-in-v", Motion, &[Put(26, 75, "E")], 5, 26),
-    ("05-ep-column-3", Paper, &[Insert(25, "EPx")], 5, 25),
-    ("05-ep-column-9", Paper, &[BARE, Put(25, 9, "1")], 5, 25),
-    ("05-ep-column-72", Paper, &[BARE, Put(25, 72, "x")], 5, 25),
-    ("05-ep-before-6", Paper, &[NOTE, Put(25, 5, "55  "), Put(25, 27, "x")], 5, 25),
-    ("05-ev-column-3", Motion, &[Put(27, 3, "x")], 5, 27),
-    ("06-small-v", Paper, &[Put(1, 3, "v")], 6, 1),
-    ("06-no-digit-before-point", Paper, &[Put(24, 5, "       .500000")], 6, 24),
-    ("06-blank-clock", Paper, &[Put(24, 47, "              ")], 6, 24),
-    ("06-identifier", Paper, &[Put(3, 10, "G 7")], 6, 3),
-    ("06-file-type", Paper, &[Put(13, 4, "X ")], 6, 13),
-    ("06-time-system", Paper, &[Put(13, 10, "gps")], 6, 13),
-    ("06-ep-blanks-after", Paper, &[BARE, Put(25, 5, "55  ")], 6, 25),
-    ("06-ep-deviation-minus", Paper, &[BARE, Put(25, 5, "  -1")], 6, 25),
-    ("06-ep-minus-apart", Paper, &[BARE, Put(25, 28, "     - 1")], 6, 25),
-    ("06-ep-plus", Paper, &[BARE, Put(25, 28, "      +1")], 6, 25),
-    ("06-ep-correlation-at-the-left", Paper, &[BARE, Put(25, 28, "1234567 ")], 6, 25),
-    ("06-ep-before-7", Paper, &[NOTE, Put(25, 28, "99999999"), Put(25, 73, "1234567 ")], 6, 25),
-    ("06-ev-column-80", Motion, &[Put(27, 80, "x")], 6, 27),
-    ("07-ep-99999999", Paper, &[BARE, Put(25, 28, "99999999")], 7, 25),
-    ("07-ep-10000000", Paper, &[BARE, Put(25, 28, "10000000")], 7, 25),
-    ("07-ev-10000000", Motion, &[Put(27, 73, "10000000")], 7, 27),
-    ("07-256-satellites", Many(256), &[Keep(40)], 7, 3),
-    ("07-no-satellite", Paper, &[Put(3, 4, "  0")], 7, 3),
-    ("07-100001-epochs", Paper, &[Put(1, 33, " 100001")], 7, 1),
-    ("07-2001-02-29", Paper, &[Put(1, 4, "2001  2 29")], 7, 1),
-    ("07-second-60", Paper, &[Put(1, 21, "60.00000000")], 7, 1),
-    ("07-coordinate", Paper, &[Put(24, 5, "1000000.000000")], 7, 24),
-    ("07-identifier-00", Paper, &[Put(24, 2, "G00")], 7, 24),
-    ("08-week", Paper, &[Put(2, 4, "1735")], 8, 2),
+/// Files that are refused: how they are made, the number, the line and the column.
+const REFUSED: &[(&str, Base, Edits, u8, usize, usize)] = &[
+    ("01-no-bytes", Nothing, &[], 1, 1, 0),
+    ("01-one-byte", Nothing, &[After(b"#")], 1, 1, 0),
+    ("01-eof-without-lf", Paper, &[Join(25)], 1, 25, 0),
+    ("01-no-eof", Paper, &[Keep(24)], 1, 25, 0),
+    ("01-one-line", Paper, &[Keep(1)], 1, 2, 0),
+    ("02-carriage-returns", Paper, &[CarriageReturns], 2, 1, 61),
+    ("02-byte-128", Paper, &[Byte(24, 40, 128)], 2, 24, 40),
+    ("02-byte-127-in-a-comment", Paper, &[Byte(19, 4, 127)], 2, 19, 4),
+    ("02-before-3", Paper, &[Byte(24, 81, 9)], 2, 24, 81),
+    ("02-ep-tab", Paper, &[BARE, Byte(25, 3, 9)], 2, 25, 3),
+    ("02-tab-in-a-comment", Paper, &[Byte(19, 4, 9)], 2, 19, 4),
+    ("02-column-200-of-300", Paper, &[Put(24, 300, " "), Byte(24, 200, 127)], 2, 24, 200),
+    ("02-leftmost", Paper, &[Byte(24, 9, 127), Byte(24, 40, 127)], 2, 24, 9),
+    ("03-81-characters", Paper, &[Put(24, 81, " ")], 3, 24, 81),
+    ("03-300-characters", Paper, &[Put(24, 300, " ")], 3, 24, 81),
+    ("03-comment-of-81", Paper, &[Put(19, 81, "x")], 3, 19, 81),
+    ("03-before-4", Paper, &[Put(24, 1, "x"), Put(24, 81, "x")], 3, 24, 81),
+    ("03-ep-of-81", Paper, &[NOTE, Put(25, 81, " ")], 3, 25, 81),
+    ("04-one-lf", Nothing, &[After(b"\n")], 4, 1, 0),
+    ("04-three-comments", Paper, &[Drop(22)], 4, 22, 0),
+    ("04-sp3-c", Paper, &[Put(1, 2, "c")], 4, 1, 0),
+    ("04-slots-too-few", Paper, &[Drop(7)], 4, 7, 0),
+    ("04-slots-too-many", Paper, &[Double(7)], 4, 8, 0),
+    ("04-capital-c", Paper, &[Put(13, 2, "C")], 4, 13, 0),
+    ("04-eof-too-early", Paper, &[Put(1, 39, "2")], 4, 25, 0),
+    ("04-epoch-too-many", Paper, &[Insert(25, "*  2013  4  3  0 15  0.00000000")], 4, 25, 0),
+    ("04-two-ep", Paper, &[Insert(25, "EP"), Insert(26, "EP")], 4, 26, 0),
+    ("04-ev-in-mode-p", Paper, &[Insert(25, "EV")], 4, 25, 0),
+    ("04-ev-before-v", Motion, &[Swap(26, 27)], 4, 26, 0),
+    ("04-ep-after-v", Motion, &[Swap(25, 26)], 4, 26, 0),
+    ("04-mode-v-without-v", Motion, &[Drop(26)], 4, 26, 0),
+    ("05-unused-column", Paper, &[Put(1, 32, "x")], 5, 1, 32),
+    ("05-placeholder-of-letters", Paper, &[Put(14, 4, "G ")], 5, 14, 4),
+    ("05-placeholder-at-56", Paper, &[Put(14, 58, "x")], 5, 14, 56),
+    ("05-leftmost", Paper, &[Put(24, 70, "x"), Put(24, 61, "x")], 5, 24, 61),
+    ("05-column-63", Paper, &[Put(3, 63, "x")], 5, 3, 63),
+    ("05-column-8-of-a-date", Paper, &[Put(1, 4, "201x"), Put(1, 8, "x")], 5, 1, 8),
+    ("05-placeholder-blank", Paper, &[Put(18, 52, "         ")], 5, 18, 52),
+    ("05-eofx", Paper, &[Whole(25, "EOFX")], 5, 25, 4),
+    ("05-flag-in-v", Motion, &[Put(26, 75, "E")], 5, 26, 75),
+    ("05-ep-column-3", Paper, &[Insert(25, "EPx")], 5, 25, 3),
+    ("05-ep-column-9", Paper, &[BARE, Put(25, 9, "1")], 5, 25, 9),
+    ("05-ep-column-72", Paper, &[BARE, Put(25, 72, "x")], 5, 25, 72),
+    ("05-ep-before-6", Paper, &[NOTE, Put(25, 5, "55  "), Put(25, 27, "x")], 5, 25, 27),
+    ("05-ev-column-3", Motion, &[Put(27, 3, "x")], 5, 27, 3),
+    ("06-small-v", Paper, &[Put(1, 3, "v")], 6, 1, 3),
+    ("06-no-digit-before-point", Paper, &[Put(24, 5, "       .500000")], 6, 24, 5),
+    ("06-blank-clock", Paper, &[Put(24, 47, "              ")], 6, 24, 47),
+    ("06-seven-places", Paper, &[Put(24, 5, "  5000.0000001")], 6, 24, 5),
+    ("06-row-of-a-name", Paper, &[Whole(24, "PG07")], 6, 24, 5),
+    ("06-row-of-nothing", Paper, &[Whole(24, "P")], 6, 24, 2),
+    ("06-small-e", Paper, &[Put(24, 75, "e")], 6, 24, 75),
+    ("06-day", Paper, &[Put(1, 12, "3 ")], 6, 1, 4),
+    ("06-hour-before-7", Paper, &[Put(23, 9, "13"), Put(23, 15, "2x")], 6, 23, 15),
+    ("06-slot-before-7", Many(256), &[Put(3, 13, "G 2"), Keep(40)], 6, 3, 13),
+    ("06-identifier-in-a-row", Paper, &[Put(24, 2, "G 7")], 6, 24, 2),
+    ("06-file-type-of-two", Paper, &[Put(13, 4, "Gx")], 6, 13, 4),
+    ("06-identifier", Paper, &[Put(3, 10, "G 7")], 6, 3, 10),
+    ("06-file-type", Paper, &[Put(13, 4, "X ")], 6, 13, 4),
+    ("06-time-system", Paper, &[Put(13, 10, "gps")], 6, 13, 10),
+    ("06-ep-blanks-after", Paper, &[BARE, Put(25, 5, "55  ")], 6, 25, 5),
+    ("06-ep-deviation-minus", Paper, &[BARE, Put(25, 5, "  -1")], 6, 25, 5),
+    ("06-ep-minus-apart", Paper, &[BARE, Put(25, 28, "     - 1")], 6, 25, 28),
+    ("06-ep-plus", Paper, &[BARE, Put(25, 28, "      +1")], 6, 25, 28),
+    ("06-ep-correlation-at-the-left", Paper, &[BARE, Put(25, 28, "1234567 ")], 6, 25, 28),
+    ("06-ep-before-7", Paper, &[NOTE, Put(25, 28, "99999999"), Put(25, 73, "1234567 ")], 6, 25, 73),
+    ("06-ev-column-80", Motion, &[Put(27, 80, "x")], 6, 27, 73),
+    ("07-ep-99999999", Paper, &[BARE, Put(25, 28, "99999999")], 7, 25, 28),
+    ("07-ep-10000000", Paper, &[BARE, Put(25, 28, "10000000")], 7, 25, 28),
+    ("07-ev-10000000", Motion, &[Put(27, 73, "10000000")], 7, 27, 73),
+    ("07-256-satellites", Many(256), &[Keep(40)], 7, 3, 4),
+    ("07-no-satellite", Paper, &[Put(3, 4, "  0")], 7, 3, 4),
+    ("07-100001-epochs", Paper, &[Put(1, 33, " 100001")], 7, 1, 33),
+    ("07-2001-02-29", Paper, &[Put(1, 4, "2001  2 29")], 7, 1, 4),
+    ("07-month-and-hour", Paper, &[Put(23, 9, "13"), Put(23, 15, "24")], 7, 23, 4),
+    ("07-second-60", Paper, &[Put(1, 21, "60.00000000")], 7, 1, 21),
+    ("07-coordinate", Paper, &[Put(24, 5, "1000000.000000")], 7, 24, 5),
+    (
+        "07-clock-and-coordinate",
+        Paper,
+        &[Put(24, 47, "1000000.000000"), Put(24, 5, "1000000.000000")],
+        7,
+        24,
+        5,
+    ),
+    ("07-identifier-00", Paper, &[Put(24, 2, "G00")], 7, 24, 2),
+    ("08-week", Paper, &[Put(2, 4, "1735")], 8, 2, 0),
     (
         "08-fraction",
         Paper,
         &[ONE_SECOND[0], ONE_SECOND[1], ONE_SECOND[2], Put(2, 46, "0.0000115740742")],
         8,
         2,
+        0,
     ),
-    ("08-slot-after-n", Paper, &[Put(3, 13, "G08")], 8, 3),
-    ("08-exponent-after-n", Paper, &[Put(8, 13, "000")], 8, 8),
-    ("08-identifier-repeats", Night, &[Put(3, 13, "G07")], 8, 3),
-    ("08-file-type", Paper, &[Put(13, 4, "R ")], 8, 13),
-    ("09-wrong-instant", Paper, &[Put(23, 15, " 0 15")], 9, 23),
-    ("09-late-after-midnight", Night, &[Put(26, 18, "15"), Put(29, 18, "30")], 9, 26),
-    ("10-another-satellite", Paper, &[Put(24, 2, "G08")], 10, 24),
-    ("10-order", Night, &[Swap(30, 31)], 10, 30),
-    ("10-another-in-v", Motion, &[Put(26, 2, "G02")], 10, 26),
-    ("11-one-lf-after", Paper, &[After(b"\n")], 11, 26),
-    ("11-zero-after", Paper, &[After(b"\0")], 11, 26),
-    ("11-two-files", Paper, &[AfterItself], 11, 26),
+    ("08-slot-after-n", Paper, &[Put(3, 13, "G08")], 8, 3, 0),
+    ("08-exponent-after-n", Paper, &[Put(8, 13, "000")], 8, 8, 0),
+    ("08-identifier-repeats", Night, &[Put(3, 13, "G07")], 8, 3, 0),
+    ("08-file-type", Paper, &[Put(13, 4, "R ")], 8, 13, 0),
+    ("09-wrong-instant", Paper, &[Put(23, 15, " 0 15")], 9, 23, 0),
+    ("09-late-after-midnight", Night, &[Put(26, 18, "15"), Put(29, 18, "30")], 9, 26, 0),
+    ("10-another-satellite", Paper, &[Put(24, 2, "G08")], 10, 24, 0),
+    ("10-order", Night, &[Swap(30, 31)], 10, 30, 0),
+    ("10-another-in-v", Motion, &[Put(26, 2, "G02")], 10, 26, 0),
+    ("11-one-lf-after", Paper, &[After(b"\n")], 11, 26, 0),
+    ("11-zero-after", Paper, &[After(b"\0")], 11, 26, 0),
+    ("11-two-files", Paper, &[AfterItself], 11, 26, 0),
 ];
 
 fn stored() -> Vec<Case> {
     let written = WRITTEN.iter().map(|&(name, base, edits, form)| {
         Case::new(name, files::hand_made(base, edits), files::hand_made(base, form))
     });
-    let refused = REFUSED.iter().map(|&(name, base, edits, number, line)| {
-        Case::new(name, files::hand_made(base, edits), refused(number, line))
+    let refused = REFUSED.iter().map(|&(name, base, edits, number, line, column)| {
+        Case::new(name, files::hand_made(base, edits), refused(number, line, column))
     });
     written.chain(refused).collect()
 }
@@ -415,24 +444,29 @@ fn large() -> Vec<Case> {
     let lines_of_80 = [b"x".repeat(80), b"\n".to_vec()].concat().repeat(810);
     vec![
         same_form("800-comments", talk(800)),
-        Case::new("801-comments", talk(801), refused(12, 0)),
-        Case::new("801-comments-and-a-byte-after", after(b'x', talk(801)), refused(11, 823)),
-        Case::new("21444-comments", many_comments.bytes(), refused(12, 0)),
+        Case::new("801-comments", talk(801), refused(12, 0, 0)),
+        Case::new("801-comments-and-a-byte-after", after(b'x', talk(801)), refused(11, 823, 0)),
+        Case::new("21444-comments", many_comments.bytes(), refused(12, 0, 0)),
         same_form("85-satellites", files::base_file(Many(85)).bytes()),
         same_form("86-satellites", files::base_file(Many(86)).bytes()),
         same_form("255-satellites", files::base_file(Many(255)).bytes()),
-        Case::new("256-satellites", files::base_file(Many(256)).bytes(), refused(7, 3)),
+        Case::new("256-satellites", files::base_file(Many(256)).bytes(), refused(7, 3, 4)),
         same_form("65535-bytes", paper(MOST_BYTES - 1)),
         same_form("65536-bytes", paper(MOST_BYTES)),
         same_form("65536-bytes-of-1050-rows", rows.clone()),
         notes_case(),
         full_notes_case(),
-        Case::new("65536-bytes-one-past-eof", after(b'x', paper(MOST_BYTES - 1)), refused(11, 821)),
-        Case::new("65536-bytes-no-last-lf", cut(paper(MOST_BYTES + 1)), refused(1, 820)),
-        Case::new("65536-bytes-x", b"x".repeat(MOST_BYTES), refused(1, 1)),
-        Case::new("65536-bytes-x-lf", after(b'\n', b"x".repeat(MOST_BYTES - 1)), refused(3, 1)),
-        Case::new("65536-bytes-zero", vec![0; MOST_BYTES], refused(1, 1)),
-        Case::new("65536-lf", b"\n".repeat(MOST_BYTES), refused(4, 1)),
+        Case::new(
+            "65536-bytes-one-past-eof",
+            after(b'x', paper(MOST_BYTES - 1)),
+            refused(11, 821, 0),
+        ),
+        Case::new("65536-bytes-no-last-lf", cut(paper(MOST_BYTES + 1)), refused(1, 820, 0)),
+        Case::new("65536-bytes-x", b"x".repeat(MOST_BYTES), refused(1, 1, 0)),
+        Case::new("65536-bytes-x-lf", after(b'\n', b"x".repeat(MOST_BYTES - 1)), refused(3, 1, 81)),
+        Case::new("65536-bytes-last-column", in_the_last_column(), refused(2, 1, 65_535)),
+        Case::new("65536-bytes-zero", vec![0; MOST_BYTES], refused(1, 1, 0)),
+        Case::new("65536-lf", b"\n".repeat(MOST_BYTES), refused(4, 1, 0)),
         Case::new("65610-bytes-in-lines", lines_of_80, too_long()),
         Case::new("65537-bytes", paper(MOST_BYTES + 1), too_long()),
         Case::new("65537-bytes-one-past-eof", after(b'\n', rows), too_long()),
@@ -440,6 +474,11 @@ fn large() -> Vec<Case> {
         Case::new("65537-lf", b"\n".repeat(MOST_BYTES + 1), too_long()),
         Case::new("1000000-bytes-zero", vec![0; 1_000_000], too_long()),
     ]
+}
+
+/// One line of so many bytes of which the last before its LF is wrong.
+fn in_the_last_column() -> Vec<u8> {
+    [b"x".repeat(MOST_BYTES - 2), b"\x7f\n".to_vec()].concat()
 }
 
 /// Without the last byte.
@@ -487,8 +526,8 @@ fn make(cases: &[Case], directory: &str) {
 
 /// The names of the files in a folder.
 fn names_in(directory: &str) -> Vec<String> {
-    let entries = std::fs::read_dir(directory)
-        .unwrap_or_else(|error| fail(&format!("{directory}: {error}")));
+    let entries =
+        std::fs::read_dir(directory).unwrap_or_else(|error| fail(&format!("{directory}: {error}")));
     let mut names: Vec<String> = entries
         .map(|entry| match entry {
             Ok(entry) => entry.file_name().to_string_lossy().into_owned(),

@@ -3,7 +3,7 @@
  *   answers files LIST     LIST names two files to a line, with a TAB between them: a case, and the form in which it should be written
  *   answers calls PAPER    calls on the paper's file (calls.c)
  *
- * A file is `refused N line L`, with ` column C` where the line reader names one, or `accepted written|other row X Y Z CLOCK note ..`: whether its
+ * A file is `refused N line L`, with ` column C` where it is not 0, or `accepted written|other row X Y Z CLOCK note ..`: whether its
  * canonical form is the second file, the row of epoch 0 and satellite 0, and what its stored row says of the EP line after it, in mode V also what
  * the V row says of the EV line (`note ..` again): `none`, or four deviations and six correlations, `-` for unknown, `large` for too large. */
 #include "sp3.h"
@@ -73,10 +73,11 @@ static size_t column_of(stretch_t file, sp3_reading_t judged, const char *path)
 
 static void print_refusal(stretch_t file, sp3_reading_t judged, const char *path)
 {
-    size_t column = column_of(file, judged, path);
+    if (column_of(file, judged, path) != judged.column)
+        stop("the line reader finds another column", path);
     printf("refused %zu line %llu", judged.refusal, (unsigned long long)judged.line);
-    if (column != 0)
-        printf(" column %zu", column);
+    if (judged.column != 0)
+        printf(" column %zu", judged.column);
     printf("\n");
 }
 

@@ -19,7 +19,7 @@ static void kept_out(const uint64_t *list, size_t from, size_t count) { puts(num
 static void divide_out(bytes_t bytes, size_t room) {
     uint64_t *lengths = lent_numbers(room, NUMBER_MARK);
     sp3_division_t division = sp3_divide(bytes.bytes, bytes.length, lengths, room);
-    printf("divide %zu %" PRIu64 " %" PRIu64 " %zu\n", division.refusal, division.line, division.count, division.rest);
+    printf("divide %zu %" PRIu64 " %zu %" PRIu64 " %zu\n", division.refusal, division.line, division.column, division.count, division.rest);
     size_t filled = division.count <= room ? division.count : room;
     check(division.count <= room, "more files than room");
     for (size_t i = 0; i < filled; i++) printf("length %" PRIu64 "\n", lengths[i]);
@@ -47,13 +47,14 @@ static void walk_end_out(bytes_t file, identifiers_t identifiers, sp3_row_step_t
     if (step.end) {
         puts("end");
     } else {
-        printf("refused %zu line %" PRIu64 "\n", step.refusal, step.line);
+        printf("refused %zu line %" PRIu64 " column %zu\n", step.refusal, step.line, step.column);
     }
     bool stays = same_spot(step.next.spot, from.spot) && step.next.passed == from.passed;
     check(stays && step.epoch == 0 && step.satellite == 0 && is_no_row(step.row), "a row beside the end of a walk");
-    check(step.end ? step.refusal == 0 && step.line == 0 : step.refusal != 0, "an end beside a refusal");
+    check(step.end ? step.refusal == 0 && step.line == 0 && step.column == 0 : step.refusal != 0, "an end beside a refusal");
     line_end_t lines = known_lines(file, identifiers.list, identifiers.count);
-    check(lines.refusal == step.refusal && (step.end || lines.line == step.line), "a walk over rows and over lines");
+    bool same = lines.refusal == step.refusal && lines.column == step.column && (step.end || lines.line == step.line);
+    check(same, "a walk over rows and over lines");
 }
 
 /* Each row of a file that was accepted is the one that the row question gives; of many rows some twenty are asked for. */
@@ -61,7 +62,8 @@ static void check_row(bytes_t file, sp3_header_t header, sp3_row_step_t step) {
     uint64_t count = header.satellites * header.epochs, k = step.epoch * header.satellites + step.satellite;
     if (header.epochs == 0 || k % (1 + count / 20) != 0) return;
     sp3_row_answer_t answer = sp3_row(file.bytes, file.length, step.epoch, step.satellite);
-    check(answer.refusal == 0 && answer.line == 0 && same_row(answer.row, step.row), "a row walked and asked for");
+    bool accepted = answer.refusal == 0 && answer.line == 0 && answer.column == 0;
+    check(accepted && same_row(answer.row, step.row), "a row walked and asked for");
 }
 
 /* The rows of a file in order; a file has no more rows than bytes. */
@@ -73,6 +75,7 @@ static void rows_out(bytes_t file, identifiers_t identifiers, sp3_header_t heade
             walk_end_out(file, identifiers, step, from);
             return;
         }
+        check(step.line == 0 && step.column == 0, "a line or a column beside a row");
         row_out(step);
         check_row(file, header, step);
         from = step.next;
@@ -139,8 +142,8 @@ static void walk_out(bytes_t file, size_t room, identifiers_t given) {
     uint64_t *identifiers = lent_numbers(room, NUMBER_MARK);
     sp3_reading_t reading = sp3_begin(file.bytes, file.length, identifiers, room);
     sp3_header_t header = reading.header;
-    printf("begin %zu %" PRIu64 " %zu %" PRIu64 " %" PRIu64 "\n", reading.refusal, reading.line, reading.length, header.satellites,
-           header.epochs);
+    printf("begin %zu %" PRIu64 " %zu %zu %" PRIu64 " %" PRIu64 "\n", reading.refusal, reading.line, reading.column, reading.length,
+           header.satellites, header.epochs);
     check_reading(reading);
     identifiers_out(identifiers, header.satellites, room);
     identifiers_t own = {shown(identifiers, room * sizeof *identifiers), room};

@@ -104,7 +104,7 @@ bool same_row(sp3_row_t one, sp3_row_t other);
 /* Whether both parts of a row are absent. */
 bool is_no_row(sp3_row_t row);
 
-/* Tells a line beside no refusal, and a length or header beside one. */
+/* Tells a line or a column beside no refusal, and a length or header beside one. */
 void check_reading(sp3_reading_t reading);
 
 /* ---- the formats: one case each, and its answer ---- */
@@ -119,10 +119,11 @@ void dates_case(bytes_t *batch);
 /* A file read line by line by the plain line reader, with room for so many identifiers. */
 void lines_shown(bytes_t file, size_t room);
 
-/* Where the lines end that are read with these identifiers known: the refusal (0 at the EOF line) and the number of that line. */
+/* Where the lines end that are read with these identifiers known: the refusal (0 at the EOF line), the number of that line and the column. */
 typedef struct {
     size_t refusal;
     uint64_t line;
+    size_t column;
 } line_end_t;
 
 line_end_t known_lines(bytes_t file, const uint64_t *identifiers, size_t count);

@@ -122,7 +122,7 @@ static void write_out(sp3_header_t header, lists_t lists, size_t room) {
 /* A file read into these lists and written again. */
 static void file_out(bytes_t file, lists_t lists, size_t room) {
     sp3_reading_t reading = read_into(file, false, lists);
-    printf("read %zu %" PRIu64 "\n", reading.refusal, reading.line);
+    printf("read %zu %" PRIu64 " %zu\n", reading.refusal, reading.line, reading.column);
     check_reading(reading);
     if (reading.refusal == 0) write_out(reading.header, lists, room);
 }

@@ -69,8 +69,8 @@ static void check_known(bytes_t file, const uint64_t *identifiers, size_t count)
 /* With room for all identifiers the reader ends where the file at the front is judged to. */
 static void check_judged(bytes_t file, uint64_t k, sp3_line_answer_t last) {
     sp3_reading_t front = sp3_judge_front(file.bytes, file.length);
-    bool same = last.finished ? front.refusal == 0 && front.length == last.next.at : front.refusal == last.refusal && front.line == k;
-    check(same, "a file read by lines and judged");
+    bool refused = front.refusal == last.refusal && front.line == k && front.column == last.column;
+    check(last.finished ? front.refusal == 0 && front.length == last.next.at : refused, "a file read by lines and judged");
 }
 
 /* A `+ ` line without fault read once more, with the identifiers before it in a list of so many places: 12 where those after it do not fit. */
@@ -160,7 +160,7 @@ line_end_t known_lines(bytes_t file, const uint64_t *identifiers, size_t count) 
     sp3_spot_t at = sp3_first_spot();
     for (uint64_t k = 1;; k++) {
         sp3_line_answer_t line = sp3_next_line(file.bytes, file.length, identifiers, count, at);
-        if (line.refusal != 0 || line.finished) return (line_end_t){line.refusal, k};
+        if (line.refusal != 0 || line.finished) return (line_end_t){line.refusal, k, line.column};
         at = line.next;
     }
 }

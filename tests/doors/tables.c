@@ -214,6 +214,7 @@ static void told(const char *word, sp3_reading_t reading) {
     fputs(word, stdout);
     value(reading.refusal);
     value(reading.line);
+    value(reading.column);
     value(reading.length);
     putchar('\n');
     check_reading(reading);
@@ -260,6 +261,7 @@ static void ask_comment(bytes_t file, uint64_t k) {
     fputs("comment", stdout);
     value(answer.refusal);
     value(answer.line);
+    value(answer.column);
     value(answer.at);
     value(answer.length);
     fputs(" |", stdout);
@@ -281,6 +283,7 @@ static void ask_satellite(bytes_t file, uint64_t identifier) {
     fputs("satellite", stdout);
     value(answer.refusal);
     value(answer.line);
+    value(answer.column);
     value(answer.number);
     putchar('\n');
     check_identifier(identifier);
@@ -292,6 +295,7 @@ static void ask_row(bytes_t file, uint64_t epoch, uint64_t satellite) {
     fputs("row", stdout);
     value(answer.refusal);
     value(answer.line);
+    value(answer.column);
     if (row.place_absent) {
         absent_float(row.x);
         mark(row.y == row.y || row.z == row.z);

@@ -1,4 +1,5 @@
-// How a stretch divides: refusal, line, number of files and where the rest begins, then each length, then whether every other lent place is as it was.
+// How a stretch divides: refusal, line, column, number of files and where the rest begins, then each length, then whether every other lent place is
+// as it was.
 use crate::input::at_most;
 use crate::lent;
 use crate::print;
@@ -9,6 +10,7 @@ fn into(bytes: &[u8], room: &mut [u64]) {
     print::text(b"divide");
     print::value(division.refusal as u64);
     print::value(division.line);
+    print::value(division.column as u64);
     print::value(division.count);
     print::value(division.rest as u64);
     print::text(b"\n");

@@ -59,12 +59,14 @@ fn row_absent(epoch: u64, satellite: u64, row: FloatRow) {
     clock(row);
 }
 
-// The line at which a walk is refused.
-fn refused(number: usize, line: u64) {
+// The line and the column at which a walk is refused.
+fn refused(number: usize, line: u64, column: usize) {
     print::text(b"refused");
     print::value(number as u64);
     print::text(b" line");
     print::value(line);
+    print::text(b" column");
+    print::value(column as u64);
     print::text(b"\n");
 }
 
@@ -96,8 +98,12 @@ fn rows<'a>(file: &'a [u8], header: &'a [u64]) {
                 print::text(b"end\n");
                 return;
             }
-            RowStep::Refused { number, line } => {
-                refused(number, line);
+            RowStep::Refused {
+                number,
+                line,
+                column,
+            } => {
+                refused(number, line, column);
                 return;
             }
         }
@@ -212,6 +218,7 @@ fn into<'a>(file: &'a [u8], identifiers: &mut [u64], given: &'a [u64]) {
     print::text(b"begin");
     print::value(reading.refusal as u64);
     print::value(reading.line);
+    print::value(reading.column as u64);
     print::value(reading.length as u64);
     print::value(header.satellites);
     print::value(header.epochs);

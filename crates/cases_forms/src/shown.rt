@@ -55,6 +55,15 @@ pub(crate) fn table(
     into(h, identifiers, exponents, comments, rows, &mut room[0..n]);
 }
 
+// What a reading answers: the refusal, its line and its column.
+fn told(reading: Reading) {
+    print::text(b"read");
+    print::value(reading.refusal as u64);
+    print::value(reading.line);
+    print::value(reading.column as u64);
+    print::text(b"\n");
+}
+
 // What a reading answers, and what it read written.
 fn again(
     reading: Reading,
@@ -64,7 +73,7 @@ fn again(
     rows: &[i64],
     size: u64,
 ) {
-    print::told(b"read", reading.refusal as u64, reading.line);
+    told(reading);
     if reading.refusal == 0 {
         table(reading.header, identifiers, exponents, comments, rows, size);
     }

@@ -6,7 +6,7 @@ use float_row::FloatRow;
 pub(crate) fn comment(file: &[u8], k: u64) {
     let answer = questions::comment_answer(file, k);
     print::text(b"comment");
-    print::refusal(answer.refusal, answer.line);
+    print::refusal(answer.refusal, answer.line, answer.column);
     print::value(answer.at as u64);
     print::value(answer.length as u64);
     print::text(b" |");
@@ -18,7 +18,7 @@ pub(crate) fn comment(file: &[u8], k: u64) {
 pub(crate) fn satellite(file: &[u8], name: u64) {
     let answer = questions::satellite_of(file, name);
     print::text(b"satellite");
-    print::refusal(answer.refusal, answer.line);
+    print::refusal(answer.refusal, answer.line, answer.column);
     print::value(answer.number);
     print::text(b"\n");
 }
@@ -48,7 +48,7 @@ pub(crate) fn row(file: &[u8], epoch: u64, satellite: u64) {
     let answer = questions::row(file, epoch, satellite);
     let row = answer.row;
     print::text(b"row");
-    print::refusal(answer.refusal, answer.line);
+    print::refusal(answer.refusal, answer.line, answer.column);
     place(row);
     clock(row);
     print::text(b"\n");

@@ -16,10 +16,10 @@ pub(crate) struct Case {
     pub name: u64,
 }
 
-// A judgement or a reading: the refusal, its line, and the length.
+// A judgement or a reading: the refusal, its line, its column, and the length.
 pub(crate) fn told(name: &[u8], reading: Reading) {
     print::text(name);
-    print::refusal(reading.refusal, reading.line);
+    print::refusal(reading.refusal, reading.line, reading.column);
     print::value(reading.length as u64);
     print::text(b"\n");
 }

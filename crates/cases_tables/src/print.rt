@@ -32,10 +32,11 @@ pub(crate) fn signed(v: i64) {
     number(field::sign::magnitude_of(v));
 }
 
-// A refusal and its line.
-pub(crate) fn refusal(refusal: usize, line: u64) {
+// A refusal, its line and its column.
+pub(crate) fn refusal(refusal: usize, line: u64, column: usize) {
     value(refusal as u64);
     value(line);
+    value(column as u64);
 }
 
 // A satellite's identifier: 7107 is G07.
