@@ -157,9 +157,9 @@ compare_functions() {
     same 'functions of include/sp3.h (<) and rust/sp3/src/ffi.rs (>) differ' "$made/by_c" "$made/found"
 }
 
-# The numbers in words are those of the table in the header, without what stands in brackets.
+# The numbers in words are those of the table in the header, without what stands in brackets and what says which column is told.
 compare_words() {
-    sed -n 's/^ \*  *\([0-9][0-9]*\)  \(.*\)$/words \1 \2/p' "$root/include/sp3.h" | sed 's/ (.*)$//' >"$made/by_c"
+    sed -n 's/^ \*  *\([0-9][0-9]*\)  \(.*\)$/words \1 \2/p' "$root/include/sp3.h" | sed -e 's/ (.*)$//' -e 's/; column: .*$//' >"$made/by_c"
     grep '^words ' "$made/by_rust" >"$made/found" || :
     same 'the numbers in words of include/sp3.h (<) and rust/sp3/src/refusal.rs (>) differ' "$made/by_c" "$made/found"
 }
