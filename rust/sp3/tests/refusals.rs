@@ -139,6 +139,8 @@ fn a_file_at_the_front_is_never_11() {
             _ => assert_eq!(front, refused(number, line, column)),
         }
         assert_eq!(Table::read_front(&file).map(|(_, length)| length), front);
+        let mut lent = Lent::marked([255, 255, 1000, 1000]);
+        assert_eq!(lent.read_front(&file).map(|reading| reading.length), front);
     }
 }
 
