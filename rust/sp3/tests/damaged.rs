@@ -95,7 +95,7 @@ fn column_by_number(file: &[u8], refusal: Refusal) {
     let line = file.split(|&byte| byte == b'\n').nth(refusal.line as usize - 1).unwrap();
     let outside = line.iter().position(|byte| !(32..=126).contains(byte));
     match refusal.number {
-        2 => assert_eq!(Some(refusal.column - 1), outside),
+        2 => assert_eq!(Some(refusal.column), outside.map(|at| at + 1)),
         3 => assert_eq!((refusal.column, outside), (81, None)),
         5..=7 => assert!((2..=80).contains(&refusal.column), "{refusal}"),
         _ => assert_eq!(refusal.column, 0),
