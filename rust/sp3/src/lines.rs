@@ -109,7 +109,8 @@ pub struct Due {
     pub instant8: Option<u64>,
     /// The satellite that the row must name; `None` where no row must come.
     pub identifier: Option<u64>,
-    /// Whether a `+ ` line stands there which names an identifier again, in itself or after the lines before it.
+    /// Of a `+ ` line that is refused with 8: whether it names an identifier again, in itself or after the lines before it. The other cause is
+    /// a slot after the last satellite. Beside any other refusal this says nothing.
     pub repeats: bool,
 }
 

@@ -2,7 +2,7 @@
 
 mod common;
 
-use common::{many, motion, night, paper};
+use common::{many, motion, night, paper, refused};
 use sp3::Due;
 
 /// What must stand after so many lines of a file, or where the walker stays before.
@@ -97,20 +97,20 @@ fn what_a_refused_line_should_have_been() {
 fn identifiers_that_repeat() {
     let twice = Due { repeats: true, ..line(3, None) };
     let within = paper().put(3, 6, "2").put(3, 13, "G07").bytes();
+    assert_eq!(sp3::judge(&within), refused(8, 3, 0));
     assert_eq!(due_after(2, &within), twice);
     let text = String::from_utf8(many(18).write().unwrap()).unwrap();
     let later = text.replacen("+        G18", "+        G01", 1);
-    assert_ne!(later, text);
+    assert_eq!(sp3::judge(later.as_bytes()), refused(8, 4, 0));
     assert_eq!(due_after(2, later.as_bytes()), line(3, None));
     assert_eq!(due_after(3, later.as_bytes()), twice);
     assert_eq!(due_after(3, text.as_bytes()), line(3, None));
 }
 
-/// A slot after the last satellite names nothing, and only a `+ ` line names satellites.
+/// A slot after the last satellite is the other cause of 8 in a `+ ` line.
 #[test]
-fn what_is_no_repeat() {
+fn a_slot_that_is_no_repeat() {
     let after = paper().put(3, 13, "G07").bytes();
+    assert_eq!(sp3::judge(&after), refused(8, 3, 0));
     assert_eq!(due_after(2, &after), line(3, None));
-    let accuracies = paper().put(3, 2, "+").put(3, 6, "2").put(3, 13, "G07").bytes();
-    assert_eq!(due_after(2, &accuracies), line(3, None));
 }
