@@ -157,17 +157,18 @@ compare_functions() {
     same 'functions of include/sp3.h (<) and rust/sp3/src/ffi.rs (>) differ' "$made/by_c" "$made/found"
 }
 
-# The numbers in words are those of the table in the header, without what stands in brackets.
+# The numbers in words are those of the table in the header, without what stands in brackets and what says which column is told.
 compare_words() {
-    sed -n 's/^ \*  *\([0-9][0-9]*\)  \(.*\)$/words \1 \2/p' "$root/include/sp3.h" | sed 's/ (.*)$//' >"$made/by_c"
+    sed -n 's/^ \*  *\([0-9][0-9]*\)  \(.*\)$/words \1 \2/p' "$root/include/sp3.h" | sed -e 's/ (.*)$//' -e 's/; column: .*$//' >"$made/by_c"
     grep '^words ' "$made/by_rust" >"$made/found" || :
     same 'the numbers in words of include/sp3.h (<) and rust/sp3/src/refusal.rs (>) differ' "$made/by_c" "$made/found"
 }
 
-# Files beside the sample: one that ends too early, one of no bytes, one whose place is absent and whose clock is 0.
+# Files beside the sample: one that ends too early, one with seven places in x, one of no bytes, one whose place is absent and whose clock is 0.
 make_files() {
     sample=$root/samples/paper.sp3
     head -n 21 "$sample" >"$made/short.sp3"
+    sed 's/  5000\.000001/ 5000.0000001/' "$sample" >"$made/places.sp3"
     : >"$made/empty.sp3"
     zero='      0.000000'
     sed "s/^PG07.*/PG07$zero$zero$zero$zero/" "$sample" >"$made/withdrawn.sp3"
@@ -180,6 +181,8 @@ run_example() {
     answers "$name" 0 "$expected" "$@" "$sample"
     answers "$name, refused" 1 /dev/null "$@" "$made/short.sp3"
     grep -q "^$made/short.sp3: refused 1 line 22" "$made/said" || fail "$name: no refusal in words"
+    answers "$name, refused with a column" 1 /dev/null "$@" "$made/places.sp3"
+    grep -q "^$made/places.sp3: refused 6 line 24 column 5" "$made/said" || fail "$name: no column of a refusal"
     answers "$name, no bytes" 1 /dev/null "$@" "$made/empty.sp3"
     answers "$name, no file" 2 /dev/null "$@" "$made/nothing.sp3"
     answers "$name, a folder" 2 /dev/null "$@" "$made"

@@ -3,9 +3,10 @@
  *   answers files LIST     LIST names two files to a line, with a TAB between them: a case, and the form in which it should be written
  *   answers calls PAPER    calls on the paper's file (calls.c)
  *
- * A file is `refused N line L`, with ` column C` where it is not 0, or `accepted written|other row X Y Z CLOCK note ..`: whether its
+ * A file is `refused N line L`, with ` column C` where the refusal names one, or `accepted written|other row X Y Z CLOCK note ..`: whether its
  * canonical form is the second file, the row of epoch 0 and satellite 0, and what its stored row says of the EP line after it, in mode V also what
- * the V row says of the EV line (`note ..` again): `none`, or four deviations and six correlations, `-` for unknown, `large` for too large. */
+ * the V row says of the EV line (`note ..` again): `none`, or four deviations and six correlations, `-` for unknown, `large` for too large. The line
+ * reader must find the same refusal in the same line and column. */
 #include "sp3.h"
 #include "stretch.h"
 
@@ -54,27 +55,25 @@ stretch_t load(const char *path)
     return all;
 }
 
-/* The column of the first faulty line by the line reader, which must find the same refusal at the same line; 0 where it names none. */
-static size_t column_of(stretch_t file, sp3_reading_t judged, const char *path)
+/* Whether the line reader finds the same refusal at the same line and column; bytes after EOF are none of its concern. */
+static bool same_by_lines(stretch_t file, sp3_reading_t judged)
 {
     uint64_t identifiers[MOST_SATELLITES] = {0};
     sp3_spot_t spot = sp3_first_spot();
     for (uint64_t line = 1;; line++) {
         sp3_line_answer_t answer = sp3_read_line(file.bytes, file.length, spot, identifiers, MOST_SATELLITES);
-        if (answer.finished && judged.refusal == 11 && judged.line == line + 1)
-            return 0;
-        if (answer.refusal == judged.refusal && judged.line == line)
-            return answer.column;
-        if (answer.finished || answer.refusal != 0)
-            stop("the line reader finds another refusal", path);
+        if (answer.finished)
+            return judged.refusal == 11 && judged.line == line + 1 && judged.column == 0;
+        if (answer.refusal != 0)
+            return answer.refusal == judged.refusal && judged.line == line && answer.column == judged.column;
         spot = answer.next;
     }
 }
 
 static void print_refusal(stretch_t file, sp3_reading_t judged, const char *path)
 {
-    if (column_of(file, judged, path) != judged.column)
-        stop("the line reader finds another column", path);
+    if (!same_by_lines(file, judged))
+        stop("the line reader finds another refusal", path);
     printf("refused %zu line %llu", judged.refusal, (unsigned long long)judged.line);
     if (judged.column != 0)
         printf(" column %zu", judged.column);

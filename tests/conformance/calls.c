@@ -1,5 +1,6 @@
-/* Calls on the paper's file and on bytes made from it, for tests/conformance.sh: a line `NAME accepted`, `NAME refused N` or `NAME refused N line L`
- * to each. The answers that must come are in calls.txt. */
+/* Calls on the paper's file and on bytes made from it, for tests/conformance.sh: a line `NAME accepted` or `NAME refused N` to each, with ` line L`
+ * where the answer has a line and ` column C` where the refusal names one; to each call of sp3_due a line `NAME due KIND`, with ` also KIND`,
+ * ` instant8 T`, ` identifier S` and ` repeats` where the answer has them. The answers that must come are in calls.txt. */
 #include "sp3.h"
 #include "stretch.h"
 
@@ -18,20 +19,26 @@ enum { AS_READ, EXPONENT_1000, IDENTIFIER_00, THREE_COMMENTS, CLOCK_LARGE, FLAG_
        DEVIATION_9999, DEVIATION_10000, DEVIATION_MINUS, CLOCK_DEVIATION_LARGE, CORRELATION_LARGE, CORRELATION_MINUS_LARGE,
        CORRELATION_MINUS_UNKNOWN };
 
-/* An answer; `line` is -1 where the function tells none. */
+/* An answer; `line` is -1 where the function tells none, `column` is 0 where it tells none or the refusal names none. */
 typedef struct {
     size_t refusal;
     long line;
+    size_t column;
 } answer_t;
 
-static answer_t at_line(size_t refusal, uint64_t line)
+static answer_t at_place(size_t refusal, uint64_t line, size_t column)
 {
-    return (answer_t){refusal, (long)line};
+    return (answer_t){refusal, (long)line, column};
+}
+
+static answer_t in_line(sp3_line_answer_t line)
+{
+    return (answer_t){line.refusal, -1, line.column};
 }
 
 static answer_t alone(size_t refusal)
 {
-    return (answer_t){refusal, -1};
+    return (answer_t){refusal, -1, 0};
 }
 
 /* The paper's table, with room for one epoch more. */
@@ -83,6 +90,31 @@ static stretch_t damaged(stretch_t paper)
     return file;
 }
 
+/* The row's x has a letter for its last digit. */
+static stretch_t misspelt(stretch_t paper)
+{
+    stretch_t file = followed_by(paper, "", 0);
+    file.bytes[file.length - ROW_FROM_END + 17] = 'x';
+    return file;
+}
+
+/* The paper's file, and then that one. */
+static stretch_t then_misspelt(stretch_t paper)
+{
+    stretch_t both = twice(paper);
+    both.bytes[both.length - ROW_FROM_END + 17] = 'x';
+    return both;
+}
+
+/* The `+ ` line has two satellites, and both are G07. */
+static stretch_t repeated(stretch_t paper)
+{
+    stretch_t file = followed_by(paper, "", 0);
+    file.bytes[IDENTIFIERS_LINE + 5] = '2';
+    memcpy(file.bytes + IDENTIFIERS_LINE + 12, "G07", 3);
+    return file;
+}
+
 /* The `+ ` line has `G 7`. */
 static stretch_t unnamed(stretch_t paper)
 {
@@ -99,14 +131,14 @@ static answer_t read_into(stretch_t file, const size_t *with)
     table_t t;
     sp3_reading_t r = (with[3] == 1 ? sp3_read_front : sp3_read)(file.bytes, file.length, t.identifiers, with[0], t.exponents, with[0],
                                                                  t.comments, with[1], t.rows, with[2]);
-    return at_line(r.refusal, r.line);
+    return at_place(r.refusal, r.line, r.column);
 }
 
 static answer_t judge_front(stretch_t file, const size_t *with)
 {
     (void)with;
     sp3_reading_t r = sp3_judge_front(file.bytes, file.length);
-    return at_line(r.refusal, r.line);
+    return at_place(r.refusal, r.line, r.column);
 }
 
 /* with: identifiers */
@@ -114,7 +146,7 @@ static answer_t begin_into(stretch_t file, const size_t *with)
 {
     uint64_t identifiers[IDENTIFIERS];
     sp3_reading_t r = sp3_begin(file.bytes, file.length, identifiers, with[0]);
-    return at_line(r.refusal, r.line);
+    return at_place(r.refusal, r.line, r.column);
 }
 
 /* The row has a record of which one number is known. */
@@ -177,21 +209,21 @@ static answer_t make_header(stretch_t file, const size_t *with)
 static answer_t ask_comment(stretch_t file, const size_t *with)
 {
     sp3_comment_answer_t c = sp3_comment(file.bytes, file.length, with[0]);
-    return at_line(c.refusal, c.line);
+    return at_place(c.refusal, c.line, c.column);
 }
 
 /* with: the identifier */
 static answer_t ask_satellite(stretch_t file, const size_t *with)
 {
     sp3_satellite_answer_t s = sp3_satellite_of(file.bytes, file.length, with[0]);
-    return at_line(s.refusal, s.line);
+    return at_place(s.refusal, s.line, s.column);
 }
 
 /* with: epoch, satellite */
 static answer_t ask_row(stretch_t file, const size_t *with)
 {
     sp3_row_answer_t r = sp3_row(file.bytes, file.length, with[0], with[1]);
-    return at_line(r.refusal, r.line);
+    return at_place(r.refusal, r.line, r.column);
 }
 
 /* with: numbers, the row */
@@ -255,7 +287,7 @@ static answer_t divide_into(stretch_t stretch, const size_t *with)
 {
     uint64_t lengths[2];
     sp3_division_t d = sp3_divide(stretch.bytes, stretch.length, lengths, with[0]);
-    return at_line(d.refusal, d.line);
+    return at_place(d.refusal, d.line, d.column);
 }
 
 /* with: the byte at which the line begins */
@@ -264,7 +296,7 @@ static answer_t line_at(stretch_t file, const size_t *with)
     uint64_t identifiers[IDENTIFIERS] = {0};
     sp3_spot_t spot = sp3_first_spot();
     spot.at = with[0];
-    return alone(sp3_read_line(file.bytes, file.length, spot, identifiers, IDENTIFIERS).refusal);
+    return in_line(sp3_read_line(file.bytes, file.length, spot, identifiers, IDENTIFIERS));
 }
 
 /* with: how many lines the walker may pass before the line is read, identifiers */
@@ -272,7 +304,15 @@ static answer_t line_after(stretch_t file, const size_t *with)
 {
     uint64_t identifiers[IDENTIFIERS] = {0};
     sp3_spot_t spot = sp3_after_lines(file.bytes, file.length, identifiers, with[1], sp3_first_spot(), with[0]);
-    return alone(sp3_read_line(file.bytes, file.length, spot, identifiers, with[1]).refusal);
+    return in_line(sp3_read_line(file.bytes, file.length, spot, identifiers, with[1]));
+}
+
+/* with: how many lines the walker may pass before the line is read, by the identifier that it has for the file's */
+static answer_t line_known_after(stretch_t file, const size_t *with)
+{
+    uint64_t learnt[IDENTIFIERS] = {0}, identifiers[IDENTIFIERS] = {with[1]};
+    sp3_spot_t spot = sp3_after_lines(file.bytes, file.length, learnt, IDENTIFIERS, sp3_first_spot(), with[0]);
+    return in_line(sp3_next_line(file.bytes, file.length, identifiers, IDENTIFIERS, spot));
 }
 
 /* with: the identifier that the walk takes for the file's */
@@ -280,7 +320,7 @@ static answer_t walk_with(stretch_t file, const size_t *with)
 {
     uint64_t identifiers[IDENTIFIERS] = {with[0]};
     sp3_row_step_t s = sp3_next_row(file.bytes, file.length, identifiers, IDENTIFIERS, sp3_first_row());
-    return at_line(s.refusal, s.line);
+    return at_place(s.refusal, s.line, s.column);
 }
 
 static const struct {
@@ -295,11 +335,15 @@ static const struct {
     {"read-short-rows", itself, read_into, {IDENTIFIERS, TEXT, NUMBERS - 1}},
     {"read-rows-12", itself, read_into, {IDENTIFIERS, TEXT, 12}},
     {"read-refused-short", damaged, read_into, {0}},
+    {"read-column", misspelt, read_into, {IDENTIFIERS, TEXT, NUMBERS}},
     {"read-after-end-short", with_more, read_into, {0}},
     {"front-after-end", with_more, judge_front, {0}},
+    {"front-column", misspelt, judge_front, {0}},
+    {"front-read-column", misspelt, read_into, {IDENTIFIERS, TEXT, NUMBERS, 1}},
     {"front-short", with_more, read_into, {IDENTIFIERS, TEXT, NUMBERS - 1, 1}},
     {"begin-exact", itself, begin_into, {IDENTIFIERS}},
     {"begin-short", itself, begin_into, {IDENTIFIERS - 1}},
+    {"begin-column", misspelt, begin_into, {IDENTIFIERS}},
     {"write-exact", itself, write_into, {AS_READ, IDENTIFIERS, LENGTH}},
     {"write-short", itself, write_into, {AS_READ, IDENTIFIERS, LENGTH - 1}},
     {"write-exponent-1000", itself, write_into, {EXPONENT_1000, IDENTIFIERS, ROOM}},
@@ -331,6 +375,9 @@ static const struct {
     {"ask-comment-4", itself, ask_comment, {4}},
     {"ask-refused-file", damaged, ask_comment, {4}},
     {"ask-after-end", with_more, ask_comment, {4}},
+    {"ask-comment-column", misspelt, ask_comment, {0}},
+    {"ask-satellite-column", misspelt, ask_satellite, {'G' * 100 + 7}},
+    {"ask-row-column", misspelt, ask_row, {0, 0}},
     {"ask-satellite-g08", itself, ask_satellite, {'G' * 100 + 8}},
     {"ask-row-epoch-1", itself, ask_row, {1, 0}},
     {"ask-row-satellite-1", itself, ask_row, {0, 1}},
@@ -351,13 +398,67 @@ static const struct {
     {"divide-short", twice, divide_into, {1}},
     {"divide-rest", with_more, divide_into, {1}},
     {"divide-refused-first", damaged, divide_into, {0}},
+    {"divide-column", then_misspelt, divide_into, {1}},
     {"walk-line-at-end", itself, line_at, {LENGTH}},
     {"walk-identifiers-exact", itself, line_after, {2, IDENTIFIERS}},
     {"walk-identifiers-short", itself, line_after, {ALL_LINES, IDENTIFIERS - 1}},
     {"walk-identifiers-faulty-short", unnamed, line_after, {ALL_LINES, IDENTIFIERS - 1}},
     {"walk-other-row", damaged, line_after, {ALL_LINES, IDENTIFIERS}},
     {"walk-other-identifiers", itself, walk_with, {'G' * 100 + 8}},
+    {"walk-line-column", misspelt, line_after, {ALL_LINES, IDENTIFIERS}},
+    {"walk-known-column", misspelt, line_known_after, {ALL_LINES, 'G' * 100 + 7}},
+    {"walk-row-column", misspelt, walk_with, {'G' * 100 + 7}},
 };
+
+/* What must stand where the walker is after so many lines. */
+static const struct {
+    const char *name;
+    stretch_t (*made)(stretch_t paper);
+    size_t lines;
+} dues[] = {
+    {"due-line-1", itself, 0},
+    {"due-line-2", itself, 1},
+    {"due-line-3", itself, 2},
+    {"due-line-8", itself, 7},
+    {"due-line-13", itself, 12},
+    {"due-line-15", itself, 14},
+    {"due-line-17", itself, 16},
+    {"due-comment", itself, 21},
+    {"due-epoch", itself, 22},
+    {"due-row", itself, 23},
+    {"due-end", itself, 24},
+    {"due-other-row", damaged, ALL_LINES},
+    {"due-repeats", repeated, ALL_LINES},
+};
+
+static void print_due(size_t k, stretch_t file)
+{
+    uint64_t identifiers[IDENTIFIERS] = {0};
+    sp3_spot_t spot = sp3_after_lines(file.bytes, file.length, identifiers, IDENTIFIERS, sp3_first_spot(), dues[k].lines);
+    sp3_due_t due = sp3_due(file.bytes, file.length, identifiers, IDENTIFIERS, spot);
+    printf("%s due %llu", dues[k].name, (unsigned long long)due.kind);
+    if (due.also != 0)
+        printf(" also %llu", (unsigned long long)due.also);
+    if (due.instant8 != 0)
+        printf(" instant8 %llu", (unsigned long long)due.instant8);
+    if (due.identifier != 0)
+        printf(" identifier %llu", (unsigned long long)due.identifier);
+    printf("%s\n", due.repeats ? " repeats" : "");
+}
+
+static void print_answer(const char *name, answer_t a)
+{
+    if (a.refusal == 0) {
+        printf("%s accepted\n", name);
+        return;
+    }
+    printf("%s refused %zu", name, a.refusal);
+    if (a.line >= 0)
+        printf(" line %ld", a.line);
+    if (a.column != 0)
+        printf(" column %zu", a.column);
+    printf("\n");
+}
 
 void print_calls(stretch_t paper)
 {
@@ -365,13 +466,8 @@ void print_calls(stretch_t paper)
         fprintf(stderr, "answers: calls are made on the paper's file, which has %d bytes\n", LENGTH);
         exit(2);
     }
-    for (size_t k = 0; k < sizeof calls / sizeof calls[0]; k++) {
-        answer_t a = calls[k].call(calls[k].made(paper), calls[k].with);
-        if (a.refusal == 0)
-            printf("%s accepted\n", calls[k].name);
-        else if (a.line < 0)
-            printf("%s refused %zu\n", calls[k].name, a.refusal);
-        else
-            printf("%s refused %zu line %ld\n", calls[k].name, a.refusal, a.line);
-    }
+    for (size_t k = 0; k < sizeof calls / sizeof calls[0]; k++)
+        print_answer(calls[k].name, calls[k].call(calls[k].made(paper), calls[k].with));
+    for (size_t k = 0; k < sizeof dues / sizeof dues[0]; k++)
+        print_due(k, dues[k].made(paper));
 }

@@ -78,6 +78,7 @@ pub struct Header {
 pub struct Reading {
     pub refusal: usize,
     pub line: u64,
+    pub column: usize,
     pub length: usize,
     pub header: Header,
 }
@@ -185,6 +186,7 @@ pub struct Division {
     pub rest: usize,
     pub refusal: usize,
     pub line: u64,
+    pub column: usize,
 }
 
 // ---- Questions about one whole file ----
@@ -193,6 +195,7 @@ pub struct Division {
 pub struct CommentAnswer {
     pub refusal: usize,
     pub line: u64,
+    pub column: usize,
     pub at: usize,
     pub length: usize,
 }
@@ -201,6 +204,7 @@ pub struct CommentAnswer {
 pub struct SatelliteAnswer {
     pub refusal: usize,
     pub line: u64,
+    pub column: usize,
     pub number: u64,
 }
 
@@ -218,6 +222,7 @@ pub struct Row {
 pub struct RowAnswer {
     pub refusal: usize,
     pub line: u64,
+    pub column: usize,
     pub row: Row,
 }
 
@@ -272,6 +277,15 @@ pub struct LineAnswer {
     pub next: Spot,
 }
 
+#[repr(C)]
+pub struct Due {
+    pub kind: u64,
+    pub also: u64,
+    pub instant8: u64,
+    pub identifier: u64,
+    pub repeats: bool,
+}
+
 // ---- A file row by row ----
 
 /// Between two rows of a walk. [`first_row`](crate::first_row) makes the first one, [`next_row`](crate::next_row) leads on from it.
@@ -286,6 +300,7 @@ pub struct RowWalk {
 pub struct RowStep {
     pub refusal: usize,
     pub line: u64,
+    pub column: usize,
     pub end: bool,
     pub epoch: u64,
     pub satellite: u64,
@@ -396,6 +411,13 @@ unsafe extern "C" {
         identifier_count: usize,
         spot: Spot,
     ) -> LineAnswer;
+    pub fn sp3_due(
+        file: *const u8,
+        length: usize,
+        identifiers: *const u64,
+        identifier_count: usize,
+        spot: Spot,
+    ) -> Due;
     pub fn sp3_after_lines(
         file: *const u8,
         length: usize,

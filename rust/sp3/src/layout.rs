@@ -78,7 +78,7 @@ structs! {
     sp3_header_t = Header {
         velocity start8 epochs interval8 texts satellites comments file_type time_system bases
     }
-    sp3_reading_t = Reading { refusal line length header }
+    sp3_reading_t = Reading { refusal line column length header }
     sp3_measured_t = Measured { refusal length }
     sp3_header_parts_t = HeaderParts {
         mode start epochs interval8 texts satellites comments file_type time_system bases
@@ -91,18 +91,19 @@ structs! {
     sp3_stored_note_t = StoredNote { refusal stands }
     sp3_note_deviation_t = NoteDeviation { refusal no_record unknown too_large value }
     sp3_note_correlation_t = NoteCorrelation { refusal no_record unknown value }
-    sp3_division_t = Division { count rest refusal line }
-    sp3_comment_answer_t = CommentAnswer { refusal line at length }
-    sp3_satellite_answer_t = SatelliteAnswer { refusal line number }
+    sp3_division_t = Division { count rest refusal line column }
+    sp3_comment_answer_t = CommentAnswer { refusal line column at length }
+    sp3_satellite_answer_t = SatelliteAnswer { refusal line column number }
     sp3_row_t = Row { x y z clock place_absent clock_absent }
-    sp3_row_answer_t = RowAnswer { refusal line row }
+    sp3_row_answer_t = RowAnswer { refusal line column row }
     sp3_date_answer_t = DateAnswer { refusal mjd week seconds }
     sp3_moment_answer_t = MomentAnswer { refusal moment }
     sp3_state_t = State { due also lines left comments velocity satellites epochs at8 gap8 interval8 }
     sp3_spot_t = Spot { at state }
     sp3_line_answer_t = LineAnswer { refusal column finished next }
+    sp3_due_t = Due { kind also instant8 identifier repeats }
     sp3_row_walk_t = RowWalk { spot passed }
-    sp3_row_step_t = RowStep { refusal line end epoch satellite row next }
+    sp3_row_step_t = RowStep { refusal line column end epoch satellite row next }
 }
 
 /// A function as C declares it.
@@ -164,6 +165,7 @@ functions! {
     sp3_first_spot()
     sp3_read_line(_ _ _ _ _)
     sp3_next_line(_ _ _ _ _)
+    sp3_due(_ _ _ _ _)
     sp3_after_lines(_ _ _ _ _ _)
     sp3_begin(_ _ _ _)
     sp3_first_row()

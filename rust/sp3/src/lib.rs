@@ -27,7 +27,7 @@
 //! **Correlation records.** What an EP line says of the P row before it, and an EV line of the V row before it, is the row's [`Note`]: `None`
 //! where no such line stands, and in it `None` for what is unknown; neither is 0.
 //!
-//! **Refusals.** [`Refusal`] has the number in the paper's table, 1 to 13, and the line; [`words`] says what each number means.
+//! **Refusals.** [`Refusal`] has the number in the paper's table, 1 to 13, the line and the column; [`words`] says what each number means.
 //!
 //! **Threads.** No function keeps a state: an answer follows from what the call is given. So they may be called from several threads at once, each
 //! call with lent memory of its own; what is borrowed shared, such as a file's bytes, may be lent to several calls at the same time.
@@ -52,7 +52,7 @@ mod walk;
 mod writing;
 
 pub use ffi::{Bases, Header, HeaderParts, Moment, RowWalk, Spot, Texts};
-pub use lines::{after_lines, first_spot, next_line, read_line, Line};
+pub use lines::{after_lines, due, first_spot, next_line, read_line, Due, Line};
 pub use notes::{note_correlation_of, note_deviation_of, note_of, Deviation, Note};
 pub use questions::{
     comment, comment_answer, date, identifier, identifier_text, moment, row, satellite_of, Date,

@@ -97,6 +97,64 @@ pub fn next_line(file: &[u8], identifiers: &[u64], spot: Spot) -> Result<Line, L
     answer.told()
 }
 
+/// What must stand at a spot.
+#[derive(Clone, Copy, Debug, PartialEq, Eq, Hash)]
+pub struct Due {
+    /// The kind of line that must come: 1 `#d`, 2 `##`, 3 `+ `, 4 `++`, 5 `%c`, 6 `%f`, 7 `%i`, 8 comment, 9 epoch, 10 P, 11 V, 12 EP, 13 EV,
+    /// 14 `EOF`.
+    pub kind: u64,
+    /// The kind that may stand there before it.
+    pub also: Option<u64>,
+    /// The instant at which the epoch must stand, in 10^-8 s since MJD 0; `None` where no epoch must come.
+    pub instant8: Option<u64>,
+    /// The satellite that the row must name; `None` where no row must come.
+    pub identifier: Option<u64>,
+    /// Of a `+ ` line that is refused with 8: whether it names an identifier again, in itself or after the lines before it. The other cause is
+    /// a slot after the last satellite. Beside any other refusal this says nothing.
+    pub repeats: bool,
+}
+
+impl ffi::Due {
+    /// The answer with what there is not as `None`.
+    fn told(self) -> Due {
+        let there = |number: u64| (number != 0).then_some(number);
+        Due {
+            kind: self.kind,
+            also: there(self.also),
+            instant8: there(self.instant8),
+            identifier: there(self.identifier),
+            repeats: self.repeats,
+        }
+    }
+}
+
+/// What a refused line should have been: with the spot before that line ([`after_lines`], one line fewer than its number) and the identifiers
+/// that the lines before it left.
+///
+/// ```
+/// let file = include_str!("../../../samples/paper.sp3").replace("PG07", "PG08");
+/// let refusal = sp3::judge(file.as_bytes()).unwrap_err();
+/// assert_eq!((refusal.number, refusal.line), (10, 24));
+///
+/// let mut identifiers = [0; 255];
+/// let row = sp3::after_lines(file.as_bytes(), &mut identifiers, sp3::first_spot(), 23);
+/// let due = sp3::due(file.as_bytes(), &identifiers, row);
+/// assert_eq!((due.kind, due.also), (10, None));
+/// assert_eq!(due.identifier, sp3::identifier("G07"));
+///
+/// let epoch = sp3::after_lines(file.as_bytes(), &mut identifiers, sp3::first_spot(), 22);
+/// let due = sp3::due(file.as_bytes(), &identifiers, epoch);
+/// assert_eq!((due.kind, due.also), (9, Some(8)));
+/// assert_eq!(due.instant8, Some(56385 * 86_400 * 100_000_000));
+/// ```
+pub fn due(file: &[u8], identifiers: &[u64], spot: Spot) -> Due {
+    // SAFETY: each pointer and its number are of one slice.
+    let answer = unsafe {
+        ffi::sp3_due(file.as_ptr(), file.len(), identifiers.as_ptr(), identifiers.len(), spot)
+    };
+    answer.told()
+}
+
 /// The spot so many lines further, each line read as by [`read_line`]. Afterwards `identifiers` (255 places suffice) holds those of the
 /// `+ ` lines that were passed; to go on from there lend it as it is. The spot stays at a line that is refused, with 12 too, and at the EOF
 /// line.

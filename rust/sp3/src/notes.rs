@@ -32,13 +32,13 @@ pub struct Note {
 /// assert_eq!(note.deviations, [55, 55, 55, 222].map(|value| Some(sp3::Deviation::Value(value))));
 /// assert_eq!(note.correlations, [1234567, -1234567, 5999999, -30, 21, -1230000].map(Some));
 /// assert_eq!(sp3::note_of(&[0; 45], 0)?, None);
-/// assert_eq!(sp3::note_of(&[0; 45], 1), Err(sp3::Refusal { number: 13, line: 0 }));
+/// assert_eq!(sp3::note_of(&[0; 45], 1), Err(sp3::Refusal { number: 13, line: 0, column: 0 }));
 /// # Ok::<(), sp3::Refusal>(())
 /// ```
 pub fn note_of(rows: &[i64], k: usize) -> Result<Option<Note>, Refusal> {
     // SAFETY: pointer and number are of one slice.
     let answer = unsafe { ffi::sp3_note_of(rows.as_ptr(), rows.len(), k) };
-    accepted(answer.refusal, 0)?;
+    accepted(answer.refusal, 0, 0)?;
     if !answer.stands {
         return Ok(None);
     }
@@ -65,7 +65,7 @@ pub fn note_of(rows: &[i64], k: usize) -> Result<Option<Note>, Refusal> {
 /// assert_eq!(sp3::note_deviation_of(&rows, 0, 3)?, Some(Value(0)));
 /// rows[16] = 9_999_999;
 /// assert_eq!(sp3::note_deviation_of(&rows, 0, 3)?, Some(TooLarge));
-/// assert_eq!(sp3::note_deviation_of(&rows, 0, 4), Err(sp3::Refusal { number: 13, line: 0 }));
+/// assert_eq!(sp3::note_deviation_of(&rows, 0, 4), Err(sp3::Refusal { number: 13, line: 0, column: 0 }));
 /// # Ok::<(), sp3::Refusal>(())
 /// ```
 pub fn note_deviation_of(
@@ -75,7 +75,7 @@ pub fn note_deviation_of(
 ) -> Result<Option<Deviation>, Refusal> {
     // SAFETY: pointer and number are of one slice.
     let answer = unsafe { ffi::sp3_note_deviation_of(rows.as_ptr(), rows.len(), k, which) };
-    accepted(answer.refusal, 0)?;
+    accepted(answer.refusal, 0, 0)?;
     let deviation = match answer.too_large {
         true => Deviation::TooLarge,
         false => Deviation::Value(answer.value),
@@ -94,13 +94,13 @@ pub fn note_deviation_of(
 /// rows[12] = 1; // a record stands there
 /// rows[22] = -1_230_000;
 /// assert_eq!(sp3::note_correlation_of(&rows, 0, 5)?, Some(-1_230_000));
-/// assert_eq!(sp3::note_correlation_of(&rows, 0, 6), Err(sp3::Refusal { number: 13, line: 0 }));
+/// assert_eq!(sp3::note_correlation_of(&rows, 0, 6), Err(sp3::Refusal { number: 13, line: 0, column: 0 }));
 /// # Ok::<(), sp3::Refusal>(())
 /// ```
 pub fn note_correlation_of(rows: &[i64], k: usize, which: usize) -> Result<Option<i64>, Refusal> {
     // SAFETY: pointer and number are of one slice.
     let answer = unsafe { ffi::sp3_note_correlation_of(rows.as_ptr(), rows.len(), k, which) };
-    accepted(answer.refusal, 0)?;
+    accepted(answer.refusal, 0, 0)?;
     Ok((!answer.no_record && !answer.unknown).then_some(answer.value))
 }
 

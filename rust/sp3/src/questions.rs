@@ -13,13 +13,13 @@ use std::ops::Range;
 /// let file = include_bytes!("../../../samples/paper.sp3");
 /// let stretch = sp3::comment_answer(file, 0)?;
 /// assert_eq!(&file[stretch], b"ONE ROW");
-/// assert_eq!(sp3::comment_answer(file, 4), Err(sp3::Refusal { number: 13, line: 0 }));
+/// assert_eq!(sp3::comment_answer(file, 4), Err(sp3::Refusal { number: 13, line: 0, column: 0 }));
 /// # Ok::<(), sp3::Refusal>(())
 /// ```
 pub fn comment_answer(file: &[u8], k: u64) -> Result<Range<usize>, Refusal> {
     // SAFETY: pointer and number are of one slice.
     let answer = unsafe { ffi::sp3_comment(file.as_ptr(), file.len(), k) };
-    accepted(answer.refusal, answer.line)?;
+    accepted(answer.refusal, answer.line, answer.column)?;
     Ok(answer.at..answer.at.saturating_add(answer.length))
 }
 
@@ -31,7 +31,7 @@ pub fn comment_answer(file: &[u8], k: u64) -> Result<Range<usize>, Refusal> {
 /// let file = include_bytes!("../../../samples/paper.sp3");
 /// assert_eq!(sp3::comment(file, 0)?, b"ONE ROW");
 /// assert_eq!(sp3::comment(file, 1)?, b"");
-/// assert_eq!(sp3::comment(file, 4), Err(sp3::Refusal { number: 13, line: 0 }));
+/// assert_eq!(sp3::comment(file, 4), Err(sp3::Refusal { number: 13, line: 0, column: 0 }));
 /// # Ok::<(), sp3::Refusal>(())
 /// ```
 pub fn comment(file: &[u8], k: u64) -> Result<&[u8], Refusal> {
@@ -75,13 +75,13 @@ pub fn identifier_text(number: u64) -> Option<String> {
 /// ```
 /// let file = include_bytes!("../../../samples/paper.sp3");
 /// assert_eq!(sp3::satellite_of(file, 7107)?, 0);
-/// assert_eq!(sp3::satellite_of(file, 7108), Err(sp3::Refusal { number: 13, line: 0 }));
+/// assert_eq!(sp3::satellite_of(file, 7108), Err(sp3::Refusal { number: 13, line: 0, column: 0 }));
 /// # Ok::<(), sp3::Refusal>(())
 /// ```
 pub fn satellite_of(file: &[u8], identifier: u64) -> Result<u64, Refusal> {
     // SAFETY: pointer and number are of one slice.
     let answer = unsafe { ffi::sp3_satellite_of(file.as_ptr(), file.len(), identifier) };
-    accepted(answer.refusal, answer.line)?;
+    accepted(answer.refusal, answer.line, answer.column)?;
     Ok(answer.number)
 }
 
@@ -114,13 +114,13 @@ impl ffi::Row {
 /// let row = sp3::row(file, 0, 0)?;
 /// assert_eq!(row.place, Some([5_000_000_001.0, -500_000.0, 0.0]));
 /// assert_eq!(row.clock, None);
-/// assert_eq!(sp3::row(file, 1, 0), Err(sp3::Refusal { number: 13, line: 0 }));
+/// assert_eq!(sp3::row(file, 1, 0), Err(sp3::Refusal { number: 13, line: 0, column: 0 }));
 /// # Ok::<(), sp3::Refusal>(())
 /// ```
 pub fn row(file: &[u8], epoch: u64, satellite: u64) -> Result<Row, Refusal> {
     // SAFETY: pointer and number are of one slice.
     let answer = unsafe { ffi::sp3_row(file.as_ptr(), file.len(), epoch, satellite) };
-    accepted(answer.refusal, answer.line)?;
+    accepted(answer.refusal, answer.line, answer.column)?;
     Ok(answer.row.told())
 }
 
@@ -141,12 +141,12 @@ pub struct Date {
 ///
 /// ```
 /// assert_eq!(sp3::date(2013, 4, 3)?, sp3::Date { mjd: 56385, week: 1734, seconds: 259_200 });
-/// assert_eq!(sp3::date(2001, 2, 29), Err(sp3::Refusal { number: 7, line: 0 }));
+/// assert_eq!(sp3::date(2001, 2, 29), Err(sp3::Refusal { number: 7, line: 0, column: 0 }));
 /// # Ok::<(), sp3::Refusal>(())
 /// ```
 pub fn date(year: u64, month: u64, day: u64) -> Result<Date, Refusal> {
     let answer = ffi::sp3_date(year, month, day);
-    accepted(answer.refusal, 0)?;
+    accepted(answer.refusal, 0, 0)?;
     Ok(Date { mjd: answer.mjd, week: answer.week, seconds: answer.seconds })
 }
 
@@ -159,11 +159,11 @@ pub fn date(year: u64, month: u64, day: u64) -> Result<Date, Refusal> {
 /// let instant = sp3::moment((56385 * 86_400 + 3_661) * second)?;
 /// assert_eq!((instant.year, instant.month, instant.day), (2013, 4, 3));
 /// assert_eq!((instant.hour, instant.minute, instant.second8), (1, 1, second));
-/// assert_eq!(sp3::moment(0), Err(sp3::Refusal { number: 7, line: 0 }));
+/// assert_eq!(sp3::moment(0), Err(sp3::Refusal { number: 7, line: 0, column: 0 }));
 /// # Ok::<(), sp3::Refusal>(())
 /// ```
 pub fn moment(instant8: u64) -> Result<Moment, Refusal> {
     let answer = ffi::sp3_moment(instant8);
-    accepted(answer.refusal, 0)?;
+    accepted(answer.refusal, 0, 0)?;
     Ok(answer.moment)
 }

@@ -16,7 +16,7 @@ pub struct Reading {
 impl ffi::Reading {
     /// The answer as a result.
     pub(crate) fn told(self) -> Result<Reading, Refusal> {
-        accepted(self.refusal, self.line)?;
+        accepted(self.refusal, self.line, self.column)?;
         Ok(Reading { length: self.length, header: self.header })
     }
 }
@@ -31,7 +31,7 @@ impl ffi::Reading {
 /// assert_eq!(reading.header.satellites, 1);
 ///
 /// let longer = [&file[..], b" "].concat();
-/// assert_eq!(sp3::judge(&longer), Err(sp3::Refusal { number: 11, line: 26 }));
+/// assert_eq!(sp3::judge(&longer), Err(sp3::Refusal { number: 11, line: 26, column: 0 }));
 /// # Ok::<(), sp3::Refusal>(())
 /// ```
 pub fn judge(file: &[u8]) -> Result<Reading, Refusal> {
@@ -113,7 +113,7 @@ fn read_by(
 /// assert_eq!(sp3::place_of(&rows, 0)?, Some([5_000_000_001, -500_000, 0]));
 ///
 /// let refused = sp3::read(file, &mut identifiers, &mut exponents, &mut comments, &mut rows[1..]);
-/// assert_eq!(refused, Err(sp3::Refusal { number: 12, line: 0 }));
+/// assert_eq!(refused, Err(sp3::Refusal { number: 12, line: 0, column: 0 }));
 /// # Ok::<(), sp3::Refusal>(())
 /// ```
 pub fn read(
@@ -139,7 +139,7 @@ pub fn read(
 /// assert_eq!(reading.length, file.len());
 ///
 /// let refused = sp3::read_front(&stretch, &mut [], &mut exponents, &mut comments, &mut rows);
-/// assert_eq!(refused, Err(sp3::Refusal { number: 12, line: 0 }));
+/// assert_eq!(refused, Err(sp3::Refusal { number: 12, line: 0, column: 0 }));
 /// # Ok::<(), sp3::Refusal>(())
 /// ```
 pub fn read_front(

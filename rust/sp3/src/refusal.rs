@@ -32,11 +32,20 @@ pub fn words(number: u8) -> &'static str {
 
 /// Why something was refused. Whatever was lent is then as it was before.
 ///
-/// The first faulty line of a file decides, in a line the lowest number. 13 and then 12 come after all other numbers.
+/// The first faulty line of a file decides, in a line the lowest number, of several faults with that number the leftmost. 13 and then 12 come
+/// after all other numbers. In words a column of 0 is left out.
 ///
 /// ```
+/// let file = include_str!("../../../samples/paper.sp3").replace("  5000.000001", " 5000.0000001");
+/// let refusal = sp3::judge(file.as_bytes()).unwrap_err();
+/// assert_eq!(refusal, sp3::Refusal { number: 6, line: 24, column: 5 });
+/// assert_eq!(
+///     refusal.to_string(),
+///     "refused 6 line 24 column 5: a field is malformed, or a letter, file type or time system is not listed"
+/// );
+///
 /// let refusal = sp3::judge(b"").unwrap_err();
-/// assert_eq!(refusal, sp3::Refusal { number: 1, line: 1 });
+/// assert_eq!(refusal, sp3::Refusal { number: 1, line: 1, column: 0 });
 /// assert_eq!(
 ///     refusal.to_string(),
 ///     "refused 1 line 1: no line end is left before the file's EOF line is complete"
@@ -48,18 +57,22 @@ pub struct Refusal {
     pub number: u8,
     /// The line, counted from 1; 0 where the refusal names none.
     pub line: u64,
+    /// The column in that line, counted from 1; 0 where the refusal names none. Of 2 the byte itself, also past column 80; of 3 column 81; of 5
+    /// the unused column or the placeholder's first; of 6 and 7 the field's first, 4 for year, month and day.
+    pub column: usize,
 }
 
 impl fmt::Display for Refusal {
     fn fmt(&self, out: &mut fmt::Formatter<'_>) -> fmt::Result {
-        write!(out, "refused {} line {}: {}", self.number, self.line, words(self.number))
+        write!(out, "refused {} line {}", self.number, self.line)?;
+        column_and_words(self.number, self.column, out)
     }
 }
 
 impl Error for Refusal {}
 
 /// Why one line was refused by the line readers: its number, and where in the line. Whatever was lent is then as it was before. 12 comes after
-/// all other numbers.
+/// all other numbers. In words a column of 0 is left out.
 ///
 /// ```
 /// let refusal = sp3::read_line(b"#dQ\n", sp3::first_spot(), &mut []).unwrap_err();
@@ -70,23 +83,32 @@ impl Error for Refusal {}
 pub struct LineRefusal {
     /// 1 to 10, or 12; [`words`] says what each means.
     pub number: u8,
-    /// The column, counted from 1; 0 where the refusal names none.
+    /// The column, counted from 1, as that of a [`Refusal`]; 0 where the refusal names none.
     pub column: usize,
 }
 
 impl fmt::Display for LineRefusal {
     fn fmt(&self, out: &mut fmt::Formatter<'_>) -> fmt::Result {
-        write!(out, "refused {} column {}: {}", self.number, self.column, words(self.number))
+        write!(out, "refused {}", self.number)?;
+        column_and_words(self.number, self.column, out)
     }
 }
 
 impl Error for LineRefusal {}
 
+/// The column, where there is one, and the number in words.
+fn column_and_words(number: u8, column: usize, out: &mut fmt::Formatter<'_>) -> fmt::Result {
+    if column != 0 {
+        write!(out, " column {column}")?;
+    }
+    write!(out, ": {}", words(number))
+}
+
 /// What is asked for by number is not there.
-pub(crate) const NOT_THERE: Refusal = Refusal { number: 13, line: 0 };
+pub(crate) const NOT_THERE: Refusal = Refusal { number: 13, line: 0, column: 0 };
 
 /// Memory cannot be lent.
-pub(crate) const NO_ROOM: Refusal = Refusal { number: 12, line: 0 };
+pub(crate) const NO_ROOM: Refusal = Refusal { number: 12, line: 0, column: 0 };
 
 /// The number of an answer, if it is a refusal.
 pub(crate) fn refused(number: impl TryInto<u8>) -> Option<u8> {
@@ -98,10 +120,10 @@ pub(crate) fn refused(number: impl TryInto<u8>) -> Option<u8> {
 }
 
 /// Goes on after an answer without refusal.
-pub(crate) fn accepted(number: impl TryInto<u8>, line: u64) -> Result<(), Refusal> {
+pub(crate) fn accepted(number: impl TryInto<u8>, line: u64, column: usize) -> Result<(), Refusal> {
     match refused(number) {
         None => Ok(()),
-        Some(number) => Err(Refusal { number, line }),
+        Some(number) => Err(Refusal { number, line, column }),
     }
 }
 

@@ -47,13 +47,13 @@ pub struct Flags {
 /// assert_eq!(sp3::place_of(&rows, 0)?, Some([0, 0, 1]));
 /// rows[2] = 0;
 /// assert_eq!(sp3::place_of(&rows, 0)?, None);
-/// assert_eq!(sp3::place_of(&rows, 1), Err(sp3::Refusal { number: 13, line: 0 }));
+/// assert_eq!(sp3::place_of(&rows, 1), Err(sp3::Refusal { number: 13, line: 0, column: 0 }));
 /// # Ok::<(), sp3::Refusal>(())
 /// ```
 pub fn place_of(rows: &[i64], k: usize) -> Result<Option<[i64; 3]>, Refusal> {
     // SAFETY: pointer and number are of one slice.
     let answer = unsafe { ffi::sp3_place_of(rows.as_ptr(), rows.len(), k) };
-    accepted(answer.refusal, 0)?;
+    accepted(answer.refusal, 0, 0)?;
     Ok((!answer.absent).then_some([answer.x, answer.y, answer.z]))
 }
 
@@ -67,13 +67,13 @@ pub fn place_of(rows: &[i64], k: usize) -> Result<Option<[i64; 3]>, Refusal> {
 /// assert_eq!(sp3::clock_of(&rows, 0)?, Some(0));
 /// rows[3] = 999_999_999_999;
 /// assert_eq!(sp3::clock_of(&rows, 0)?, None);
-/// assert_eq!(sp3::clock_of(&rows, 1), Err(sp3::Refusal { number: 13, line: 0 }));
+/// assert_eq!(sp3::clock_of(&rows, 1), Err(sp3::Refusal { number: 13, line: 0, column: 0 }));
 /// # Ok::<(), sp3::Refusal>(())
 /// ```
 pub fn clock_of(rows: &[i64], k: usize) -> Result<Option<i64>, Refusal> {
     // SAFETY: pointer and number are of one slice.
     let answer = unsafe { ffi::sp3_clock_of(rows.as_ptr(), rows.len(), k) };
-    accepted(answer.refusal, 0)?;
+    accepted(answer.refusal, 0, 0)?;
     Ok((!answer.absent).then_some(answer.clock))
 }
 
@@ -84,13 +84,13 @@ pub fn clock_of(rows: &[i64], k: usize) -> Result<Option<i64>, Refusal> {
 /// ```
 /// let rows = [0; sp3::ROW_WIDTH];
 /// assert_eq!(sp3::exponent_of(&rows, 0, 3)?, sp3::Exponent::Value(0));
-/// assert_eq!(sp3::exponent_of(&rows, 0, 4), Err(sp3::Refusal { number: 13, line: 0 }));
+/// assert_eq!(sp3::exponent_of(&rows, 0, 4), Err(sp3::Refusal { number: 13, line: 0, column: 0 }));
 /// # Ok::<(), sp3::Refusal>(())
 /// ```
 pub fn exponent_of(rows: &[i64], k: usize, which: usize) -> Result<Exponent, Refusal> {
     // SAFETY: pointer and number are of one slice.
     let answer = unsafe { ffi::sp3_exponent_of(rows.as_ptr(), rows.len(), k, which) };
-    accepted(answer.refusal, 0)?;
+    accepted(answer.refusal, 0, 0)?;
     Ok(match (answer.unknown, answer.too_large) {
         (true, _) => Exponent::Unknown,
         (_, true) => Exponent::TooLarge,
@@ -105,13 +105,13 @@ pub fn exponent_of(rows: &[i64], k: usize, which: usize) -> Result<Exponent, Ref
 /// ```
 /// let rows = [0; sp3::ROW_WIDTH];
 /// assert_eq!(sp3::flag_of(&rows, 0, 2)?, false);
-/// assert_eq!(sp3::flag_of(&rows, 0, 4), Err(sp3::Refusal { number: 13, line: 0 }));
+/// assert_eq!(sp3::flag_of(&rows, 0, 4), Err(sp3::Refusal { number: 13, line: 0, column: 0 }));
 /// # Ok::<(), sp3::Refusal>(())
 /// ```
 pub fn flag_of(rows: &[i64], k: usize, which: usize) -> Result<bool, Refusal> {
     // SAFETY: pointer and number are of one slice.
     let answer = unsafe { ffi::sp3_flag_of(rows.as_ptr(), rows.len(), k, which) };
-    accepted(answer.refusal, 0)?;
+    accepted(answer.refusal, 0, 0)?;
     Ok(answer.set)
 }
 
@@ -137,7 +137,7 @@ pub struct StoredRow {
 /// ```
 /// let row = sp3::stored_row(&[0; 45], 0)?;
 /// assert_eq!((row.place, row.clock, row.note), (None, Some(0), None));
-/// assert_eq!(sp3::stored_row(&[0; 45], 1), Err(sp3::Refusal { number: 13, line: 0 }));
+/// assert_eq!(sp3::stored_row(&[0; 45], 1), Err(sp3::Refusal { number: 13, line: 0, column: 0 }));
 /// # Ok::<(), sp3::Refusal>(())
 /// ```
 pub fn stored_row(rows: &[i64], k: usize) -> Result<StoredRow, Refusal> {
@@ -202,7 +202,7 @@ impl StoredRow {
     /// assert_eq!(sp3::stored_row(&row.numbers()?, 0)?, row);
     ///
     /// let centre = StoredRow { place: Some([0, 0, 0]), ..row };
-    /// assert_eq!(centre.numbers(), Err(sp3::Refusal { number: 13, line: 0 }));
+    /// assert_eq!(centre.numbers(), Err(sp3::Refusal { number: 13, line: 0, column: 0 }));
     /// # Ok::<(), sp3::Refusal>(())
     /// ```
     pub fn numbers(&self) -> Result<[i64; ROW_WIDTH], Refusal> {
@@ -230,7 +230,7 @@ impl StoredRow {
 ///
 /// ```
 /// assert_eq!(sp3::stored_comment("ONE ROW")?.trim_ascii_end(), b"ONE ROW");
-/// assert_eq!(sp3::stored_comment([b'-'; 78]), Err(sp3::Refusal { number: 13, line: 0 }));
+/// assert_eq!(sp3::stored_comment([b'-'; 78]), Err(sp3::Refusal { number: 13, line: 0, column: 0 }));
 /// # Ok::<(), sp3::Refusal>(())
 /// ```
 pub fn stored_comment(text: impl AsRef<[u8]>) -> Result<[u8; COMMENT_WIDTH], Refusal> {

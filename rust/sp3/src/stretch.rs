@@ -27,10 +27,10 @@ pub struct Divided {
 /// let mut lengths = [0; 2];
 /// let divided = sp3::divide(&stretch, &mut lengths)?;
 /// assert_eq!(lengths, [file.len() as u64; 2]);
-/// assert_eq!(divided.refusal, Some(sp3::Refusal { number: 4, line: 1 }));
+/// assert_eq!(divided.refusal, Some(sp3::Refusal { number: 4, line: 1, column: 0 }));
 ///
 /// let refused = sp3::divide(&stretch, &mut lengths[..1]);
-/// assert_eq!(refused, Err(sp3::Refusal { number: 12, line: 0 }));
+/// assert_eq!(refused, Err(sp3::Refusal { number: 12, line: 0, column: 0 }));
 /// # Ok::<(), sp3::Refusal>(())
 /// ```
 pub fn divide(stretch: &[u8], lengths: &mut [u64]) -> Result<Divided, Refusal> {
@@ -38,7 +38,7 @@ pub fn divide(stretch: &[u8], lengths: &mut [u64]) -> Result<Divided, Refusal> {
     let answer = unsafe {
         ffi::sp3_divide(stretch.as_ptr(), stretch.len(), lengths.as_mut_ptr(), lengths.len())
     };
-    match accepted(answer.refusal, answer.line).err() {
+    match accepted(answer.refusal, answer.line, answer.column).err() {
         Some(NO_ROOM) => Err(NO_ROOM),
         refusal => Ok(Divided { count: answer.count, rest: answer.rest, refusal }),
     }
@@ -64,7 +64,7 @@ pub struct Division {
 /// assert_eq!(division.files.len(), 2);
 /// assert_eq!(&stretch[division.files[1].clone()], file);
 /// assert_eq!(&stretch[division.rest..], b"rest\n");
-/// assert_eq!(division.refusal, Some(sp3::Refusal { number: 4, line: 1 }));
+/// assert_eq!(division.refusal, Some(sp3::Refusal { number: 4, line: 1, column: 0 }));
 /// ```
 pub fn divide_all(stretch: &[u8]) -> Division {
     divide_from(stretch, 64)

@@ -109,7 +109,7 @@ impl Table {
     /// let table = sp3::Table::read(include_bytes!("../../../samples/paper.sp3"))?;
     /// assert_eq!(table.place_of(0)?, Some([5_000_000_001, -500_000, 0]));
     /// assert_eq!(table.clock_of(0)?, None);
-    /// assert_eq!(sp3::Table::read(b"\n"), Err(sp3::Refusal { number: 4, line: 1 }));
+    /// assert_eq!(sp3::Table::read(b"\n"), Err(sp3::Refusal { number: 4, line: 1, column: 0 }));
     /// # Ok::<(), sp3::Refusal>(())
     /// ```
     pub fn read(file: &[u8]) -> Result<Table, Refusal> {
@@ -146,7 +146,7 @@ impl Table {
     /// let mut table = sp3::Table::read(file)?;
     /// assert_eq!(table.write()?, file);
     /// table.rows.pop();
-    /// assert_eq!(table.write(), Err(sp3::Refusal { number: 13, line: 0 }));
+    /// assert_eq!(table.write(), Err(sp3::Refusal { number: 13, line: 0, column: 0 }));
     /// # Ok::<(), sp3::Refusal>(())
     /// ```
     pub fn write(&self) -> Result<Vec<u8>, Refusal> {
@@ -202,7 +202,7 @@ impl Table {
     /// assert_eq!(row.position.place, Some([5_000_000_001, -500_000, 0]));
     /// assert_eq!(row.position.exponents, [sp3::Exponent::Unknown; 4]);
     /// assert_eq!((row.position.note, row.velocity), (None, None));
-    /// assert_eq!(table.row(1, 0), Err(sp3::Refusal { number: 13, line: 0 }));
+    /// assert_eq!(table.row(1, 0), Err(sp3::Refusal { number: 13, line: 0, column: 0 }));
     /// # Ok::<(), sp3::Refusal>(())
     /// ```
     pub fn row(&self, epoch: u64, satellite: u64) -> Result<TableRow, Refusal> {
@@ -245,7 +245,7 @@ impl Table {
     /// ```
     /// let table = sp3::Table::read(include_bytes!("../../../samples/paper.sp3"))?;
     /// assert_eq!(table.satellite_of(7107)?, 0);
-    /// assert_eq!(table.satellite_of(7108), Err(sp3::Refusal { number: 13, line: 0 }));
+    /// assert_eq!(table.satellite_of(7108), Err(sp3::Refusal { number: 13, line: 0, column: 0 }));
     /// # Ok::<(), sp3::Refusal>(())
     /// ```
     pub fn satellite_of(&self, identifier: u64) -> Result<u64, Refusal> {
@@ -260,7 +260,7 @@ impl Table {
     /// ```
     /// let table = sp3::Table::read(include_bytes!("../../../samples/paper.sp3"))?;
     /// assert_eq!(table.comment(0)?, b"ONE ROW");
-    /// assert_eq!(table.comment(4), Err(sp3::Refusal { number: 13, line: 0 }));
+    /// assert_eq!(table.comment(4), Err(sp3::Refusal { number: 13, line: 0, column: 0 }));
     /// # Ok::<(), sp3::Refusal>(())
     /// ```
     pub fn comment(&self, k: usize) -> Result<&[u8], Refusal> {

@@ -35,7 +35,7 @@ pub fn first_row() -> RowWalk {
 /// assert_eq!(sp3::next_row(file, &[7107], walk)?, None);
 ///
 /// let refused = sp3::next_row(file, &[7108], sp3::first_row());
-/// assert_eq!(refused, Err(sp3::Refusal { number: 10, line: 24 }));
+/// assert_eq!(refused, Err(sp3::Refusal { number: 10, line: 24, column: 0 }));
 /// # Ok::<(), sp3::Refusal>(())
 /// ```
 pub fn next_row(
@@ -47,7 +47,7 @@ pub fn next_row(
     let answer = unsafe {
         ffi::sp3_next_row(file.as_ptr(), file.len(), identifiers.as_ptr(), identifiers.len(), from)
     };
-    accepted(answer.refusal, answer.line)?;
+    accepted(answer.refusal, answer.line, answer.column)?;
     let (epoch, satellite) = (answer.epoch, answer.satellite);
     let row = RowAt { epoch, satellite, row: answer.row.told() };
     Ok((!answer.end).then_some((row, answer.next)))
@@ -117,7 +117,7 @@ impl FusedIterator for Rows<'_> {}
 /// }
 /// assert_eq!(identifiers[0], 7107);
 ///
-/// assert_eq!(sp3::begin(file, &mut []).unwrap_err(), sp3::Refusal { number: 12, line: 0 });
+/// assert_eq!(sp3::begin(file, &mut []).unwrap_err(), sp3::Refusal { number: 12, line: 0, column: 0 });
 /// # Ok::<(), sp3::Refusal>(())
 /// ```
 pub fn begin<'a>(file: &'a [u8], identifiers: &'a mut [u64]) -> Result<Rows<'a>, Refusal> {
@@ -136,7 +136,7 @@ pub fn begin<'a>(file: &'a [u8], identifiers: &'a mut [u64]) -> Result<Rows<'a>,
 /// let rows = sp3::rows(file)?;
 /// assert_eq!(rows.identifiers(), [7107]);
 /// assert_eq!(rows.count(), 1);
-/// assert_eq!(sp3::rows(b"#d").unwrap_err(), sp3::Refusal { number: 1, line: 1 });
+/// assert_eq!(sp3::rows(b"#d").unwrap_err(), sp3::Refusal { number: 1, line: 1, column: 0 });
 /// # Ok::<(), sp3::Refusal>(())
 /// ```
 pub fn rows(file: &[u8]) -> Result<Rows<'_>, Refusal> {

@@ -30,12 +30,12 @@ impl Header {
     /// assert_eq!(sp3::Header::new(parts)?.epochs, 96);
     ///
     /// let refused = sp3::Header::new(sp3::HeaderParts { satellites: 256, ..parts });
-    /// assert_eq!(refused, Err(sp3::Refusal { number: 7, line: 0 }));
+    /// assert_eq!(refused, Err(sp3::Refusal { number: 7, line: 0, column: 0 }));
     /// # Ok::<(), sp3::Refusal>(())
     /// ```
     pub fn new(parts: HeaderParts) -> Result<Header, Refusal> {
         let answer = ffi::sp3_header(parts);
-        accepted(answer.refusal, 0)?;
+        accepted(answer.refusal, 0, 0)?;
         Ok(answer.header)
     }
 
@@ -47,7 +47,7 @@ impl Header {
     /// let header = sp3::judge(include_bytes!("../../../samples/paper.sp3"))?.header;
     /// let start = header.epoch(0)?;
     /// assert_eq!((start.year, start.month, start.day), (2013, 4, 3));
-    /// assert_eq!(header.epoch(1), Err(sp3::Refusal { number: 13, line: 0 }));
+    /// assert_eq!(header.epoch(1), Err(sp3::Refusal { number: 13, line: 0, column: 0 }));
     /// # Ok::<(), sp3::Refusal>(())
     /// ```
     pub fn epoch(&self, k: u64) -> Result<Moment, Refusal> {
@@ -69,7 +69,7 @@ impl Header {
 /// assert_eq!(length, Ok(1215));
 ///
 /// let refused = sp3::form_length(&table.header, &[], &table.exponents, comments, &table.rows);
-/// assert_eq!(refused, Err(sp3::Refusal { number: 13, line: 0 }));
+/// assert_eq!(refused, Err(sp3::Refusal { number: 13, line: 0, column: 0 }));
 /// # Ok::<(), sp3::Refusal>(())
 /// ```
 pub fn form_length(
@@ -93,7 +93,7 @@ pub fn form_length(
             rows.len(),
         )
     };
-    accepted(answer.refusal, 0)?;
+    accepted(answer.refusal, 0, 0)?;
     Ok(answer.length)
 }
 
@@ -115,7 +115,7 @@ pub fn form_length(
 /// assert_eq!(&out[..length], file);
 ///
 /// let refused = sp3::write(&table.header, identifiers, &[1000], comments, &table.rows, &mut out);
-/// assert_eq!(refused, Err(sp3::Refusal { number: 13, line: 0 }));
+/// assert_eq!(refused, Err(sp3::Refusal { number: 13, line: 0, column: 0 }));
 /// # Ok::<(), sp3::Refusal>(())
 /// ```
 pub fn write(
@@ -142,6 +142,6 @@ pub fn write(
             out.len(),
         )
     };
-    accepted(answer.refusal, 0)?;
+    accepted(answer.refusal, 0, 0)?;
     Ok(answer.length)
 }

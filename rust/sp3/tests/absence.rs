@@ -51,8 +51,8 @@ fn rows_of_a_night() {
     assert!(rows.iter().all(|row| row.velocity.is_none()));
     assert_eq!(table.identifiers, [7107, 8224]);
     assert_eq!(table.exponents, [5, 13]);
-    assert_eq!((table.satellite_of(8224), table.satellite_of(7108)), (Ok(1), refused(13, 0)));
-    assert_eq!((table.row(0, 2), table.row(3, 0)), (refused(13, 0), refused(13, 0)));
+    assert_eq!((table.satellite_of(8224), table.satellite_of(7108)), (Ok(1), refused(13, 0, 0)));
+    assert_eq!((table.row(0, 2), table.row(3, 0)), (refused(13, 0, 0), refused(13, 0, 0)));
 }
 
 #[test]
@@ -71,7 +71,7 @@ fn rows_by_name() {
             assert_eq!(table.flag_of(k, which), Ok(set));
         }
     }
-    assert_eq!(table.place_of(6), refused(13, 0));
+    assert_eq!(table.place_of(6), refused(13, 0, 0));
 }
 
 /// E in column 75, P in 76, M in 79, P in 80, each alone.
@@ -120,7 +120,7 @@ fn a_walk_by_hand() {
     assert_eq!(seen, 6);
     assert_eq!(sp3::next_row(&file, &[7107, 8225], sp3::first_row()).map(|_| ()), Ok(()));
     let (_, second) = sp3::next_row(&file, &[7107, 8225], sp3::first_row()).unwrap().unwrap();
-    assert_eq!(sp3::next_row(&file, &[7107, 8225], second), refused(10, 25));
+    assert_eq!(sp3::next_row(&file, &[7107, 8225], second), refused(10, 25, 0));
 }
 
 #[test]
@@ -141,9 +141,9 @@ fn epochs_over_midnight() {
     assert_eq!(clock(0), Ok((2012, 12, 31, 23, 45, 0)));
     assert_eq!(clock(1), Ok((2013, 1, 1, 0, 0, 0)));
     assert_eq!(clock(2), Ok((2013, 1, 1, 0, 15, 0)));
-    assert_eq!(clock(3), refused(13, 0));
+    assert_eq!(clock(3), refused(13, 0, 0));
     let late = night().put(26, 18, "15").bytes();
-    assert_eq!(sp3::judge(&late), refused(9, 26));
+    assert_eq!(sp3::judge(&late), refused(9, 26, 0));
 }
 
 #[test]
@@ -191,7 +191,7 @@ fn rows_made_and_given_back() {
         StoredRow { exponents: exponents(Exponent::Value(u64::MAX), Exponent::Unknown), ..row },
     ];
     for other in others {
-        assert_eq!(other.numbers(), refused(13, 0), "{other:?}");
+        assert_eq!(other.numbers(), refused(13, 0, 0), "{other:?}");
     }
     let clock_of_99 =
         StoredRow { exponents: exponents(Exponent::Value(98), Exponent::Value(99)), ..row };
@@ -207,8 +207,8 @@ fn comments_as_stretches_of_the_file() {
     assert_eq!(sp3::comment_answer(&file, 0), Ok(column_4..column_4 + "ONE ROW".len()));
     let table = Table::read(&file).unwrap();
     assert_eq!((0..4).map(|k| table.comment(k).unwrap()).collect::<Vec<_>>(), texts);
-    assert_eq!(table.comment(4), refused(13, 0));
-    assert_eq!(table.comment(usize::MAX), refused(13, 0));
+    assert_eq!(table.comment(4), refused(13, 0, 0));
+    assert_eq!(table.comment(usize::MAX), refused(13, 0, 0));
 }
 
 #[test]

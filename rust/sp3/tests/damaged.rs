@@ -56,7 +56,9 @@ fn by_lines(bytes: &[u8]) -> Result<usize, Refusal> {
             walker_stays(bytes, line as usize + 3, spot, &identifiers);
         }
         match read {
-            Err(refusal) => return Err(Refusal { number: refusal.number, line }),
+            Err(sp3::LineRefusal { number, column }) => {
+                return Err(Refusal { number, line, column })
+            }
             Ok(read) if read.finished => return Ok(read.next.at()),
             Ok(read) => spot = read.next,
         }
@@ -85,6 +87,18 @@ fn agree(file: &[u8]) {
     }
     for (number, &identifier) in table.identifiers.iter().enumerate() {
         assert_eq!(sp3::satellite_of(file, identifier), Ok(number as u64));
+    }
+}
+
+/// A refusal names a column that its number can name; of 2 it is the first byte outside 32 to 126.
+fn column_by_number(file: &[u8], refusal: Refusal) {
+    let line = file.split(|&byte| byte == b'\n').nth(refusal.line as usize - 1).unwrap();
+    let outside = line.iter().position(|byte| !(32..=126).contains(byte));
+    match refusal.number {
+        2 => assert_eq!(Some(refusal.column), outside.map(|at| at + 1)),
+        3 => assert_eq!((refusal.column, outside), (81, None)),
+        5..=7 => assert!((2..=80).contains(&refusal.column), "{refusal}"),
+        _ => assert_eq!(refusal.column, 0),
     }
 }
 
@@ -117,8 +131,9 @@ fn damaged_files() {
         assert_eq!(front, by_lines(&file), "case {case}");
         assert_eq!(Table::read(&file).map(|_| ()), whole.map(|_| ()), "case {case}");
         counts[whole.map_or_else(|refusal| usize::from(refusal.number), |_| 0)] += 1;
-        if whole.is_ok() {
-            agree(&file);
+        match whole {
+            Ok(_) => agree(&file),
+            Err(refusal) => column_by_number(&file, refusal),
         }
         divided(&[&bases[(case + 1) % 4], &file[..], &bases[0]].concat());
     }

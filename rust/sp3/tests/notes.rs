@@ -80,9 +80,9 @@ fn records_by_name() {
             assert_eq!(table.note_correlation_of(k, which), Ok(correlation));
         }
     }
-    assert_eq!(table.note_of(12), refused(13, 0));
-    assert_eq!(table.note_deviation_of(0, 4), refused(13, 0));
-    assert_eq!(table.note_correlation_of(0, 6), refused(13, 0));
+    assert_eq!(table.note_of(12), refused(13, 0, 0));
+    assert_eq!(table.note_deviation_of(0, 4), refused(13, 0, 0));
+    assert_eq!(table.note_correlation_of(0, 6), refused(13, 0, 0));
 }
 
 #[test]
@@ -129,8 +129,8 @@ fn lines_and_their_forms() {
     assert_eq!(noted(&line("      -0")), Ok((xy(0), line("       0"))));
     assert_eq!(noted(&line("     -30")), Ok((xy(-30), line("     -30"))));
     assert_eq!(noted(&line("09999999")), Ok((xy(9_999_999), line(" 9999999"))));
-    assert_eq!(noted(&line("10000000")), refused(7, 25));
-    assert_eq!(noted(&line("      +1")), refused(6, 25));
+    assert_eq!(noted(&line("10000000")), refused(7, 25, 28));
+    assert_eq!(noted(&line("      +1")), refused(6, 25, 28));
 }
 
 /// A row with its record, made and given back; what would be another record is refused, what no line can hold the writer refuses.
@@ -149,10 +149,10 @@ fn records_made_and_given_back() {
     for note in
         [deviation(9999), deviation(100_000_000), deviation(u64::MAX), correlation(100_000_000)]
     {
-        assert_eq!(row(note).numbers(), refused(13, 0), "{note:?}");
+        assert_eq!(row(note).numbers(), refused(13, 0, 0), "{note:?}");
     }
     for note in [deviation(10_000), correlation(10_000_000), correlation(-10_000_000)] {
         let rows = row(note).numbers().unwrap().to_vec();
-        assert_eq!(Table { rows, ..table.clone() }.write(), refused(13, 0), "{note:?}");
+        assert_eq!(Table { rows, ..table.clone() }.write(), refused(13, 0, 0), "{note:?}");
     }
 }

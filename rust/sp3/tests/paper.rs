@@ -54,11 +54,11 @@ fn the_papers_input_becomes_its_output() {
 fn a_header_of_its_parts() {
     assert_eq!(Header::new(paper_parts()), Ok(paper_header()));
     let of = |parts: HeaderParts| Header::new(parts);
-    assert_eq!(of(HeaderParts { mode: b'Q', ..paper_parts() }), refused(6, 0));
-    assert_eq!(of(HeaderParts { satellites: 256, ..paper_parts() }), refused(7, 0));
-    assert_eq!(of(HeaderParts { mode: b'Q', satellites: 256, ..paper_parts() }), refused(6, 0));
-    assert_eq!(of(HeaderParts { epochs: 0, ..paper_parts() }), refused(7, 0));
-    assert_eq!(of(HeaderParts { epochs: 100_001, ..paper_parts() }), refused(7, 0));
+    assert_eq!(of(HeaderParts { mode: b'Q', ..paper_parts() }), refused(6, 0, 0));
+    assert_eq!(of(HeaderParts { satellites: 256, ..paper_parts() }), refused(7, 0, 0));
+    assert_eq!(of(HeaderParts { mode: b'Q', satellites: 256, ..paper_parts() }), refused(6, 0, 0));
+    assert_eq!(of(HeaderParts { epochs: 0, ..paper_parts() }), refused(7, 0, 0));
+    assert_eq!(of(HeaderParts { epochs: 100_001, ..paper_parts() }), refused(7, 0, 0));
     assert_eq!(of(HeaderParts { mode: b'V', ..paper_parts() }).map(|made| made.velocity), Ok(true));
 }
 
@@ -68,15 +68,15 @@ fn cases_1_to_5() {
     assert_eq!(date(2012, 10, 1), Ok(Date { mjd: 56201, week: 1708, seconds: 86_400 }));
     assert_eq!(date(1980, 1, 6), Ok(Date { mjd: 44244, week: 0, seconds: 0 }));
     assert_eq!(date(2000, 2, 29).map(|date| date.mjd), Ok(51603));
-    assert_eq!(date(2001, 2, 29), refused(7, 0));
+    assert_eq!(date(2001, 2, 29), refused(7, 0, 0));
 }
 
 #[test]
 fn cases_6_to_9() {
     assert_eq!(with_y("     -0.500000"), Ok([5_000_000_001, -500_000, 0]));
     assert_eq!(with_y("     -0.000000"), Ok([5_000_000_001, 0, 0]));
-    assert_eq!(with_y("1000000.000000"), refused(7, 24));
-    assert_eq!(with_y("       .500000"), refused(6, 24));
+    assert_eq!(with_y("1000000.000000"), refused(7, 24, 19));
+    assert_eq!(with_y("       .500000"), refused(6, 24, 19));
 }
 
 #[test]
@@ -95,22 +95,22 @@ fn case_10() {
 fn case_11() {
     assert!(judge(&second_past_midnight(115_740_740)).is_ok());
     assert!(judge(&second_past_midnight(115_740_741)).is_ok());
-    assert_eq!(judge(&second_past_midnight(115_740_742)), refused(8, 2));
+    assert_eq!(judge(&second_past_midnight(115_740_742)), refused(8, 2, 0));
 }
 
 #[test]
 fn case_12() {
-    assert_eq!(judge(b""), refused(1, 1));
+    assert_eq!(judge(b""), refused(1, 1, 0));
 }
 
 /// "Run: 256 satellites (7); 80 and 81 characters; three comments (4); `EOF` without LF (1); z alone zero (present)."
 #[test]
 fn cases_to_be_run() {
     let identifiers: String = (1..=17).map(|number| format!("G{number:02}")).collect();
-    assert_eq!(judge(&paper().put(3, 4, "256").put(3, 10, identifiers).bytes()), refused(7, 3));
+    assert_eq!(judge(&paper().put(3, 4, "256").put(3, 10, identifiers).bytes()), refused(7, 3, 4));
     assert!(judge(&paper().put(19, 4, [b'-'; 77]).bytes()).is_ok());
-    assert_eq!(judge(&paper().put(19, 4, [b'-'; 78]).bytes()), refused(3, 19));
-    assert_eq!(judge(&paper().without(20).bytes()), refused(4, 22));
-    assert_eq!(judge(SAMPLE.strip_suffix(b"\n").unwrap()), refused(1, 25));
+    assert_eq!(judge(&paper().put(19, 4, [b'-'; 78]).bytes()), refused(3, 19, 81));
+    assert_eq!(judge(&paper().without(20).bytes()), refused(4, 22, 0));
+    assert_eq!(judge(SAMPLE.strip_suffix(b"\n").unwrap()), refused(1, 25, 0));
     assert_eq!(with_y("     -0.500000"), Ok([5_000_000_001, -500_000, 0]));
 }

@@ -1,4 +1,4 @@
-//! Each refusal with its line, and lent memory that stays as it was.
+//! Each refusal with its line and column, and lent memory that stays as it was.
 
 mod common;
 
@@ -38,40 +38,64 @@ impl Lent {
     }
 }
 
-/// A file that is refused, by number and line: the paper's, or that with velocities, with one alteration.
-fn refused_files() -> Vec<(u8, u64, Vec<u8>)> {
-    let of = |number, line, draft: Draft| (number, line, draft.bytes());
+/// A file that is refused, by number, line and column: the paper's, or that with velocities, with one alteration or two.
+fn refused_files() -> Vec<(u8, u64, usize, Vec<u8>)> {
+    let of = |number, line, column, draft: Draft| (number, line, column, draft.bytes());
+    let row = |text: &str| paper().without(24).with(24, text);
     vec![
-        (1, 1, Vec::new()),
-        (1, 25, SAMPLE[..SAMPLE.len() - 1].to_vec()),
-        (1, 24, SAMPLE[..SAMPLE.len() - 5].to_vec()),
-        of(2, 1, paper().put(1, 61, "\r")),
-        of(2, 19, paper().put(19, 80, "\x7f")),
-        of(3, 19, paper().put(19, 81, " ")),
-        of(4, 1, paper().put(1, 2, "c")),
-        of(4, 24, paper().without(24)),
-        of(4, 25, paper().with(25, "EV")),
-        of(4, 26, paper().with(25, "EP").with(26, "EP")),
-        of(4, 27, motion().without(27).with(27, "EP")),
-        of(5, 25, paper().put(25, 4, "X")),
-        of(5, 14, paper().put(14, 4, "xx")),
-        of(5, 25, paper().with(25, "EPx")),
-        of(5, 25, paper().with(25, "EP").put(25, 72, "x")),
-        of(6, 1, paper().put(1, 3, "v")),
-        of(6, 13, paper().put(13, 10, "GPX")),
-        of(6, 25, paper().with(25, "EP    -1")),
-        of(6, 27, motion().put(27, 80, "x")),
-        of(7, 1, paper().put(1, 12, "31")),
-        of(7, 3, paper().put(3, 10, "G00")),
-        of(7, 23, paper().put(23, 21, "60.00000000")),
-        of(7, 25, paper().with(25, "EP").put(25, 28, "10000000")),
-        of(8, 2, paper().put(2, 4, "1735")),
-        of(8, 3, paper().put(3, 13, "G08")),
-        of(8, 13, paper().put(13, 4, "R")),
-        of(9, 23, paper().put(23, 18, " 1")),
-        of(10, 24, paper().put(24, 4, "8")),
-        (11, 26, [SAMPLE, b" "].concat()),
-        (11, 26, SAMPLE.repeat(2)),
+        (1, 1, 0, Vec::new()),
+        (1, 25, 0, SAMPLE[..SAMPLE.len() - 1].to_vec()),
+        (1, 24, 0, SAMPLE[..SAMPLE.len() - 5].to_vec()),
+        of(2, 1, 61, paper().put(1, 61, "\r")),
+        of(2, 19, 4, paper().put(19, 4, "\t")),
+        of(2, 19, 9, paper().put(19, 9, "\x7f").put(19, 40, "\x7f")),
+        of(2, 19, 80, paper().put(19, 80, "\x7f")),
+        of(2, 19, 200, paper().put(19, 300, "-").put(19, 200, "\x7f")),
+        of(3, 19, 81, paper().put(19, 81, " ")),
+        of(3, 19, 81, paper().put(19, 300, "-")),
+        of(4, 1, 0, paper().put(1, 2, "c")),
+        of(4, 24, 0, paper().without(24)),
+        of(4, 25, 0, paper().with(25, "EV")),
+        of(4, 26, 0, paper().with(25, "EP").with(26, "EP")),
+        of(4, 27, 0, motion().without(27).with(27, "EP")),
+        of(5, 25, 4, paper().put(25, 4, "X")),
+        of(5, 1, 8, paper().put(1, 4, "20x3-")),
+        of(5, 23, 11, paper().put(23, 11, "-").put(23, 12, "x")),
+        of(5, 3, 63, paper().put(3, 63, "0")),
+        of(5, 24, 61, paper().put(24, 70, "x").put(24, 61, "x")),
+        of(5, 26, 75, motion().put(26, 75, "E")),
+        of(5, 14, 4, paper().put(14, 4, "xx")),
+        of(5, 14, 56, paper().put(14, 60, "C")),
+        of(5, 25, 3, paper().with(25, "EPx")),
+        of(5, 25, 72, paper().with(25, "EP").put(25, 72, "x")),
+        of(6, 1, 3, paper().put(1, 3, "v")),
+        of(6, 1, 4, paper().put(1, 12, "3 ")),
+        of(6, 23, 15, paper().put(23, 9, "13").put(23, 15, "2x")),
+        of(6, 3, 13, paper().put(3, 4, "256")),
+        of(6, 13, 4, paper().put(13, 4, "Gx")),
+        of(6, 13, 10, paper().put(13, 10, "gps")),
+        of(6, 24, 2, row("P")),
+        of(6, 24, 2, paper().put(24, 3, " ")),
+        of(6, 24, 5, row("PG07")),
+        of(6, 24, 5, paper().put(24, 5, "  5000.0000001")),
+        of(6, 24, 75, paper().put(24, 75, "e")),
+        of(6, 25, 5, paper().with(25, "EP    -1")),
+        of(6, 27, 73, motion().put(27, 80, "x")),
+        of(7, 1, 4, paper().put(1, 12, "31")),
+        of(7, 1, 4, paper().put(1, 9, "13").put(1, 15, "24")),
+        of(7, 3, 10, paper().put(3, 10, "G00")),
+        of(7, 23, 21, paper().put(23, 21, "60.00000000")),
+        of(7, 24, 2, paper().put(24, 2, "G00")),
+        of(7, 24, 5, paper().put(24, 5, "1000000.000000").put(24, 47, "1000000.000000")),
+        of(7, 25, 28, paper().with(25, "EP").put(25, 28, "10000000")),
+        of(8, 2, 0, paper().put(2, 4, "1735")),
+        of(8, 3, 0, paper().put(3, 6, "2").put(3, 13, "G07")),
+        of(8, 3, 0, paper().put(3, 13, "G08")),
+        of(8, 13, 0, paper().put(13, 4, "R")),
+        of(9, 23, 0, paper().put(23, 18, " 1")),
+        of(10, 24, 0, paper().put(24, 4, "8")),
+        (11, 26, 0, [SAMPLE, b" "].concat()),
+        (11, 26, 0, SAMPLE.repeat(2)),
     ]
 }
 
@@ -79,12 +103,12 @@ fn refused_files() -> Vec<(u8, u64, Vec<u8>)> {
 const PAPER_ROOM: [usize; 4] = [1, 1, 4 * 77, 23];
 
 #[test]
-fn numbers_1_to_11_with_their_lines() {
-    for (number, line, file) in refused_files() {
-        assert_eq!(sp3::judge(&file), refused(number, line));
+fn numbers_1_to_11_with_their_lines_and_columns() {
+    for (number, line, column, file) in refused_files() {
+        assert_eq!(sp3::judge(&file), refused(number, line, column));
         let mut lent = Lent::marked([255, 255, 1000, 1000]);
         let before = lent.clone();
-        assert_eq!(lent.read(&file), refused(number, line));
+        assert_eq!(lent.read(&file), refused(number, line, column));
         assert_eq!(lent, before, "a refusal {number} changed what was lent");
     }
     let numbers: Vec<u8> = refused_files().iter().map(|file| file.0).collect();
@@ -93,28 +117,30 @@ fn numbers_1_to_11_with_their_lines() {
 
 #[test]
 fn questions_give_the_files_own_refusal_first() {
-    for (number, line, file) in refused_files() {
-        assert_eq!(Table::read(&file), refused(number, line));
-        assert_eq!(sp3::comment(&file, 99), refused(number, line));
-        assert_eq!(sp3::comment_answer(&file, 0), refused(number, line));
-        assert_eq!(sp3::satellite_of(&file, 0), refused(number, line));
-        assert_eq!(sp3::row(&file, 99, 99), refused(number, line));
-        assert_eq!(sp3::rows(&file).map(|_| ()), refused(number, line));
+    for (number, line, column, file) in refused_files() {
+        assert_eq!(Table::read(&file), refused(number, line, column));
+        assert_eq!(sp3::comment(&file, 99), refused(number, line, column));
+        assert_eq!(sp3::comment_answer(&file, 0), refused(number, line, column));
+        assert_eq!(sp3::satellite_of(&file, 0), refused(number, line, column));
+        assert_eq!(sp3::row(&file, 99, 99), refused(number, line, column));
+        assert_eq!(sp3::rows(&file).map(|_| ()), refused(number, line, column));
         let mut identifiers = [77_777; 255];
-        assert_eq!(sp3::begin(&file, &mut identifiers).map(|_| ()), refused(number, line));
+        assert_eq!(sp3::begin(&file, &mut identifiers).map(|_| ()), refused(number, line, column));
         assert_eq!(identifiers, [77_777; 255]);
     }
 }
 
 #[test]
 fn a_file_at_the_front_is_never_11() {
-    for (number, line, file) in refused_files() {
+    for (number, line, column, file) in refused_files() {
         let front = sp3::judge_front(&file).map(|reading| reading.length);
         match number {
             11 => assert_eq!(front, Ok(SAMPLE.len())),
-            _ => assert_eq!(front, refused(number, line)),
+            _ => assert_eq!(front, refused(number, line, column)),
         }
         assert_eq!(Table::read_front(&file).map(|(_, length)| length), front);
+        let mut lent = Lent::marked([255, 255, 1000, 1000]);
+        assert_eq!(lent.read_front(&file).map(|reading| reading.length), front);
     }
 }
 
@@ -125,12 +151,12 @@ fn number_12_where_any_list_is_one_short() {
         room[short] -= 1;
         let mut lent = Lent::marked(room);
         let before = lent.clone();
-        assert_eq!(lent.read(SAMPLE), refused(12, 0));
-        assert_eq!(lent.read_front(SAMPLE), refused(12, 0));
+        assert_eq!(lent.read(SAMPLE), refused(12, 0, 0));
+        assert_eq!(lent.read_front(SAMPLE), refused(12, 0, 0));
         assert_eq!(lent, before);
     }
     assert!(Lent::marked(PAPER_ROOM).read(SAMPLE).is_ok());
-    assert_eq!(sp3::begin(SAMPLE, &mut []).map(|_| ()), refused(12, 0));
+    assert_eq!(sp3::begin(SAMPLE, &mut []).map(|_| ()), refused(12, 0, 0));
 }
 
 #[test]
@@ -152,20 +178,20 @@ fn places_past_those_filled_stay() {
 
 #[test]
 fn number_13_for_what_is_not_there() {
-    assert_eq!(sp3::comment(SAMPLE, 4), refused(13, 0));
-    assert_eq!(sp3::comment(SAMPLE, u64::MAX), refused(13, 0));
-    assert_eq!(sp3::satellite_of(SAMPLE, 7108), refused(13, 0));
-    assert_eq!(sp3::row(SAMPLE, 1, 0), refused(13, 0));
-    assert_eq!(sp3::row(SAMPLE, 0, 1), refused(13, 0));
-    assert_eq!(sp3::row(SAMPLE, u64::MAX, u64::MAX), refused(13, 0));
-    assert_eq!(sp3::place_of(&[1; 45], 1), refused(13, 0));
-    assert_eq!(sp3::clock_of(&[1; 45], usize::MAX), refused(13, 0));
-    assert_eq!(sp3::exponent_of(&[1; 23], 0, 4), refused(13, 0));
-    assert_eq!(sp3::flag_of(&[1; 23], 0, usize::MAX), refused(13, 0));
-    assert_eq!(sp3::note_of(&[1; 45], 1), refused(13, 0));
-    assert_eq!(sp3::note_deviation_of(&[1; 23], 0, 4), refused(13, 0));
-    assert_eq!(sp3::note_correlation_of(&[1; 23], 0, 6), refused(13, 0));
-    assert_eq!(sp3::note_correlation_of(&[1; 45], 1, 0), refused(13, 0));
+    assert_eq!(sp3::comment(SAMPLE, 4), refused(13, 0, 0));
+    assert_eq!(sp3::comment(SAMPLE, u64::MAX), refused(13, 0, 0));
+    assert_eq!(sp3::satellite_of(SAMPLE, 7108), refused(13, 0, 0));
+    assert_eq!(sp3::row(SAMPLE, 1, 0), refused(13, 0, 0));
+    assert_eq!(sp3::row(SAMPLE, 0, 1), refused(13, 0, 0));
+    assert_eq!(sp3::row(SAMPLE, u64::MAX, u64::MAX), refused(13, 0, 0));
+    assert_eq!(sp3::place_of(&[1; 45], 1), refused(13, 0, 0));
+    assert_eq!(sp3::clock_of(&[1; 45], usize::MAX), refused(13, 0, 0));
+    assert_eq!(sp3::exponent_of(&[1; 23], 0, 4), refused(13, 0, 0));
+    assert_eq!(sp3::flag_of(&[1; 23], 0, usize::MAX), refused(13, 0, 0));
+    assert_eq!(sp3::note_of(&[1; 45], 1), refused(13, 0, 0));
+    assert_eq!(sp3::note_deviation_of(&[1; 23], 0, 4), refused(13, 0, 0));
+    assert_eq!(sp3::note_correlation_of(&[1; 23], 0, 6), refused(13, 0, 0));
+    assert_eq!(sp3::note_correlation_of(&[1; 45], 1, 0), refused(13, 0, 0));
 }
 
 /// Has a correlation record after the row of the paper's table, with one of its ten numbers.
@@ -223,10 +249,10 @@ fn number_13_for_a_table_that_is_not_valid_and_the_output_stays() {
                 &table.rows,
                 out,
             );
-            assert_eq!(answer, refused(13, 0), "{table:?}");
+            assert_eq!(answer, refused(13, 0, 0), "{table:?}");
         }
         assert_eq!(out, [199; 2000]);
-        assert_eq!(table.write(), refused(13, 0));
+        assert_eq!(table.write(), refused(13, 0, 0));
     }
 }
 
@@ -239,7 +265,7 @@ fn output_of_every_room() {
     };
     for room in 0..SAMPLE.len() {
         let mut out = vec![199; room];
-        assert_eq!(write(&mut out), refused(12, 0));
+        assert_eq!(write(&mut out), refused(12, 0, 0));
         assert_eq!(out, vec![199; room]);
     }
     let mut out = vec![199; SAMPLE.len() + 3];
@@ -249,19 +275,19 @@ fn output_of_every_room() {
 
 #[test]
 fn empty_slices() {
-    assert_eq!(Lent::marked([0; 4]).read(b""), refused(1, 1));
-    assert_eq!(Lent::marked([0; 4]).read(SAMPLE), refused(12, 0));
-    assert_eq!(sp3::judge_front(b""), refused(1, 1));
-    assert_eq!(sp3::place_of(&[], 0), refused(13, 0));
-    assert_eq!(sp3::stored_row(&[], 0), refused(13, 0));
+    assert_eq!(Lent::marked([0; 4]).read(b""), refused(1, 1, 0));
+    assert_eq!(Lent::marked([0; 4]).read(SAMPLE), refused(12, 0, 0));
+    assert_eq!(sp3::judge_front(b""), refused(1, 1, 0));
+    assert_eq!(sp3::place_of(&[], 0), refused(13, 0, 0));
+    assert_eq!(sp3::stored_row(&[], 0), refused(13, 0, 0));
     assert_eq!(sp3::identifier(b""), None);
     let header = common::paper_header();
-    assert_eq!(sp3::write(&header, &[], &[], &[], &[], &mut []), refused(13, 0));
+    assert_eq!(sp3::write(&header, &[], &[], &[], &[], &mut []), refused(13, 0, 0));
     let nothing = sp3::Divided { count: 0, rest: 0, refusal: None };
     assert_eq!(sp3::divide(b"", &mut []), Ok(nothing));
     let empty = sp3::Division { files: Vec::new(), rest: 0, refusal: None };
     assert_eq!(sp3::divide_all(b""), empty);
-    assert_eq!(sp3::next_row(b"", &[], sp3::first_row()), refused(1, 1));
+    assert_eq!(sp3::next_row(b"", &[], sp3::first_row()), refused(1, 1, 0));
     assert_eq!(sp3::after_lines(b"", &mut [], sp3::first_spot(), 9), sp3::first_spot());
 }
 
@@ -271,7 +297,7 @@ fn a_stretch_and_its_rest() {
     let wrong = paper().put(23, 18, " 1").bytes();
     let stretch = [files.concat(), wrong.clone()].concat();
     let rest = stretch.len() - wrong.len();
-    let refusal = Some(Refusal { number: 9, line: 23 });
+    let refusal = Some(Refusal { number: 9, line: 23, column: 0 });
     let mut lengths = [99; 6];
     let divided = sp3::divide(&stretch, &mut lengths);
     assert_eq!(divided, Ok(sp3::Divided { count: 4, rest, refusal }));
@@ -282,16 +308,16 @@ fn a_stretch_and_its_rest() {
     let parts: Vec<&[u8]> = division.files.into_iter().map(|file| &stretch[file]).collect();
     assert_eq!(parts, files);
     let mut short = [99; 3];
-    assert_eq!(sp3::divide(&stretch, &mut short), refused(12, 0));
+    assert_eq!(sp3::divide(&stretch, &mut short), refused(12, 0, 0));
     assert_eq!(short, [99; 3]);
 }
 
-/// A division tells the line of its rest by that rest alone, and 11 never occurs.
+/// A division tells line and column of its rest by that rest alone, and 11 never occurs.
 #[test]
 fn what_is_left_is_refused_as_it_is_alone() {
-    for (number, line, file) in refused_files() {
+    for (number, line, column, file) in refused_files() {
         let division = sp3::divide_all(&[SAMPLE, &file].concat());
-        let refusal = Some(Refusal { number, line });
+        let refusal = Some(Refusal { number, line, column });
         match (number, file.is_empty()) {
             (11, _) => assert!(division.files.len() >= 2),
             (_, true) => assert_eq!(division.refusal, None),
@@ -300,19 +326,40 @@ fn what_is_left_is_refused_as_it_is_alone() {
     }
 }
 
+/// A walk over a file that is refused stops at that line; bytes after EOF are none of its concern.
+#[test]
+fn a_walk_is_refused_as_its_file_is() {
+    for (number, line, column, file) in refused_files() {
+        let identifiers = if file.starts_with(b"#dV") { [7101, 7102] } else { [7107, 0] };
+        let mut walk = sp3::first_row();
+        while let Ok(Some((_, next))) = sp3::next_row(&file, &identifiers, walk) {
+            walk = next;
+        }
+        let expected = if number == 11 { Ok(None) } else { refused(number, line, column) };
+        assert_eq!(sp3::next_row(&file, &identifiers, walk), expected);
+    }
+}
+
 #[test]
 fn words_and_errors() {
     let refusal = sp3::judge(&paper().put(23, 18, " 1").bytes()).unwrap_err();
     assert_eq!(refusal.to_string(), "refused 9 line 23: an epoch stands at the wrong instant");
+    let bounded = sp3::judge(&paper().put(24, 5, "1000000.000000").bytes()).unwrap_err();
+    let words = "refused 7 line 24 column 5: a number or date is outside its bounds";
+    assert_eq!(bounded.to_string(), words);
+    let short = sp3::begin(SAMPLE, &mut []).unwrap_err();
+    assert_eq!(short.to_string(), "refused 12 line 0: lent room is too small");
     let boxed: Box<dyn std::error::Error> = Box::new(refusal);
     assert_eq!(boxed.to_string(), refusal.to_string());
     let line = sp3::read_line(b"", sp3::first_spot(), &mut []).unwrap_err();
-    let words = "refused 1 column 0: no line end is left before the file's EOF line is complete";
+    let words = "refused 1: no line end is left before the file's EOF line is complete";
     assert_eq!(line.to_string(), words);
     let file = paper().put(24, 19, "       .500000").bytes();
     let row = sp3::after_lines(&file, &mut [0], sp3::first_spot(), 99);
     let line = sp3::next_line(&file, &[7107], row).unwrap_err();
     assert_eq!(line, sp3::LineRefusal { number: 6, column: 19 }, "the y field of line 24");
+    let words = "refused 6 column 19: a field is malformed, or a letter, file type or time system is not listed";
+    assert_eq!(line.to_string(), words);
     assert_eq!(sp3::words(255), "an unknown number");
 }
 
@@ -328,8 +375,8 @@ fn tables_that_hang_together_nowhere() {
             let table = Table { header, ..table.clone() };
             let rows = table.rows().count();
             assert_eq!(rows, usize::from(satellites > 0 && epochs > 0 && !velocity));
-            assert_eq!(table.row(u64::MAX - 1, u64::MAX - 1), refused(13, 0));
-            assert_eq!(table.write(), refused(13, 0));
+            assert_eq!(table.row(u64::MAX - 1, u64::MAX - 1), refused(13, 0, 0));
+            assert_eq!(table.write(), refused(13, 0, 0));
             assert!(header.epoch(u64::MAX - 1).is_err());
         }
     }

@@ -191,6 +191,6 @@ pub fn stored_again(table: &Table) -> Vec<i64> {
 }
 
 /// A refusal, as a result.
-pub fn refused<T>(number: u8, line: u64) -> Result<T, Refusal> {
-    Err(Refusal { number, line })
+pub fn refused<T>(number: u8, line: u64, column: usize) -> Result<T, Refusal> {
+    Err(Refusal { number, line, column })
 }
