@@ -1,5 +1,5 @@
-// The parts of the desk tool: words.c says things, causes.c says what a refusal comes from, shown.c shows the refused line, lent.c lends memory, table.c
-// shows tables, sp3.c has the commands.
+// The parts of the desk tool: words.c says things, causes.c says what a refusal comes from, shown.c shows the refused line, lent.c lends memory,
+// table.c shows tables, sp3.c has the commands.
 #ifndef DESK_H
 #define DESK_H
 

@@ -109,8 +109,8 @@ def cause(content, number, line):
 
 
 def shown(content, line, column):
-    """The line where the bytes have it, and a caret under the column. 100 columns are shown: the first, or 80 before the one at fault and 19 after it;
-    `..` stands for the others, `?` for a byte outside 32 to 126."""
+    """The line where the bytes have it, and a caret under the column. 100 columns are shown: the first, or 80 before the one at fault and 19 after
+    it; `..` stands for the others, `?` for a byte outside 32 to 126."""
     lines = content.split(b"\n")
     if line > len(lines) or (line == len(lines) and not lines[-1]):
         return ""

@@ -50,7 +50,7 @@ def many():
 
 
 def moving():
-    """The lines of samples/velocity.sp3: G01, E11 and E12 in mode V at three epochs, with an EP or EV after each row; 23, 36 and 49 are the epochs."""
+    """The lines of samples/velocity.sp3: G01, E11 and E12 in mode V, with an EP or EV after each row; 23, 36 and 49 are the epochs."""
     return make.file_lines(make.velocity())
 
 
@@ -90,14 +90,15 @@ def columned():
     """A column for each number that has one; the lowest number, then the leftmost column; a field past the end of a short line."""
     ones = "1000000.000000"
     flagged, names = put(moving(), 26, 75, "E"), "G01" + "G 2" + "".join(f"G{k:02}" for k in range(3, 18))
-    return [*dated(), (changed(24, 5, "  5000.0000001"), 6, 24, 5), (changed(19, 4, "\t"), 2, 19, 4), (put(changed(24, 40, "\x7f"), 24, 9, "\x7f"), 2, 24, 9),
-            (put(changed(24, 200, "\x7f"), 24, 300, "x"), 2, 24, 200), (put(changed(24, 5, "x"), 24, 128, "\x7f"), 2, 24, 128),
-            (with_line(19, "/*".ljust(81)), 3, 19, 81), (with_line(19, "/*".ljust(300, "x")), 3, 19, 81), (changed(24, 61, "x        x"), 5, 24, 61),
-            (changed(3, 63, "x"), 5, 3, 63), (changed(13, 58, "x"), 5, 13, 56), (changed(3, 4, "256   " + names), 6, 3, 13),
-            (changed(24, 2, "G00"), 7, 24, 2), (changed(24, 2, "G 7"), 6, 24, 2), (put(changed(24, 47, ones), 24, 5, ones), 7, 24, 5),
-            (put(changed(24, 47, ones), 24, 5, "x"), 6, 24, 5), (changed(24, 75, "e"), 6, 24, 75), (flagged, 5, 26, 75), (changed(13, 4, "Gx"), 6, 13, 4),
-            (with_line(24, "PG07"), 6, 24, 5), (with_line(24, "P"), 6, 24, 2), (with_line(1, "#d"), 6, 1, 3), (with_line(1, "#dP"), 6, 1, 4),
-            (with_line(3, "+"), 6, 3, 4), (with_line(13, "%c"), 5, 13, 7), (with_line(23, "*"), 6, 23, 4), (changed(25, 80, "x"), 5, 25, 80),
+    return [*dated(), (changed(24, 5, "  5000.0000001"), 6, 24, 5), (changed(19, 4, "\t"), 2, 19, 4),
+            (put(changed(24, 40, "\x7f"), 24, 9, "\x7f"), 2, 24, 9), (put(changed(24, 200, "\x7f"), 24, 300, "x"), 2, 24, 200),
+            (put(changed(24, 5, "x"), 24, 128, "\x7f"), 2, 24, 128), (with_line(19, "/*".ljust(81)), 3, 19, 81),
+            (with_line(19, "/*".ljust(300, "x")), 3, 19, 81), (changed(24, 61, "x        x"), 5, 24, 61), (changed(3, 63, "x"), 5, 3, 63),
+            (changed(13, 58, "x"), 5, 13, 56), (changed(3, 4, "256   " + names), 6, 3, 13), (changed(24, 2, "G00"), 7, 24, 2),
+            (changed(24, 2, "G 7"), 6, 24, 2), (put(changed(24, 47, ones), 24, 5, ones), 7, 24, 5), (put(changed(24, 47, ones), 24, 5, "x"), 6, 24, 5),
+            (changed(24, 75, "e"), 6, 24, 75), (flagged, 5, 26, 75), (changed(13, 4, "Gx"), 6, 13, 4), (with_line(24, "PG07"), 6, 24, 5),
+            (with_line(24, "P"), 6, 24, 2), (with_line(1, "#d"), 6, 1, 3), (with_line(1, "#dP"), 6, 1, 4), (with_line(3, "+"), 6, 3, 4),
+            (with_line(13, "%c"), 5, 13, 7), (with_line(23, "*"), 6, 23, 4), (changed(25, 80, "x"), 5, 25, 80),
             (after_row("EPx"), 5, 25, 3), (after_row("EP  55"), 6, 25, 5), (after_row("EP".ljust(27) + "99999999"), 7, 25, 28)]
 
 
@@ -190,7 +191,8 @@ def pictured():
             (changed(24, 61, "x        x"), 5, [f"PG07   5000.000001{row}x        x", " " * 60 + "^"]),
             (changed(13, 58, "x"), 5, ["%c G  cc GPS ccc cccc cccc cccc cccc ccccc ccccc ccccc ccxcc", " " * 55 + "^"]),
             # long lines: whole up to 100 characters, then the first 100, or those around a byte further on
-            (with_line(19, "/* " + xs[:78]), 3, ["/* " + xs[:78], " " * 80 + "^"]), (with_line(19, "/* " + xs[:97]), 3, ["/* " + xs[:97], " " * 80 + "^"]),
+            (with_line(19, "/* " + xs[:78]), 3, ["/* " + xs[:78], " " * 80 + "^"]),
+            (with_line(19, "/* " + xs[:97]), 3, ["/* " + xs[:97], " " * 80 + "^"]),
             (with_line(19, "/* " + xs[:98]), 3, ["/* " + xs[:97] + "..", " " * 80 + "^"]),
             (with_line(19, "/* " + xs[:297]), 3, ["/* " + xs[:97] + "..", " " * 80 + "^"]),
             (with_line(19, "/* " + xs[:96] + "\x7f"), 2, ["/* " + xs[:96] + "?", " " * 99 + "^"]),

@@ -574,8 +574,8 @@ def expect_without_memory(desk, words, out, content, tool):
 
 def main():
     desk = Desk(pathlib.Path(sys.argv[1]).resolve())
-    for test in (test_paper, test_dates, test_damaged, test_causes, test_pictures, test_edges, test_notes, test_moving_notes, test_samples, test_generated,
-                 test_usage, test_numbers, test_inputs, test_pipes, test_many, test_outputs, test_failing, test_large):
+    for test in (test_paper, test_dates, test_damaged, test_causes, test_pictures, test_edges, test_notes, test_moving_notes, test_samples,
+                 test_generated, test_usage, test_numbers, test_inputs, test_pipes, test_many, test_outputs, test_failing, test_large):
         test(desk)
     print(f"desk: {desk.passed} tests passed")
 
