@@ -44,8 +44,8 @@ static void print_row(const sp3_row_step_t *step, uint64_t identifier) {
 }
 
 /* Says that a file is refused; gives the status of the program. */
-static int refused(const char *name, size_t number, uint64_t line) {
-    fprintf(stderr, "%s: refused %zu line %" PRIu64 "\n", name, number, line);
+static int refused(const char *name, size_t number, uint64_t line, size_t column) {
+    fprintf(stderr, "%s: refused %zu line %" PRIu64 " column %zu\n", name, number, line, column);
     return 1;
 }
 
@@ -53,11 +53,11 @@ static int refused(const char *name, size_t number, uint64_t line) {
 static int walk(const char *name, const uint8_t *file, size_t length) {
     uint64_t identifiers[255], counts[2] = {0, 0};
     sp3_reading_t reading = sp3_begin(file, length, identifiers, 255);
-    if (reading.refusal != 0) return refused(name, reading.refusal, reading.line);
+    if (reading.refusal != 0) return refused(name, reading.refusal, reading.line, reading.column);
     sp3_row_step_t step = {.next = sp3_first_row()};
     for (;;) {
         step = sp3_next_row(file, length, identifiers, reading.header.satellites, step.next);
-        if (step.refusal != 0) return refused(name, step.refusal, step.line);
+        if (step.refusal != 0) return refused(name, step.refusal, step.line, step.column);
         if (step.end) break;
         print_row(&step, identifiers[step.satellite]);
         counts[step.row.place_absent]++;
