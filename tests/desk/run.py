@@ -178,21 +178,21 @@ def test_damaged(desk):
     for content, *refusal in refusals.damaged():
         content = as_content(content)
         name = desk.file("damaged.sp3", content)
-        desk.expect_refused(["row", name, "9", "0"], refused(name, *refusal, content))
+        for words in [*about(name), ["row", name, "9", "0"]]:
+            desk.expect_refused(words, refused(name, *refusal, content))
         expect_refusal(desk, content, refusal)
     for content, *refusal in refusals.columned():
         expect_refusal(desk, as_content(content), refusal)
 
 
 def expect_refusal(desk, content, refusal, message=None):
-    """Every command says the refusal of these bytes, and `divide` also of a rest after another file. The message, as far as it is the same for each
-    of them, is what is expected by rule, and number, line and column are those of the independent implementation."""
+    """The refusal of these bytes is said, with this message after their name where one is given: as a result, as a message, and by `divide` also of
+    a rest after another file. Number, line and column are those of the independent implementation, and the message the one by rule."""
     said = refused("", *refusal, content)
-    if message not in (None, said) or desk.oracles.judged(content)[0] != tuple(refusal):
-        desk.differ(["check"], (1, as_bytes(message or said), repr(refusal).encode()),
-                    (1, as_bytes(said), repr(desk.oracles.judged(content)[0]).encode()))
+    assert desk.oracles.judged(content)[0] == tuple(refusal), (refusal, content)
+    assert message in (None, said), (message, said)
     name, first = desk.file("refused.sp3", content), make.joined(PAPER)
-    for words in about(name):
+    for words in (["check", name], ["comment", name, "0"]):
         desk.expect_refused(words, name + said)
     if refusal[0] != 11:
         desk.expect(["divide", name], 1, "", f"{name}: from byte 0{said}")
