@@ -1,5 +1,6 @@
 // A plain scalar reader and divider of SP3-d files in C, the yardstick of bench/run.sh. It is written from the documents alone and shares with the
-// library the types of its answers and no code: one line at a time, every column judged in a first pass, the lent lists filled in a second.
+// library the types of its answers and no code: one line at a time, every column judged in a first pass, the lent lists filled in a second. Of a
+// refusal it tells number and line; the column is 0.
 #include <string.h>
 
 #include "plain.h"
@@ -491,7 +492,7 @@ static sp3_reading_t judged(const uint8_t *bytes, size_t length, bool whole, str
     struct file f = {.bytes = bytes, .length = length};
     if (!records(&f, h)) return refused(f.fault, f.number);
     if (whole && f.spot < length) return refused(AFTER, f.number + 1);
-    return (sp3_reading_t){0, 0, f.spot, h->said};
+    return (sp3_reading_t){.length = f.spot, .header = h->said};
 }
 
 sp3_reading_t PLAIN(judge_front)(const uint8_t *stretch, size_t length) {
@@ -601,7 +602,7 @@ static size_t file_length(const uint8_t *bytes, size_t length) {
 
 // All files are counted before a length is stored: where there are more than room, nothing may be written.
 sp3_division_t PLAIN(divide)(const uint8_t *stretch, size_t length, uint64_t *lengths, size_t room) {
-    sp3_division_t d = {0, 0, 0, 0};
+    sp3_division_t d = {0};
     size_t spot = 0;
     while (d.rest < length) {
         sp3_reading_t front = PLAIN(judge_front)(stretch + d.rest, length - d.rest);
@@ -609,7 +610,7 @@ sp3_division_t PLAIN(divide)(const uint8_t *stretch, size_t length, uint64_t *le
             d.refusal = front.refusal, d.line = front.line;
             break;
         }
-        if (++d.count > room) return (sp3_division_t){0, 0, ROOM, 0};
+        if (++d.count > room) return (sp3_division_t){.refusal = ROOM};
         d.rest += front.length;
     }
     for (uint64_t k = 0; k < d.count; k++) spot += lengths[k] = file_length(stretch + spot, length - spot);

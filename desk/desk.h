@@ -1,5 +1,5 @@
-// The parts of the desk tool: words.c says things, hints.c says what a refusal may come from, lent.c lends memory, table.c shows tables, sp3.c has
-// the commands.
+// The parts of the desk tool: words.c says things, causes.c says what a refusal comes from, shown.c shows the refused line, lent.c lends memory,
+// table.c shows tables, sp3.c has the commands.
 #ifndef DESK_H
 #define DESK_H
 
@@ -15,11 +15,32 @@ enum { ACCEPTED = 0, REFUSED = 1, UNUSABLE = 2 };
 // A refusal in words.
 const char *words_of(uint64_t number);
 
-// Says which refusal the subject, a format with its values, was given, with a hint or "". Gives REFUSED.
-int refused(FILE *to, uint64_t number, uint64_t line, const char *hint, const char *subject, ...);
+// What was refused: the number, the line and the column (0 where it names none), and the bytes that were judged.
+typedef struct {
+    uint64_t number, line;
+    size_t column;
+    const uint8_t *bytes;
+    size_t length;
+} refusal_t;
 
-// What is plain of a refusal from the bytes that were refused, in words; "" where nothing is.
-const char *hint_of(const uint8_t *bytes, size_t length, uint64_t number, uint64_t line);
+// Says which refusal the subject, a format with its values, was given, what it comes from, and shows the line. Gives REFUSED.
+int refused(FILE *to, const refusal_t *refusal, const char *subject, ...);
+
+// Says a refusal in words, and in parentheses what the bytes make plain, or what stands in the line and what was due.
+void say_cause(FILE *to, const refusal_t *refusal);
+
+// A line without its LF; where the bytes have no such line it is not there.
+typedef struct {
+    bool there;
+    const uint8_t *at;
+    size_t length;
+} line_t;
+
+// The line that a refusal names.
+line_t line_of(const refusal_t *refusal);
+
+// Shows that line, where there is one, and under it a caret, where the refusal has a column.
+void show_line(FILE *to, const refusal_t *refusal);
 
 // Says why the subject, a format with its values, is of no use. Gives UNUSABLE.
 int unusable(const char *why, const char *subject, ...);

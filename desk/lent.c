@@ -60,8 +60,8 @@ void drop_input(input_t *input) { free(input->bytes); }
 // The status of a file that was judged or read; where it is refused, that is said.
 static int status_of(const input_t *file, sp3_reading_t answer, FILE *refusals) {
     if (answer.refusal == 0) return ACCEPTED;
-    const char *hint = hint_of(file->bytes, file->length, answer.refusal, answer.line);
-    return refused(refusals, answer.refusal, answer.line, hint, "%s", file->name);
+    refusal_t refusal = {answer.refusal, answer.line, answer.column, file->bytes, file->length};
+    return refused(refusals, &refusal, "%s", file->name);
 }
 
 int judge_file(table_t *table, const char *argument, FILE *refusals) {

@@ -93,7 +93,9 @@ static int find_satellite(uint64_t *number, const input_t *file, const char *wor
     if (is_number(number, word)) return ACCEPTED;
     sp3_satellite_answer_t found = sp3_satellite_of(file->bytes, file->length, named(word));
     *number = found.number;
-    return found.refusal == 0 ? ACCEPTED : refused(stderr, found.refusal, found.line, "", "%s: satellite %s", file->name, word);
+    if (found.refusal == 0) return ACCEPTED;
+    refusal_t refusal = {found.refusal, found.line, found.column, file->bytes, file->length};
+    return refused(stderr, &refusal, "%s: satellite %s", file->name, word);
 }
 
 // Which row it is, its place and its clock.
@@ -113,8 +115,8 @@ static int ask_row(const table_t *table, uint64_t epoch, const char *word) {
     int status = find_satellite(&satellite, file, word);
     if (status != ACCEPTED) return status;
     sp3_row_answer_t answer = sp3_row(file->bytes, file->length, epoch, satellite);
-    if (answer.refusal != 0)
-        return refused(stderr, answer.refusal, answer.line, "", "%s: epoch %" PRIu64 ", satellite %s", file->name, epoch, word);
+    refusal_t refusal = {answer.refusal, answer.line, answer.column, file->bytes, file->length};
+    if (answer.refusal != 0) return refused(stderr, &refusal, "%s: epoch %" PRIu64 ", satellite %s", file->name, epoch, word);
     show_row(table, epoch, satellite, &answer.row);
     return ACCEPTED;
 }
@@ -135,7 +137,8 @@ static int row(char **arguments) {
 
 static int ask_comment(const input_t *file, uint64_t k) {
     sp3_comment_answer_t answer = sp3_comment(file->bytes, file->length, k);
-    if (answer.refusal != 0) return refused(stderr, answer.refusal, answer.line, "", "%s: comment %" PRIu64, file->name, k);
+    refusal_t refusal = {answer.refusal, answer.line, answer.column, file->bytes, file->length};
+    if (answer.refusal != 0) return refused(stderr, &refusal, "%s: comment %" PRIu64, file->name, k);
     fwrite(file->bytes + answer.at, 1, answer.length, stdout);
     putchar('\n');
     return ACCEPTED;
@@ -168,8 +171,8 @@ static int divide_input(sp3_division_t *division, uint64_t **lengths, const inpu
 // Says why the rest of a stretch is no file.
 static int refused_rest(const sp3_division_t *division, const input_t *stretch) {
     size_t rest = division->rest;
-    const char *hint = hint_of(stretch->bytes + rest, stretch->length - rest, division->refusal, division->line);
-    return refused(stderr, division->refusal, division->line, hint, "%s: from byte %zu", stretch->name, rest);
+    refusal_t refusal = {division->refusal, division->line, division->column, stretch->bytes + rest, stretch->length - rest};
+    return refused(stderr, &refusal, "%s: from byte %zu", stretch->name, rest);
 }
 
 // A line for each file, then what is left.

@@ -41,12 +41,15 @@ static void begin_saying(FILE *to, const char *who, const char *subject, va_list
     vfprintf(to, subject, values);
 }
 
-int refused(FILE *to, uint64_t number, uint64_t line, const char *hint, const char *subject, ...) {
+int refused(FILE *to, const refusal_t *refusal, const char *subject, ...) {
     va_list values;
     va_start(values, subject);
     begin_saying(to, "", subject, values);
     va_end(values);
-    fprintf(to, ": refused %" PRIu64 " line %" PRIu64 ": %s%s\n", number, line, words_of(number), hint);
+    fprintf(to, ": refused %" PRIu64 " line %" PRIu64, refusal->number, refusal->line);
+    if (refusal->column > 0) fprintf(to, " column %zu", refusal->column);
+    say_cause(to, refusal);
+    show_line(to, refusal);
     return REFUSED;
 }
 

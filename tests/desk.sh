@@ -1,6 +1,6 @@
 #!/bin/sh
 # Tests the desk tool: every command and status, standard output and standard error byte for byte, on the samples, on damaged and generated files, on
-# inputs and outputs that fail. What is expected comes from 01, from samples/make.py and from the independent implementation in Rust.
+# inputs and outputs that fail. What is expected comes from 01 and 02, from samples/make.py and from the independent implementation in Rust.
 #
 #   tests/desk.sh
 #

@@ -12,10 +12,10 @@ DAY = 86400 * SECOND
 
 
 def words():
-    """The refusals in words, out of the table in include/sp3.h; what stands in parentheses is left out, and of 13 the first half."""
+    """The refusals in words, out of the table in include/sp3.h; what is said there of line and column is left out, and of 13 the first half."""
     header = (ROOT / "include/sp3.h").read_text()
     listed = dict(re.findall(r"^ \* +(\d+)  (.*)$", header, re.M))
-    said = {int(number): re.sub(r" \(.*\)$", "", text) for number, text in listed.items()}
+    said = {int(number): re.sub(r" \(.*\)$|; column: .*$", "", text) for number, text in listed.items()}
     said[13] = said[13].split(", or ")[1]
     assert sorted(said) == list(range(14))
     return said
@@ -25,22 +25,105 @@ WORDS = words()
 LARGE = "large"
 
 
+# ---- What is said of a refusal ----
+
+
 def hint(content, number, line):
-    """What the bytes that were refused make plain, with a blank before it; nothing where they do not."""
+    """What the bytes that were refused make plain; nothing where they do not."""
     if re.match(rb"\x1f[\x8b\x9d]", content):
-        return " (compressed: zcat FILE | sp3 check -)"
+        return "compressed: zcat FILE | sp3 check -"
     text = content.split(b"\n")[line - 1]
     version = re.match(rb"#([abc])", text)
     if number == 2 and re.fullmatch(rb"[ -~]*\r", text):
-        return " (the line ends in CR LF: tr -d '\\r' < FILE | sp3 check -)"
+        return "the line ends in CR LF: tr -d '\\r' < FILE | sp3 check -"
     if number == 4 and line == 1 and version:
-        return f" (this is SP3-{version[1].decode()}; only SP3-d is read)"
-    return " (another file follows: sp3 divide FILE)" if number == 11 and text.startswith(b"#") else ""
+        return f"this is SP3-{version[1].decode()}; only SP3-d is read"
+    return "another file follows: sp3 divide FILE" if number == 11 and text.startswith(b"#") else ""
 
 
-def refused(subject, number, line, content=b""):
-    """What is said of a refusal; of bytes that were refused also what they make plain."""
-    return f"{subject}: refused {number} line {line}: {WORDS[number]}{hint(content, number, line) if content else ''}\n"
+def satellites_in(lines):
+    """The identifiers of the satellites, as far as the `+ ` lines have come."""
+    slots = [line[first : first + 3] for line in lines if line.startswith("+ ") for first in range(9, 60, 3)]
+    return slots[: int(lines[2][3:6])]
+
+
+def opening(lines):
+    """How the lines up to the fourth comment begin; how many there are follows from n in the third."""
+    slots = max(5, -(-int(lines[2][3:6]) // 17)) if len(lines) > 2 else 1
+    return ["#d", "##", *["+ "] * slots, *["++"] * slots, "%c", "%c", "%f", "%f", "%i", "%i", *["/*"] * 4]
+
+
+def due(lines):
+    """How the line after these must begin by rules 1 to 10 of 01, and how another that may stand before it; nothing where none may."""
+    first = opening(lines)
+    if len(lines) < len(first):
+        return first[len(lines)], ""
+    epochs = [k for k, line in enumerate(lines) if line.startswith("* ")]
+    if not epochs:
+        return "* ", "/*"
+    rows = [letter + name for name in satellites_in(lines) for letter in ("PV" if lines[0][2] == "V" else "P")]
+    passed = sum(line[0] in "PV" for line in lines[epochs[-1] :])
+    note = "E" + lines[-1][0] if lines[-1][0] in "PV" else ""
+    if passed < len(rows):
+        return rows[passed], note
+    return "* " if len(epochs) < int(lines[0][32:39]) else "EOF", note
+
+
+def instant_in(line):
+    """The instant in columns 4 to 31, in 10^-8 s since MJD 0."""
+    date = datetime.date(int(line[3:7]), int(line[8:10]), int(line[11:13]))
+    minutes = 60 * int(line[14:16]) + int(line[17:19])
+    return (date.toordinal() - MJD_ZERO) * DAY + minutes * 60 * SECOND + int(line[20:31].replace(".", ""))
+
+
+def instants(before, line):
+    """The instant of an epoch and the one that was due, rule 8 of 01; dates end with 2099."""
+    epoch = sum(text.startswith("* ") for text in before)
+    at = instant_in(before[0]) + epoch * int(before[1][24:38].replace(".", ""))
+    last = (datetime.date(2100, 1, 1).toordinal() - MJD_ZERO) * DAY
+    return f"{moment(instant_in(line))} stands here, {moment(at) if at < last else 'an instant past the last date'} is due"
+
+
+def disagreement(lines):
+    """Which of the four causes of 8 it is in the last of these lines."""
+    start, slot, repeated, file_type = re.split(", (?:or )?", WORDS[8])
+    names = satellites_in(lines) if len(lines) > 2 else []
+    repeats = lines[-1].startswith("+ ") and len(set(names)) < len(names)
+    return {"##": start, "+ ": repeated if repeats else slot, "++": slot, "%c": f"{file_type} with the identifiers"}[lines[-1][:2]]
+
+
+def cause(content, number, line):
+    """A refusal of bytes in words; in parentheses what they make plain, or what stands in the line and what was due."""
+    plain = hint(content, number, line)
+    *before, text = content.decode("latin-1").split("\n")[:line]
+    if number == 8:
+        return disagreement([*before, text])
+    if number == 4 and not plain:
+        must, may = due(before)
+        plain = f"`{must}` is due" + (f", `{may}` may stand before it" if may else "")
+    if number == 9:
+        plain = instants(before, text)
+    if number == 10:
+        plain = f"{text[1:4]} stands here, {due(before)[0][1:]} is due"
+    return WORDS[number] + (f" ({plain})" if plain else "")
+
+
+def shown(content, line, column):
+    """The line where the bytes have it, and a caret under the column. 100 columns are shown: the first, or 80 before the one at fault and 19 after
+    it; `..` stands for the others, `?` for a byte outside 32 to 126."""
+    lines = content.split(b"\n")
+    if line > len(lines) or (line == len(lines) and not lines[-1]):
+        return ""
+    text = re.sub("[^ -~]", "?", lines[line - 1].decode("latin-1"))
+    first = 0 if column <= 100 else column - 81
+    window = (".." if first else "") + text[first : first + 100] + (".." if text[first + 100 :] else "")
+    return window + "\n" + (" " * (column - 1 if not first else 82) + "^\n" if column else "")
+
+
+def refused(subject, number, line=0, column=0, content=b""):
+    """What is said of a refusal; of bytes that were refused also what it comes from, and the line."""
+    at = f"{subject}: refused {number} line {line}{f' column {column}' if column else ''}: "
+    return at + (cause(content, number, line) + "\n" + shown(content, line, column) if content else WORDS[number] + "\n")
 
 
 class Held:
@@ -201,27 +284,27 @@ class Oracles:
         return cases
 
     def judged(self, file, asked=(0, 0, 0, 0)):
-        """The refusal and its line, what the file holds where there is none, and the answers by their first word."""
+        """The refusal, its line and its column, what the file holds where there is none, and the answers by their first word."""
         rooms = [300, 300, 100_000, 2_000_000]
         batch = " ".join(str(n) for n in [len(file), *rooms, *asked]).encode() + b"\n" + file
         lines = self.ask("files", "answer", batch=batch).decode("latin-1").split("\n")
         answers = {line.split(" ", 1)[0]: line.split(" ") for line in lines[:3] + lines[-8:] if line}
-        number, line = int(answers["whole"][1]), int(answers["whole"][2])
-        return number, line, None if number else of_answer(lines), answers
+        refusal = tuple(int(word) for word in answers["whole"][1:4])
+        return refusal, None if refusal[0] else of_answer(lines), answers
 
     def form(self, file):
         """The canonical form of an accepted file."""
         answer = self.ask("forms", "answer", batch=b"2 60000 %d\n" % len(file) + file)
         _, read, write, rest = answer.split(b"\n", 3)
-        assert read == b"read 0 0" and write.startswith(b"write 0 "), (read, write)
+        assert read.startswith(b"read 0 ") and write.startswith(b"write 0 "), (read, write)
         return rest[: int(write.split()[2])]
 
     def division(self, stretch):
-        """Refusal, line, the byte where the rest begins, and the lengths."""
+        """The refusal, its line and its column, the byte where the rest begins, and the lengths."""
         lines = self.ask("divide", "answer", batch=b"1000 0 0 0 %d\n" % len(stretch) + stretch).decode().split("\n")
-        number, line, count, rest = (int(word) for word in lines[1].split()[1:])
+        *refusal, count, rest = (int(word) for word in lines[1].split()[1:])
         lengths = [int(text.split()[1]) for text in lines[2 : 2 + count]]
-        return number, line, rest, lengths
+        return refusal, rest, lengths
 
 
 def of_answer(lines):

@@ -9,7 +9,6 @@ in FOLDER. Prints how many tests passed; at the first difference prints what was
 import contextlib
 import errno
 import gzip
-import importlib.util
 import os
 import pathlib
 import re
@@ -19,7 +18,9 @@ import sys
 import threading
 
 import expected
+import refusals
 from expected import ROOT, of_model, refused
+from refusals import PAPER, after_row, as_content, changed, make
 
 SEED = 20130403
 GENERATED = 80
@@ -77,17 +78,7 @@ messages to standard error.
 Status: 0 accepted, 1 refused, 2 wrong arguments or an input or output that fails.
 """
 COMMANDS = ("check", "rewrite", "table", "row", "comment", "divide", "date")
-
-
-def load_make():
-    spec = importlib.util.spec_from_file_location("make", ROOT / "samples/make.py")
-    module = importlib.util.module_from_spec(spec)
-    spec.loader.exec_module(module)
-    return module
-
-
-make = load_make()
-PAPER = make.paper_lines()
+BAD = make.joined(changed(23, 18, "15"))
 
 
 def as_bytes(text):
@@ -181,76 +172,49 @@ def about(name):
     return [["check", name], ["rewrite", name], ["table", name], ["row", name, "0", "G07"], ["comment", name, "0"]]
 
 
-def changed(line, first, text):
-    """The paper's lines with other text from a column of a line on, both counted from 1."""
-    lines = list(PAPER)
-    lines[line - 1] = lines[line - 1][: first - 1] + text + lines[line - 1][first - 1 + len(text) :]
-    return lines
-
-
-def as_content(content):
-    return content if isinstance(content, bytes) else make.joined(content)
-
-
-def damaged():
-    """Files that 01 refuses, each with the number and the line."""
-    whole = make.joined(PAPER)
-    identifiers = "".join(f"G{k:02}" for k in range(1, 18))
-    return [(whole[:-1], 1, 25), (whole[:700], 1, whole[:700].count(b"\n") + 1), (changed(19, 4, "\a"), 2, 19),
-            (whole.replace(b"\n", b"\r\n"), 2, 1), (changed(19, 4, "X" * 78), 3, 19), (PAPER[:21] + PAPER[22:], 4, 22), (changed(1, 46, "x"), 5, 1),
-            (changed(16, 4, "  0.0000001"), 5, 16), (changed(1, 3, "v"), 6, 1), (changed(13, 10, "gps"), 6, 13),
-            (changed(24, 19, "       .500000"), 6, 24), (changed(1, 33, "      0"), 7, 1), (changed(3, 4, "256   " + identifiers), 7, 3),
-            (changed(2, 40, "56386"), 8, 2), (changed(23, 18, "15"), 9, 23), (changed(24, 2, "G08"), 10, 24), (whole + b" ", 11, 26),
-            (whole + whole, 11, 26)]
-
-
 def test_damaged(desk):
-    """Each of the refusals 1 to 11, by each command."""
-    assert {number for _, number, _ in damaged()} == set(range(1, 12))
-    for content, number, line in damaged():
+    """Each of the refusals 1 to 11, by each command; then the columns."""
+    assert {number for _, number, _, _ in refusals.damaged()} == set(range(1, 12))
+    for content, *refusal in refusals.damaged():
         content = as_content(content)
         name = desk.file("damaged.sp3", content)
         for words in [*about(name), ["row", name, "9", "0"]]:
-            desk.expect_refused(words, refused(name, number, line, content))
-        if number != 11:
-            desk.expect(["divide", name], 1, "", refused(f"{name}: from byte 0", number, line, content))
-    whole = make.joined(PAPER)
-    name = desk.file("rest.sp3", whole + whole[:-1])
-    desk.expect(["divide", name], 1, expected.divide([len(whole)], 1), refused(f"{name}: from byte {len(whole)}", 1, 25))
+            desk.expect_refused(words, refused(name, *refusal, content))
+        expect_refusal(desk, content, refusal)
+    for content, *refusal in refusals.columned():
+        expect_refusal(desk, as_content(content), refusal)
 
 
-def hinted():
-    """Files that are refused for something plain, each with the number, the line and what is said after the words."""
-    whole = make.joined(PAPER)
-    crlf = "the line ends in CR LF: tr -d '\\r' < FILE | sp3 check -"
-    packed, follows = "compressed: zcat FILE | sp3 check -", "another file follows: sp3 divide FILE"
-    return [(gzip.compress(whole, mtime=0), 2, 1, packed), (b"\x1f\x8b", 1, 1, packed), (b"\x1f\x9d\x90\n", 2, 1, packed),
-            (whole.replace(b"\n", b"\r\n"), 2, 1, crlf), (whole.replace(b"ROW\n", b"ROW\r\n"), 2, 19, crlf), (b"\r\n", 2, 1, crlf),
-            *((whole.replace(b"#d", b"#" + letter), 4, 1, f"this is SP3-{letter.decode()}; only SP3-d is read") for letter in (b"a", b"b", b"c")),
-            (whole + whole, 11, 26, follows), (whole + b"#", 11, 26, follows)]
+def expect_refusal(desk, content, refusal, message=None):
+    """The refusal of these bytes is said, with this message after their name where one is given: as a result, as a message, and by `divide` also of
+    a rest after another file. Number, line and column are those of the independent implementation, and the message the one by rule."""
+    said = refused("", *refusal, content)
+    assert desk.oracles.judged(content)[0] == tuple(refusal), (refusal, content)
+    assert message in (None, said), (message, said)
+    name, first = desk.file("refused.sp3", content), make.joined(PAPER)
+    for words in (["check", name], ["comment", name, "0"]):
+        desk.expect_refused(words, name + said)
+    if refusal[0] != 11:
+        desk.expect(["divide", name], 1, "", f"{name}: from byte 0{said}")
+        desk.expect(["divide", "-"], 1, expected.divide([len(first)], 1), f"standard input: from byte {len(first)}{said}", stdin=first + content)
 
 
-def unhinted():
-    """Files that are refused with the same numbers for something else."""
-    whole = make.joined(PAPER)
-    return [(b"\x1f", 1, 1), (b"\x1f\x8c\n", 2, 1), (b"#" + gzip.compress(whole, mtime=0)[:2] + b"\n", 2, 1),
-            *((whole.replace(b"ROW\n", text), 2, 19) for text in (b"\rROW\n", b"\tROW\r\n", b"ROW\r\r\n")), (b"\r", 1, 1),
-            *((whole.replace(b"#d", mark), 4, 1) for mark in (b"#e", b"#D", b"# ", b"##", b"%c")), (b"#\n", 4, 1), (b"\n", 4, 1),
-            (whole.replace(b"\n##", b"\n#c", 1), 4, 2), (whole.replace(b"#dP", b"#cP\x80"), 2, 1), (whole + b"\n#d", 11, 26), (whole + b"+", 11, 26)]
+def test_causes(desk):
+    """A refusal whose cause is plain says it, after the words; 4, 8, 9 and 10 say what was due."""
+    for content, number, line, column, text in refusals.causes():
+        content = as_content(content)
+        at = f": refused {number} line {line}{f' column {column}' if column else ''}: "
+        expect_refusal(desk, content, [number, line, column], at + text + "\n" + expected.shown(content, line, column))
 
 
-def test_hints(desk):
-    """A refusal whose cause is plain says it, after the words; one that is not says nothing more."""
-    for content, number, line, text in [*hinted(), *((*case, None) for case in unhinted())]:
-        message = f"{expected.WORDS[number]}{f' ({text})' if text else ''}\n"
-        assert message == refused("", number, line, content).split(": ", 2)[2]
-        name = desk.file("hinted.sp3", content)
-        for words in about(name):
-            desk.expect_refused(words, f"{name}: refused {number} line {line}: {message}")
-        if number != 11:
-            first = make.joined(PAPER)
-            desk.expect(["divide", "-"], 1, expected.divide([len(first)], 1),
-                        f"standard input: from byte {len(first)}: refused {number} line {line}: {message}", stdin=first + content)
+def test_pictures(desk):
+    """The line that was refused, and a caret under the column."""
+    for content, number, lines in refusals.pictured():
+        content = as_content(content)
+        refusal = desk.oracles.judged(content)[0]
+        message = refused("", *refusal, content).split("\n")[0] + "\n" + "".join(line + "\n" for line in lines)
+        assert refusal[0] == number, (number, refusal, lines)
+        expect_refusal(desk, content, refusal, message)
 
 
 def test_edges(desk):
@@ -262,16 +226,11 @@ def test_edges(desk):
     desk.expect(["row", none, "0", "0"], 0, "epoch 0 2013-04-03 00:00:00.00000000\nsatellite 0 G07\nplace absent\nclock -999999999999 ps\n")
     name = desk.file("paper.sp3", make.joined(PAPER))
     for epoch, satellite in (("1", "0"), ("0", "1"), ("1", "G07"), ("18446744073709551615", "0"), ("0", "18446744073709551615")):
-        desk.expect(["row", name, epoch, satellite], 1, "", refused(f"{name}: epoch {epoch}, satellite {satellite}", 13, 0))
+        desk.expect(["row", name, epoch, satellite], 1, "", refused(f"{name}: epoch {epoch}, satellite {satellite}", 13))
     for satellite in ("G08", "Z99"):
-        desk.expect(["row", name, "0", satellite], 1, "", refused(f"{name}: satellite {satellite}", 13, 0))
+        desk.expect(["row", name, "0", satellite], 1, "", refused(f"{name}: satellite {satellite}", 13))
     for k in ("4", "18446744073709551615"):
-        desk.expect(["comment", name, k], 1, "", refused(f"{name}: comment {k}", 13, 0))
-
-
-def after_row(*lines):
-    """The paper's lines with others after the row."""
-    return PAPER[:24] + list(lines) + PAPER[24:]
+        desk.expect(["comment", name, k], 1, "", refused(f"{name}: comment {k}", 13))
 
 
 def ep_line(*fields):
@@ -303,19 +262,16 @@ def test_notes(desk):
     """An EP after the row of the paper's file: full, of nothing, too large, with leading zeros, minus zero; then such as are refused."""
     for line, form, shown in noted():
         content = make.joined(after_row(line))
-        name, held = desk.file("noted.sp3", content), desk.oracles.judged(content)[2]
+        name, held = desk.file("noted.sp3", content), desk.oracles.judged(content)[1]
         assert expected.table(held) == noted_table(shown) and expected.check(name, held) == paper_checked(name, "EP 1 EV 0")
         desk.expect(["check", name], 0, paper_checked(name, "EP 1 EV 0"))
         desk.expect(["table", name], 0, noted_table(shown))
         desk.expect(["rewrite", name], 0, make.joined(after_row(form)))
         desk.expect(["row", name, "0", "G07"], 0, expected.row(paper_held(desk), 0, 0))
-    for lines, number in ((["EPx"], 5), ([ep_line("55") + "1"], 5), (["EP  55"], 6), ([ep_line("-1")], 6), ([ep_line(*[""] * 4, "99999999")], 7),
-                          ([ep_line(*[""] * 4, "10000000", *[""] * 4, "+1")], 6), (["EV"], 4)):
-        content = make.joined(after_row(*lines))
-        name = desk.file("noted.sp3", content)
-        for words in about(name):
-            desk.expect_refused(words, refused(name, number, 25, content))
-    desk.expect_refused(["check", desk.file("noted.sp3", after_row("EP", "EP"))], refused("noted.sp3", 4, 26))
+    for line, number, column in (("EPx", 5, 3), (ep_line("55") + "1", 5, 9), ("EP  55", 6, 5), (ep_line("-1"), 6, 5),
+                                 (ep_line(*[""] * 4, "99999999"), 7, 28), (ep_line(*[""] * 4, "10000000", *[""] * 4, "+1"), 6, 73), ("EV", 4, 0)):
+        expect_refusal(desk, make.joined(after_row(line)), [number, 25, column])
+    expect_refusal(desk, make.joined(after_row("EP", "EP")), [4, 26, 0])
 
 
 # ---- What samples/make.py and the oracles know ----
@@ -337,7 +293,7 @@ def test_moving_notes(desk):
         content, held = make.joined(make.file_lines(model)), of_model(model)
         name, checked, table = desk.file("moving.sp3", content), expected.check("moving.sp3", held), expected.table(held)
         assert checked.endswith(f", clocks known 6 absent 0, notes {notes}\n") and ("note" in table) == (letters != "")
-        assert table == expected.table(desk.oracles.judged(content)[2])
+        assert table == expected.table(desk.oracles.judged(content)[1])
         desk.expect(["check", name], 0, checked)
         desk.expect(["table", name], 0, table)
         desk.expect(["rewrite", name], 0, content)
@@ -346,7 +302,7 @@ def test_moving_notes(desk):
 def test_samples(desk):
     """The stored samples, by the numbers that they were made from; one that is refused, which README.md shows."""
     late = str(ROOT / "samples/late.sp3")
-    desk.expect(["check", late], 1, refused(late, 9, 23))
+    desk.expect(["check", late], 1, refused(late, 9, 23, 0, make.samples()["late.sp3"]))
     models, files = {"day.sp3": make.day(), "velocity.sp3": make.velocity(), "correlations.sp3": make.correlations()}, make.season_files()
     for sample, model in models.items():
         name, held, form = str(ROOT / "samples" / sample), of_model(model), make.samples()[sample]
@@ -363,7 +319,7 @@ def test_samples(desk):
         for k in (3, 10, 14, 18):
             desk.expect(["row", day, str(epoch), f"G{k + 1:02}"], 0, expected.row(held, epoch, k))
     desk.expect(["divide", season], 0, expected.divide([len(file) for file in files]))
-    desk.expect(["check", season], 1, refused(season, 11, files[0].count(b"\n") + 1, b"".join(files)))
+    desk.expect(["check", season], 1, refused(season, 11, files[0].count(b"\n") + 1, 0, b"".join(files)))
     for k, (file, model) in enumerate(zip(files, make.season())):
         desk.expect(["check", desk.file("part.sp3", file)], 0, expected.check("part.sp3", of_model(model)))
         desk.expect(["rewrite", "part.sp3"], 0, make.joined(make.file_lines(model)))
@@ -376,18 +332,18 @@ def test_generated(desk):
         if not file:
             desk.expect(["check", name], 2, "", no_bytes(name))
             continue
-        number, line, held, answers = desk.oracles.judged(file, asked)
-        if number:
+        refusal, held, answers = desk.oracles.judged(file, asked)
+        if held is None:
             for words in (["check", name], ["table", name], ["rewrite", name], ["comment", name, str(asked[0])]):
-                desk.expect_refused(words, refused(name, number, line, file))
+                desk.expect_refused(words, refused(name, *refusal, file))
         else:
             desk.expect(["check", name], 0, expected.check(name, held))
             desk.expect(["table", name], 0, expected.table(held))
             desk.expect(["rewrite", name], 0, desk.oracles.form(file))
             expect_answers(desk, name, held, asked, answers)
-        number, line, rest, lengths = desk.oracles.division(file)
-        err = refused(f"{name}: from byte {rest}", number, line, file[rest:]) if number else ""
-        desk.expect(["divide", name], 1 if number else 0, expected.divide(lengths, rest if number else None), err)
+        refusal, rest, lengths = desk.oracles.division(file)
+        err = refused(f"{name}: from byte {rest}", *refusal, file[rest:]) if refusal[0] else ""
+        desk.expect(["divide", name], 1 if err else 0, expected.divide(lengths, rest if err else None), err)
 
 
 def expect_answers(desk, name, held, asked, answers):
@@ -396,16 +352,16 @@ def expect_answers(desk, name, held, asked, answers):
     if answers["comment"][1] == "0":
         desk.expect(["comment", name, str(k)], 0, held.comments[k] + "\n")
     else:
-        desk.expect(["comment", name, str(k)], 1, "", refused(f"{name}: comment {k}", 13, 0))
+        desk.expect(["comment", name, str(k)], 1, "", refused(f"{name}: comment {k}", 13))
     if answers["row"][1] == "0":
         desk.expect(["row", name, str(epoch), str(satellite)], 0, expected.row(held, epoch, satellite))
     else:
-        desk.expect(["row", name, str(epoch), str(satellite)], 1, "", refused(f"{name}: epoch {epoch}, satellite {satellite}", 13, 0))
+        desk.expect(["row", name, str(epoch), str(satellite)], 1, "", refused(f"{name}: epoch {epoch}, satellite {satellite}", 13))
     text = chr(code // 100 % 0x110000) + f"{code % 100:02}"
     if answers["satellite"][1] == "0":
-        desk.expect(["row", name, "0", text], 0, expected.row(held, 0, int(answers["satellite"][3])))
+        desk.expect(["row", name, "0", text], 0, expected.row(held, 0, int(answers["satellite"][4])))
     elif re.fullmatch("[A-Z](0[1-9]|[1-9][0-9])", text):
-        desk.expect(["row", name, "0", text], 1, "", refused(f"{name}: satellite {text}", 13, 0))
+        desk.expect(["row", name, "0", text], 1, "", refused(f"{name}: satellite {text}", 13))
 
 
 def large_model():
@@ -431,8 +387,8 @@ def test_large(desk):
     desk.expect(["table", name], 0, expected.table(held))
     desk.expect(["rewrite", "-"], 0, content, stdin=content)
     desk.expect(["row", name, "1041", "R60"], 0, expected.row(held, 1041, 119))
-    desk.expect(["divide", "-"], 1, expected.divide([len(content)] * 2, 1), refused(f"standard input: from byte {2 * len(content)}", 1, 1),
-                stdin=content + content + b"#")
+    desk.expect(["divide", "-"], 1, expected.divide([len(content)] * 2, 1),
+                refused(f"standard input: from byte {2 * len(content)}", 1, 1, 0, b"#"), stdin=content + content + b"#")
     many = make.joined(PAPER) * 5000
     desk.expect(["divide", "-"], 0, expected.divide([1215] * 5000), stdin=many)
     (desk.folder / name).unlink()
@@ -500,16 +456,17 @@ def test_inputs(desk):
     for name in ("/dev/null", desk.file("empty.sp3", b"")):
         for words in [*about(name), ["divide", name]]:
             desk.expect(words, 2, "", no_bytes(name))
-    # a file that says it has no bytes and has some, with a tab in its first line
-    desk.expect(["check", "/proc/self/status"], 1, refused("/proc/self/status", 2, 1))
+    # a file that says it has no bytes and has some
+    version = pathlib.Path("/proc/version").read_bytes()
+    desk.expect(["check", "/proc/version"], 1, refused("/proc/version", *desk.oracles.judged(version)[0], version))
     for name in ("-odd", "a b.sp3", "100%s%n.sp3", "\u00fc.sp3"):
         (desk.folder / name).write_bytes(whole)
         desk.expect(["check", "--", name], 0, expected.check(name, paper_held(desk)).encode())
-        desk.expect(["comment", "--", name, "9"], 1, "", refused(f"{name}: comment 9", 13, 0).encode())
+        desk.expect(["comment", "--", name, "9"], 1, "", refused(f"{name}: comment 9", 13).encode())
 
 
 def paper_held(desk):
-    return desk.oracles.judged(make.joined(PAPER))[2]
+    return desk.oracles.judged(make.joined(PAPER))[1]
 
 
 @contextlib.contextmanager
@@ -541,15 +498,16 @@ def test_pipes(desk):
             desk.expect(words, 0, out)
     with fed(desk.folder / "pipe", b""):
         desk.expect(["check", "pipe"], 2, "", no_bytes("pipe"))
-    with fed(desk.folder / "pipe", gzip.compress(whole, mtime=0)):
-        desk.expect(["check", "pipe"], 1, refused("pipe", 2, 1, b"\x1f\x8b"))
+    packed = gzip.compress(whole, mtime=0)
+    with fed(desk.folder / "pipe", packed):
+        desk.expect(["check", "pipe"], 1, refused("pipe", 2, 1, 1, packed))
     desk.expect(["check", "/dev/stdin"], 0, expected.check("/dev/stdin", held), stdin=whole)
 
 
 def test_many(desk):
     """All files are judged; the gravest status is given; results and messages come in order."""
-    paper, bad, held = desk.file("paper.sp3", make.joined(PAPER)), desk.file("bad.sp3", changed(23, 18, "15")), paper_held(desk)
-    good, wrong = expected.check(paper, held), refused(bad, 9, 23)
+    paper, bad, held = desk.file("paper.sp3", make.joined(PAPER)), desk.file("bad.sp3", BAD), paper_held(desk)
+    good, wrong = expected.check(paper, held), refused(bad, 9, 23, 0, BAD)
     missing = f"sp3: missing: {os.strerror(errno.ENOENT)}\n"
     desk.expect(["check", *[paper] * 300], 0, good * 300)
     desk.expect(["check", bad, paper, bad, paper], 1, (wrong + good) * 2)
@@ -557,8 +515,8 @@ def test_many(desk):
     desk.expect(["check", bad, "missing"], 2, wrong, missing)
     desk.expect(["check", "missing", bad], 2, wrong, missing)
     desk.expect(["check", paper, "--", bad, paper, "missing", paper], 2, good + wrong + good + missing + good, stderr=subprocess.STDOUT)
-    desk.expect(["divide", "-"], 1, expected.divide([1215], 1) + refused("standard input: from byte 1215", 9, 23),
-                stdin=make.joined(PAPER) + make.joined(changed(23, 18, "15")), stderr=subprocess.STDOUT)
+    desk.expect(["divide", "-"], 1, expected.divide([1215], 1) + refused("standard input: from byte 1215", 9, 23, 0, BAD),
+                stdin=make.joined(PAPER) + BAD, stderr=subprocess.STDOUT)
 
 
 def test_outputs(desk):
@@ -578,10 +536,10 @@ def test_outputs(desk):
         failed = f"sp3: standard output: {os.strerror(errno.ENOSPC)}\n"
         desk.expect(["check", paper, bad, "missing"], 2, "", missing + failed, stdout=full)
         desk.expect(["check", bad], 2, "", failed, stdout=full)
-        desk.expect(["table", bad], 1, "", refused(bad, 9, 23), stdout=full)
+        desk.expect(["table", bad], 1, "", refused(bad, 9, 23, 0, BAD), stdout=full)
     desk.expect(["check", bad], 2, "", f"sp3: standard output: {os.strerror(errno.EBADF)}\n", stdout=None, preexec_fn=lambda: os.close(1))
-    desk.expect(["table", bad], 1, "", refused(bad, 9, 23), stdout=None, preexec_fn=lambda: os.close(1))
-    for words, status, out in ((["check", paper], 0, expected.check(paper, paper_held(desk))), (["check", bad], 1, refused(bad, 9, 23)),
+    desk.expect(["table", bad], 1, "", refused(bad, 9, 23, 0, BAD), stdout=None, preexec_fn=lambda: os.close(1))
+    for words, status, out in ((["check", paper], 0, expected.check(paper, paper_held(desk))), (["check", bad], 1, refused(bad, 9, 23, 0, BAD)),
                                (["table", bad], 1, ""), (["check", "missing"], 2, "")):
         desk.expect(words, status, out, stderr=None, preexec_fn=lambda: os.close(2))
 
@@ -616,8 +574,8 @@ def expect_without_memory(desk, words, out, content, tool):
 
 def main():
     desk = Desk(pathlib.Path(sys.argv[1]).resolve())
-    for test in (test_paper, test_dates, test_damaged, test_hints, test_edges, test_notes, test_moving_notes, test_samples, test_generated,
-                 test_usage, test_numbers, test_inputs, test_pipes, test_many, test_outputs, test_failing, test_large):
+    for test in (test_paper, test_dates, test_damaged, test_causes, test_pictures, test_edges, test_notes, test_moving_notes, test_samples,
+                 test_generated, test_usage, test_numbers, test_inputs, test_pipes, test_many, test_outputs, test_failing, test_large):
         test(desk)
     print(f"desk: {desk.passed} tests passed")
 

@@ -1,0 +1,206 @@
+"""Files that are refused, each with what the desk tool says of it: worked out by hand from 01 and from ask 2 of 02, which tells the column."""
+import gzip
+import importlib.util
+
+from expected import ROOT, WORDS
+
+
+def load_make():
+    spec = importlib.util.spec_from_file_location("make", ROOT / "samples/make.py")
+    module = importlib.util.module_from_spec(spec)
+    spec.loader.exec_module(module)
+    return module
+
+
+make = load_make()
+PAPER = make.paper_lines()
+WHOLE = make.joined(PAPER)
+
+
+def as_content(content):
+    return content if isinstance(content, bytes) else make.joined(content)
+
+
+def put(lines, line, first, text):
+    """Lines with other text from a column of a line on, both counted from 1."""
+    old = lines[line - 1]
+    return lines[: line - 1] + [old[: first - 1].ljust(first - 1) + text + old[first - 1 + len(text) :]] + lines[line:]
+
+
+def changed(line, first, text):
+    """The paper's lines with other text there."""
+    return put(PAPER, line, first, text)
+
+
+def with_line(line, text):
+    """The paper's lines with another in place of one."""
+    return PAPER[: line - 1] + [text] + PAPER[line:]
+
+
+def after_row(*lines):
+    """The paper's lines with others after the row."""
+    return PAPER[:24] + list(lines) + PAPER[24:]
+
+
+def many():
+    """The lines of a file of 20 satellites, G01 to G20: three of them stand in line 4."""
+    names = [f"G{k:02}" for k in range(1, 21)]
+    rows = [[[make.Row((k, 1, 1), 0)] for k in range(1, 21)] for _ in range(2)]
+    return make.file_lines(make.Model("P", make.datetime.datetime(2013, 4, 3, 23, 45), 900, names, [1] * 20, ["TWENTY", "", "", ""], rows))
+
+
+def moving():
+    """The lines of samples/velocity.sp3: G01, E11 and E12 in mode V, with an EP or EV after each row; 23, 36 and 49 are the epochs."""
+    return make.file_lines(make.velocity())
+
+
+def last_night():
+    """The lines of a file whose second epoch, line 25, would stand after the last date."""
+    rows = [[[make.Row((1, 1, 1), 0)]] for _ in range(2)]
+    model = make.Model("P", make.datetime.datetime(2099, 12, 31, 23, 59, 30), 30, ["G07"], [1], ["", "", "", ""], rows)
+    return put(make.file_lines(model), 25, 4, "2099 12 31 23 59 30.00000000")
+
+
+# ---- Number, line and column ----
+
+
+def damaged():
+    """Each of the refusals 1 to 11."""
+    identifiers = "".join(f"G{k:02}" for k in range(1, 18))
+    return [(WHOLE[:-1], 1, 25, 0), (WHOLE[:700], 1, WHOLE[:700].count(b"\n") + 1, 0), (changed(19, 4, "\a"), 2, 19, 4),
+            (WHOLE.replace(b"\n", b"\r\n"), 2, 1, 61), (changed(19, 4, "X" * 78), 3, 19, 81), (PAPER[:21] + PAPER[22:], 4, 22, 0),
+            (changed(1, 46, "x"), 5, 1, 46), (changed(16, 4, "  0.0000001"), 5, 16, 4), (changed(1, 3, "v"), 6, 1, 3),
+            (changed(13, 10, "gps"), 6, 13, 10), (changed(24, 19, "       .500000"), 6, 24, 19), (changed(1, 33, "      0"), 7, 1, 33),
+            (changed(3, 4, "256   " + identifiers), 7, 3, 4), (changed(2, 40, "56386"), 8, 2, 0), (changed(23, 18, "15"), 9, 23, 0),
+            (changed(24, 2, "G08"), 10, 24, 0), (WHOLE + b" ", 11, 26, 0), (WHOLE + WHOLE, 11, 26, 0)]
+
+
+def dated():
+    """Dates and times in line 1 and in an epoch line: column 4 for year, month and day; 8 and 11 are unused columns."""
+    cases = []
+    for line in (1, 23):
+        cases += [(changed(line, 4, "20x3x 4"), 5, line, 8), (changed(line, 9, "13 "), 7, line, 4), (changed(line, 9, "13  3 24"), 7, line, 4),
+                  (changed(line, 12, "3 "), 6, line, 4), (changed(line, 9, "13  3 2x"), 6, line, 15), (changed(line, 11, "x"), 5, line, 11),
+                  (changed(line, 14, "x"), 5, line, 14), (changed(line, 15, "24"), 7, line, 15), (changed(line, 21, "60.00000000"), 7, line, 21),
+                  (changed(line, 12, "31 24"), 7, line, 4), (changed(line, 4, "1980  1  5"), 7, line, 4)]
+    return cases
+
+
+def columned():
+    """A column for each number that has one; the lowest number, then the leftmost column; a field past the end of a short line."""
+    ones = "1000000.000000"
+    flagged, names = put(moving(), 26, 75, "E"), "G01" + "G 2" + "".join(f"G{k:02}" for k in range(3, 18))
+    return [*dated(), (changed(24, 5, "  5000.0000001"), 6, 24, 5), (changed(19, 4, "\t"), 2, 19, 4),
+            (put(changed(24, 40, "\x7f"), 24, 9, "\x7f"), 2, 24, 9), (put(changed(24, 200, "\x7f"), 24, 300, "x"), 2, 24, 200),
+            (put(changed(24, 5, "x"), 24, 128, "\x7f"), 2, 24, 128), (with_line(19, "/*".ljust(81)), 3, 19, 81),
+            (with_line(19, "/*".ljust(300, "x")), 3, 19, 81), (changed(24, 61, "x        x"), 5, 24, 61), (changed(3, 63, "x"), 5, 3, 63),
+            (changed(13, 58, "x"), 5, 13, 56), (changed(3, 4, "256   " + names), 6, 3, 13), (changed(24, 2, "G00"), 7, 24, 2),
+            (changed(24, 2, "G 7"), 6, 24, 2), (put(changed(24, 47, ones), 24, 5, ones), 7, 24, 5), (put(changed(24, 47, ones), 24, 5, "x"), 6, 24, 5),
+            (changed(24, 75, "e"), 6, 24, 75), (flagged, 5, 26, 75), (changed(13, 4, "Gx"), 6, 13, 4), (with_line(24, "PG07"), 6, 24, 5),
+            (with_line(24, "P"), 6, 24, 2), (with_line(1, "#d"), 6, 1, 3), (with_line(1, "#dP"), 6, 1, 4), (with_line(3, "+"), 6, 3, 4),
+            (with_line(13, "%c"), 5, 13, 7), (with_line(23, "*"), 6, 23, 4), (changed(25, 80, "x"), 5, 25, 80),
+            (after_row("EPx"), 5, 25, 3), (after_row("EP  55"), 6, 25, 5), (after_row("EP".ljust(27) + "99999999"), 7, 25, 28)]
+
+
+# ---- What a refusal comes from ----
+
+
+def hinted():
+    """Files that are refused for something plain, each with number, line, column and what is said after the words."""
+    crlf = "the line ends in CR LF: tr -d '\\r' < FILE | sp3 check -"
+    packed, follows = "compressed: zcat FILE | sp3 check -", "another file follows: sp3 divide FILE"
+    return [(gzip.compress(WHOLE, mtime=0), 2, 1, 1, packed), (b"\x1f\x8b", 1, 1, 0, packed), (b"\x1f\x9d\x90\n", 2, 1, 1, packed),
+            (WHOLE.replace(b"\n", b"\r\n"), 2, 1, 61, crlf), (WHOLE.replace(b"ROW\n", b"ROW\r\n"), 2, 19, 11, crlf), (b"\r\n", 2, 1, 1, crlf),
+            *((WHOLE.replace(b"#d", b"#" + letter), 4, 1, 0, f"this is SP3-{letter.decode()}; only SP3-d is read") for letter in (b"a", b"b", b"c")),
+            (WHOLE + WHOLE, 11, 26, 0, follows), (WHOLE + b"#", 11, 26, 0, follows)]
+
+
+def unhinted():
+    """Files that are refused with the same numbers for something else; of 4 it is said what was due."""
+    first, texts = "`#d` is due", ((b"\rROW\n", 8), (b"\tROW\r\n", 8), (b"ROW\r\r\n", 11))
+    return [(b"\x1f", 1, 1, 0, None), (b"\x1f\x8c\n", 2, 1, 1, None), (b"#" + gzip.compress(WHOLE, mtime=0)[:2] + b"\n", 2, 1, 2, None),
+            *((WHOLE.replace(b"ROW\n", text), 2, 19, column, None) for text, column in texts), (b"\r", 1, 1, 0, None),
+            *((WHOLE.replace(b"#d", mark), 4, 1, 0, first) for mark in (b"#e", b"#D", b"# ", b"##", b"%c")), (b"#\n", 4, 1, 0, first),
+            (b"\n", 4, 1, 0, first), (WHOLE.replace(b"\n##", b"\n#c", 1), 4, 2, 0, "`##` is due"), (WHOLE.replace(b"#dP", b"#cP\x80"), 2, 1, 4, None),
+            (WHOLE + b"\n#d", 11, 26, 0, None), (WHOLE + b"+", 11, 26, 0, None)]
+
+
+def disagreeing():
+    """Each cause of 8, with its line: line 2; a slot after the last satellite, in the first and in a further line of either kind; an identifier that
+    repeats, in the first line, in a further one, after the one before; the file type. An identifier that repeats is said before a slot."""
+    start, file_type = "line 2 disagrees with the start", "the file type disagrees with the identifiers"
+    slot, repeated = "a slot after the last satellite is not `  0`", "an identifier repeats"
+    twenty = many()
+    return [(changed(2, 4, "1735"), 2, start), (changed(2, 14, "1"), 2, start), (changed(2, 40, "56386"), 2, start),
+            (changed(2, 60, "2"), 2, start), (changed(3, 13, "G08"), 3, slot), (changed(3, 13, "G07"), 3, slot), (changed(3, 13, "000"), 3, slot),
+            (changed(4, 10, "  1"), 4, slot), (changed(7, 58, "   "), 7, slot), (changed(8, 13, "  1"), 8, slot), (changed(9, 10, "  x"), 9, slot),
+            (put(twenty, 4, 19, "G21"), 4, slot), (put(twenty, 4, 19, "G01"), 4, slot), (put(twenty, 9, 19, "000"), 9, slot),
+            (put(twenty, 3, 13, "G01"), 3, repeated), (put(twenty, 3, 58, "G16"), 3, repeated), (put(twenty, 4, 10, "G17"), 4, repeated),
+            (put(twenty, 4, 16, "G18"), 4, repeated), (put(twenty, 4, 16, "G18G21"), 4, repeated), (changed(13, 4, "R "), 13, file_type),
+            (put(moving(), 13, 4, "G "), 13, file_type)]
+
+
+def elsewhere():
+    """Epochs at a wrong instant (9) and rows of another satellite (10), with the line, what stands there and what is due; in mode V too."""
+    night, late = "2013-04-03 23:45:00.00000000", "2013-04-04 00:15:00.00000000"
+    return [(changed(23, 18, "15"), 9, 23, "2013-04-03 00:15:00.00000000", "2013-04-03 00:00:00.00000000"),
+            (changed(23, 21, "00.00000001"), 9, 23, "2013-04-03 00:00:00.00000001", "2013-04-03 00:00:00.00000000"),
+            (put(many(), 44, 18, "15"), 9, 44, late, "2013-04-04 00:00:00.00000000"),
+            (put(many(), 44, 4, "2013 04 03 23 45  0.00000000"), 9, 44, night, "2013-04-04 00:00:00.00000000"),
+            (put(moving(), 36, 4, "2023 12 31 23 45"), 9, 36, "2023-12-31 23:45:00.00000000", "2024-01-01 00:00:00.00000000"),
+            (last_night(), 9, 25, "2099-12-31 23:59:30.00000000", "an instant past the last date"),
+            (changed(24, 2, "G08"), 10, 24, "G08", "G07"), (put(many(), 25, 2, "G03"), 10, 25, "G03", "G02"),
+            (put(many(), 45, 2, "G20"), 10, 45, "G20", "G01"), (put(moving(), 28, 2, "E12"), 10, 28, "E12", "E11"),
+            (put(moving(), 30, 2, "E12"), 10, 30, "E12", "E11"), (put(moving(), 39, 2, "E11"), 10, 39, "E11", "G01")]
+
+
+def misplaced():
+    """Lines of a kind that may not stand there, with how the one begins that is due, and one that may stand before it."""
+    twenty, moved = many(), moving()
+    return [(PAPER[1:], 1, "#d", ""), (PAPER[:1] + PAPER[2:], 2, "##", ""), (with_line(3, ""), 3, "+ ", ""), (PAPER[:5] + PAPER[7:], 6, "+ ", ""),
+            (PAPER[:7] + PAPER[8:], 12, "++", ""), (changed(8, 2, " "), 8, "++", ""), (changed(13, 2, "C"), 13, "%c", ""),
+            (PAPER[:13] + PAPER[14:], 14, "%c", ""), (changed(15, 2, "F"), 15, "%f", ""), (changed(17, 2, "f"), 17, "%i", ""),
+            (PAPER[:21] + PAPER[22:], 22, "/*", ""), (PAPER[:22] + PAPER[23:], 23, "* ", "/*"), (with_line(23, "EOF"), 23, "* ", "/*"),
+            (PAPER[:23] + PAPER[24:], 24, "PG07", ""), (after_row("EP", "EP"), 26, "EOF", ""), (after_row(PAPER[22]), 25, "EOF", "EP"),
+            (twenty[:24] + twenty[43:], 25, "PG02", "EP"), (twenty[:43] + ["EOF"], 44, "* ", "EP"), (twenty[:43] + ["EP", "EOF"], 45, "* ", ""),
+            (moved[:25] + moved[26:], 26, "VG01", ""), (moved[:24] + moved[26:], 25, "VG01", "EP"), (moved[:26] + moved[35:], 27, "PE11", "EV"),
+            (moved[:27] + moved[35:], 28, "PE11", ""), (moved[:34] + ["EOF"], 35, "* ", "EV"), (moved[:60] + [moved[48]], 61, "EOF", "EV")]
+
+
+def causes():
+    """All of these with number, line, column and what is said in words."""
+    cases = [(*case[:4], WORDS[case[1]] + (f" ({case[4]})" if case[4] else "")) for case in [*hinted(), *unhinted()]]
+    cases += [(content, 8, line, 0, cause) for content, line, cause in disagreeing()]
+    cases += [(content, number, line, 0, f"{WORDS[number]} ({here} stands here, {due} is due)") for content, number, line, here, due in elsewhere()]
+    for content, line, due, may in misplaced():
+        before = f", `{may}` may stand before it" if may else ""
+        cases.append((content, 4, line, 0, f"{WORDS[4]} (`{due}` is due{before})"))
+    return cases
+
+
+# ---- The line that is shown ----
+
+
+def pictured():
+    """Files with the number, and with what is shown after the line that says the refusal."""
+    xs, row = "x" * 300, "     -0.500000      0.000000 999999.999999"
+    return [(changed(24, 5, "  5000.0000001"), 6, [f"PG07  5000.0000001{row}", "    ^"]), (with_line(24, "PG07"), 6, ["PG07", "    ^"]),
+            (with_line(24, "P"), 6, ["P", " ^"]), (changed(24, 2, "G00"), 7, [f"PG00   5000.000001{row}", " ^"]),
+            (changed(19, 4, "\t"), 2, ["/* ?NE ROW", "   ^"]), (WHOLE.replace(b"ONE", b"\x1b[31m\xc3\x89\0"), 2, ["/* ?[31m??? ROW", "   ^"]),
+            (WHOLE.replace(b"\n", b"\r\n"), 2, [PAPER[0] + "?", " " * 60 + "^"]),
+            (changed(24, 61, "x        x"), 5, [f"PG07   5000.000001{row}x        x", " " * 60 + "^"]),
+            (changed(13, 58, "x"), 5, ["%c G  cc GPS ccc cccc cccc cccc cccc ccccc ccccc ccccc ccxcc", " " * 55 + "^"]),
+            # long lines: whole up to 100 characters, then the first 100, or those around a byte further on
+            (with_line(19, "/* " + xs[:78]), 3, ["/* " + xs[:78], " " * 80 + "^"]),
+            (with_line(19, "/* " + xs[:97]), 3, ["/* " + xs[:97], " " * 80 + "^"]),
+            (with_line(19, "/* " + xs[:98]), 3, ["/* " + xs[:97] + "..", " " * 80 + "^"]),
+            (with_line(19, "/* " + xs[:297]), 3, ["/* " + xs[:97] + "..", " " * 80 + "^"]),
+            (with_line(19, "/* " + xs[:96] + "\x7f"), 2, ["/* " + xs[:96] + "?", " " * 99 + "^"]),
+            (with_line(19, "/* " + xs[:97] + "\x7f"), 2, [".." + xs[:80] + "?", " " * 82 + "^"]),
+            (with_line(19, "/* " + xs[:124] + "\x7f" + xs[:72]), 2, [".." + xs[:80] + "?" + xs[:19] + "..", " " * 82 + "^"]),
+            (with_line(19, "/* " + xs[:196] + "\x7f" + xs[:19]), 2, [".." + xs[:80] + "?" + xs[:19], " " * 82 + "^"]),
+            (with_line(19, "/* " + xs[:196] + "\x7f" + xs[:100]), 2, [".." + xs[:80] + "?" + xs[:19] + "..", " " * 82 + "^"]),
+            # no column; no line
+            (WHOLE[:-1], 1, ["EOF"]), (WHOLE[:-4], 1, []), (PAPER[:10], 1, []), (WHOLE[:3], 1, ["#dP"]), (xs.encode(), 1, [xs[:100] + ".."]),
+            (with_line(24, ""), 4, [""]), (changed(23, 18, "15"), 9, ["*  2013  4  3  0 15  0.00000000"]), (WHOLE + b" ", 11, [" "]),
+            (WHOLE + b"\n\n", 11, [""]), (WHOLE + b"\0\xff", 11, ["??"]), (WHOLE + xs.encode() + b"\n", 11, [xs[:100] + ".."])]
