@@ -12,4 +12,3 @@ pub mod Deciding
 pub mod Repeats
 pub mod ReadBack
 pub mod Determined
-pub mod Numbers

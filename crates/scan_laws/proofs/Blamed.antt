@@ -263,7 +263,7 @@ key-column number column h = omega arith
 
 -- AN ITEM of a layout: its fault has a number from 4 to 8 and the column that it should, and none that it earns is before it.
 module _ (k : LineKind) (item : Item) (line : List ℕ) (right : standsRight k item ≡ true) where
-  first-bounds : (1 ≤ item .first) × (item .first ≤ 80)
+  pub first-bounds : (1 ≤ item .first) × (item .first ≤ 80)
   first-bounds = within-true 1 80 (item .first) (and-left (within 1 80 (item .first)) _ (and-left (within 1 80 (item .first) && leb (item .last) 80) _ right))
 
   pub last-bound : item .last ≤ 80

@@ -2,17 +2,17 @@
 -- it is refused exactly when it earns a fault. Assumes nothing.
 use mathlib.Core.Path.{_≡_, refl, sym, ap, ap₂, _∙_, subst}
 use mathlib.Core.Logic.{_⊎_, inl, inr, ⊎-elim, _↔_}
-use mathlib.Core.Bool.{Bool, true, false, false≢true, cond, _&&_}
+use mathlib.Core.Bool.{Bool, true, false, false≢true, cond, _&&_, _||_}
 use mathlib.Core.List.{List, [], _∷_, _++_, map, append-nil}
 use Prim.Native.Nat.{ℕ, zero, suc, _+_, _-_, _≤_, _<_}
 use native.Mathlib.Decide.{decLe}
 use native.Mathlib.Omega.{arith}
-use borrow.Author.Tests.{eqb-true, eqb-false, leb-true, leb-false, le-leb, lt-leb}
+use borrow.Author.Tests.{eqb-true, eqb-false, leb-false, le-leb, lt-leb, eq-eqb, ne-eqb}
 use lib.Dec.{eqb, leb}
 use lib.ListN.{length, getD, take}
 use Rattle.laws.specs.Tests.{within}
 use Rattle.laws.specs.Texts.{every, isPrintable}
-use Rattle.laws.proofs.Bools.{and-left, and-right}
+use Rattle.laws.proofs.Bools.{and-left, and-right, and-both}
 use Rattle.laws.proofs.Bounds.{within-true}
 use Rattle.layout.specs.Fault.{clean, keyed, keyNumber, columnOf, lowerOf}
 use Rattle.layout.specs.Kind.{unless, isUnused}
@@ -31,7 +31,7 @@ use Rattle.machine.specs.Step.{onKey, judgedLine, printedLine, stepOf}
 use Rattle.machine.specs.declared.types.State.{State}
 use Rattle.machine.specs.declared.types.Verdict.{Verdict}
 use Rattle.machine.specs.declared.types.Verdict.the-variants as verdict
-use Rattle.scan_laws.proofs.Blamed.{standsRight, layouts-right, among-right, unused-named, unused-earned, field-named, field-earned, field-columns, last-bound, key-number, key-column}
+use Rattle.scan_laws.proofs.Blamed.{standsRight, layouts-right, among-right, unused-named, unused-earned, field-named, field-earned, field-columns, first-bounds, last-bound, key-number, key-column}
 use Rattle.scan_laws.proofs.LeastKey.{lowestOf, Lowest, lowest-is, items-lowest}
 use Rattle.scan_laws.specs.Earned.{Among, Check, must, itemsAt, checksAt, kindAt, byteAt, fieldNumber, fieldColumn, NotBlank, WrongField, Failed, Earns, Before, Decides}
 use Rattle.scan_laws.specs.Earned.Earns.{by-byte, by-length, by-kind, by-unused, by-field, by-check}
@@ -151,9 +151,9 @@ among-of f [] key more a = inr a
 among-of f (y ∷ ys) key more (inl e) = inl (y, inl refl, e)
 among-of f (y ∷ ys) key more (inr a) = ⊎-elim (λ found. inl (found .0, inr (found .1), found .2)) (λ later. inr later) (among-of f ys key more a)
 
--- CHECKS: every one has a number from 4 to 10, and a column of 4 for 7, else of 0
+-- CHECKS: every one has number 4 or one of 7 to 10, and a column of 4 for 7, else of 0
 abbrev checkRight : Check → Bool
-checkRight c = within 4 10 (c .number) && eqb (c .column) (cond (eqb (c .number) 7) 4 0)
+checkRight c = (eqb (c .number) 4 || within 7 10 (c .number)) && eqb (c .column) (cond (eqb (c .number) 7) 4 0)
 
 abbrev checksRight : List Check → Bool
 checksRight [] = true
@@ -185,15 +185,30 @@ check-right [] c a e = absurd a
 check-right (d ∷ checks) c (inl is) e = ap checkRight is ∙ and-left (checkRight d) _ e
 check-right (d ∷ checks) c (inr a) e = check-right checks c a (and-right (checkRight d) _ e)
 
-pub check-bounds : (c : Check) → checkRight c ≡ true → (4 ≤ c .number) × (c .number ≤ 10) × (c .column ≡ cond (eqb (c .number) 7) 4 0) × (c .column < 128)
-check-bounds c e =
-    let range = within-true 4 10 (c .number) (and-left (within 4 10 (c .number)) _ e) in
-    let column = eqb-true (c .column) (cond (eqb (c .number) 7) 4 0) (and-right (within 4 10 (c .number)) _ e) in
-    (range .0, range .1, column, small (eqb (c .number) 7) column)
+record Bounds (c : Check) : Type 0 where
+  low : 4 ≤ c .number
+  high : c .number ≤ 10
+  ranges : (c .number ≡ 4) ⊎ (7 ≤ c .number)
+  named : c .column ≡ cond (eqb (c .number) 7) 4 0
+  small : c .column < 128
+
+check-bounds : (c : Check) → checkRight c ≡ true → Bounds c
+check-bounds c e = go (eqb (c .number) 4) refl (and-left (eqb (c .number) 4 || within 7 10 (c .number)) _ e)
   where
+    named : c .column ≡ cond (eqb (c .number) 7) 4 0
+    named = eqb-true (c .column) (cond (eqb (c .number) 7) 4 0) (and-right (eqb (c .number) 4 || within 7 10 (c .number)) _ e)
+
     small : (t : Bool) → c .column ≡ cond t 4 0 → c .column < 128
     small true e = omega arith
     small false e = omega arith
+
+    go : (t : Bool) → eqb (c .number) 4 ≡ t → (t || within 7 10 (c .number)) ≡ true → Bounds c
+    go true four _ =
+        let n = eqb-true (c .number) 4 four in
+        record { low = omega (arith, n); high = omega (arith, n); ranges = inl n; named = named; small = small (eqb (c .number) 7) named }
+    go false _ range =
+        let n = within-true 7 10 (c .number) range in
+        record { low = omega (arith, n .0); high = n .1; ranges = inr (n .0); named = named; small = small (eqb (c .number) 7) named }
 
 -- faults in order
 before-both : (n c m e : ℕ) → Before n c m e → Before m e n c → (n ≡ m) × (c ≡ e)
@@ -282,7 +297,7 @@ module _ (rules : Rules) (s : State) (identifiers line : List ℕ) where
             number = c .number;
             column = c .column;
             is = ap (λ (t : Bool). unless t (c .number) (c .column)) p;
-            small = bounds .3;
+            small = bounds .small;
             earned = by-check (record { check = c; asked = a; fails = p; earned = refl; names = refl });
           }
 
@@ -346,11 +361,11 @@ module _ (rules : Rules) (s : State) (identifiers line : List ℕ) where
       record {
         key = checkKey (f .check);
         among = among-more itemKey items (checkKey (f .check)) (checkKeys checks) (subst (Among (checkKey (f .check))) (append-nil (checkKeys checks)) (among-map checkKey checks (f .check) [] (f .asked)));
-        some = omega (arith, is, bounds .0, f .earned);
+        some = omega (arith, is, bounds .low, f .earned);
         below = omega (arith, is);
-        low = omega (arith, bounds .0, f .earned);
-        high = omega (arith, bounds .1, f .earned);
-        small = omega (arith, bounds .3, f .names);
+        low = omega (arith, bounds .low, f .earned);
+        high = omega (arith, bounds .high, f .earned);
+        small = omega (arith, bounds .small, f .names);
       }
 
   -- what it earns with 2 is a byte that is outside; else it earns 3, 4 or a part
@@ -379,6 +394,84 @@ module _ (rules : Rules) (s : State) (identifiers line : List ℕ) where
       go (length-way n h c) = (omega arith, omega arith)
       go (kind-way n h) = (omega arith, omega arith)
       go (part-way p) = (omega (arith, p .low), p .high)
+
+  -- THE COLUMN BY THE NUMBER. 2: a byte outside 32 to 126,
+  pub two-column : (column : ℕ) → Fault 2 column → (1 ≤ column) × (column ≤ length line) × (isPrintable (byteAt column line) ≡ false)
+  two-column column (by-byte p q e n) = (p, q, e)
+  two-column column (by-length h n c) = absurd (omega arith)
+  two-column column (by-kind h n c) = absurd (omega arith)
+  two-column column (by-unused b n) = absurd (omega arith)
+  two-column column (by-field w) = absurd (omega (arith, field-part 2 column w .low))
+  two-column column (by-check f) = absurd (omega (arith, check-part 2 column f .low))
+
+  -- 3: the first column too many,
+  pub three-column : (column : ℕ) → Fault 3 column → column ≡ longest rules k + 1
+  three-column column (by-byte p q e n) = absurd (omega arith)
+  three-column column (by-length h n c) = c
+  three-column column (by-kind h n c) = absurd (omega arith)
+  three-column column (by-unused b n) = absurd (omega arith)
+  three-column column (by-field w) = absurd (omega (arith, field-part 3 column w .low))
+  three-column column (by-check f) = absurd (omega (arith, check-part 3 column f .low))
+
+  -- 5 to 7: one of the 80,
+  field-told : (number : ℕ) → 5 ≤ number → number ≤ 7 → within 5 7 number ≡ true
+  field-told number p q = and-both (leb 5 number) (leb number 7) (le-leb 5 number p) (le-leb number 7 q)
+
+  check-told : (c : Check) → Among c checks → 5 ≤ c .number → c .number ≤ 7 → (1 ≤ c .column) × (c .column ≤ 80)
+  check-told c a p q = go (bounds .ranges)
+    where
+      bounds : Bounds c
+      bounds = check-bounds c (check-right checks c a (checks-right k rules s identifiers (padded line)))
+
+      go : (c .number ≡ 4) ⊎ (7 ≤ c .number) → (1 ≤ c .column) × (c .column ≤ 80)
+      go (inl e) = absurd (omega arith)
+      go (inr h) =
+          let seven : eqb (c .number) 7 ≡ true = eq-eqb (c .number) 7 (omega arith) in
+          let four : c .column ≡ 4 = bounds .named ∙ ap (λ (t : Bool). cond t 4 0) seven in
+          (omega (arith, four), omega (arith, four))
+
+  pub field-column : (number column : ℕ) → 5 ≤ number → number ≤ 7 → Fault number column → (1 ≤ column) × (column ≤ 80)
+  field-column number column p q (by-byte _ _ e n) = absurd (omega arith)
+  field-column number column p q (by-length h n c) = absurd (omega arith)
+  field-column number column p q (by-kind h n c) = absurd (omega arith)
+  field-column number column p q (by-unused b n) =
+      let right = item-right (b .item) (b .listed) in
+      (omega (arith, b .from, first-bounds k (b .item) (padded line) right .0), omega (arith, b .to, last-bound k (b .item) (padded line) right))
+  field-column number column p q (by-field w) =
+      let columns = field-columns k (w .item) (padded line) (item-right (w .item) (w .listed)) number in
+      (omega (arith, w .names, columns .1 (field-told number p q)), omega (arith, w .names, columns .0))
+  field-column number column p q (by-check f) =
+      let columns = check-told (f .check) (f .asked) (omega (arith, f .earned)) (omega (arith, f .earned)) in
+      (omega (arith, f .names, columns .0), omega (arith, f .names, columns .1))
+
+  -- 4 and 8 to 10: none.
+  untold : (number : ℕ) → (number ≡ 4) ⊎ (8 ≤ number) → within 5 7 number ≡ false
+  untold number (inl e) = ap (within 5 7) e
+  untold number (inr h) = and-no (leb 5 number) (leb number 7) (lt-leb number 7 (omega arith))
+    where
+      and-no : (a b : Bool) → b ≡ false → (a && b) ≡ false
+      and-no true b e = e
+      and-no false b e = refl
+
+  check-untold : (c : Check) → Among c checks → (c .number ≡ 7 → ⊥) → c .column ≡ 0
+  check-untold c a apart =
+      let bounds = check-bounds c (check-right checks c a (checks-right k rules s identifiers (padded line))) in
+      bounds .named ∙ ap (λ (t : Bool). cond t 4 0) (ne-eqb (c .number) 7 apart)
+
+  pub no-column : (number column : ℕ) → (number ≡ 4) ⊎ (8 ≤ number) → Fault number column → column ≡ 0
+  no-column number column h e = go (apart h) e
+    where
+      apart : (number ≡ 4) ⊎ (8 ≤ number) → (4 ≤ number) × (number ≡ 5 → ⊥) × (number ≡ 7 → ⊥)
+      apart (inl e) = (omega arith, λ f. omega arith, λ f. omega arith)
+      apart (inr h) = (omega arith, λ f. omega arith, λ f. omega arith)
+
+      go : (4 ≤ number) × (number ≡ 5 → ⊥) × (number ≡ 7 → ⊥) → Fault number column → column ≡ 0
+      go far (by-byte _ _ e n) = absurd (omega (arith, far .0))
+      go far (by-length h n c) = absurd (omega (arith, far .0))
+      go far (by-kind h n c) = c
+      go far (by-unused b n) = absurd (far .1 n)
+      go far (by-field w) = w .names ∙ field-columns k (w .item) (padded line) (item-right (w .item) (w .listed)) number .2 (untold number h)
+      go far (by-check f) = f .names ∙ check-untold (f .check) (f .asked) (λ e. far .2 (f .earned ∙ e))
 
   -- what a verdict on a line says of the faults that it earns
   data Settles (v : Verdict) : Type 0 where

@@ -83,7 +83,7 @@ judge-accepts bytes = go (fileOf d bytes) refl
         no-both both = let z : _≡_ {A = ℕ} 0 1 = cc in omega arith
 
 -- 11 exactly when an accepted file is followed by more, with the line after its last.
-pub eleven-exactly : (bytes : List ℕ) (line : ℕ) → (judged d bytes (fileOf d bytes) ≡ refusedWith 11 line)
+pub eleven-exactly : (bytes : List ℕ) (line : ℕ) → (judged d bytes (fileOf d bytes) ≡ refusedWith 11 line 0)
     ↔ ((a : List ℕ) × (b : List ℕ) × (bytes ≡ a ++ b) × IsFile d a × (0 < length b) × (line ≡ length (linesOf a) + 1))
 unfolding judged wholeFront
 eleven-exactly bytes line = (there (fileOf d bytes) refl, back)
@@ -91,7 +91,7 @@ eleven-exactly bytes line = (there (fileOf d bytes) refl, back)
     There′ : Type 0
     There′ = (a : List ℕ) × (b : List ℕ) × (bytes ≡ a ++ b) × IsFile d a × (0 < length b) × (line ≡ length (linesOf a) + 1)
 
-    there : (f : Front) → fileOf d bytes ≡ f → judged d bytes f ≡ refusedWith 11 line → There′
+    there : (f : Front) → fileOf d bytes ≡ f → judged d bytes f ≡ refusedWith 11 line 0 → There′
     there (front.File t) e is = let z : _≡_ {A = ℕ} 0 11 = ap (λ (r : Reading). r .refusal) is in absurd (omega arith)
     there (front.Refused number l column) e is = by (whole-refused bytes number l column e)
       where
@@ -102,10 +102,10 @@ eleven-exactly bytes line = (there (fileOf d bytes) refl, back)
         same = ap (λ (r : Reading). r .line) is
 
         by : (frontOf d bytes ≡ front.Refused number l column)
-            ⊎ ((t : Tally) × (frontOf d bytes ≡ front.File t) × (t .end < length bytes) × (number ≡ 11) × (l ≡ t .lines + 1))
+            ⊎ ((t : Tally) × (frontOf d bytes ≡ front.File t) × (t .end < length bytes) × (number ≡ 11) × (l ≡ t .lines + 1) × (column ≡ 0))
             → There′
         by (inl refused) = absurd (omega (arith, refused-numbers bytes number l column refused .1, eleven))
-        by (inr (t, f, h, n, m)) = (
+        by (inr (t, f, h, n, m, c)) = (
           take (t .end) bytes,
           drop (t .end) bytes,
           sym (take-append-drop (t .end) bytes),
@@ -114,7 +114,7 @@ eleven-exactly bytes line = (there (fileOf d bytes) refl, back)
           sym same ∙ m ∙ ap (λ (n : ℕ). n + 1) (accepted-front d bytes t f .lines),
         )
 
-    back : There′ → judged d bytes (fileOf d bytes) ≡ refusedWith 11 line
+    back : There′ → judged d bytes (fileOf d bytes) ≡ refusedWith 11 line 0
     back (a, b, is, (t, f), some, l) =
         let found = file-then-anything a b t f in
         let after : ltb (t .end) (length (a ++ b)) ≡ true = lt-ltb (t .end) (length (a ++ b)) (omega (arith, found .1, length-append a b)) in
@@ -124,7 +124,7 @@ eleven-exactly bytes line = (there (fileOf d bytes) refl, back)
 
 -- A file that is refused is answered by its own number and line, whatever the room.
 pub refused-whatever-room : (whole : Bool) (bytes : List ℕ) (number line column : ℕ) → foundIn whole bytes ≡ front.Refused number line column
-    → (i x c r : ℕ) → answer whole bytes i x c r ≡ refusedWith number line
+    → (i x c r : ℕ) → answer whole bytes i x c r ≡ refusedWith number line column
 unfolding delivered
 refused-whatever-room whole bytes number line column e i x c r = rw e
 
@@ -185,7 +185,7 @@ row-thirteen bytes k j = (there (fileOf d bytes) refl, λ b. ap (λ (a : RowAnsw
 
 -- THE COMMENT QUESTION: the file's own refusal first,
 pub comment-refused : (bytes : List ℕ) (number line column : ℕ) → fileOf d bytes ≡ front.Refused number line column
-    → (k : ℕ) → (commentAnswer d bytes (fileOf d bytes) k ≡ noComment number line) × (commentWords d bytes (fileOf d bytes) k ≡ [])
+    → (k : ℕ) → (commentAnswer d bytes (fileOf d bytes) k ≡ noComment number line column) × (commentWords d bytes (fileOf d bytes) k ≡ [])
 unfolding commentAnswer commentWords
 comment-refused bytes number line column e k = (rw e, rw e)
 
@@ -211,7 +211,7 @@ module _ (bytes : List ℕ) (accepted : IsFile d bytes) where
 
   -- and 13 with nothing where there is none.
   pub comment-not-there : (k : ℕ) → header bytes .comments ≤ k
-      → (commentAnswer d bytes (fileOf d bytes) k ≡ noComment 13 0) × (commentWords d bytes (fileOf d bytes) k ≡ [])
+      → (commentAnswer d bytes (fileOf d bytes) k ≡ noComment 13 0 0) × (commentWords d bytes (fileOf d bytes) k ≡ [])
   unfolding commentAnswer commentWords
   comment-not-there k h =
       let t = accepted .0 in
@@ -277,7 +277,7 @@ questions-never-12 bytes k j = (row (fileOf d bytes) refl, comment (fileOf d byt
 
 -- THE SATELLITE QUESTION: the file's own refusal first,
 pub satellite-refused : (bytes : List ℕ) (number line column : ℕ) → fileOf d bytes ≡ front.Refused number line column
-    → (wanted : ℕ) → satelliteAnswer d bytes (fileOf d bytes) wanted ≡ noSatellite number line
+    → (wanted : ℕ) → satelliteAnswer d bytes (fileOf d bytes) wanted ≡ noSatellite number line column
 unfolding satelliteAnswer
 satellite-refused bytes number line column e wanted = rw e
 
@@ -319,17 +319,17 @@ module _ (bytes : List ℕ) (accepted : IsFile d bytes) (wanted : ℕ) where
   satellite-found zero-answer = rw answered (go (ltb (indexOf wanted list) (length list)) refl (rw answered at zero-answer))
     where
       go : (t : Bool) → ltb (indexOf wanted list) (length list) ≡ t
-          → cond t (record { refusal = 0; line = 0; number = indexOf wanted list }) (noSatellite 13 0) .refusal ≡ 0
+          → cond t (record { refusal = 0; line = 0; column = 0; number = indexOf wanted list }) (noSatellite 13 0 0) .refusal ≡ 0
           → (satelliteIn wanted list .number < length list) × (getD list (satelliteIn wanted list .number) 0 ≡ wanted)
       go true e z = rw e (ltb-true (indexOf wanted list) (length list) e, index-within wanted list (ltb-true (indexOf wanted list) (length list) e))
       go false e z = absurd (omega arith)
 
   -- and 13 exactly where none has.
-  pub satellite-thirteen : (satelliteAnswer d bytes (fileOf d bytes) wanted ≡ noSatellite 13 0) ↔ ((j : ℕ) → j < length list → identifier bytes j ≡ wanted → ⊥)
+  pub satellite-thirteen : (satelliteAnswer d bytes (fileOf d bytes) wanted ≡ noSatellite 13 0 0) ↔ ((j : ℕ) → j < length list → identifier bytes j ≡ wanted → ⊥)
   satellite-thirteen = rw answered (go (ltb (indexOf wanted list) (length list)) refl)
     where
       go : (t : Bool) → ltb (indexOf wanted list) (length list) ≡ t
-          → (satelliteIn wanted list ≡ noSatellite 13 0) ↔ ((j : ℕ) → j < length list → getD list j 0 ≡ wanted → ⊥)
+          → (satelliteIn wanted list ≡ noSatellite 13 0 0) ↔ ((j : ℕ) → j < length list → getD list j 0 ≡ wanted → ⊥)
       go true e =
           let within = ltb-true (indexOf wanted list) (length list) e in (
             (λ is. let z : _≡_ {A = ℕ} 0 13 = ap (λ (a : SatelliteAnswer). a .refusal) (rw e at is) in absurd (omega arith)),

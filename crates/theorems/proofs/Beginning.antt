@@ -57,13 +57,13 @@ module _ (bytes : List ℕ) (t : Tally) (accepted : fileOf d bytes ≡ front.Fil
         ∙ ap (λ (n : ℕ). drop n old) identifiers-many
 
     -- With less room it is 12, line 0, and the list is as it was.
-    pub begin-short : length old < header bytes .satellites → (begun bytes (length old) ≡ refusedWith 12 0) × (begunList bytes old ≡ old)
+    pub begin-short : length old < header bytes .satellites → (begun bytes (length old) ≡ refusedWith 12 0 0) × (begunList bytes old ≡ old)
     unfolding begunAs identifiersBegun judged
     begin-short short = let no-room = lt-leb (header bytes .satellites) (length old) short in (rw (accepted, lines-are, no-room), rw (accepted, lines-are, no-room))
 
 -- A file that is refused: its own number and line, and the list is as it was.
 pub begin-refused : (bytes : List ℕ) (number line column : ℕ) → fileOf d bytes ≡ front.Refused number line column → (old : List ℕ)
-    → (begun bytes (length old) ≡ refusedWith number line) × (begunList bytes old ≡ old)
+    → (begun bytes (length old) ≡ refusedWith number line column) × (begunList bytes old ≡ old)
 unfolding begunAs identifiersBegun judged
 begin-refused bytes number line column e old =
     let some = found-numbered true bytes number line column e in

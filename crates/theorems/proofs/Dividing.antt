@@ -61,19 +61,19 @@ module _ {bytes ls : List ℕ} (x : Divides d bytes ls) where
 
   -- Where a stretch divides into accepted files and there is room for their lengths, the answer is their number, the length of the stretch, and
   -- no refusal,
-  pub divide-gives : (room : ℕ) → length ls ≤ room → divideOf d bytes room ≡ division (length ls) (length bytes) 0 0
+  pub divide-gives : (room : ℕ) → length ls ≤ room → divideOf d bytes room ≡ division (length ls) (length bytes) 0 0 0
   divide-gives room h =
       with-room bytes room (omega (arith, ap length cuts-are))
       ∙ ap (divisionFrom 0 0) (divided d x)
-      ∙ ap (λ (ks : List ℕ). division (0 + length ks) (0 + sum ks) 0 0) (append-nil ls)
-      ∙ ap₂ (λ (a b : ℕ). division a b 0 0) (zero-add (length ls)) (zero-add (sum ls) ∙ lengths-sum d x)
+      ∙ ap (λ (ks : List ℕ). division (0 + length ks) (0 + sum ks) 0 0 0) (append-nil ls)
+      ∙ ap₂ (λ (a b : ℕ). division a b 0 0 0) (zero-add (length ls)) (zero-add (sum ls) ∙ lengths-sum d x)
 
   -- and their lengths are written from the first place on, the places past them as they were.
   pub divide-writes : (old : List ℕ) → length ls ≤ length old → lengthsAfter d bytes old ≡ over ls old
   divide-writes old h = written-room bytes old (omega (arith, ap length cuts-are)) ∙ ap (λ (ks : List ℕ). over ks old) cuts-are
 
 -- So two accepted files, one after the other, are two files.
-pub two-files : (a b : List ℕ) → IsFile d a → IsFile d b → (room : ℕ) → 2 ≤ room → divideOf d (a ++ b) room ≡ division 2 (length (a ++ b)) 0 0
+pub two-files : (a b : List ℕ) → IsFile d a → IsFile d b → (room : ℕ) → 2 ≤ room → divideOf d (a ++ b) room ≡ division 2 (length (a ++ b)) 0 0 0
 two-files a b f g room h =
     divide-gives (subst (λ (s : List ℕ). Divides d (a ++ s) (length a ∷ length b ∷ [])) (append-nil b) (one a f (one b g none))) room h
 
@@ -110,12 +110,12 @@ front-found bytes old room = go (room-or-not (length (found bytes)) (length old)
 abbrev pub OfRest : ℕ → Type 0
 OfRest number = (number ≡ 0) ⊎ ((1 ≤ number) × (number ≤ 10))
 
-left-numbered : (rest : List ℕ) (refusal line : ℕ) → Left d rest refusal line → OfRest refusal
-left-numbered rest refusal line (inl (empty, zero, l)) = inl zero
-left-numbered rest refusal line (inr (column, some, e)) = inr (refused-numbers rest refusal line column e)
+left-numbered : (rest : List ℕ) (refusal line column : ℕ) → Left d rest refusal line column → OfRest refusal
+left-numbered rest refusal line column (inl (empty, zero, l, c)) = inl zero
+left-numbered rest refusal line column (inr (some, e)) = inr (refused-numbers rest refusal line column e)
 
 found-numbered : (bytes : List ℕ) → OfRest (cutsOf d bytes .refusal)
-found-numbered bytes = let p = parts d bytes in left-numbered (p .rest) (cutsOf d bytes .refusal) (cutsOf d bytes .line) (p .left)
+found-numbered bytes = let p = parts d bytes in left-numbered (p .rest) (cutsOf d bytes .refusal) (cutsOf d bytes .line) (cutsOf d bytes .column) (p .left)
 
 -- The refusal is 0, one of 1 to 10, or 12;
 pub refusal-numbers : (bytes : List ℕ) (room : ℕ) → OfRest (divideOf d bytes room .refusal) ⊎ (divideOf d bytes room .refusal ≡ 12)
@@ -165,7 +165,7 @@ twelve-exactly bytes room = (there, back)
         (without-room bytes room (omega (arith, ap length (beginning bytes a b ls e x), length-append ls (found b))))
 
 -- then every other part of the answer is 0,
-pub twelve-alone : (bytes : List ℕ) (room : ℕ) → divideOf d bytes room .refusal ≡ 12 → divideOf d bytes room ≡ division 0 0 12 0
+pub twelve-alone : (bytes : List ℕ) (room : ℕ) → divideOf d bytes room .refusal ≡ 12 → divideOf d bytes room ≡ division 0 0 12 0 0
 twelve-alone bytes room e = without-room bytes room (twelve-short bytes room e)
 
 -- and nothing is written.
@@ -173,20 +173,20 @@ pub refusal-keeps : (bytes old : List ℕ) → divideOf d bytes (length old) .re
 refusal-keeps bytes old e = written-none bytes old (twelve-short bytes (length old) e)
 
 -- An empty stretch: 0 in every part, whatever the room, and nothing is written.
-pub empty-stretch : (room : ℕ) → divideOf d [] room ≡ division 0 0 0 0
+pub empty-stretch : (room : ℕ) → divideOf d [] room ≡ division 0 0 0 0 0
 empty-stretch room = divide-gives none room zero-le
 
 pub empty-keeps : (old : List ℕ) → lengthsAfter d [] old ≡ old
 empty-keeps old = divide-writes none old zero-le
 
--- Where the refusal is not 0, the rest is not empty and is refused with the refusal and line of the answer, counted from its first byte.
+-- Where the refusal is not 0, the rest is not empty and is refused with the refusal, line and column of the answer, counted from its first byte.
 pub rest-refused : {bytes old : List ℕ} {answer : Division} (f : AtFront bytes old answer) → (answer .refusal ≡ 0 → ⊥)
-    → (column : ℕ) × (0 < length (f .rest)) × (frontOf d (f .rest) ≡ front.Refused (answer .refusal) (answer .line) column)
+    → (0 < length (f .rest)) × (frontOf d (f .rest) ≡ front.Refused (answer .refusal) (answer .line) (answer .column))
 rest-refused {answer = answer} f some = go (f .left)
   where
-    go : Left d (f .rest) (answer .refusal) (answer .line)
-        → (column : ℕ) × (0 < length (f .rest)) × (frontOf d (f .rest) ≡ front.Refused (answer .refusal) (answer .line) column)
-    go (inl (n, zero, l)) = absurd (some zero)
+    go : Left d (f .rest) (answer .refusal) (answer .line) (answer .column)
+        → (0 < length (f .rest)) × (frontOf d (f .rest) ≡ front.Refused (answer .refusal) (answer .line) (answer .column))
+    go (inl (n, zero, l, c)) = absurd (some zero)
     go (inr refused) = refused
 
 -- Where it is 0, the stretch divides into accepted files with exactly the lengths that are written.
@@ -198,17 +198,17 @@ divide-only bytes old e = go (front-found bytes old (λ twelve. omega arith))
         → (ls : List ℕ) × Divides d bytes ls × (divideOf d bytes (length old) .count ≡ length ls) × (lengthsAfter d bytes old ≡ over ls old)
     go f = (f .lengths, subst (λ (s : List ℕ). Divides d s (f .lengths)) (sym (whole (f .left))) (f .are-files), f .count-is, f .written)
       where
-        whole : Left d (f .rest) (divideOf d bytes (length old) .refusal) (divideOf d bytes (length old) .line) → bytes ≡ f .files
-        whole (inl (empty, zero, l)) = f .bytes-are ∙ ap (λ (s : List ℕ). f .files ++ s) empty ∙ append-nil (f .files)
-        whole (inr (column, some, refused)) =
-            absurd (omega (arith, refused-numbers (f .rest) (divideOf d bytes (length old) .refusal) (divideOf d bytes (length old) .line) column refused .0))
+        whole : Left d (f .rest) (divideOf d bytes (length old) .refusal) (divideOf d bytes (length old) .line) (divideOf d bytes (length old) .column) → bytes ≡ f .files
+        whole (inl (empty, zero, l, c)) = f .bytes-are ∙ ap (λ (s : List ℕ). f .files ++ s) empty ∙ append-nil (f .files)
+        whole (inr (some, refused)) =
+            absurd (omega (arith, refused-numbers (f .rest) (divideOf d bytes (length old) .refusal) (divideOf d bytes (length old) .line) (divideOf d bytes (length old) .column) refused .0))
 
 -- Both at once: with room, a division is answered and written exactly when it is one.
 pub divides-exactly : (bytes old ls : List ℕ) → length ls ≤ length old
-    → Divides d bytes ls ↔ ((divideOf d bytes (length old) ≡ division (length ls) (length bytes) 0 0) × (lengthsAfter d bytes old ≡ over ls old))
+    → Divides d bytes ls ↔ ((divideOf d bytes (length old) ≡ division (length ls) (length bytes) 0 0 0) × (lengthsAfter d bytes old ≡ over ls old))
 divides-exactly bytes old ls h = (λ x. (divide-gives x (length old) h, divide-writes x old h), λ told. back (told .0) (told .1))
   where
-    back : divideOf d bytes (length old) ≡ division (length ls) (length bytes) 0 0 → lengthsAfter d bytes old ≡ over ls old → Divides d bytes ls
+    back : divideOf d bytes (length old) ≡ division (length ls) (length bytes) 0 0 0 → lengthsAfter d bytes old ≡ over ls old → Divides d bytes ls
     back e w = go (divide-only bytes old (ap (λ (a : Division). a .refusal) e))
       where
         go : (ks : List ℕ) × Divides d bytes ks × (divideOf d bytes (length old) .count ≡ length ks) × (lengthsAfter d bytes old ≡ over ks old) → Divides d bytes ls

@@ -72,7 +72,7 @@ module _ (rules : Rules) where
     pub rest : List ℕ
     pub bytes-are : bytes ≡ files ++ rest
     pub are-files : Divides rules files (c .lengths)
-    pub left : Left rules rest (c .refusal) (c .line)
+    pub left : Left rules rest (c .refusal) (c .line) (c .column)
 
   -- one file more
   more-parts : (bytes : List ℕ) (t : Tally) (c : Cuts) → scanOf rules bytes ≡ front.File t → Parts (drop (t .end) bytes) c → Parts bytes (after (t .end) c)
@@ -96,7 +96,7 @@ module _ (rules : Rules) where
   Found most = (bytes : List ℕ) → length bytes ≤ most → Parts bytes (cuts rules most bytes)
 
   nothing-left : Parts [] noCuts
-  nothing-left = record { files = []; rest = []; bytes-are = refl; are-files = none; left = inl (refl, refl, refl) }
+  nothing-left = record { files = []; rest = []; bytes-are = refl; are-files = none; left = inl (refl, refl, refl, refl) }
 
   found-none : Found zero
   unfolding cuts
@@ -110,7 +110,7 @@ module _ (rules : Rules) where
     where
       go : (f : Front) → scanOf rules (b ∷ bs) ≡ f → Parts (b ∷ bs) (cuts rules (suc most) (b ∷ bs))
       go (front.Refused number line column) is =
-          rw is (record { files = []; rest = b ∷ bs; bytes-are = refl; are-files = none; left = inr (column, omega arith, is) })
+          rw is (record { files = []; rest = b ∷ bs; bytes-are = refl; are-files = none; left = inr (omega arith, is) })
       go (front.File t) is =
           let less : length (drop (t .end) (b ∷ bs)) ≡ length (b ∷ bs) - t .end = length-drop (t .end) (b ∷ bs) in
           rw is

@@ -47,19 +47,19 @@ row-asked bytes (t, e) k j there =
     rw (e, whole-taken bytes t e, some, one, line-at-place (isKind d positionKind) (rowAt bytes k j) bytes)
 
 -- An epoch or a satellite that the file does not have: 13, line 0, and both absent.
-pub row-not-there : (bytes : List ℕ) → IsFile d bytes → (k j : ℕ) → (There bytes k j → ⊥) → asked bytes k j ≡ rowRefused 13 0
+pub row-not-there : (bytes : List ℕ) → IsFile d bytes → (k j : ℕ) → (There bytes k j → ⊥) → asked bytes k j ≡ rowRefused 13 0 0
 unfolding rowAnswer rowBegins headerIn
 row-not-there bytes (t, e) k j missing = go (ltb k (header bytes .epochs)) (ltb j (header bytes .satellites)) refl refl
   where
-    go : (a b : Bool) → ltb k (header bytes .epochs) ≡ a → ltb j (header bytes .satellites) ≡ b → asked bytes k j ≡ rowRefused 13 0
+    go : (a b : Bool) → ltb k (header bytes .epochs) ≡ a → ltb j (header bytes .satellites) ≡ b → asked bytes k j ≡ rowRefused 13 0 0
     go true true some one =
         absurd (missing (record { epoch = ltb-true k (header bytes .epochs) some; satellite = ltb-true j (header bytes .satellites) one }))
     go true false some one = rw (e, whole-taken bytes t e, some, one)
     go false b some one = rw (e, whole-taken bytes t e, some)
 
--- A file that is refused: its own number and line come first, and both are absent.
+-- A file that is refused: its own number, line and column come first, and both are absent.
 pub row-refused : (bytes : List ℕ) (number line column : ℕ) → fileOf d bytes ≡ front.Refused number line column
-    → (k j : ℕ) → asked bytes k j ≡ rowRefused number line
+    → (k j : ℕ) → asked bytes k j ≡ rowRefused number line column
 unfolding rowAnswer rowBegins
 row-refused bytes number line column e k j =
     let some = found-numbered true bytes number line column e in

@@ -6,7 +6,6 @@ use mathlib.Core.Bool.{Bool, true, false}
 use mathlib.Core.Logic.{_⊎_, inl, inr, _↔_}
 use mathlib.Core.List.{List, [], _++_}
 use Prim.Native.Nat.{ℕ, _+_, _-_, _≤_, _<_}
-use native.Mathlib.Nat.{le-antisymm}
 use native.Mathlib.Omega.{arith}
 use borrow.Author.Tests.{ltb-true}
 use lib.Dec.{ltb}
@@ -20,7 +19,7 @@ use Rattle.scan.specs.Run.{wholeFront, IsFile}
 use Rattle.reader.specs.Reading.{frontOf, fileOf, linesIn, judged, enough, delivered, filled}
 use Rattle.scan_laws.proofs.Files.{d-sound, d-exactly}
 use Rattle.scan_laws.proofs.Local as local
-use Rattle.scan_laws.proofs.Lowest.{lowest, none}
+use Rattle.scan_laws.proofs.Lowest.{decided, deciding, none}
 use Rattle.scan_laws.proofs.Refused as stop
 use Rattle.scan_laws.proofs.Refused.{EndsAfter, accepted-steps, reads-end, refusal-numbered}
 use Rattle.scan_laws.proofs.Stepping.{stands-behind}
@@ -33,7 +32,7 @@ use Rattle.machine.specs.declared.types.LineRead.the-variants as found
 use Rattle.scan.specs.declared.Tally.{Tally}
 use Rattle.scan.specs.declared.Front.{Front}
 use Rattle.scan.specs.declared.Front.the-variants as front
-use Rattle.theorems.specs.Faults.{after, AllGoOn, Earned, FirstFault}
+use Rattle.theorems.specs.Faults.{after, AllGoOn, Earned, Decided, Passes, FirstFault}
 
 -- The machine accepts exactly the files of the plain definition.
 pub accepts-exactly : (bytes : List ℕ) → IsFile d bytes ↔ Accepted d bytes
@@ -43,92 +42,91 @@ accepts-exactly bytes = d-exactly bytes
 abbrev said : List ℕ → ℕ → Verdict
 said bytes k = stepOf d (after bytes k .state) (after bytes k .identifiers) (nth k (linesOf bytes))
 
--- it is refused with a number that it earns, the lowest; or it earns none
-said-lowest : (bytes : List ℕ) (k m c : ℕ) → said bytes k ≡ verdict.Fault m c → Earned bytes k m × ((m′ : ℕ) → Earned bytes k m′ → m ≤ m′)
-said-lowest bytes k m c e = lowest d (after bytes k .state) (after bytes k .identifiers) (nth k (linesOf bytes)) m c e
+-- a line goes on exactly when it earns no fault and does not end the file
+no-fault-next : (m c : ℕ) (s : State) → verdict.Fault m c ≡ verdict.Next s → ⊥
+no-fault-next m c s e = let z : _≡_ {A = ℕ} 0 1 = cc in omega arith
 
-said-none : (bytes : List ℕ) (k : ℕ) → ((m c : ℕ) → said bytes k ≡ verdict.Fault m c → ⊥) → (m : ℕ) → Earned bytes k m → ⊥
-said-none bytes k f = none d (after bytes k .state) (after bytes k .identifiers) (nth k (linesOf bytes)) .1 f
+module _ (bytes : List ℕ) (k : ℕ) where
+  unfaulty : ((m c : ℕ) → Earned bytes k m c → ⊥) ↔ ((m c : ℕ) → said bytes k ≡ verdict.Fault m c → ⊥)
+  unfaulty = none d (after bytes k .state) (after bytes k .identifiers) (nth k (linesOf bytes))
 
--- a line that goes on earns no number
-pub goes-clean : (bytes : List ℕ) (k i : ℕ) → AllGoOn bytes k → i < k → (m : ℕ) → Earned bytes i m → ⊥
-goes-clean bytes k i goes h =
-    let on = goes i h in
-    said-none bytes i (λ m c e. apart m c (on .0) (sym e ∙ on .1))
-  where
-    apart : (m c : ℕ) (s : State) → verdict.Fault m c ≡ verdict.Next s → ⊥
-    apart m c s e = let z : _≡_ {A = ℕ} 0 1 = cc in omega arith
+  pub goes-passes : (s : State) → said bytes k ≡ verdict.Next s → Passes bytes k
+  goes-passes s e = record {
+    clean = unfaulty .1 (λ m c f. no-fault-next m c s (sym f ∙ e));
+    unended = λ f. let both : verdict.Finished ≡ verdict.Next s = sym f ∙ e in let z : _≡_ {A = ℕ} 0 1 = cc in omega arith;
+  }
 
-module _ (bytes : List ℕ) (number line : ℕ) where
-  -- A file is refused at its first faulty line, with the lowest number of that line.
-  pub refused-first : (column : ℕ) → frontOf d bytes ≡ front.Refused number line column → FirstFault bytes number line
-  refused-first column e = go (stop.refused-first d bytes number line column e)
+  passes-goes : Passes bytes k → (s : State) × (said bytes k ≡ verdict.Next s)
+  passes-goes p = go (said bytes k) refl
     where
-      go : stop.RefusedAt d bytes number line column → FirstFault bytes number line
-      go r = record { k = r .k; line-is = r .line-is; goes = r .goes; why = by (r .why) }
+      go : (v : Verdict) → said bytes k ≡ v → (s : State) × (said bytes k ≡ verdict.Next s)
+      go (verdict.Fault m c) e = absurd (unfaulty .0 (p .clean) m c e)
+      go (verdict.Next s) e = (s, e)
+      go verdict.Finished e = absurd (p .unended e)
+
+-- A file is refused with a number, a line and a column exactly when that line is the first that earns a fault, and of the faults that it earns this has
+-- the lowest number and then the leftmost column.
+module _ (bytes : List ℕ) (number line column : ℕ) where
+  pub refused-first : frontOf d bytes ≡ front.Refused number line column → FirstFault bytes number line column
+  refused-first e = go (stop.refused-first d bytes number line column e)
+    where
+      go : stop.RefusedAt d bytes number line column → FirstFault bytes number line column
+      go r = record {
+        k = r .k;
+        line-is = r .line-is;
+        passes = λ i h. goes-passes bytes i (r .goes i h .0) (r .goes i h .1);
+        why = by (r .why);
+      }
         where
           by : ((r .k ≡ length (linesOf bytes)) × (number ≡ 1) × (column ≡ 0))
               ⊎ ((r .k < length (linesOf bytes)) × (said bytes (r .k) ≡ verdict.Fault number column))
-              → ((r .k ≡ length (linesOf bytes)) × (number ≡ 1))
-              ⊎ ((r .k < length (linesOf bytes)) × Earned bytes (r .k) number × ((m : ℕ) → Earned bytes (r .k) m → number ≤ m))
-          by (inl (n, m, c)) = inl (n, m)
-          by (inr (h, v)) =
-              let low = said-lowest bytes (r .k) number column v in
-              inr (h, low .0, low .1)
+              → ((r .k ≡ length (linesOf bytes)) × (number ≡ 1) × (column ≡ 0)) ⊎ ((r .k < length (linesOf bytes)) × Decided bytes (r .k) number column)
+          by (inl out) = inl out
+          by (inr (h, v)) = inr (h, decided d (after bytes (r .k) .state) (after bytes (r .k) .identifiers) (nth (r .k) (linesOf bytes)) number column v)
 
-  -- And where a line is the first faulty one, the file is refused there with the lowest number that it earns.
-  pub first-refused : FirstFault bytes number line → (column : ℕ) × (frontOf d bytes ≡ front.Refused number line column)
-  first-refused r = by (r .why)
+  pub first-refused : FirstFault bytes number line column → frontOf d bytes ≡ front.Refused number line column
+  first-refused r = stop.first-refused d bytes number line column (record {
+    k = r .k;
+    line-is = r .line-is;
+    goes = λ i h. passes-goes bytes i (r .passes i h);
+    why = by (r .why);
+  })
     where
-      by : ((r .k ≡ length (linesOf bytes)) × (number ≡ 1))
-          ⊎ ((r .k < length (linesOf bytes)) × Earned bytes (r .k) number × ((m : ℕ) → Earned bytes (r .k) m → number ≤ m))
-          → (column : ℕ) × (frontOf d bytes ≡ front.Refused number line column)
-      by (inl (n, m)) = (0, stop.first-refused d bytes number line 0 (record { k = r .k; line-is = r .line-is; goes = r .goes; why = inl (n, m, refl) }))
-      by (inr (h, earned, least)) = go (said bytes (r .k)) refl
-        where
-          clean : ((m c : ℕ) → said bytes (r .k) ≡ verdict.Fault m c → ⊥) → (column : ℕ) × (frontOf d bytes ≡ front.Refused number line column)
-          clean f = absurd (said-none bytes (r .k) f number earned)
+      by : ((r .k ≡ length (linesOf bytes)) × (number ≡ 1) × (column ≡ 0)) ⊎ ((r .k < length (linesOf bytes)) × Decided bytes (r .k) number column)
+          → ((r .k ≡ length (linesOf bytes)) × (number ≡ 1) × (column ≡ 0))
+          ⊎ ((r .k < length (linesOf bytes)) × (said bytes (r .k) ≡ verdict.Fault number column))
+      by (inl out) = inl out
+      by (inr (h, d′)) = inr (h, deciding d (after bytes (r .k) .state) (after bytes (r .k) .identifiers) (nth (r .k) (linesOf bytes)) number column d′)
 
-          go : (v : Verdict) → said bytes (r .k) ≡ v → (column : ℕ) × (frontOf d bytes ≡ front.Refused number line column)
-          go (verdict.Fault m c) e =
-              let low = said-lowest bytes (r .k) m c e in
-              let same : m ≡ number = le-antisymm (low .1 number earned) (least m (low .0)) in (
-                c,
-                stop.first-refused d bytes number line c (record {
-                  k = r .k;
-                  line-is = r .line-is;
-                  goes = r .goes;
-                  why = inr (h, e ∙ ap (λ (x : ℕ). verdict.Fault x c) same);
-                }),
-              )
-          go (verdict.Next s) e = clean (λ m c f. let both : verdict.Fault m c ≡ verdict.Next s = sym f ∙ e in let z : _≡_ {A = ℕ} 0 1 = cc in omega arith)
-          go verdict.Finished e = clean (λ m c f. let both : verdict.Fault m c ≡ verdict.Finished = sym f ∙ e in let z : _≡_ {A = ℕ} 0 1 = cc in omega arith)
+  pub refused-exactly : (frontOf d bytes ≡ front.Refused number line column) ↔ FirstFault bytes number line column
+  refused-exactly = (refused-first, first-refused)
 
 -- The number of such a refusal is 1 to 10.
 pub refused-numbers : (bytes : List ℕ) (number line column : ℕ) → frontOf d bytes ≡ front.Refused number line column → (1 ≤ number) × (number ≤ 10)
 refused-numbers bytes number line column e = refusal-numbered d bytes number line column e
 
--- A whole file is refused as the file at its front is; or bytes stand after the EOF line: 11, the line after EOF.
+-- A whole file is refused as the file at its front is; or bytes stand after the EOF line: 11, the line after EOF, no column.
 pub whole-refused : (bytes : List ℕ) (number line column : ℕ) → fileOf d bytes ≡ front.Refused number line column
     → (frontOf d bytes ≡ front.Refused number line column)
-    ⊎ ((t : Tally) × (frontOf d bytes ≡ front.File t) × (t .end < length bytes) × (number ≡ 11) × (line ≡ t .lines + 1))
+    ⊎ ((t : Tally) × (frontOf d bytes ≡ front.File t) × (t .end < length bytes) × (number ≡ 11) × (line ≡ t .lines + 1) × (column ≡ 0))
 unfolding wholeFront
 whole-refused bytes number line column e = go (frontOf d bytes) refl
   where
     go : (f : Front) → frontOf d bytes ≡ f
         → (frontOf d bytes ≡ front.Refused number line column)
-        ⊎ ((t : Tally) × (frontOf d bytes ≡ front.File t) × (t .end < length bytes) × (number ≡ 11) × (line ≡ t .lines + 1))
+        ⊎ ((t : Tally) × (frontOf d bytes ≡ front.File t) × (t .end < length bytes) × (number ≡ 11) × (line ≡ t .lines + 1) × (column ≡ 0))
     go (front.Refused m l c) is = inl (is ∙ rw is at e)
     go (front.File t) is = by (ltb (t .end) (length bytes)) refl
       where
         by : (b : Bool) → ltb (t .end) (length bytes) ≡ b
             → (frontOf d bytes ≡ front.Refused number line column)
-            ⊎ ((u : Tally) × (frontOf d bytes ≡ front.File u) × (u .end < length bytes) × (number ≡ 11) × (line ≡ u .lines + 1))
+            ⊎ ((u : Tally) × (frontOf d bytes ≡ front.File u) × (u .end < length bytes) × (number ≡ 11) × (line ≡ u .lines + 1) × (column ≡ 0))
         by true less =
             let same : front.Refused 11 (t .lines + 1) 0 ≡ front.Refused number line column = rw (is, less) at e in
             let m : 11 ≡ number = cc in
             let l : t .lines + 1 ≡ line = cc in
-            inr (t, is, ltb-true (t .end) (length bytes) less, sym m, sym l)
+            let c : 0 ≡ column = cc in
+            inr (t, is, ltb-true (t .end) (length bytes) less, sym m, sym l, sym c)
         by false all =
             let both : front.File t ≡ front.Refused number line column = rw (is, all) at e in
             let z : _≡_ {A = ℕ} 0 1 = cc in

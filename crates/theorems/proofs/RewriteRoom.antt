@@ -70,7 +70,7 @@ module _ (bytes : List ℕ) (accepted : IsFile d bytes) where
         (subst (λ (s : List ℕ). RewriteRoom (header s)) (sym (whole-taken bytes (accepted .0) (accepted .1))) (room-exactly .1 few))
 
     -- and with more comments it answers 12, line 0.
-    pub many-comments : mostComments < header bytes .comments → rewriteReading bytes ≡ refusedWith 12 0
+    pub many-comments : mostComments < header bytes .comments → rewriteReading bytes ≡ refusedWith 12 0 0
     many-comments many =
         short-refused true bytes (accepted .0) (accepted .1) maxSatellites maxSatellites (mostComments * commentWidth) (mostRows * rowWidth)
         (subst (λ (s : List ℕ). Short (header s) maxSatellites maxSatellites (mostComments * commentWidth) (mostRows * rowWidth)) (sym (whole-taken bytes (accepted .0) (accepted .1)))

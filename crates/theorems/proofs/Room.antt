@@ -175,11 +175,11 @@ module _ (whole : Bool) (bytes : List ℕ) where
         (record { identifiers = omega arith; exponents = omega arith; comments = omega arith; rows = omega arith })
 
     -- and with one less anywhere it is 12, line 0.
-    pub short-refused : (i x c r : ℕ) → Short (headerTo t) i x c r → answer whole bytes i x c r ≡ refusedWith 12 0
+    pub short-refused : (i x c r : ℕ) → Short (headerTo t) i x c r → answer whole bytes i x c r ≡ refusedWith 12 0 0
     unfolding delivered
     short-refused i x c r short = go (roomFor (countOf d (linesTo (t .end) bytes)) t i x c r) refl
       where
-        go : (b : Bool) → roomFor (countOf d (linesTo (t .end) bytes)) t i x c r ≡ b → answer whole bytes i x c r ≡ refusedWith 12 0
+        go : (b : Bool) → roomFor (countOf d (linesTo (t .end) bytes)) t i x c r ≡ b → answer whole bytes i x c r ≡ refusedWith 12 0 0
         go true e =
             absurd (short-no-room (headerTo t) i x c r short (room-needed bytes t (found-front whole bytes t found) i x c r e))
         go false e = rw (found, e)
@@ -195,7 +195,7 @@ module _ (whole : Bool) (bytes : List ℕ) where
           (λ zero. absurd (omega arith), λ fills. absurd (false≢true fills))
       go (front.File t) e = by (roomFor (countOf d (linesTo (t .end) bytes)) t i x c r)
         where
-          by : (b : Bool) → (cond b (acceptedAs d bytes t) (refusedWith 12 0) .refusal ≡ 0) ↔ (b ≡ true)
+          by : (b : Bool) → (cond b (acceptedAs d bytes t) (refusedWith 12 0 0) .refusal ≡ 0) ↔ (b ≡ true)
           by true = (λ e. refl, λ e. refl)
           by false = (λ e. absurd (omega arith), λ e. absurd (false≢true e))
 

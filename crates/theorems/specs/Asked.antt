@@ -15,7 +15,7 @@ asked bytes k j = rowAnswer bytes (rowBegins d bytes (fileOf d bytes) k j)
 
 -- a row found, and a refusal, beside which place and clock are absent
 abbrev pub rowFound : FloatRow → RowAnswer
-rowFound row = record { refusal = 0; line = 0; row = row }
+rowFound row = record { refusal = 0; line = 0; column = 0; row = row }
 
-abbrev pub rowRefused : ℕ → ℕ → RowAnswer
-rowRefused number line = record { refusal = number; line = line; row = absentRow }
+abbrev pub rowRefused : ℕ → ℕ → ℕ → RowAnswer
+rowRefused number line column = record { refusal = number; line = line; column = column; row = absentRow }

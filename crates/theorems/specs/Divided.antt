@@ -12,11 +12,11 @@ use Rattle.header.specs.declared.types.Rules.{Rules}
 use Rattle.scan.specs.declared.Front.the-variants as front
 use Rattle.divide.specs.declared.Division.{Division}
 
--- what is left after the files: nothing, with refusal and line 0; or a rest that is refused
-abbrev pub Left : Rules → List ℕ → ℕ → ℕ → Type 0
-Left rules rest refusal line =
-    ((rest ≡ []) × (refusal ≡ 0) × (line ≡ 0))
-    ⊎ ((column : ℕ) × (0 < length rest) × (scanOf rules rest ≡ front.Refused refusal line column))
+-- what is left after the files: nothing, with refusal, line and column 0; or a rest that is refused
+abbrev pub Left : Rules → List ℕ → ℕ → ℕ → ℕ → Type 0
+Left rules rest refusal line column =
+    ((rest ≡ []) × (refusal ≡ 0) × (line ≡ 0) × (column ≡ 0))
+    ⊎ ((0 < length rest) × (scanOf rules rest ≡ front.Refused refusal line column))
 
 -- THE FRONT OF A STRETCH: accepted files laid end to end, with the lengths that are written, and a rest; no division of any beginning of the
 -- stretch has other files or more of them.
@@ -30,7 +30,7 @@ pub record AtFront (bytes old : List ℕ) (answer : Division) : Type 0 where
   pub written : lengthsAfter d bytes old ≡ over lengths old
   pub count-is : answer .count ≡ length lengths
   pub rest-begins : answer .rest ≡ length files
-  pub left : Left d rest (answer .refusal) (answer .line)
+  pub left : Left d rest (answer .refusal) (answer .line) (answer .column)
   pub all-there : (a b ks : List ℕ) → bytes ≡ a ++ b → Divides d a ks → take (length ks) lengths ≡ ks
 
 -- more accepted files stand at the front than there is room for

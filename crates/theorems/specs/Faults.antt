@@ -1,15 +1,16 @@
--- The refusal of a file as the front page says it. 01: "The first faulty line decides; in a line the lowest number"; 1 "no LF is left before the file's
--- EOF line is complete".
+-- The refusal of a file as the front page says it. 01: "The first faulty line decides; in a line the lowest number"; 02: "Several faults of the deciding
+-- number: the leftmost"; 1 "no LF is left before the file's EOF line is complete".
 use mathlib.Core.Path.{_≡_}
 use mathlib.Core.Logic.{_⊎_}
 use mathlib.Core.List.{List}
-use Prim.Native.Nat.{ℕ, _+_, _≤_, _<_}
+use Prim.Native.Nat.{ℕ, _+_, _<_}
 use lib.ListN.{length}
 use Rattle.header.specs.Rules.{d}
 use Rattle.lines.specs.Lines.{linesOf, nth}
 use Rattle.scan.specs.Run.{Going, atFirst}
-use Rattle.scan_laws.specs.Earned.{Earns}
-use Rattle.scan_laws.specs.Lines.{GoOn, behind}
+use Rattle.machine.specs.declared.types.Verdict.the-variants as verdict
+use Rattle.scan_laws.specs.Earned.{Earns, Decides}
+use Rattle.scan_laws.specs.Lines.{judged, GoOn, behind}
 
 -- where one is after the first k lines of some bytes: the spot, the state and the identifiers
 abbrev pub after : List ℕ → ℕ → Going
@@ -19,15 +20,22 @@ after bytes k = behind d atFirst (linesOf bytes) k
 abbrev pub AllGoOn : List ℕ → ℕ → Type 0
 AllGoOn bytes k = GoOn d atFirst (linesOf bytes) k
 
--- a number of the table "Numbers of the answers" that line k, counted from 0, earns where it stands
-abbrev pub Earned : List ℕ → ℕ → ℕ → Type 0
-Earned bytes k m = Earns d (after bytes k .state) (after bytes k .identifiers) (nth k (linesOf bytes)) m
+-- a fault, by its number and its column, that line k, counted from 0, earns where it stands
+abbrev pub Earned : List ℕ → ℕ → ℕ → ℕ → Type 0
+Earned bytes k number column = Earns d (after bytes k .state) (after bytes k .identifiers) (nth k (linesOf bytes)) number column
 
--- the line is the first faulty one, and the number the lowest that it earns; or the lines run out, which is 1
-pub record FirstFault (bytes : List ℕ) (number line : ℕ) : Type 0 where
+-- the fault that decides that line: of those that it earns the lowest number, and of that number the leftmost column
+abbrev pub Decided : List ℕ → ℕ → ℕ → ℕ → Type 0
+Decided bytes k number column = Decides d (after bytes k .state) (after bytes k .identifiers) (nth k (linesOf bytes)) number column
+
+-- it earns no fault, and does not end the file
+pub record Passes (bytes : List ℕ) (k : ℕ) : Type 0 where
+  pub clean : (number column : ℕ) → Earned bytes k number column → ⊥
+  pub unended : judged d (after bytes k) (nth k (linesOf bytes)) ≡ verdict.Finished → ⊥
+
+-- the line is the first that earns a fault, and this is the fault that decides it; or the lines run out, which is 1
+pub record FirstFault (bytes : List ℕ) (number line column : ℕ) : Type 0 where
   pub k : ℕ
   pub line-is : line ≡ k + 1
-  pub goes : AllGoOn bytes k
-  pub why :
-      ((k ≡ length (linesOf bytes)) × (number ≡ 1))
-      ⊎ ((k < length (linesOf bytes)) × Earned bytes k number × ((m : ℕ) → Earned bytes k m → number ≤ m))
+  pub passes : (i : ℕ) → i < k → Passes bytes i
+  pub why : ((k ≡ length (linesOf bytes)) × (number ≡ 1) × (column ≡ 0)) ⊎ ((k < length (linesOf bytes)) × Decided bytes k number column)

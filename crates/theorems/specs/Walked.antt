@@ -68,7 +68,7 @@ abbrev pub onRow : RowStep → (RowWalk → RowStep) → RowStep
 onRow (step.At epoch satellite row next) more = more next
 onRow (step.Absent epoch satellite row next) more = more next
 onRow step.End more = step.End
-onRow (step.Refused number line) more = step.Refused number line
+onRow (step.Refused number line column) more = step.Refused number line column
 
 unfoldable pub stepsFrom : List ℕ → List ℕ → RowWalk → ℕ → RowStep
 stepsFrom bytes identifiers w zero = rowStep d bytes identifiers w
