@@ -5,6 +5,9 @@
 // At most so many columns of a line are shown. Of a line whose column at fault is past them so many before that column are shown, and those after it.
 enum { WIDTH = 100, BEFORE = 80 };
 
+// A line of a file stands further in than any line of a report, so that none can be taken for one.
+#define INDENT "    "
+
 line_t line_of(const refusal_t *refusal) {
     const uint8_t *at = refusal->bytes, *end = at + refusal->length, *lf = NULL;
     for (uint64_t number = refusal->line; number > 1 && at < end; number--) {
@@ -34,6 +37,6 @@ void show_line(FILE *to, const refusal_t *refusal) {
     char text[WIDTH + 1];
     size_t shown = cut + take_columns(text, line, cut);
     const char *before = cut > 0 ? ".." : "", *after = shown < line.length ? ".." : "";
-    fprintf(to, "%s%s%s\n", before, text, after);
-    if (column > 0) fprintf(to, "%*s^\n", (int)(strlen(before) + column - 1 - cut), "");
+    fprintf(to, INDENT "%s%s%s\n", before, text, after);
+    if (column > 0) fprintf(to, INDENT "%*s^\n", (int)(strlen(before) + column - 1 - cut), "");
 }

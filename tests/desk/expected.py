@@ -110,14 +110,14 @@ def cause(content, number, line):
 
 def shown(content, line, column):
     """The line where the bytes have it, and a caret under the column. 100 columns are shown: the first, or 80 before the one at fault and 19 after
-    it; `..` stands for the others, `?` for a byte outside 32 to 126."""
+    it; `..` stands for the others, `?` for a byte outside 32 to 126. Both stand four blanks further in than a line of the report."""
     lines = content.split(b"\n")
     if line > len(lines) or (line == len(lines) and not lines[-1]):
         return ""
     text = re.sub("[^ -~]", "?", lines[line - 1].decode("latin-1"))
     first = 0 if column <= 100 else column - 81
     window = (".." if first else "") + text[first : first + 100] + (".." if text[first + 100 :] else "")
-    return window + "\n" + (" " * (column - 1 if not first else 82) + "^\n" if column else "")
+    return f"    {window}\n" + (" " * (4 + (column - 1 if not first else 82)) + "^\n" if column else "")
 
 
 def refused(subject, number, line=0, column=0, content=b""):

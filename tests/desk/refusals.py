@@ -184,23 +184,24 @@ def causes():
 def pictured():
     """Files with the number, and with what is shown after the line that says the refusal."""
     xs, row = "x" * 300, "     -0.500000      0.000000 999999.999999"
-    return [(changed(24, 5, "  5000.0000001"), 6, [f"PG07  5000.0000001{row}", "    ^"]), (with_line(24, "PG07"), 6, ["PG07", "    ^"]),
-            (with_line(24, "P"), 6, ["P", " ^"]), (changed(24, 2, "G00"), 7, [f"PG00   5000.000001{row}", " ^"]),
-            (changed(19, 4, "\t"), 2, ["/* ?NE ROW", "   ^"]), (WHOLE.replace(b"ONE", b"\x1b[31m\xc3\x89\0"), 2, ["/* ?[31m??? ROW", "   ^"]),
-            (WHOLE.replace(b"\n", b"\r\n"), 2, [PAPER[0] + "?", " " * 60 + "^"]),
-            (changed(24, 61, "x        x"), 5, [f"PG07   5000.000001{row}x        x", " " * 60 + "^"]),
-            (changed(13, 58, "x"), 5, ["%c G  cc GPS ccc cccc cccc cccc cccc ccccc ccccc ccccc ccxcc", " " * 55 + "^"]),
-            # long lines: whole up to 100 characters, then the first 100, or those around a byte further on
-            (with_line(19, "/* " + xs[:78]), 3, ["/* " + xs[:78], " " * 80 + "^"]),
-            (with_line(19, "/* " + xs[:97]), 3, ["/* " + xs[:97], " " * 80 + "^"]),
-            (with_line(19, "/* " + xs[:98]), 3, ["/* " + xs[:97] + "..", " " * 80 + "^"]),
-            (with_line(19, "/* " + xs[:297]), 3, ["/* " + xs[:97] + "..", " " * 80 + "^"]),
-            (with_line(19, "/* " + xs[:96] + "\x7f"), 2, ["/* " + xs[:96] + "?", " " * 99 + "^"]),
-            (with_line(19, "/* " + xs[:97] + "\x7f"), 2, [".." + xs[:80] + "?", " " * 82 + "^"]),
-            (with_line(19, "/* " + xs[:124] + "\x7f" + xs[:72]), 2, [".." + xs[:80] + "?" + xs[:19] + "..", " " * 82 + "^"]),
-            (with_line(19, "/* " + xs[:196] + "\x7f" + xs[:19]), 2, [".." + xs[:80] + "?" + xs[:19], " " * 82 + "^"]),
-            (with_line(19, "/* " + xs[:196] + "\x7f" + xs[:100]), 2, [".." + xs[:80] + "?" + xs[:19] + "..", " " * 82 + "^"]),
-            # no column; no line
-            (WHOLE[:-1], 1, ["EOF"]), (WHOLE[:-4], 1, []), (PAPER[:10], 1, []), (WHOLE[:3], 1, ["#dP"]), (xs.encode(), 1, [xs[:100] + ".."]),
-            (with_line(24, ""), 4, [""]), (changed(23, 18, "15"), 9, ["*  2013  4  3  0 15  0.00000000"]), (WHOLE + b" ", 11, [" "]),
-            (WHOLE + b"\n\n", 11, [""]), (WHOLE + b"\0\xff", 11, ["??"]), (WHOLE + xs.encode() + b"\n", 11, [xs[:100] + ".."])]
+    cases = [(changed(24, 5, "  5000.0000001"), 6, [f"PG07  5000.0000001{row}", "    ^"]), (with_line(24, "PG07"), 6, ["PG07", "    ^"]),
+             (with_line(24, "P"), 6, ["P", " ^"]), (changed(24, 2, "G00"), 7, [f"PG00   5000.000001{row}", " ^"]),
+             (changed(19, 4, "\t"), 2, ["/* ?NE ROW", "   ^"]), (WHOLE.replace(b"ONE", b"\x1b[31m\xc3\x89\0"), 2, ["/* ?[31m??? ROW", "   ^"]),
+             (WHOLE.replace(b"\n", b"\r\n"), 2, [PAPER[0] + "?", " " * 60 + "^"]),
+             (changed(24, 61, "x        x"), 5, [f"PG07   5000.000001{row}x        x", " " * 60 + "^"]),
+             (changed(13, 58, "x"), 5, ["%c G  cc GPS ccc cccc cccc cccc cccc ccccc ccccc ccccc ccxcc", " " * 55 + "^"]),
+             # long lines: whole up to 100 characters, then the first 100, or those around a byte further on
+             (with_line(19, "/* " + xs[:78]), 3, ["/* " + xs[:78], " " * 80 + "^"]),
+             (with_line(19, "/* " + xs[:97]), 3, ["/* " + xs[:97], " " * 80 + "^"]),
+             (with_line(19, "/* " + xs[:98]), 3, ["/* " + xs[:97] + "..", " " * 80 + "^"]),
+             (with_line(19, "/* " + xs[:297]), 3, ["/* " + xs[:97] + "..", " " * 80 + "^"]),
+             (with_line(19, "/* " + xs[:96] + "\x7f"), 2, ["/* " + xs[:96] + "?", " " * 99 + "^"]),
+             (with_line(19, "/* " + xs[:97] + "\x7f"), 2, [".." + xs[:80] + "?", " " * 82 + "^"]),
+             (with_line(19, "/* " + xs[:124] + "\x7f" + xs[:72]), 2, [".." + xs[:80] + "?" + xs[:19] + "..", " " * 82 + "^"]),
+             (with_line(19, "/* " + xs[:196] + "\x7f" + xs[:19]), 2, [".." + xs[:80] + "?" + xs[:19], " " * 82 + "^"]),
+             (with_line(19, "/* " + xs[:196] + "\x7f" + xs[:100]), 2, [".." + xs[:80] + "?" + xs[:19] + "..", " " * 82 + "^"]),
+             # no column; no line
+             (WHOLE[:-1], 1, ["EOF"]), (WHOLE[:-4], 1, []), (PAPER[:10], 1, []), (WHOLE[:3], 1, ["#dP"]), (xs.encode(), 1, [xs[:100] + ".."]),
+             (with_line(24, ""), 4, [""]), (changed(23, 18, "15"), 9, ["*  2013  4  3  0 15  0.00000000"]), (WHOLE + b" ", 11, [" "]),
+             (WHOLE + b"\n\n", 11, [""]), (WHOLE + b"\0\xff", 11, ["??"]), (WHOLE + xs.encode() + b"\n", 11, [xs[:100] + ".."])]
+    return [(content, number, ["    " + line for line in lines]) for content, number, lines in cases]

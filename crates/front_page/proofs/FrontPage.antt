@@ -22,11 +22,11 @@ writing-keeps t out refused = writing.refusal-keeps-out t out refused
 
 -- The beginning of a walk that is refused, by the file's own refusal or by 12, leaves the identifiers as they were.
 pub beginning-keeps : (bytes : List ℕ) (number line column : ℕ) → fileOf d bytes ≡ front.Refused number line column → (old : List ℕ)
-    → (begun bytes (length old) ≡ refusedWith number line) × (begunList bytes old ≡ old)
+    → (begun bytes (length old) ≡ refusedWith number line column) × (begunList bytes old ≡ old)
 beginning-keeps bytes number line column refused old = beginning.begin-refused bytes number line column refused old
 
 pub beginning-short : (bytes : List ℕ) (t : Tally) → fileOf d bytes ≡ front.File t → (old : List ℕ) → length old < header bytes .satellites
-    → (begun bytes (length old) ≡ refusedWith 12 0) × (begunList bytes old ≡ old)
+    → (begun bytes (length old) ≡ refusedWith 12 0 0) × (begunList bytes old ≡ old)
 beginning-short bytes t accepted old short = beginning.begin-short bytes t accepted old short
 
 -- It answers 12 exactly then, and past the identifiers of a file that is begun the list is as it was.
@@ -62,22 +62,49 @@ tables-differ = exist.tables-differ
 pub judge-accepts : (bytes : List ℕ) → (judged d bytes (fileOf d bytes) .refusal ≡ 0) ↔ IsFile d bytes
 judge-accepts bytes = answers.judge-accepts bytes
 
--- A file is refused at its first faulty line, with the lowest number of that line;
-pub refused-first : (bytes : List ℕ) (number line column : ℕ) → frontOf d bytes ≡ front.Refused number line column → FirstFault bytes number line
-refused-first bytes number line column e = judging.refused-first bytes number line column e
+-- A FILE IS REFUSED with number n, line l and column c, whole files (true) and files at the front (false) at once, exactly when l is the first line that
+-- earns a fault, and of the faults that it earns this has the lowest number and then the leftmost column; or its lines run out, which is 1. What a line
+-- earns, and which column each fault names, is `Earns` (scan_laws, Earned).
+pub refused-exactly : (whole : Bool) (bytes : List ℕ) (number line column : ℕ) → (number ≡ 11 → ⊥)
+    → ((0 < number) × (judged d bytes (foundIn whole bytes) ≡ refusedWith number line column)) ↔ FirstFault bytes number line column
+refused-exactly whole bytes number line column apart = answers.judged-exactly whole bytes number line column apart
 
--- and where a line is the first faulty one it is refused so.
-pub first-refused : (bytes : List ℕ) (number line : ℕ) → FirstFault bytes number line → (column : ℕ) × (frontOf d bytes ≡ front.Refused number line column)
-first-refused bytes number line f = judging.first-refused bytes number line f
+-- Its column, by its number: 2 names the first byte of that line that is outside 32 to 126,
+module _ (whole : Bool) (bytes : List ℕ) (number line column : ℕ) (refused : foundIn whole bytes ≡ front.Refused number line column) where
+  pub column-two : number ≡ 2 → Outside (refusedLine bytes line) column × ((e : ℕ) → Outside (refusedLine bytes line) e → column ≤ e)
+  column-two n = told-columns.two-byte bytes number line column whole refused n
+
+  -- 3 column 81,
+  pub column-three : number ≡ 3 → column ≡ 81
+  column-three n = told-columns.three-81 bytes number line column whole refused n
+
+  -- 5, 6 and 7 one of the 80 columns: an unused column that is not blank, the first column of a field (4 for year, month and day, also where they are no
+  -- date),
+  pub column-field : 5 ≤ number → number ≤ 7 → (1 ≤ column) × (column ≤ 80) × InColumns bytes (line - 1) number column
+  column-field p q = told-columns.field-80 bytes number line column whole refused p q
+
+  -- and every other number, 11 too, none.
+  pub column-none : (number ≡ 1) ⊎ ((number ≡ 4) ⊎ (8 ≤ number)) → column ≡ 0
+  column-none other = told-columns.others-none bytes number line column whole refused other
+
+-- WHICH COLUMN EACH FIELD BLAMES, over every layout: of unused columns the one that is not blank, else what 02 says of the field's number (`fieldColumn`).
+module _ (k : LineKind) (rules : Rules) (s : State) (line : List ℕ) (item : Item) (listed : Among item (itemsAt k rules s line)) where
+  pub unused-blames : isUnused (item .kind) ≡ true → 0 < faultAt item line
+      → (column : ℕ) × (item .first ≤ column) × (column ≤ item .last) × (eqb (byteAt column line) 32 ≡ false) × (faultAt item line ≡ keyed 5 column)
+  unused-blames u some = told-columns.unused-blames k rules s line item listed u some
+
+  pub field-blames : isUnused (item .kind) ≡ false → 0 < fieldNumber item line
+      → faultAt item line ≡ keyed (fieldNumber item line) (fieldColumn k item (fieldNumber item line))
+  field-blames u some = told-columns.field-blames k rules s line item listed u some
 
 -- 11 comes exactly when an accepted file is followed by more, with the line after its last.
-pub eleven-exactly : (bytes : List ℕ) (line : ℕ) → (judged d bytes (fileOf d bytes) ≡ refusedWith 11 line)
+pub eleven-exactly : (bytes : List ℕ) (line : ℕ) → (judged d bytes (fileOf d bytes) ≡ refusedWith 11 line 0)
     ↔ ((a : List ℕ) × (b : List ℕ) × (bytes ≡ a ++ b) × IsFile d a × (0 < length b) × (line ≡ length (linesOf a) + 1))
 eleven-exactly bytes line = answers.eleven-exactly bytes line
 
--- A file that is refused is answered by its own number and line, whatever the room; whole files (true) and files at the front (false) at once.
+-- A file that is refused is answered by its own number, line and column, whatever the room; whole files (true) and files at the front (false) at once.
 pub refused-whatever-room : (whole : Bool) (bytes : List ℕ) (number line column : ℕ) → foundIn whole bytes ≡ front.Refused number line column
-    → (i x c r : ℕ) → answer whole bytes i x c r ≡ refusedWith number line
+    → (i x c r : ℕ) → answer whole bytes i x c r ≡ refusedWith number line column
 refused-whatever-room whole bytes number line column e i x c r = answers.refused-whatever-room whole bytes number line column e i x c r
 
 -- An accepted file with room is answered by 0, its length and its header;
@@ -91,7 +118,7 @@ pub reading-twelve : (whole : Bool) (bytes : List ℕ) (i x c r : ℕ)
 reading-twelve whole bytes i x c r = answers.reading-twelve whole bytes i x c r
 
 pub twelve-line : (whole : Bool) (bytes : List ℕ) (t : Tally) → foundIn whole bytes ≡ front.File t → (i x c r : ℕ)
-    → Short (headerTo whole bytes t) i x c r → answer whole bytes i x c r ≡ refusedWith 12 0
+    → Short (headerTo whole bytes t) i x c r → answer whole bytes i x c r ≡ refusedWith 12 0 0
 twelve-line whole bytes t found i x c r short = room.short-refused whole bytes t found i x c r short
 
 pub reading-never-13 : (whole : Bool) (bytes : List ℕ) (i x c r : ℕ) → answer whole bytes i x c r .refusal ≡ 13 → ⊥
@@ -288,17 +315,17 @@ module _ (bytes : List ℕ) (accepted : IsFile d bytes) where
 
 -- QUESTIONS ABOUT A FILE give the file's own refusal first: the row,
 pub row-refused : (bytes : List ℕ) (number line column : ℕ) → fileOf d bytes ≡ front.Refused number line column
-    → (k j : ℕ) → asked bytes k j ≡ rowRefused number line
+    → (k j : ℕ) → asked bytes k j ≡ rowRefused number line column
 row-refused bytes number line column e k j = floats.row-refused bytes number line column e k j
 
 -- the comment, whose text is then empty,
 pub comment-refused : (bytes : List ℕ) (number line column : ℕ) → fileOf d bytes ≡ front.Refused number line column
-    → (k : ℕ) → (commentAnswer d bytes (fileOf d bytes) k ≡ noComment number line) × (commentWords d bytes (fileOf d bytes) k ≡ [])
+    → (k : ℕ) → (commentAnswer d bytes (fileOf d bytes) k ≡ noComment number line column) × (commentWords d bytes (fileOf d bytes) k ≡ [])
 comment-refused bytes number line column e k = answers.comment-refused bytes number line column e k
 
 -- the satellite.
 pub satellite-refused : (bytes : List ℕ) (number line column : ℕ) → fileOf d bytes ≡ front.Refused number line column
-    → (wanted : ℕ) → satelliteAnswer d bytes (fileOf d bytes) wanted ≡ noSatellite number line
+    → (wanted : ℕ) → satelliteAnswer d bytes (fileOf d bytes) wanted ≡ noSatellite number line column
 satellite-refused bytes number line column e wanted = answers.satellite-refused bytes number line column e wanted
 
 -- What is asked by number and is not there is 13: a row exactly where an accepted file has no such epoch or satellite, a comment exactly where it has no
@@ -320,7 +347,7 @@ module _ (bytes : List ℕ) (accepted : IsFile d bytes) where
   comment-text k h = answers.comment-text bytes accepted k h
 
   pub comment-not-there : (k : ℕ) → header bytes .comments ≤ k
-      → (commentAnswer d bytes (fileOf d bytes) k ≡ noComment 13 0) × (commentWords d bytes (fileOf d bytes) k ≡ [])
+      → (commentAnswer d bytes (fileOf d bytes) k ≡ noComment 13 0 0) × (commentWords d bytes (fileOf d bytes) k ≡ [])
   comment-not-there k h = answers.comment-not-there bytes accepted k h
 
   -- A satellite that is found is in the header and has that identifier; 13 comes exactly where none has it.
@@ -329,7 +356,7 @@ module _ (bytes : List ℕ) (accepted : IsFile d bytes) where
       × (identifier bytes (satelliteAnswer d bytes (fileOf d bytes) wanted .number) ≡ wanted)
   satellite-found wanted zero = answers.satellite-found bytes accepted wanted zero
 
-  pub satellite-thirteen : (wanted : ℕ) → (satelliteAnswer d bytes (fileOf d bytes) wanted ≡ noSatellite 13 0)
+  pub satellite-thirteen : (wanted : ℕ) → (satelliteAnswer d bytes (fileOf d bytes) wanted ≡ noSatellite 13 0 0)
       ↔ ((j : ℕ) → j < length (identifiersOf d (linesOf bytes)) → identifier bytes j ≡ wanted → ⊥)
   satellite-thirteen wanted = answers.satellite-thirteen bytes accepted wanted
 
@@ -517,16 +544,16 @@ one-way x y = dividing.one-way x y
 
 -- With room the answer is a division and its lengths are written exactly when it is one.
 pub divides-exactly : (bytes old ls : List ℕ) → length ls ≤ length old
-    → Divides d bytes ls ↔ ((divideOf d bytes (length old) ≡ division (length ls) (length bytes) 0 0) × (lengthsAfter d bytes old ≡ over ls old))
+    → Divides d bytes ls ↔ ((divideOf d bytes (length old) ≡ division (length ls) (length bytes) 0 0 0) × (lengthsAfter d bytes old ≡ over ls old))
 divides-exactly bytes old ls enough = dividing.divides-exactly bytes old ls enough
 
 -- Wherever the answer is not 12 it tells the accepted files at the front, as many as there are, with their lengths written;
 pub files-at-front : (bytes old : List ℕ) → (divideOf d bytes (length old) .refusal ≡ 12 → ⊥) → AtFront bytes old (divideOf d bytes (length old))
 files-at-front bytes old enough = dividing.front-found bytes old enough
 
--- what is left after them, if anything is, is refused with the number and line of the answer.
+-- what is left after them, if anything is, is refused with the number, line and column of the answer.
 pub rest-refused : {bytes old : List ℕ} {answer : Division} (f : AtFront bytes old answer) → (answer .refusal ≡ 0 → ⊥)
-    → (column : ℕ) × (0 < length (f .rest)) × (frontOf d (f .rest) ≡ front.Refused (answer .refusal) (answer .line) column)
+    → (0 < length (f .rest)) × (frontOf d (f .rest) ≡ front.Refused (answer .refusal) (answer .line) (answer .column))
 rest-refused f some = dividing.rest-refused f some
 
 -- 12 comes exactly where more accepted files stand at the front than there is room for, 11 and 13 never.
@@ -534,7 +561,7 @@ pub no-room : (bytes : List ℕ) (room : ℕ) → (divideOf d bytes room .refusa
 no-room bytes room = dividing.twelve-exactly bytes room
 
 -- With 12 every other part of the answer is 0.
-pub twelve-alone : (bytes : List ℕ) (room : ℕ) → divideOf d bytes room .refusal ≡ 12 → divideOf d bytes room ≡ division 0 0 12 0
+pub twelve-alone : (bytes : List ℕ) (room : ℕ) → divideOf d bytes room .refusal ≡ 12 → divideOf d bytes room ≡ division 0 0 12 0 0
 twelve-alone bytes room e = dividing.twelve-alone bytes room e
 
 pub never-11 : (bytes : List ℕ) (room : ℕ) → divideOf d bytes room .refusal ≡ 11 → ⊥

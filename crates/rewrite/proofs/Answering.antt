@@ -32,30 +32,33 @@ use Rattle.canon.specs.declared.types.Measured.{Measured}
 use Rattle.scan.specs.declared.Tally.{Tally}
 use Rattle.scan.specs.declared.Front.{Front}
 use Rattle.scan.specs.declared.Front.the-variants as front
-use Rattle.rewrite.specs.Printed.{mostBytes, mostComments, tooLong, refusedWord, lineWord, numberText, said, refusedText, answered, printed}
+use Rattle.rewrite.specs.Printed.{mostBytes, mostComments, tooLong, refusedWord, lineWord, columnWord, numberText, said, refusedText, answered, printed}
 use Rattle.rewrite.specs.Rewriting.{asWritten, reading, tableRead, rewriteAnswer, outRewritten}
 use Rattle.rewrite.specs.declared.types.Rewritten.{Rewritten}
 use Rattle.rewrite.proofs.Digits.{digits-few}
 
--- a refusal in words has 55 bytes at most
-pub few-words : (number line : ℕ) → length (refusedText number line) ≤ 55
+-- a refusal in words has 83 bytes at most
+pub few-words : (number line column : ℕ) → length (refusedText number line column) ≤ 83
 unfolding refusedText
-few-words number line =
+few-words number line column =
     omega (
       arith,
-      length-append (said refusedWord number ++ said lineWord line) (10 ∷ []),
+      length-append ((said refusedWord number ++ said lineWord line) ++ said columnWord column) (10 ∷ []),
+      length-append (said refusedWord number ++ said lineWord line) (said columnWord column),
       length-append (said refusedWord number) (said lineWord line),
       length-append refusedWord (numberText number),
       length-append lineWord (numberText line),
+      length-append columnWord (numberText column),
       digits-few 20 number,
       digits-few 20 line,
+      digits-few 20 column,
     )
 
 -- a text that is laid, or a refusal whose text is still to be laid
 abbrev pub Outcome : List ℕ → List ℕ → Rewritten → List ℕ → Type 0
 Outcome text out done now =
     ((done .refusal ≡ 0) × Lays text out (done .length) now)
-    ⊎ ((done .refusal ≡ 0 → ⊥) × (text ≡ refusedText (done .refusal) (done .line)) × (now ≡ out))
+    ⊎ ((done .refusal ≡ 0 → ⊥) × (text ≡ refusedText (done .refusal) (done .line) (done .column)) × (now ≡ out))
 
 -- Of a file of at most 65,536 bytes, with the lists and the output of the program.
 module _ (bytes identifiers exponents comments : List ℕ) (rows : List ℤ) (out : List ℕ) (short : length bytes ≤ mostBytes) (room : length out ≡ mostBytes)
@@ -80,9 +83,9 @@ module _ (bytes identifiers exponents comments : List ℕ) (rows : List ℤ) (ou
   read-is = rw (named, weighed, noted, placed)
 
   -- a reading that is refused
-  refused : (number line : ℕ) → 1 ≤ number → read ≡ refusedWith number line → Outcome (refusedText number line) out answer left
+  refused : (number line column : ℕ) → 1 ≤ number → read ≡ refusedWith number line column → Outcome (refusedText number line column) out answer left
   unfolding rewriteAnswer outRewritten
-  refused number line some e =
+  refused number line column some e =
       let apart : eqb number 0 ≡ false = ne-eqb number 0 (omega arith) in
       rw (e, apart) (inr (λ zero. omega arith, refl, refl))
 
@@ -107,7 +110,7 @@ module _ (bytes identifiers exponents comments : List ℕ) (rows : List ℤ) (ou
           },
         )
 
-    too-large : mostBytes < length form → Outcome (refusedText 12 0) out answer left
+    too-large : mostBytes < length form → Outcome (refusedText 12 0 0) out answer left
     too-large over =
         let less : length out < length (canonical d table) = rw (lent-form bytes (t, file) identifiers exponents comments rows zero) (omega arith) in
         let twelve = too-small-12 table out (lent-valid bytes (t, file) identifiers exponents comments rows zero) less in
@@ -126,12 +129,12 @@ module _ (bytes identifiers exponents comments : List ℕ) (rows : List ℤ) (ou
           ap (λ (r : Reading). r .refusal) (read-is ∙ answers)
 
       by : (few fits : Bool) → leb (header bytes .comments) mostComments ≡ few → leb (length form) mostBytes ≡ fits
-          → Outcome (cond (few && fits) form (refusedText 12 0)) out answer left
+          → Outcome (cond (few && fits) form (refusedText 12 0 0)) out answer left
       by true true p q = fitting t file (some-0 p) (leb-true (length form) mostBytes q)
       by true false p q = too-large t file (some-0 p) (leb-false (length form) mostBytes q)
       by false fits p q =
           let answers = many-comments bytes (t, file) short (leb-false (header bytes .comments) mostComments p) in
-          refused 12 0 (omega arith) (read-is ∙ answers)
+          refused 12 0 0 (omega arith) (read-is ∙ answers)
 
   -- THE OUTCOME: what the paper says is laid, or is a refusal that is still to be said.
   outcome : Outcome (answered bytes (fileOf d bytes)) out answer left
@@ -140,7 +143,7 @@ module _ (bytes identifiers exponents comments : List ℕ) (rows : List ℤ) (ou
     where
       go : (f : Front) → fileOf d bytes ≡ f → Outcome (answered bytes f) out answer left
       go (front.File t) e = filed t e
-      go (front.Refused number line column) e = refused number line (found-numbered true bytes number line column e) (rw e)
+      go (front.Refused number line column) e = refused number line column (found-numbered true bytes number line column e) (rw e)
 
   -- so it is of what the function answers and leaves
   pub outcome-of : {done : Rewritten} {now : List ℕ} → done ≡ answer → now ≡ left → Outcome (answered bytes (fileOf d bytes)) out done now
@@ -148,7 +151,7 @@ module _ (bytes identifiers exponents comments : List ℕ) (rows : List ℤ) (ou
 
 -- a refusal that is said is laid
 pub outcome-said : (done : Rewritten) {text out now after : List ℕ} {r : ℕ} → Outcome text out done now → (done .refusal ≡ 0 → ⊥)
-    → Lays (refusedText (done .refusal) (done .line)) now r after → Lays text out r after
+    → Lays (refusedText (done .refusal) (done .line) (done .column)) now r after → Lays text out r after
 outcome-said done (inl (zero, laid)) some s = absurd (some zero)
 outcome-said done (inr (apart, words, same)) some s = rw (words, ← same) s
 
@@ -159,14 +162,14 @@ outcome-laid done (inr (apart, words, same)) none = absurd (apart none)
 -- the answer has room
 pub answer-fits : (bytes : List ℕ) (f : Front) → length (answered bytes f) ≤ mostBytes
 unfolding answered
-answer-fits bytes (front.Refused number line column) = omega (arith, few-words number line)
+answer-fits bytes (front.Refused number line column) = omega (arith, few-words number line column)
 answer-fits bytes (front.File t) = go (leb (header bytes .comments) mostComments) (leb (length (rewritten d bytes)) mostBytes) refl
   where
     go : (few fits : Bool) → leb (length (rewritten d bytes)) mostBytes ≡ fits
-        → length (cond (few && fits) (rewritten d bytes) (refusedText 12 0)) ≤ mostBytes
+        → length (cond (few && fits) (rewritten d bytes) (refusedText 12 0 0)) ≤ mostBytes
     go true true q = leb-true (length (rewritten d bytes)) mostBytes q
-    go true false q = omega (arith, few-words 12 0)
-    go false fits q = omega (arith, few-words 12 0)
+    go true false q = omega (arith, few-words 12 0 0)
+    go false fits q = omega (arith, few-words 12 0 0)
 
 -- PRINTED: what is laid is what the paper says, too long or not
 pub printed-long : (bytes : List ℕ) → mostBytes < length bytes → tooLong ≡ printed bytes

@@ -25,14 +25,14 @@ pub prints-too-long : (bytes : List ℕ) → mostBytes < length bytes → printe
 prints-too-long bytes long = sym (printed-long bytes long)
 
 module _ (bytes : List ℕ) (short : length bytes ≤ mostBytes) where
-  -- else a file that is refused is answered by its number and line,
-  pub prints-refusal : (number line column : ℕ) → fileOf d bytes ≡ front.Refused number line column → printed bytes ≡ refusedText number line
+  -- else a file that is refused is answered by its number, line and column,
+  pub prints-refusal : (number line column : ℕ) → fileOf d bytes ≡ front.Refused number line column → printed bytes ≡ refusedText number line column
   unfolding answered
   prints-refusal number line column e = sym (printed-short bytes short) ∙ ap (answered bytes) e
 
   module _ (accepted : IsFile d bytes) where
     -- one that is accepted and has more than 800 comments by 12,
-    pub prints-12 : mostComments < header bytes .comments → printed bytes ≡ refusedText 12 0
+    pub prints-12 : mostComments < header bytes .comments → printed bytes ≡ refusedText 12 0 0
     unfolding answered
     prints-12 many =
         sym (printed-short bytes short) ∙ ap (answered bytes) (accepted .1) ∙ rw (lt-leb (header bytes .comments) mostComments many)

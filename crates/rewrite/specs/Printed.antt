@@ -1,6 +1,6 @@
 -- What the program prints. 01, "One file whole": "The program `rewrite` takes a file from standard input and prints its canonical bytes, or one line
 -- `refused 9 line 23` (number, then line). Over 65,536 bytes it prints `too long`. It has room for 800 comments and 65,536 bytes of output, and for
--- all rows; past that it prints `refused 12 line 0`." Every line that it prints ends with LF.
+-- all rows; past that it prints `refused 12 line 0`." 02, "Tell the column": "`rewrite` prints `refused 6 line 24 column 5`." Every line that it prints ends with LF.
 use mathlib.Core.Bool.{cond, _&&_}
 use mathlib.Core.List.{List, [], _∷_, _++_}
 use Prim.Native.Nat.{ℕ}

@@ -26,12 +26,13 @@ use Rattle.scan_laws.proofs.Files.{file-plain, whole-taken}
 use Rattle.scan_laws.proofs.Local.{whole-ends}
 use Rattle.scan_laws.proofs.Used.{accepted-front}
 use Rattle.file_laws.proofs.Selected.{kind-comments}
+use Rattle.theorems.specs.Faults.{FirstFault}
 use Rattle.theorems.specs.Files.{header, identifier, There}
 use Rattle.theorems.specs.Room.{foundIn, answer, Room, Short}
 use Rattle.theorems.specs.Asked.{asked}
 use Rattle.theorems.specs.Walked.{begun}
 use Rattle.theorems.proofs.Accepting.{says-comments}
-use Rattle.theorems.proofs.Judging.{refused-numbers, whole-refused, file-then-anything, front-whole}
+use Rattle.theorems.proofs.Judging.{refused-first, first-refused, refused-numbers, Followed, whole-refused, file-then-anything, front-whole}
 use Rattle.theorems.proofs.Room.{headerTo, short-refused, room-accepted, room-or-short}
 use Rattle.theorems.proofs.Floats.{row-asked, row-not-there, row-refused}
 use Rattle.theorems.proofs.Beginning.{begin-accepts, begin-short, begin-refused}
@@ -56,10 +57,10 @@ pub found-numbers : (bytes : List ℕ) (number line column : ℕ) → fileOf d b
 found-numbers bytes number line column e = go (whole-refused bytes number line column e)
   where
     go : (frontOf d bytes ≡ front.Refused number line column)
-        ⊎ ((t : Tally) × (frontOf d bytes ≡ front.File t) × (t .end < length bytes) × (number ≡ 11) × (line ≡ t .lines + 1))
+        ⊎ Followed bytes number line column
         → (1 ≤ number) × (number ≤ 11)
     go (inl refused) = let n = refused-numbers bytes number line column refused in (n .0, omega (arith, n .1))
-    go (inr (t, f, h, eleven, l)) = (omega arith, omega arith)
+    go (inr (t, f, h, eleven, l, c)) = (omega arith, omega arith)
 
 -- whole or at the front
 found-few : (whole : Bool) (bytes : List ℕ) (number line column : ℕ) → foundIn whole bytes ≡ front.Refused number line column → number ≤ 11
@@ -82,6 +83,36 @@ judge-accepts bytes = go (fileOf d bytes) refl
         no-both : {t : Tally} → front.File t ≡ front.Refused number line column → ⊥
         no-both both = let z : _≡_ {A = ℕ} 0 1 = cc in omega arith
 
+-- A file is answered by a refusal, but for 11, exactly when its line is the first that earns a fault, and of the faults that this line earns it has the
+-- lowest number and then the leftmost column; whole files and files at the front at once.
+pub judged-exactly : (whole : Bool) (bytes : List ℕ) (number line column : ℕ) → (number ≡ 11 → ⊥)
+    → ((0 < number) × (judged d bytes (foundIn whole bytes) ≡ refusedWith number line column)) ↔ FirstFault bytes number line column
+unfolding judged wholeFront
+judged-exactly whole bytes number line column apart = (λ told. there (foundIn whole bytes) refl (told .0) (told .1), λ f. back whole (first-refused bytes number line column f))
+  where
+    at-front : (w : Bool) → foundIn w bytes ≡ front.Refused number line column → frontOf d bytes ≡ front.Refused number line column
+    at-front false e = e
+    at-front true e = go (whole-refused bytes number line column e)
+      where
+        go : (frontOf d bytes ≡ front.Refused number line column)
+            ⊎ Followed bytes number line column
+            → frontOf d bytes ≡ front.Refused number line column
+        go (inl f) = f
+        go (inr (t, f, h, n, l, c)) = absurd (apart n)
+
+    there : (f : Front) → foundIn whole bytes ≡ f → 0 < number → judged d bytes f ≡ refusedWith number line column → FirstFault bytes number line column
+    there (front.File t) e some is = let z : 0 ≡ number = ap (λ (r : Reading). r .refusal) is in absurd (omega arith)
+    there (front.Refused n l c) e some is =
+        let number-is : n ≡ number = ap (λ (r : Reading). r .refusal) is in
+        let line-is : l ≡ line = ap (λ (r : Reading). r .line) is in
+        let column-is : c ≡ column = ap (λ (r : Reading). r .column) is in
+        let same : front.Refused n l c ≡ front.Refused number line column = cc in
+        refused-first bytes number line column (at-front whole (e ∙ same))
+
+    back : (w : Bool) → frontOf d bytes ≡ front.Refused number line column → (0 < number) × (judged d bytes (foundIn w bytes) ≡ refusedWith number line column)
+    back false e = (refused-numbers bytes number line column e .0, rw e refl)
+    back true e = (refused-numbers bytes number line column e .0, rw e refl)
+
 -- 11 exactly when an accepted file is followed by more, with the line after its last.
 pub eleven-exactly : (bytes : List ℕ) (line : ℕ) → (judged d bytes (fileOf d bytes) ≡ refusedWith 11 line 0)
     ↔ ((a : List ℕ) × (b : List ℕ) × (bytes ≡ a ++ b) × IsFile d a × (0 < length b) × (line ≡ length (linesOf a) + 1))
@@ -102,7 +133,7 @@ eleven-exactly bytes line = (there (fileOf d bytes) refl, back)
         same = ap (λ (r : Reading). r .line) is
 
         by : (frontOf d bytes ≡ front.Refused number l column)
-            ⊎ ((t : Tally) × (frontOf d bytes ≡ front.File t) × (t .end < length bytes) × (number ≡ 11) × (l ≡ t .lines + 1) × (column ≡ 0))
+            ⊎ Followed bytes number l column
             → There′
         by (inl refused) = absurd (omega (arith, refused-numbers bytes number l column refused .1, eleven))
         by (inr (t, f, h, n, m, c)) = (

@@ -21,7 +21,7 @@ use Rattle.theorems.specs.Divided.{Left}
 
 -- files of these lengths before some cuts
 abbrev pub before : List ℕ → Cuts → Cuts
-before ls c = record { lengths = ls ++ c .lengths; refusal = c .refusal; line = c .line }
+before ls c = record { lengths = ls ++ c .lengths; refusal = c .refusal; line = c .line; column = c .column }
 
 module _ (rules : Rules) where
   -- an accepted file before a stretch is its first cut

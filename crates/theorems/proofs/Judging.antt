@@ -105,22 +105,27 @@ module _ (bytes : List ℕ) (number line column : ℕ) where
 pub refused-numbers : (bytes : List ℕ) (number line column : ℕ) → frontOf d bytes ≡ front.Refused number line column → (1 ≤ number) × (number ≤ 10)
 refused-numbers bytes number line column e = refusal-numbered d bytes number line column e
 
+-- an accepted file is followed by more: 11, the line after EOF, no column
+abbrev pub Followed : List ℕ → ℕ → ℕ → ℕ → Type 0
+Followed bytes number line column =
+    (t : Tally) × (frontOf d bytes ≡ front.File t) × (t .end < length bytes) × (number ≡ 11) × (line ≡ t .lines + 1) × (column ≡ 0)
+
 -- A whole file is refused as the file at its front is; or bytes stand after the EOF line: 11, the line after EOF, no column.
 pub whole-refused : (bytes : List ℕ) (number line column : ℕ) → fileOf d bytes ≡ front.Refused number line column
     → (frontOf d bytes ≡ front.Refused number line column)
-    ⊎ ((t : Tally) × (frontOf d bytes ≡ front.File t) × (t .end < length bytes) × (number ≡ 11) × (line ≡ t .lines + 1) × (column ≡ 0))
+    ⊎ Followed bytes number line column
 unfolding wholeFront
 whole-refused bytes number line column e = go (frontOf d bytes) refl
   where
     go : (f : Front) → frontOf d bytes ≡ f
         → (frontOf d bytes ≡ front.Refused number line column)
-        ⊎ ((t : Tally) × (frontOf d bytes ≡ front.File t) × (t .end < length bytes) × (number ≡ 11) × (line ≡ t .lines + 1) × (column ≡ 0))
+        ⊎ Followed bytes number line column
     go (front.Refused m l c) is = inl (is ∙ rw is at e)
     go (front.File t) is = by (ltb (t .end) (length bytes)) refl
       where
         by : (b : Bool) → ltb (t .end) (length bytes) ≡ b
             → (frontOf d bytes ≡ front.Refused number line column)
-            ⊎ ((u : Tally) × (frontOf d bytes ≡ front.File u) × (u .end < length bytes) × (number ≡ 11) × (line ≡ u .lines + 1) × (column ≡ 0))
+            ⊎ Followed bytes number line column
         by true less =
             let same : front.Refused 11 (t .lines + 1) 0 ≡ front.Refused number line column = rw (is, less) at e in
             let m : 11 ≡ number = cc in

@@ -2,6 +2,7 @@ pub mod Cases
 pub mod Accepting
 pub mod Reading
 pub mod Judging
+pub mod Columns
 pub mod Correlations
 pub mod Room
 pub mod RewriteRoom

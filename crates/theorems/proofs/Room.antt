@@ -26,7 +26,7 @@ use Rattle.scan_laws.proofs.Used.{accepted-front}
 use Rattle.file_laws.proofs.Counts.{count-is, rows-many, rows-many-both, identifiers-room, exponents-room, comments-room, places-room, motions-room}
 use Rattle.file_laws.proofs.Selected.{satellites, kind-comments}
 use Rattle.theorems.proofs.Accepting.{says-satellites, says-epochs, says-velocity, says-comments}
-use Rattle.theorems.proofs.Judging.{refused-numbers, whole-refused}
+use Rattle.theorems.proofs.Judging.{refused-numbers, Followed, whole-refused}
 use Rattle.header.specs.declared.types.Header.{Header}
 use Rattle.scan.specs.declared.Tally.{Tally}
 use Rattle.scan.specs.declared.Front.{Front}
@@ -44,10 +44,10 @@ found-numbered false bytes number line column e = refused-numbers bytes number l
 found-numbered true bytes number line column e = go (whole-refused bytes number line column e)
   where
     go : (frontOf d bytes ≡ front.Refused number line column)
-        ⊎ ((t : Tally) × (frontOf d bytes ≡ front.File t) × (t .end < length bytes) × (number ≡ 11) × (line ≡ t .lines + 1))
+        ⊎ Followed bytes number line column
         → 1 ≤ number
     go (inl refused) = refused-numbers bytes number line column refused .0
-    go (inr (t, f, h, eleven, l)) = omega arith
+    go (inr (t, f, h, eleven, l, c)) = omega arith
 
 module _ (bytes : List ℕ) (t : Tally) (front-is : frontOf d bytes ≡ front.File t) where
   abbrev lines : List (List ℕ)

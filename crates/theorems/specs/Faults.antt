@@ -3,13 +3,15 @@
 use mathlib.Core.Path.{_≡_}
 use mathlib.Core.Logic.{_⊎_}
 use mathlib.Core.List.{List}
-use Prim.Native.Nat.{ℕ, _+_, _<_}
+use mathlib.Core.Bool.{false}
+use Prim.Native.Nat.{ℕ, _+_, _-_, _≤_, _<_}
 use lib.ListN.{length}
 use Rattle.header.specs.Rules.{d}
 use Rattle.lines.specs.Lines.{linesOf, nth}
 use Rattle.scan.specs.Run.{Going, atFirst}
 use Rattle.machine.specs.declared.types.Verdict.the-variants as verdict
-use Rattle.scan_laws.specs.Earned.{Earns, Decides}
+use Rattle.laws.specs.Texts.{isPrintable}
+use Rattle.scan_laws.specs.Earned.{NotBlank, WrongField, Failed, Earns, Decides, byteAt}
 use Rattle.scan_laws.specs.Lines.{judged, GoOn, behind}
 
 -- where one is after the first k lines of some bytes: the spot, the state and the identifiers
@@ -39,3 +41,19 @@ pub record FirstFault (bytes : List ℕ) (number line column : ℕ) : Type 0 whe
   pub line-is : line ≡ k + 1
   pub passes : (i : ℕ) → i < k → Passes bytes i
   pub why : ((k ≡ length (linesOf bytes)) × (number ≡ 1) × (column ≡ 0)) ⊎ ((k < length (linesOf bytes)) × Decided bytes k number column)
+
+-- the line of this number, counted from 1
+abbrev pub refusedLine : List ℕ → ℕ → List ℕ
+refusedLine bytes line = nth (line - 1) (linesOf bytes)
+
+-- a column of a line whose byte is outside 32 to 126
+abbrev pub Outside : List ℕ → ℕ → Type 0
+Outside line column = (1 ≤ column) × (column ≤ length line) × (isPrintable (byteAt column line) ≡ false)
+
+-- a fault that the columns of a line have: an unused column that is not blank (5), a field with the column that it names, or year, month and day that are
+-- no date within the bounds (7, column 4)
+abbrev pub InColumns : List ℕ → ℕ → ℕ → ℕ → Type 0
+InColumns bytes k number column =
+    (NotBlank d (after bytes k .state) (nth k (linesOf bytes)) column × (number ≡ 5))
+    ⊎ (WrongField d (after bytes k .state) (nth k (linesOf bytes)) number column
+    ⊎ Failed d (after bytes k .state) (after bytes k .identifiers) (nth k (linesOf bytes)) number column)

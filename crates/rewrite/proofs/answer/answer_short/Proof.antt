@@ -33,7 +33,7 @@ answered-so c =
 put-refusal-requires : tie.Need-put-refusal-requires
 put-refusal-requires c κs =
     let done = c .before .before .before .before .before .before .before .before .before .read-and-write .result in
-    omega (arith, few-words (done .refusal) (done .line))
+    omega (arith, few-words (done .refusal) (done .line) (done .column))
 
 returns : tie.Need-returns
 returns c =
