@@ -456,6 +456,17 @@ module _ (bytes : List ℕ) (t : Tally) (accepted : fileOf d bytes ≡ front.Fil
   pub walk-ends : walkStep bytes identifiers (header bytes .satellites * header bytes .epochs) ≡ step.End
   walk-ends = walked.walk-ends bytes t accepted identifiers identified
 
+-- Of any bytes: a line on the way to the next P line that is refused is the refusal of that step, with its number, its line and its column; where no line is
+-- left it is 1.
+module _ (bytes identifiers : List ℕ) (w : RowWalk) where
+  pub walk-refused : (number column : ℕ) → lineKnown d bytes (spotAhead bytes identifiers w .at) (spotAhead bytes identifiers w .state) identifiers ≡ found.Fault number column
+      → rowStep d bytes identifiers w ≡ step.Refused number (lineNumber bytes (spotAhead bytes identifiers w .at)) column
+  walk-refused number column e = walked.step-refused bytes identifiers w number column e
+
+  pub walk-ran-out : lineKnown d bytes (spotAhead bytes identifiers w .at) (spotAhead bytes identifiers w .state) identifiers ≡ found.NoLine
+      → rowStep d bytes identifiers w ≡ step.Refused 1 (lineNumber bytes (spotAhead bytes identifiers w .at)) 0
+  walk-ran-out e = walked.step-ran-out bytes identifiers w e
+
 -- DEMAND 2, WRITING. Each valid table has one canonical form; writing makes it, reading it returns the table, writing what was read from canonical
 -- bytes returns those bytes.
 

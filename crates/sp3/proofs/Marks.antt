@@ -121,3 +121,9 @@ pub no-row : (from : RowWalk) (s : RowStep) → (s ≡ step.End) ⊎ ((number : 
 unfolding rowDoor
 no-row from s (inl e) = rw e (refl, refl)
 no-row from s (inr (number, line, column, e)) = rw e (refl, refl)
+
+-- a step that is refused is handed on with its number, its line and its column
+pub refused-row : (from : RowWalk) (number line column : ℕ)
+    → let answer = rowDoor from (step.Refused number line column) in (answer .refusal ≡ number) × (answer .line ≡ line) × (answer .column ≡ column)
+unfolding rowDoor
+refused-row from number line column = (refl, refl, refl)

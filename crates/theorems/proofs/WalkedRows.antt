@@ -20,7 +20,7 @@ use Rattle.record.specs.Rows.{rowOf}
 use Rattle.file.specs.Kinds.{isKind, ofKind}
 use Rattle.machine.specs.Faults.{standingFault}
 use Rattle.machine.specs.Next.{nextOf}
-use Rattle.machine.specs.Step.{onKey, judgedLine, printedLine, stepOf, readFirst}
+use Rattle.machine.specs.Step.{onKey, judgedLine, printedLine, stepOf, readFirst, lineKnown}
 use Rattle.float_row.specs.Floats.{floatRow, lineFrom}
 use Rattle.reader.specs.Reading.{frontOf, fileOf}
 use Rattle.file.specs.Table.{countOf, headerIn}
@@ -40,13 +40,14 @@ use Rattle.theorems.proofs.Floats.{row-asked}
 use Rattle.theorems.specs.Asked.{asked}
 use Rattle.theorems.specs.Walked.{spotOf}
 use Rattle.line_walk.specs.Spots.{firstSpot}
-use Rattle.row_walk.specs.Rows.{firstWalk, toRow, epochOf, satelliteOf, shown, stepAt, stepFrom, rowStep}
+use Rattle.row_walk.specs.Rows.{firstWalk, toRow, lineNumber, epochOf, satelliteOf, shown, stepAt, stepFrom, rowStep}
 use Rattle.row_walk.proofs.Going.{passed}
 use Rattle.divide.proofs.Ending.{ends-or-on}
 use Rattle.record.specs.declared.types.LineKind.{LineKind}
 use Rattle.machine.specs.declared.types.State.{State}
 use Rattle.machine.specs.declared.types.Verdict.{Verdict}
 use Rattle.machine.specs.declared.types.Verdict.the-variants as verdict
+use Rattle.machine.specs.declared.types.LineRead.the-variants as lineFound
 use Rattle.float_row.specs.declared.FloatRow.{FloatRow}
 use Rattle.questions.specs.declared.types.RowAnswer.{RowAnswer}
 use Rattle.scan.specs.declared.Tally.{Tally}
@@ -55,7 +56,7 @@ use Rattle.line_walk.specs.declared.Spot.{Spot}
 use Rattle.row_walk.specs.declared.types.RowWalk.{RowWalk}
 use Rattle.row_walk.specs.declared.types.RowStep.{RowStep}
 use Rattle.row_walk.specs.declared.types.RowStep.the-variants as step
-use Rattle.theorems.specs.Walked.{onRow, stepsFrom, walkStep, Identified}
+use Rattle.theorems.specs.Walked.{onRow, stepsFrom, walkStep, Identified, spotAhead}
 
 -- a line that ends the file is no P line
 past-test : (b : Bool) (v : Verdict) (m c : ℕ) → cond b v (verdict.Fault m c) ≡ verdict.Finished → v ≡ verdict.Finished
@@ -360,3 +361,15 @@ module _ (bytes : List ℕ) (t : Tally) (accepted : fileOf d bytes ≡ front.Fil
         → (next : RowWalk) × (walkStep bytes identifiers (rowAt bytes k j) ≡ step.At k j (asked bytes k j .row) next)
     unfolding shown
     walk-at e = let x = walk-gives k j there in (x .0, x .1 ∙ rw e)
+
+-- A LINE ON THE WAY THAT IS REFUSED is the walk's refusal, with its number, its line and its column; where no line is left it is 1.
+module _ (bytes identifiers : List ℕ) (w : RowWalk) where
+  pub step-refused : (number column : ℕ) → lineKnown d bytes (spotAhead bytes identifiers w .at) (spotAhead bytes identifiers w .state) identifiers ≡ lineFound.Fault number column
+      → rowStep d bytes identifiers w ≡ step.Refused number (lineNumber bytes (spotAhead bytes identifiers w .at)) column
+  unfolding stepFrom stepAt
+  step-refused number column e = rw e refl
+
+  pub step-ran-out : lineKnown d bytes (spotAhead bytes identifiers w .at) (spotAhead bytes identifiers w .state) identifiers ≡ lineFound.NoLine
+      → rowStep d bytes identifiers w ≡ step.Refused 1 (lineNumber bytes (spotAhead bytes identifiers w .at)) 0
+  unfolding stepFrom stepAt
+  step-ran-out e = rw e refl

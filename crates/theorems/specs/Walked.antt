@@ -10,7 +10,7 @@ use Rattle.scan.specs.Run.{Going}
 use Rattle.reader.specs.Reading.{fileOf, judged, identifiersOf}
 use Rattle.line_walk.specs.Spots.{spotsAfter, identifiersPast}
 use Rattle.row_walk.specs.Begin.{begunAs, identifiersBegun}
-use Rattle.row_walk.specs.Rows.{rowStep, firstWalk}
+use Rattle.row_walk.specs.Rows.{rowStep, firstWalk, rowAhead}
 use Rattle.header.specs.declared.types.Rules.{Rules}
 use Rattle.machine.specs.declared.types.State.{State}
 use Rattle.machine.specs.declared.types.Verdict.{Verdict}
@@ -76,3 +76,7 @@ stepsFrom bytes identifiers w (suc i) = onRow (rowStep d bytes identifiers w) (�
 
 abbrev pub walkStep : List ℕ → List ℕ → ℕ → RowStep
 walkStep bytes identifiers i = stepsFrom bytes identifiers firstWalk i
+
+-- the spot at which the next step of a walk is decided: that of the next P line, or of the line before it that is refused or ends the file
+abbrev pub spotAhead : List ℕ → List ℕ → RowWalk → Spot
+spotAhead bytes identifiers w = rowAhead d bytes identifiers (w .spot)

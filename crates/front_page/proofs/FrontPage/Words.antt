@@ -79,7 +79,7 @@ pub use Rattle.theorems.specs.Divided.{AtFront, TooMany}
 pub use Rattle.theorems.proofs.LineRoom as lent-list
 pub use Rattle.theorems.proofs.Walks as walks
 pub use Rattle.theorems.proofs.Walks.{After}
-pub use Rattle.theorems.specs.Walked.{goingAt, walkedFrom, overLines, Identified, walkStep, begun, begunList}
+pub use Rattle.theorems.specs.Walked.{goingAt, walkedFrom, overLines, Identified, walkStep, begun, begunList, spotAhead}
 pub use Rattle.line_walk.proofs.Promised as promised
 pub use Rattle.line_walk.proofs.Promised.{Begins, Moves}
 pub use Rattle.line_walk.proofs.new as new
@@ -94,6 +94,7 @@ pub use Rattle.scan.specs.declared.Front.the-variants as front
 pub use Rattle.divide.specs.declared.Division.{Division}
 pub use Rattle.line_walk.specs.declared.Walker.{Walker}
 pub use Rattle.row_walk.specs.declared.types.RowWalk.{RowWalk}
+pub use Rattle.row_walk.specs.Rows.{lineNumber, rowStep}
 pub use Rattle.row_walk.specs.declared.types.RowStep.the-variants as step
 pub use Rattle.layout.specs.Layout.{valuesOf}
 pub use Rattle.layout.specs.Kind.{unnoted, isBlank}
