@@ -6,8 +6,8 @@ ghost use Rattle.machine.specs.Due.{instantDue, satelliteDue, againAt, d
 use crate::faults;
 use crate::step;
 use crate::types::Due;
+use crate::types::LineRead;
 use crate::types::State;
-use crate::types::Verdict;
 use header::Rules;
 use record::kind::EPOCH_KIND;
 use record::kind::POSITION_KIND;
@@ -45,15 +45,19 @@ fn names_again(rules: Rules, bytes: &[u8], at: usize, state: State, identifiers:
     if end >= bytes.len() {
         return false;
     }
-    let line = &bytes[at..end];
-    let Verdict::Fault { number, column: _ } = step::step_line(rules, state, identifiers, line)
-    else {
+    let LineRead::Fault { number, column: _ } = step::line_known(
+        rules,
+        bytes,
+        at,
+        state,
+        identifiers,
+    ) else {
         return false;
     };
     if number != 8 {
         return false;
     }
-    let padded = layout::pad(line);
+    let padded = layout::pad(&bytes[at..end]);
     let said = faults::slots_said(rules, state, identifiers, &padded);
     said.again
 }

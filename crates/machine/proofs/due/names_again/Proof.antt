@@ -1,27 +1,32 @@
 -- `machine::due::names_again` meets its contract: no `+ ` line is due, or no line is left, or the slots of the line say it.
 -- Assumes nothing.
-use mathlib.Core.Path.{_≡_, refl, sym, ap, _∙_}
-use mathlib.Core.Bool.{Bool, true, false, cond}
+use mathlib.Core.Path.{_≡_, refl, sym, ap, _∙_, subst}
+use mathlib.Core.Bool.{true, false, cond}
 use mathlib.Core.List.{List, [], _∷_}
-use Prim.Native.Nat.{ℕ}
+use Prim.Native.Nat.{ℕ, _+_}
 use native.Mathlib.Omega.{arith}
 use denote.Enum.Declared.{tagOf}
 use types.Run.{OneOf, miss}
 use borrow.Author.Needs.{needs}
 use borrow.Author.Tests.{eq-eqb, ne-eqb}
 use lib.Dec.{eqb}
+use lib.ListN.{length, drop}
+use Rattle.lines.specs.Lines.{linesOf}
 use Rattle.layout.specs.Line.{padded}
 use Rattle.lines.proofs.Ends.{no-line, first-line}
 use Rattle.record.specs.LineKinds.{satellitesKind}
 use Rattle.header.specs.declared.types.Rules.{Rules}
 use Rattle.machine.specs.Due.{isEight, againAt}
 use Rattle.machine.specs.Faults.{namesAgain}
-use Rattle.machine.specs.Step.{stepOf}
+use Rattle.machine.specs.Step.{stepOf, readAs, readFirst, lineKnown}
+use Rattle.machine.specs.Told.{toldRead}
 use Rattle.machine.specs.declared.types.State.{State}
 use Rattle.machine.specs.declared.types.Verdict.{Verdict}
 use Rattle.machine.specs.declared.types.Verdict.the-variants as verdict
-use Rattle.machine.proofs.Told.{toldVerdict-one}
-use Rattle.machine.proofs.types.Verdict.{the-type}
+use Rattle.machine.specs.declared.types.LineRead.{LineRead}
+use Rattle.machine.specs.declared.types.LineRead.the-variants as found
+use Rattle.machine.proofs.Told.{toldRead-one}
+use Rattle.machine.proofs.types.LineRead.{the-type}
 use Rattle.machine.proofs.due.names_again.Statement.{statement}
 use Rattle.machine.proofs.due.names_again.Tie as tie
 
@@ -35,33 +40,51 @@ module _ (rules : Rules) (s : State) (identifiers : List ℕ) where
   unfolding againAt
   none-left lines e = rw e
 
-  -- the line that is there: whether it is refused with 8, and then what its slots say
-  module _ (lines : List (List ℕ)) (l : List ℕ) (ls : List (List ℕ)) (first : lines ≡ l ∷ ls) (due : eqb (s .due) satellitesKind ≡ true)
-      (v : Verdict) (does : v ≡ stepOf rules s identifiers l) where
-    here : againAt rules s identifiers lines ≡ cond (isEight v) (namesAgain rules s identifiers (padded l)) false
-    unfolding againAt
-    here = rw (first, due, does) refl
-
-    not-eight : isEight v ≡ false → false ≡ againAt rules s identifiers lines
-    not-eight e = sym (here ∙ rw e refl)
-
-    eight : isEight v ≡ true → namesAgain rules s identifiers (padded l) ≡ againAt rules s identifiers lines
-    eight e = sym (here ∙ rw e refl)
-
--- what was found is no fault, or one of another number, or of this
-no-fault : (v : Verdict) → OneOf (1 ∷ 2 ∷ []) (tagOf the-type v) → isEight v ≡ false
+-- what a verdict that was told so is: no fault, or a fault of this number
+none-told : (v : Verdict) (place : ℕ) → OneOf (0 ∷ 2 ∷ 3 ∷ []) (tagOf the-type (readAs v place)) → isEight v ≡ false
 unfolding isEight
-no-fault (verdict.Fault number column) k = absurd (miss (1 ∷ 2 ∷ []) 0 tt k)
-no-fault (verdict.Next s) k = refl
-no-fault verdict.Finished k = refl
+none-told (verdict.Fault number column) place k = absurd (miss (0 ∷ 2 ∷ 3 ∷ []) 1 tt k)
+none-told (verdict.Next s) place k = refl
+none-told verdict.Finished place k = refl
 
-other-number : (v : Verdict) (number column : ℕ) → v ≡ verdict.Fault number column → (number ≡ 8 → ⊥) → isEight v ≡ false
+number-told : (v : Verdict) (place number column : ℕ) → readAs v place ≡ found.Fault number column → isEight v ≡ eqb number 8
 unfolding isEight
-other-number v number column is apart = rw is (ne-eqb number 8 apart)
+number-told (verdict.Fault m c) place number column e = let same : m ≡ number = cc in ap (λ (n : ℕ). eqb n 8) same
+number-told (verdict.Next s) place number column e = let z : _≡_ {A = ℕ} 0 1 = cc in absurd (omega arith)
+number-told verdict.Finished place number column e = let z : _≡_ {A = ℕ} 0 1 = cc in absurd (omega arith)
 
-that-number : (v : Verdict) (number column : ℕ) → v ≡ verdict.Fault number column → number ≡ 8 → isEight v ≡ true
-unfolding isEight
-that-number v number column is same = rw is (eq-eqb number 8 same)
+-- a `+ ` line is due, there is a line, and this is what the line reader finds there
+record There (rules : Rules) (s : State) (identifiers bytes : List ℕ) (at : ℕ) (r : LineRead) : Type 0 where
+  line : List ℕ
+  after : List (List ℕ)
+  first : linesOf (drop at bytes) ≡ line ∷ after
+  due : eqb (s .due) satellitesKind ≡ true
+  told : toldRead r ≡ toldRead (lineKnown rules bytes at s identifiers)
+
+-- whether it is refused with 8, and then what its slots say
+module _ (rules : Rules) (s : State) (identifiers bytes : List ℕ) (at : ℕ) (r : LineRead) (g : There rules s identifiers bytes at r) where
+  abbrev does : Verdict
+  does = stepOf rules s identifiers (g .line)
+
+  here : againAt rules s identifiers (linesOf (drop at bytes)) ≡ cond (isEight does) (namesAgain rules s identifiers (padded (g .line))) false
+  unfolding againAt
+  here = rw (g .first, g .due) refl
+
+  not-eight : isEight does ≡ false → false ≡ againAt rules s identifiers (linesOf (drop at bytes))
+  not-eight e = sym (here ∙ rw e refl)
+
+  eight : isEight does ≡ true → namesAgain rules s identifiers (padded (g .line)) ≡ againAt rules s identifiers (linesOf (drop at bytes))
+  eight e = sym (here ∙ rw e refl)
+
+  is : r ≡ readAs does (at + length (g .line) + 1)
+  unfolding readFirst
+  is = toldRead-one r _ (g .told) ∙ rw (g .first) refl
+
+  no-fault : OneOf (0 ∷ 2 ∷ 3 ∷ []) (tagOf the-type r) → isEight does ≡ false
+  no-fault k = none-told does _ (subst (λ (x : LineRead). OneOf (0 ∷ 2 ∷ 3 ∷ []) (tagOf the-type x)) is k)
+
+  number-is : (number column : ℕ) → r ≡ found.Fault number column → isEight does ≡ eqb number 8
+  number-is number column e = number-told does _ number column (sym is ∙ e)
 
 returns : tie.Need-returns
 returns c = let a = c .before .before .before .before .args in not-due (a .rules) (a .state) (a .identifiers .now) _ (ne-eqb _ _ (c .if1 .taken))
@@ -72,39 +95,43 @@ returns-2 c =
     let a = ended .before .before .before .before .before .args in
     none-left (a .rules) (a .state) (a .identifiers .now) _ (no-line (a .bytes .now) (a .at) (ended .line-end .result) (ended .line-end .ensures) (c .if2 .taken))
 
-part-line-end : tie.Need-part-line-end
-part-line-end c = omega (arith, c .if2 .left)
+-- where the line has been read
+read : (c : tie.After-line-known)
+    → let a = c .before .before .before .before .before .before .before .args in
+    There (a .rules) (a .state) (a .identifiers .now) (a .bytes .now) (a .at) (c .line-known .result)
+read c =
+    let ended = c .before .before in
+    let a = ended .before .before .before .before .before .args in
+    record {
+      line = _;
+      after = _;
+      first = first-line (a .bytes .now) (a .at) (ended .line-end .result) (ended .line-end .ensures) (c .before .if2 .left);
+      due = eq-eqb _ _ (ended .before .if1 .left);
+      told = c .line-known .ensures;
+    }
 
 returns-3 : tie.Need-returns-3
-returns-3 c =
-    let ended = c .before .before .before .before in
-    let a = ended .before .before .before .before .before .args in
-    let first = first-line (a .bytes .now) (a .at) (ended .line-end .result) (ended .line-end .ensures) (c .before .before .before .if2 .left) in
-    not-eight (a .rules) (a .state) (a .identifiers .now) _ _ _ first (eq-eqb _ _ (ended .before .if1 .left)) (c .before .step-line .result)
-    (toldVerdict-one _ _ (c .before .step-line .ensures)) (no-fault (c .before .step-line .result) (c .match .keys2))
+returns-3 c = let g = read (c .before) in not-eight _ _ _ _ _ _ g (no-fault _ _ _ _ _ _ g (c .match .keys2))
 
 returns-4 : tie.Need-returns-4
 returns-4 c =
     let told = c .before .before in
-    let ran = told .before .before in
-    let ended = ran .before .before .before in
-    let a = ended .before .before .before .before .before .args in
-    let first = first-line (a .bytes .now) (a .at) (ended .line-end .result) (ended .line-end .ensures) (ran .before .before .if2 .left) in
-    not-eight (a .rules) (a .state) (a .identifiers .now) _ _ _ first (eq-eqb _ _ (ended .before .if1 .left)) (ran .step-line .result)
-    (toldVerdict-one _ _ (ran .step-line .ensures)) (other-number (ran .step-line .result) _ _ (told .number .given .1) (c .if3 .taken))
+    let g = read (told .before .before) in
+    not-eight _ _ _ _ _ _ g (number-is _ _ _ _ _ _ g _ _ (told .number .given .1) ∙ ne-eqb _ _ (c .if3 .taken))
+
+part-pad-end : tie.Need-part-pad-end
+part-pad-end c = let told = c .before .before in omega (arith, told .before .before .before .if2 .left)
 
 returns-5 : tie.Need-returns-5
+unfolding read
 returns-5 c =
-    let tested = c .before .before .before in
+    let tested = c .before .before .before .before in
     let told = tested .before .before in
-    let ran = told .before .before in
-    let ended = ran .before .before .before in
-    let a = ended .before .before .before .before .before .args in
-    let first = first-line (a .bytes .now) (a .at) (ended .line-end .result) (ended .line-end .ensures) (ran .before .before .if2 .left) in
+    let a = told .before .before .before .before .before .before .before .before .before .args in
+    let g = read (told .before .before) in
     c .slots-said .ensures .1
     ∙ ap (namesAgain (a .rules) (a .state) (a .identifiers .now)) (c .before .before .pad .ensures)
-    ∙ eight (a .rules) (a .state) (a .identifiers .now) _ _ _ first (eq-eqb _ _ (ended .before .if1 .left)) (ran .step-line .result)
-    (toldVerdict-one _ _ (ran .step-line .ensures)) (that-number (ran .step-line .result) _ _ (told .number .given .1) (tested .if3 .left))
+    ∙ eight _ _ _ _ _ _ g (number-is _ _ _ _ _ _ g _ _ (told .number .given .1) ∙ eq-eqb _ _ (tested .if3 .left))
 
 pub names-again-spec : {M : Type 1} → statement M
 names-again-spec =
@@ -113,13 +140,13 @@ names-again-spec =
     returns
     (λ c κs. search needs)
     returns-2
-    (λ c. search needs)
-    (λ c. search needs)
-    part-line-end
     (λ c κs. search needs)
     (λ c. search needs)
     returns-3
     returns-4
+    (λ c. search needs)
+    (λ c. search needs)
+    part-pad-end
     (λ c κs. search needs)
     (λ c κs. search needs)
     returns-5)
