@@ -1,12 +1,12 @@
 //! A divider of stretches and a walker of SP3-d files, written from the
 //! documents. Where they are silent it follows the definitions: in what the
 //! state of a spot between two lines is (the kind of line due, satellites and
-//! epochs still to come), and in what identifiers other than the file's do in a walk
-//! over rows.
+//! epochs still to come), in what identifiers other than the file's do in a walk
+//! over rows, and in what is told of the line that must come next.
 //!
 //! It says how a stretch of bytes divides into files, which rows a walk of one
-//! file gives, and where a walker stands after so many lines, which learns the
-//! identifiers from the lines that it passes. It also makes the
+//! file gives, where a walker stands after so many lines, which learns the
+//! identifiers from the lines that it passes, and what is due there. It also makes the
 //! stretches on which another implementation is compared with it. It shares no
 //! code with that implementation; single files are judged by `files.rs`, from
 //! the same documents.
@@ -49,13 +49,17 @@
 //! end                           or  refused R line LINE column COLUMN
 //! spot K AT DUE LEFT EPOCHS     after K lines, or as many as may be passed
 //! then K AT DUE LEFT EPOCHS     the same after half of the lines and the others
+//! due KIND ALSO INSTANT IDENTIFIER REPEATS     what must stand at the last spot
+//! given KIND ALSO INSTANT IDENTIFIER REPEATS   the same with those N identifiers
 //! short K AT DUE LEFT EPOCHS    after all lines, with room for I identifiers
+//! due KIND ALSO INSTANT IDENTIFIER REPEATS     what must stand there
 //! identifier G07                each identifier that they left there
 //! kept
 //! (and this only where WALK is 2)
 //! line K AT DUE LEFT EPOCHS     after line K, each that is without fault
 //! finished K AT                 line K ends the file; AT is the byte after it
 //! stopped R line K column C     or line K is refused
+//! due KIND ALSO INSTANT IDENTIFIER REPEATS     what must stand as line K
 //! identifiers CODE ..           all places of the room, filled or not
 //! ```
 //!
@@ -64,6 +68,14 @@
 //! DUE the record that must stand there (1 `#d` to 14 `EOF` in their order),
 //! LEFT how many satellites have their slot, or their rows of this epoch, still
 //! to come, EPOCHS how many epochs are still to come.
+//!
+//! KIND is the record that must come next, ALSO the one that may stand before it
+//! (0 for none): a comment after four, EP after P, EV after V. INSTANT is that of
+//! the epoch that must come, IDENTIFIER the satellite (7107) that the row that must
+//! come must name; 0 where none must, IDENTIFIER also where fewer are lent. REPEATS
+//! is 1 where a `+ ` line is due and the line there, LF and all, is refused with 8
+//! since one of its identifiers repeats: another of its own, or one of the lines
+//! before, as the lent list has them. What fills a slot after n is no identifier.
 //!
 //! EP and EV are lines like others: they are judged, and a row is met before the
 //! note after it.
@@ -75,7 +87,7 @@
 #[path = "files.rs"]
 mod files;
 
-use files::lines::{Line, Random, Tally, SYMBOLS};
+use files::lines::{Line, Random, Reader, Tally, SYMBOLS};
 use files::{generated, once_in};
 use files::{Base, Compared, Edit, Refusal, Row, Table, BARE, NOTE, NO_ROOM};
 
@@ -182,6 +194,27 @@ fn number_in(line: &[u8], first: usize, last: usize) -> usize {
     files::show_text(&line[first - 1..last]).trim().parse().unwrap_or_default()
 }
 
+/// The number of a record: 1 for `#d` to 14 for `EOF`.
+fn number_of(record: &str) -> usize {
+    SYMBOLS.iter().position(|&symbol| symbol == record).map_or(0, |place| place + 1)
+}
+
+/// What must stand where a walk stops.
+struct Due {
+    kind: usize,
+    also: usize,
+    instant: i64,
+    identifier: u64,
+    repeats: bool,
+}
+
+impl Due {
+    fn show(&self, word: &str) -> String {
+        let Due { kind, also, instant, identifier, repeats } = self;
+        format!("{word} {kind} {also} {instant} {identifier} {}\n", u8::from(*repeats))
+    }
+}
+
 /// Lines without fault from the front of a file.
 struct Passed<'a>(Vec<&'a [u8]>);
 
@@ -238,6 +271,34 @@ impl Passed<'_> {
         }
     }
 
+    /// "Four or more comments", "one EP at most", "one EV at most": the record
+    /// that may stand here before the one that is due.
+    fn also(&self) -> Option<&'static str> {
+        let last = Line::padded(self.0.last()?);
+        match () {
+            _ if last.begins("/*") && self.count("/*") >= 4 => Some("/*"),
+            _ if last.begins("P") => Some("EP"),
+            _ if last.begins("V") => Some("EV"),
+            _ => None,
+        }
+    }
+
+    /// Whether the line at the front of these bytes, where a `+ ` line is due, is
+    /// refused with 8 since its identifiers and those before are not "all different".
+    fn repeats(&self, rest: &[u8], identifiers: &[u64]) -> bool {
+        let Ok(text) = files::Lines::new(rest).take() else {
+            return false;
+        };
+        let mut reader = Reader::new(text);
+        let line = match self.count("+ ") {
+            0 => files::lines::read_first_satellites(&mut reader),
+            _ => files::lines::read_further_satellites(&mut reader, self.left()),
+        };
+        let number = reader.deciding.map_or(files::DISAGREES, |fault| fault.number);
+        let brought = identifiers.len().min(self.said().0 - self.left());
+        number == files::DISAGREES && !files::all_new(&identifiers[..brought], &line)
+    }
+
     /// Satellites of which a slot in the lines of this kind, or a row of this
     /// epoch, is still to come.
     fn left(&self) -> usize {
@@ -267,13 +328,36 @@ impl Walk<'_> {
     /// that ends the file" isn't passed.
     fn after(&self, lines: usize) -> Standing {
         let passed = Passed::of(self.bytes, lines.min(self.passed()));
-        let due = SYMBOLS.iter().position(|&record| record == passed.due());
         Standing {
             at: passed.length(),
-            due: due.map_or(0, |place| place + 1),
+            due: number_of(passed.due()),
             left: passed.left(),
             epochs: passed.said().1 - passed.count("* "),
         }
+    }
+
+    /// What must stand where the walk stops, where these identifiers are lent:
+    /// "epoch k .. is the start plus k times the interval", rows "in header order".
+    fn due(&self, identifiers: &[u64]) -> Due {
+        let passed = Passed::of(self.bytes, self.passed());
+        let mut due = Due {
+            kind: number_of(passed.due()),
+            also: passed.also().map_or(0, number_of),
+            instant: 0,
+            identifier: 0,
+            repeats: false,
+        };
+        let Table { start, interval, .. } = self.read.table;
+        match passed.due() {
+            "* " => due.instant = start + passed.count("* ") as i64 * interval,
+            "P" | "V" => {
+                let here = identifiers.get(passed.satellites_done());
+                due.identifier = here.copied().unwrap_or_default();
+            }
+            "+ " => due.repeats = passed.repeats(&self.bytes[passed.length()..], identifiers),
+            _ => {}
+        }
+        due
     }
 }
 
@@ -350,7 +434,7 @@ impl Case {
         let identifiers = begun.as_ref().map_or(&self.identifiers, |(table, _)| &table.identifiers);
         show_begun(&begun)
             + &show_rows(&walk_rows(&self.stretch, identifiers))
-            + &show_spots(&walk(&self.stretch, MOST_SATELLITES))
+            + &show_spots(&walk(&self.stretch, MOST_SATELLITES), &self.identifiers)
             + &show_short(&walk(&self.stretch, self.identifier_room))
     }
 }
@@ -365,6 +449,7 @@ fn show_read(bytes: &[u8], room: usize) -> String {
         None => format!("finished {taken} {}\n", walk.read.place),
         Some(refusal) => show_refused("stopped", &refusal),
     };
+    out += &walk.due(walk.identifiers()).show("due");
     let mut identifiers = vec![7777; room];
     identifiers[..walk.identifiers().len()].copy_from_slice(walk.identifiers());
     let shown: String = identifiers.iter().map(|number| format!(" {number}")).collect();
@@ -414,10 +499,12 @@ fn count_lines(bytes: &[u8]) -> usize {
 
 fn show_short(walk: &Walk) -> String {
     let all = count_lines(walk.bytes);
-    walk.after(all).show("short", all) + &show_identifiers(walk.identifiers())
+    walk.after(all).show("short", all)
+        + &walk.due(walk.identifiers()).show("due")
+        + &show_identifiers(walk.identifiers())
 }
 
-fn show_spots(walk: &Walk) -> String {
+fn show_spots(walk: &Walk, given: &[u64]) -> String {
     let mut out = String::new();
     let all = count_lines(walk.bytes);
     for lines in [0, 1, 3, all / 2] {
@@ -427,7 +514,7 @@ fn show_spots(walk: &Walk) -> String {
     for lines in [all, all + 5] {
         out += &walk.after(lines).show("spot", lines);
     }
-    out
+    out + &walk.due(walk.identifiers()).show("due") + &walk.due(given).show("given")
 }
 
 fn parse_batch(bytes: &[u8]) -> Vec<Case> {
@@ -458,7 +545,7 @@ enum Part {
     Many(u8, usize),
 }
 
-use Base::{Many as ManyFile, Motion, MovingNotes, Night, Notes, Nothing, Paper};
+use Base::{Many as ManyFile, Motion, MovingNotes, MovingRows, Night, Notes, Nothing, Paper};
 use Edit::{
     After, AfterItself, Byte, CarriageReturns, Drop, Insert, Join, Keep, Line as Whole, Put, Swap,
 };
@@ -1411,6 +1498,504 @@ const READ: &[ReadFile] = &[
     (Night, &[Put(3, 14, "00")], 2, &["stopped 7 line 3 column 13", "identifiers 7777 7777"]),
 ];
 
+/// A file, room for identifiers, identifiers that are lent instead of the file's;
+/// where the lines read with that room end, and what must stand: where all lines
+/// are walked, there with the other identifiers, where the lines read end.
+type DueFile = (Base, &'static [Edit], usize, &'static [u64], &'static str, [&'static str; 3]);
+
+const DUE: &[DueFile] = &[
+    // Before EOF: a note may stand before it where none does.
+    (Paper, &[], 1, &[], "finished 25 1215", ["14 12 0 0 0"; 3]),
+    (Paper, &[BARE], 1, &[], "finished 26 1218", ["14 0 0 0 0"; 3]),
+    (Paper, &[After(b"x")], 1, &[7107], "finished 25 1215", ["14 12 0 0 0"; 3]),
+    (Motion, &[], 2, &[], "finished 30 1605", ["14 13 0 0 0"; 3]),
+    (Motion, &[Insert(30, "EV")], 2, &[], "finished 31 1608", ["14 0 0 0 0"; 3]),
+    // 9 in the first epoch, with four comments and with five, and in later ones:
+    // days since MJD 0 times 86,400 s, 900 s more for each epoch.
+    (
+        Paper,
+        &[Put(23, 18, "15")],
+        1,
+        &[7107],
+        "stopped 9 line 23 column 0",
+        ["9 8 487166400000000000 0 0"; 3],
+    ),
+    (
+        Paper,
+        &[Insert(23, "/* FIVE"), Put(24, 31, "1")],
+        1,
+        &[7107],
+        "stopped 9 line 24 column 0",
+        ["9 8 487166400000000000 0 0"; 3],
+    ),
+    (
+        Motion,
+        &[Put(23, 12, " 9")],
+        2,
+        &[],
+        "stopped 9 line 23 column 0",
+        ["9 8 450394560000000000 0 0"; 3],
+    ),
+    (
+        Night,
+        &[Put(23, 18, "46")],
+        2,
+        &[7107, 8224],
+        "stopped 9 line 23 column 0",
+        ["9 8 486371430000000000 0 0"; 3],
+    ),
+    (
+        Night,
+        &[Put(26, 18, "15")],
+        2,
+        &[7107, 8224],
+        "stopped 9 line 26 column 0",
+        ["9 12 486371520000000000 0 0"; 3],
+    ),
+    (
+        Night,
+        &[Put(29, 18, "30")],
+        3,
+        &[7107],
+        "stopped 9 line 29 column 0",
+        ["9 12 486371610000000000 0 0"; 3],
+    ),
+    (
+        Notes,
+        &[Put(28, 18, "14")],
+        2,
+        &[],
+        "stopped 9 line 28 column 0",
+        ["9 0 487166490000000000 0 0"; 3],
+    ),
+    (
+        MovingRows,
+        &[Put(28, 18, "16")],
+        2,
+        &[7107, 8220],
+        "stopped 9 line 28 column 0",
+        ["9 13 487166490000000000 0 0"; 3],
+    ),
+    (
+        MovingNotes,
+        &[Put(32, 18, "16")],
+        2,
+        &[7107, 8220],
+        "stopped 9 line 32 column 0",
+        ["9 0 487166490000000000 0 0"; 3],
+    ),
+    // An interval of 900.00000001 s; an epoch after the last date.
+    (
+        Night,
+        &[Put(2, 38, "1")],
+        2,
+        &[7107, 8224],
+        "stopped 9 line 26 column 0",
+        ["9 12 486371520000000001 0 0"; 3],
+    ),
+    (
+        Night,
+        &[
+            Put(1, 4, "2099"),
+            Put(2, 4, "6260 431100.00000000"),
+            Put(2, 40, "88068"),
+            Put(23, 4, "2099"),
+            Put(26, 4, "2100"),
+        ],
+        2,
+        &[7107, 8224],
+        "stopped 7 line 26 column 4",
+        ["9 12 760916160000000000 0 0"; 3],
+    ),
+    // 10 in P and in V: of the first satellite, of the second, in a later epoch;
+    // with a note before the row and without.
+    (Paper, &[Put(24, 2, "G08")], 1, &[7107], "stopped 10 line 24 column 0", ["10 0 0 7107 0"; 3]),
+    (
+        Night,
+        &[Swap(24, 25)],
+        2,
+        &[8224, 7107],
+        "stopped 10 line 24 column 0",
+        ["10 0 0 7107 0", "10 0 0 8224 0", "10 0 0 7107 0"],
+    ),
+    (
+        Night,
+        &[Put(25, 2, "G08")],
+        2,
+        &[7107, 8224, 7108],
+        "stopped 10 line 25 column 0",
+        ["10 12 0 8224 0"; 3],
+    ),
+    (
+        Night,
+        &[Put(28, 2, "G07")],
+        2,
+        &[7107, 8224],
+        "stopped 10 line 28 column 0",
+        ["10 12 0 8224 0"; 3],
+    ),
+    (
+        Notes,
+        &[Put(26, 2, "R21")],
+        2,
+        &[7107, 8221],
+        "stopped 10 line 26 column 0",
+        ["10 0 0 8220 0", "10 0 0 8221 0", "10 0 0 8220 0"],
+    ),
+    (
+        Motion,
+        &[Put(24, 2, "G02")],
+        2,
+        &[7101, 7102],
+        "stopped 10 line 24 column 0",
+        ["10 0 0 7101 0"; 3],
+    ),
+    (
+        Motion,
+        &[Put(26, 2, "G02")],
+        2,
+        &[7101, 7102],
+        "stopped 10 line 26 column 0",
+        ["11 0 0 7101 0"; 3],
+    ),
+    (
+        Motion,
+        &[Put(28, 2, "G01")],
+        2,
+        &[7101, 7102],
+        "stopped 10 line 28 column 0",
+        ["10 0 0 7102 0"; 3],
+    ),
+    (
+        Motion,
+        &[Drop(27), Put(27, 2, "G01")],
+        2,
+        &[7101, 7102],
+        "stopped 10 line 27 column 0",
+        ["10 13 0 7102 0"; 3],
+    ),
+    (
+        Motion,
+        &[Put(29, 2, "G01")],
+        2,
+        &[7101, 7102],
+        "stopped 10 line 29 column 0",
+        ["11 12 0 7102 0"; 3],
+    ),
+    (
+        MovingRows,
+        &[Put(32, 2, "G07")],
+        2,
+        &[7107, 8220],
+        "stopped 10 line 32 column 0",
+        ["11 12 0 8220 0"; 3],
+    ),
+    // Fewer identifiers lent than the row needs, just as many, others.
+    (
+        Paper,
+        &[Put(24, 2, "G08")],
+        1,
+        &[],
+        "stopped 10 line 24 column 0",
+        ["10 0 0 7107 0", "10 0 0 0 0", "10 0 0 7107 0"],
+    ),
+    (
+        Night,
+        &[Put(25, 5, "x")],
+        2,
+        &[7107],
+        "stopped 6 line 25 column 5",
+        ["10 12 0 8224 0", "10 12 0 0 0", "10 12 0 8224 0"],
+    ),
+    (
+        Night,
+        &[Put(24, 5, "x")],
+        2,
+        &[7199],
+        "stopped 6 line 24 column 5",
+        ["10 0 0 7107 0", "10 0 0 7199 0", "10 0 0 7107 0"],
+    ),
+    (
+        Motion,
+        &[Put(29, 74, "x")],
+        2,
+        &[7101],
+        "stopped 5 line 29 column 74",
+        ["11 12 0 7102 0", "11 12 0 0 0", "11 12 0 7102 0"],
+    ),
+    (
+        Motion,
+        &[Put(26, 74, "x")],
+        2,
+        &[1],
+        "stopped 5 line 26 column 74",
+        ["11 0 0 7101 0", "11 0 0 1 0", "11 0 0 7101 0"],
+    ),
+    // With less room the lines end at the `+ ` line that doesn't fit, which has no
+    // fault.
+    (
+        Night,
+        &[Put(25, 2, "G08")],
+        1,
+        &[7107],
+        "stopped 12 line 3 column 0",
+        ["10 12 0 8224 0", "10 12 0 0 0", "3 0 0 0 0"],
+    ),
+    (
+        ManyFile(18),
+        &[Put(42, 4, "x")],
+        17,
+        &[7101],
+        "stopped 12 line 4 column 0",
+        ["14 12 0 0 0", "14 12 0 0 0", "3 0 0 0 0"],
+    ),
+    // A repeat in the first `+ ` line, whatever is lent and needs room.
+    (Night, &[Put(3, 13, "G07")], 2, &[7107], "stopped 8 line 3 column 0", ["3 0 0 0 1"; 3]),
+    (Night, &[Put(3, 13, "G07")], 0, &[], "stopped 8 line 3 column 0", ["3 0 0 0 1"; 3]),
+    (ManyFile(18), &[Put(3, 58, "G01")], 18, &[], "stopped 8 line 3 column 0", ["3 0 0 0 1"; 3]),
+    // In a further one: of the line before, of its own; it is known by what is lent
+    // for the lines before.
+    (
+        ManyFile(18),
+        &[Put(4, 10, "G17")],
+        18,
+        &[7101],
+        "stopped 8 line 4 column 0",
+        ["3 0 0 0 1", "3 0 0 0 0", "3 0 0 0 1"],
+    ),
+    (
+        ManyFile(18),
+        &[Put(4, 10, "G01")],
+        17,
+        &[7101],
+        "stopped 8 line 4 column 0",
+        ["3 0 0 0 1"; 3],
+    ),
+    (
+        ManyFile(18),
+        &[Put(4, 10, "G17")],
+        16,
+        &[],
+        "stopped 12 line 3 column 0",
+        ["3 0 0 0 1", "3 0 0 0 0", "3 0 0 0 0"],
+    ),
+    (
+        ManyFile(18),
+        &[Put(4, 10, "G17")],
+        17,
+        &[1, 2, 3, 4, 5, 6, 7, 8, 9, 10, 11, 12, 13, 14, 15, 16, 17, 7117],
+        "stopped 8 line 4 column 0",
+        ["3 0 0 0 1", "3 0 0 0 0", "3 0 0 0 1"],
+    ),
+    (ManyFile(20), &[Put(4, 16, "G18")], 20, &[], "stopped 8 line 4 column 0", ["3 0 0 0 1"; 3]),
+    (
+        ManyFile(86),
+        &[Put(8, 10, "G35")],
+        86,
+        &[],
+        "stopped 8 line 8 column 0",
+        ["3 0 0 0 1", "3 0 0 0 0", "3 0 0 0 1"],
+    ),
+    // A slot after n that is filled, with an identifier of the header too, is no
+    // repeat; beside one it is.
+    (Paper, &[Put(3, 13, "G08")], 1, &[7108], "stopped 8 line 3 column 0", ["3 0 0 0 0"; 3]),
+    (Paper, &[Put(3, 13, "G07")], 1, &[7107], "stopped 8 line 3 column 0", ["3 0 0 0 0"; 3]),
+    (Paper, &[Put(4, 10, "G07")], 1, &[7107], "stopped 8 line 4 column 0", ["3 0 0 0 0"; 3]),
+    (ManyFile(20), &[Put(4, 19, "G18")], 20, &[], "stopped 8 line 4 column 0", ["3 0 0 0 0"; 3]),
+    (Night, &[Put(3, 13, "G07G07")], 2, &[7107], "stopped 8 line 3 column 0", ["3 0 0 0 1"; 3]),
+    (
+        ManyFile(20),
+        &[Put(4, 10, "G17G19G20G17")],
+        20,
+        &[7117],
+        "stopped 8 line 4 column 0",
+        ["3 0 0 0 1"; 3],
+    ),
+    // A repeat beside a fault with a lower number: 2 to 7.
+    (
+        Night,
+        &[Put(3, 13, "G07"), Byte(3, 70, 9)],
+        2,
+        &[7107],
+        "stopped 2 line 3 column 70",
+        ["3 0 0 0 0"; 3],
+    ),
+    (
+        Night,
+        &[Put(3, 13, "G07"), Put(3, 81, " ")],
+        2,
+        &[7107],
+        "stopped 3 line 3 column 81",
+        ["3 0 0 0 0"; 3],
+    ),
+    (
+        Night,
+        &[Put(3, 13, "G07"), Put(3, 2, "+")],
+        2,
+        &[7107],
+        "stopped 4 line 3 column 0",
+        ["3 0 0 0 0"; 3],
+    ),
+    (
+        Night,
+        &[Put(3, 13, "G07"), Put(3, 61, "x")],
+        2,
+        &[7107],
+        "stopped 5 line 3 column 61",
+        ["3 0 0 0 0"; 3],
+    ),
+    (
+        ManyFile(18),
+        &[Put(3, 13, "G01G 3")],
+        18,
+        &[7101],
+        "stopped 6 line 3 column 16",
+        ["3 0 0 0 0"; 3],
+    ),
+    (
+        ManyFile(20),
+        &[Put(4, 10, "G17G 9")],
+        20,
+        &[7117],
+        "stopped 6 line 4 column 13",
+        ["3 0 0 0 0"; 3],
+    ),
+    (Night, &[Put(3, 10, "G 7G 7")], 2, &[7107], "stopped 6 line 3 column 10", ["3 0 0 0 0"; 3]),
+    (Night, &[Put(3, 10, "G00G00")], 2, &[7100], "stopped 7 line 3 column 10", ["3 0 0 0 0"; 3]),
+    (
+        ManyFile(255),
+        &[Put(3, 4, "256"), Put(3, 13, "G01")],
+        255,
+        &[],
+        "stopped 7 line 3 column 4",
+        ["3 0 0 0 0"; 3],
+    ),
+    // 8 of other records.
+    (Paper, &[Put(2, 4, "1735")], 1, &[7107], "stopped 8 line 2 column 0", ["2 0 0 0 0"; 3]),
+    (Motion, &[Put(12, 58, "  7")], 2, &[7101], "stopped 8 line 12 column 0", ["4 0 0 0 0"; 3]),
+    (Motion, &[Put(13, 4, "R ")], 2, &[7101], "stopped 8 line 13 column 0", ["5 0 0 0 0"; 3]),
+    // 4: too few `+ ` and `++` lines and too many, a missing fourth comment, a
+    // comment after the epoch, no epoch.
+    (Paper, &[Drop(7)], 1, &[7107], "stopped 4 line 7 column 0", ["3 0 0 0 0"; 3]),
+    (ManyFile(86), &[Drop(8)], 86, &[7101], "stopped 4 line 8 column 0", ["3 0 0 0 0"; 3]),
+    (Paper, &[Swap(7, 8)], 1, &[7107], "stopped 4 line 7 column 0", ["3 0 0 0 0"; 3]),
+    (Paper, &[Whole(8, "+ ")], 1, &[7107], "stopped 4 line 8 column 0", ["4 0 0 0 0"; 3]),
+    (Paper, &[Drop(12)], 1, &[7107], "stopped 4 line 12 column 0", ["4 0 0 0 0"; 3]),
+    (Paper, &[Drop(13)], 1, &[7107], "stopped 6 line 13 column 4", ["5 0 0 0 0"; 3]),
+    (Paper, &[Drop(14)], 1, &[7107], "stopped 4 line 14 column 0", ["5 0 0 0 0"; 3]),
+    (Paper, &[Drop(16)], 1, &[7107], "stopped 4 line 16 column 0", ["6 0 0 0 0"; 3]),
+    (Paper, &[Drop(18)], 1, &[7107], "stopped 4 line 18 column 0", ["7 0 0 0 0"; 3]),
+    (Paper, &[Drop(22)], 1, &[7107], "stopped 4 line 22 column 0", ["8 0 0 0 0"; 3]),
+    (
+        Paper,
+        &[Drop(23)],
+        1,
+        &[7107],
+        "stopped 4 line 23 column 0",
+        ["9 8 487166400000000000 0 0"; 3],
+    ),
+    (Paper, &[Insert(24, "/*")], 1, &[7107], "stopped 4 line 24 column 0", ["10 0 0 7107 0"; 3]),
+    (
+        Paper,
+        &[Insert(23, "/*x")],
+        1,
+        &[7107],
+        "stopped 5 line 23 column 3",
+        ["9 8 487166400000000000 0 0"; 3],
+    ),
+    // An epoch too many; EP and EV twice, in each other's place, in the wrong mode.
+    (Paper, &[Insert(25, "*")], 1, &[7107], "stopped 4 line 25 column 0", ["14 12 0 0 0"; 3]),
+    (Motion, &[Insert(30, "*")], 2, &[], "stopped 4 line 30 column 0", ["14 13 0 0 0"; 3]),
+    (Paper, &[NOTE, BARE], 1, &[7107], "stopped 4 line 26 column 0", ["14 0 0 0 0"; 3]),
+    (
+        Notes,
+        &[Insert(26, "EP")],
+        2,
+        &[],
+        "stopped 4 line 26 column 0",
+        ["10 0 0 8220 0", "10 0 0 0 0", "10 0 0 8220 0"],
+    ),
+    (Motion, &[Insert(26, "EP")], 2, &[7101], "stopped 4 line 26 column 0", ["11 0 0 7101 0"; 3]),
+    (
+        Motion,
+        &[Insert(28, "EV")],
+        2,
+        &[7101, 7102],
+        "stopped 4 line 28 column 0",
+        ["10 0 0 7102 0"; 3],
+    ),
+    (Motion, &[Put(25, 2, "V")], 2, &[7101], "stopped 4 line 25 column 0", ["11 12 0 7101 0"; 3]),
+    (
+        Motion,
+        &[Put(27, 2, "P")],
+        2,
+        &[7101, 7102],
+        "stopped 4 line 27 column 0",
+        ["10 13 0 7102 0"; 3],
+    ),
+    (Paper, &[Insert(25, "EV")], 1, &[7107], "stopped 4 line 25 column 0", ["14 12 0 0 0"; 3]),
+    (Paper, &[Insert(25, "VG07")], 1, &[7107], "stopped 4 line 25 column 0", ["14 12 0 0 0"; 3]),
+    (
+        Motion,
+        &[Drop(29)],
+        2,
+        &[],
+        "stopped 4 line 29 column 0",
+        ["11 12 0 7102 0", "11 12 0 0 0", "11 12 0 7102 0"],
+    ),
+    // EOF too early.
+    (Paper, &[Whole(1, "EOF")], 1, &[7107], "stopped 4 line 1 column 0", ["1 0 0 0 0"; 3]),
+    (Paper, &[Whole(3, "EOF")], 1, &[7107], "stopped 4 line 3 column 0", ["3 0 0 0 0"; 3]),
+    (
+        Paper,
+        &[Whole(23, "EOF")],
+        1,
+        &[7107],
+        "stopped 4 line 23 column 0",
+        ["9 8 487166400000000000 0 0"; 3],
+    ),
+    (
+        Night,
+        &[Whole(26, "EOF")],
+        2,
+        &[7107],
+        "stopped 4 line 26 column 0",
+        ["9 12 486371520000000000 0 0"; 3],
+    ),
+    (
+        Night,
+        &[Whole(31, "EOF")],
+        2,
+        &[7107, 8224],
+        "stopped 4 line 31 column 0",
+        ["10 12 0 8224 0"; 3],
+    ),
+    (Motion, &[Whole(26, "EOF")], 2, &[7101], "stopped 4 line 26 column 0", ["11 0 0 7101 0"; 3]),
+    // No LF is left, also where the bytes of a line without it repeat an identifier.
+    (Nothing, &[], 1, &[7107], "stopped 1 line 1 column 0", ["1 0 0 0 0"; 3]),
+    (Paper, &[Keep(1)], 1, &[7107], "stopped 1 line 2 column 0", ["2 0 0 0 0"; 3]),
+    (Paper, &[Keep(2)], 1, &[7107], "stopped 1 line 3 column 0", ["3 0 0 0 0"; 3]),
+    (
+        Night,
+        &[Put(3, 13, "G07"), Keep(3), Join(3)],
+        2,
+        &[7107],
+        "stopped 1 line 3 column 0",
+        ["3 0 0 0 0"; 3],
+    ),
+    (Paper, &[Keep(21)], 1, &[7107], "stopped 1 line 22 column 0", ["8 0 0 0 0"; 3]),
+    (
+        Paper,
+        &[Keep(22)],
+        1,
+        &[7107],
+        "stopped 1 line 23 column 0",
+        ["9 8 487166400000000000 0 0"; 3],
+    ),
+    (Paper, &[Keep(23)], 1, &[7107], "stopped 1 line 24 column 0", ["10 0 0 7107 0"; 3]),
+    (Paper, &[Join(25)], 1, &[7107], "stopped 1 line 25 column 0", ["14 12 0 0 0"; 3]),
+];
+
 // ---------------------------------------------------------------------------
 // Generated cases
 // ---------------------------------------------------------------------------
@@ -1572,7 +2157,8 @@ fn generate_any_case(random: &mut Random) -> Case {
 // The stored cases
 // ---------------------------------------------------------------------------
 
-/// Those worked out by hand; every fifth of the stretches is walked too.
+/// Those worked out by hand; every fifth of the stretches is walked too, and the
+/// files of which is told what is due end with their fault.
 fn hand_cases() -> Vec<Case> {
     let divided = DIVIDED.iter().enumerate().map(|(place, &(parts, room, ..))| Case {
         stretch: joined(parts),
@@ -1581,14 +2167,20 @@ fn hand_cases() -> Vec<Case> {
         identifier_room: 2,
         identifiers: vec![7107, 8224],
     });
-    let walked = WALKED.iter().map(|&(base, edits, identifier_room, identifiers, _)| Case {
-        stretch: files::hand_made(base, edits),
-        room: 1,
-        way: Way::Walked,
-        identifier_room,
-        identifiers: identifiers.to_vec(),
+    let walked = WALKED
+        .iter()
+        .map(|&(base, edits, room, identifiers, _)| walked_case(base, edits, room, identifiers));
+    let due = DUE.iter().map(|&(base, edits, room, identifiers, ..)| {
+        let mut case = walked_case(base, edits, room, identifiers);
+        files::cut_after_fault(&mut case.stretch);
+        case
     });
-    divided.chain(walked).collect()
+    divided.chain(walked).chain(due).collect()
+}
+
+fn walked_case(base: Base, edits: &[Edit], identifier_room: usize, identifiers: &[u64]) -> Case {
+    let (stretch, identifiers) = (files::hand_made(base, edits), identifiers.to_vec());
+    Case { stretch, room: 1, way: Way::Walked, identifier_room, identifiers }
 }
 
 fn stored_cases() -> Vec<Case> {
@@ -1614,16 +2206,8 @@ fn test_divided(tally: &mut Tally) {
 }
 
 fn test_walked(tally: &mut Tally) {
-    for &(base, edits, identifier_room, identifiers, wanted) in WALKED {
-        let stretch = files::hand_made(base, edits);
-        let case = Case {
-            stretch,
-            room: 1,
-            way: Way::Walked,
-            identifier_room,
-            identifiers: identifiers.to_vec(),
-        };
-        let answer = case.show_walked();
+    for &(base, edits, room, identifiers, wanted) in WALKED {
+        let answer = walked_case(base, edits, room, identifiers).show_walked();
         let missing = files::missing_line(&answer, wanted);
         tally.holds(missing.is_none(), || {
             format!("{base:?} {edits:?}\n  wanted {missing:?}\n  given {answer}")
@@ -1640,6 +2224,25 @@ fn test_read(tally: &mut Tally) {
             format!("{base:?} {edits:?} {room}\n  wanted {missing:?}\n  given {answer}")
         });
         tally.made += wanted.len() - 1;
+    }
+}
+
+/// What must stand, in a walk and where the lines are read one by one.
+fn test_due(tally: &mut Tally) {
+    for &(base, edits, room, identifiers, end, [all, given, short]) in DUE {
+        let case = walked_case(base, edits, room, identifiers);
+        let walked = case.show_walked();
+        let tells = |line: &&str| line.starts_with("due ") || line.starts_with("given ");
+        let told: Vec<&str> = walked.lines().filter(tells).collect();
+        let wanted = [format!("due {all}"), format!("given {given}"), format!("due {short}")];
+        tally.holds(told == wanted, || {
+            format!("{base:?} {edits:?} {room}\n  wanted {wanted:?}\n  given  {told:?}")
+        });
+        let read = show_read(&case.stretch, room);
+        let wanted = format!("{end}\ndue {short}\nidentifiers");
+        tally.holds(read.contains(&wanted), || {
+            format!("{base:?} {edits:?} {room}\n  wanted {wanted:?}\n  given {read}")
+        });
     }
 }
 
@@ -1732,6 +2335,7 @@ fn self_test() {
     test_divided(&mut tally);
     test_walked(&mut tally);
     test_read(&mut tally);
+    test_due(&mut tally);
     let by_hand = tally.made;
     test_rooms(&mut tally);
     test_cuts(&mut tally);

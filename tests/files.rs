@@ -107,7 +107,7 @@ const WRONG_BYTE: u8 = 2;
 /// "more than 80 characters"
 const TOO_LONG: u8 = 3;
 /// "line 2 disagrees with the start; ..; an identifier repeats; the file type disagrees"
-const DISAGREES: u8 = 8;
+pub(crate) const DISAGREES: u8 = 8;
 /// "an epoch stands at the wrong instant"
 const WRONG_INSTANT: u8 = 9;
 /// "a P or V names another satellite than the header has here"
@@ -120,14 +120,14 @@ pub(crate) const NO_ROOM: Refusal = Refusal { number: 12, line: 0, column: 0 };
 const NOT_THERE: Refusal = Refusal { number: 13, line: 0, column: 0 };
 
 /// The bytes, where the next line begins, and how many lines lie before it.
-struct Lines<'a> {
+pub(crate) struct Lines<'a> {
     bytes: &'a [u8],
     place: usize,
     taken: usize,
 }
 
 impl<'a> Lines<'a> {
-    fn new(bytes: &'a [u8]) -> Lines<'a> {
+    pub(crate) fn new(bytes: &'a [u8]) -> Lines<'a> {
         Lines { bytes, place: 0, taken: 0 }
     }
 
@@ -154,7 +154,7 @@ impl<'a> Lines<'a> {
     }
 
     /// The line that follows, if it may be a line at all (1, 2, 3).
-    fn take(&mut self) -> Result<&'a [u8], Refusal> {
+    pub(crate) fn take(&mut self) -> Result<&'a [u8], Refusal> {
         self.taken += 1;
         let Some(text) = self.following() else {
             return self.refuse(NO_LF);
@@ -356,7 +356,7 @@ pub(crate) fn satellite_lines(n: usize) -> usize {
 }
 
 /// "Identifiers are .. all different": those of this line among all so far.
-fn all_new(known: &[u64], line: &lines::Satellites) -> bool {
+pub(crate) fn all_new(known: &[u64], line: &lines::Satellites) -> bool {
     let mut all = known.to_vec();
     all.extend(line.identifiers.iter().map(code));
     (known.len()..all.len()).all(|place| !all[..place].contains(&all[place]))

@@ -104,9 +104,28 @@ static const uint64_t *halves_out(bytes_t file, size_t all) {
     return identifiers;
 }
 
+/* A walk that is refused stays before the line that the file at the front is refused at. */
+static void check_stays(bytes_t file, sp3_spot_t last) {
+    uint64_t *identifiers = lent_numbers(MOST_SATELLITES, NUMBER_MARK);
+    sp3_reading_t front = sp3_judge_front(file.bytes, file.length);
+    if (front.refusal == 0) return;
+    sp3_spot_t before = sp3_after_lines(file.bytes, file.length, identifiers, MOST_SATELLITES, sp3_first_spot(), front.line - 1);
+    check(same_spot(before, last), "the spot before a line that is refused");
+}
+
+/* The spot after so many lines, more than there are, and what must stand there: with the identifiers that the lines brought, and with those given. */
+static void last_out(bytes_t file, size_t lines, identifiers_t given) {
+    uint64_t *identifiers = lent_numbers(MOST_SATELLITES, NUMBER_MARK);
+    sp3_spot_t last = sp3_after_lines(file.bytes, file.length, identifiers, MOST_SATELLITES, sp3_first_spot(), lines);
+    spot_out("spot", lines, last);
+    due_out("due", file, identifiers, MOST_SATELLITES, last);
+    due_out("given", file, given.list, given.count, last);
+    check_stays(file, last);
+}
+
 /* The spots after no line, one, three, half of them, all of them in two steps and in one, and five more. Of an accepted file the walker learns the
  * identifiers that sp3_begin leaves. */
-static void spots_out(bytes_t file, identifiers_t own) {
+static void spots_out(bytes_t file, identifiers_t own, identifiers_t given) {
     size_t all = line_count(file);
     after_out(file, 0);
     after_out(file, 1);
@@ -114,7 +133,7 @@ static void spots_out(bytes_t file, identifiers_t own) {
     const uint64_t *identifiers = halves_out(file, all);
     check(memcmp(identifiers, own.list, own.count * sizeof *identifiers) == 0, "the identifiers of a walk and of sp3_begin");
     after_out(file, all);
-    after_out(file, all + 5);
+    last_out(file, all + 5, given);
 }
 
 /* The identifiers of which a list has so many, and whether its other places are as they were. */
@@ -134,6 +153,7 @@ static void short_out(bytes_t file, size_t room) {
     size_t all = line_count(file);
     sp3_spot_t at = sp3_after_lines(file.bytes, file.length, identifiers, room, sp3_first_spot(), all);
     spot_out("short", all, at);
+    due_out("due", file, identifiers, room, at);
     identifiers_out(identifiers, brought(at), room);
 }
 
@@ -148,7 +168,7 @@ static void walk_out(bytes_t file, size_t room, identifiers_t given) {
     identifiers_out(identifiers, header.satellites, room);
     identifiers_t own = {shown(identifiers, room * sizeof *identifiers), room};
     rows_out(file, reading.refusal == 0 ? own : given, header);
-    spots_out(file, (identifiers_t){own.list, header.satellites});
+    spots_out(file, (identifiers_t){own.list, header.satellites}, given);
     short_out(file, room);
 }
 

@@ -131,6 +131,10 @@ line_end_t known_lines(bytes_t file, const uint64_t *identifiers, size_t count);
 /* A spot after k lines: its byte, the kind of line due there, and the satellites and epochs still to come. */
 void spot_out(const char *word, uint64_t k, sp3_spot_t spot);
 
+/* What must stand at a spot where these identifiers are lent: the kind of line, the kind that may stand before it, instant, satellite, and whether
+ * the line there repeats an identifier. */
+void due_out(const char *word, bytes_t file, const uint64_t *identifiers, size_t count, sp3_spot_t spot);
+
 /* How many identifiers the lines before a spot have brought. */
 size_t brought(sp3_spot_t spot);
 

@@ -17,6 +17,23 @@ size_t brought(sp3_spot_t spot) {
     return spot.state.satellites - (spot.state.due == IDENTIFIERS_DUE ? spot.state.left : 0);
 }
 
+/* Where the byte of a spot is past the last, no line repeats an identifier; all else that is due there follows from the state. */
+static void check_due_past(bytes_t file, const uint64_t *identifiers, size_t count, sp3_spot_t spot, sp3_due_t due) {
+    const size_t past[] = {file.length, SIZE_MAX};
+    for (size_t i = 0; i < sizeof past / sizeof *past; i++) {
+        sp3_due_t none = sp3_due(file.bytes, file.length, identifiers, count, (sp3_spot_t){past[i], spot.state});
+        bool same = none.kind == due.kind && none.also == due.also && none.instant8 == due.instant8 && none.identifier == due.identifier;
+        check(same && !none.repeats, "what is due past the end");
+    }
+}
+
+void due_out(const char *word, bytes_t file, const uint64_t *identifiers, size_t count, sp3_spot_t spot) {
+    const uint64_t *lent = shown(identifiers, count * sizeof *lent);
+    sp3_due_t due = sp3_due(file.bytes, file.length, lent, count, spot);
+    printf("%s %" PRIu64 " %" PRIu64 " %" PRIu64 " %" PRIu64 " %d\n", word, due.kind, due.also, due.instant8, due.identifier, due.repeats);
+    check_due_past(file, lent, count, spot, due);
+}
+
 static bool same_identifiers(const uint64_t *one, const uint64_t *other, size_t count) { return memcmp(one, other, count * sizeof *one) == 0; }
 
 static sp3_line_answer_t read_at(bytes_t file, sp3_spot_t at, uint64_t *identifiers, size_t room) {
@@ -137,6 +154,7 @@ static uint64_t each_line(bytes_t file, uint64_t *identifiers, size_t room, sp3_
         memcpy(before, identifiers, room * sizeof *before);
         *last = read_at(file, at, identifiers, room);
         bool ends = line_out(k, *last, at);
+        if (ends) due_out("due", file, identifiers, room, at);
         check_line(file, at, *last, before, identifiers, room);
         if (ends) check_walk(file, k + 5, at, identifiers, room);
         if (ends) return k;

@@ -1,10 +1,11 @@
-// One file walked: what `begin` answers and leaves, the rows in order, and the spots after some lines.
+// One file walked: what `begin` answers and leaves, the rows in order, and the spots after some lines, with what is due at the last.
 ghost use Prim.Native.Nat.{_≤_};
 use crate::input::at_most;
 use crate::lent;
 use crate::print;
 use float_row::FloatRow;
 use header::Header;
+use header::Rules;
 use line_walk::Spot;
 use record::kind::SATELLITES_KIND;
 use row_walk::RowStep;
@@ -156,6 +157,28 @@ fn stands(word: &[u8], k: usize, at: Spot) {
     print::text(b"\n");
 }
 
+// 1 for true, 0 for false.
+fn truth(b: bool) -> u64 {
+    if b {
+        return 1;
+    }
+    0
+}
+
+// What is due at a spot where these identifiers are lent: the kind of line, the kind that may stand before it, instant, satellite, and whether the
+// line there repeats an identifier.
+fn due(word: &[u8], file: &[u8], at: Spot, identifiers: &[u64]) {
+    let state = at.state;
+    let found = machine::due_at(Rules::d(), file, at.at, state, identifiers);
+    print::text(word);
+    print::value(found.kind);
+    print::value(found.also);
+    print::value(found.instant8);
+    print::value(found.identifier);
+    print::value(truth(found.repeats));
+    print::text(b"\n");
+}
+
 // The spot after the first k lines.
 fn after(file: &[u8], k: usize) -> Spot {
     let mut identifiers = [0; Header::MAX_SATELLITES as usize];
@@ -174,15 +197,24 @@ fn in_two(file: &[u8], n: usize) {
     );
 }
 
-// The spots after no line, one, three, half of them, all of them and more.
-fn spots(file: &[u8]) {
+// The spot after n lines, and what is due there: with the identifiers that the lines brought, and with those given.
+fn last(file: &[u8], n: usize, given: &[u64]) {
+    let mut identifiers = [0; Header::MAX_SATELLITES as usize];
+    let at = line_walk::after_lines(file, line_walk::first_spot(), n, &mut identifiers);
+    stands(b"spot", n, at);
+    due(b"due", file, at, &identifiers);
+    due(b"given", file, at, given);
+}
+
+// The spots after no line, one, three, half of them, all of them and more, and what is due at the last.
+fn spots(file: &[u8], given: &[u64]) {
     let n = line_count(file);
     stands(b"spot", 0, after(file, 0));
     stands(b"spot", 1, after(file, 1));
     stands(b"spot", 3, after(file, 3));
     in_two(file, n);
     stands(b"spot", n, after(file, n));
-    stands(b"spot", more(n), after(file, more(n)));
+    last(file, more(n), given);
 }
 
 // How many identifiers the lines before a spot have brought: where `+ ` lines are still due, those of the satellites that have had their slot.
@@ -197,21 +229,16 @@ fn brought(at: Spot) -> u64 {
     state.satellites - state.left
 }
 
-// The spot after all lines with no more room for identifiers than this, and those that they brought.
+// The spot after all lines with no more room for identifiers than this, what is due there, and the identifiers that they brought.
 fn short(file: &[u8], identifiers: &mut [u64]) {
     let n = line_count(file);
     let at = line_walk::after_lines(file, line_walk::first_spot(), n, identifiers);
     stands(b"short", n, at);
+    due(b"due", file, at, identifiers);
     lent::shown(true, identifiers, brought(at));
 }
 
-// A walk over rows with these identifiers for those of the header, and over lines.
-fn walk_with<'a>(file: &'a [u8], header: &'a [u64]) {
-    rows(file, header);
-    spots(file);
-}
-
-// A file walked with the identifiers that `begin` fills; with the given identifiers where it is refused.
+// A file walked over rows with the identifiers that `begin` fills, or with the given identifiers where it is refused; and over lines.
 fn into<'a>(file: &'a [u8], identifiers: &mut [u64], given: &'a [u64]) {
     let reading = row_walk::begin(file, identifiers);
     let header = reading.header;
@@ -225,10 +252,11 @@ fn into<'a>(file: &'a [u8], identifiers: &mut [u64], given: &'a [u64]) {
     print::text(b"\n");
     lent::shown(true, identifiers, header.satellites);
     if reading.refusal == 0 {
-        walk_with(file, identifiers);
+        rows(file, identifiers);
     } else {
-        walk_with(file, given);
+        rows(file, given);
     }
+    spots(file, given);
 }
 
 // A file walked with room for `size` identifiers, 300 at most.
