@@ -95,18 +95,12 @@ fn rows<'a>(file: &'a [u8], header: &'a [u64]) {
                 row_absent(epoch, satellite, row);
                 from = next;
             }
-            RowStep::End => {
-                print::text(b"end\n");
-                return;
-            }
+            RowStep::End => return print::text(b"end\n"),
             RowStep::Refused {
                 number,
                 line,
                 column,
-            } => {
-                refused(number, line, column);
-                return;
-            }
+            } => return refused(number, line, column),
         }
         if left == 0 {
             print::text(b"more rows than bytes\n");
