@@ -325,7 +325,8 @@ sp3_line_answer_t sp3_next_line(const uint8_t *file, size_t length, const uint64
 /* What must stand at a spot: the kind of line that must come, and the kind that may stand there before it (0 for none). Kinds are 1 `#d`, 2 `##`,
  * 3 `+ `, 4 `++`, 5 `%c`, 6 `%f`, 7 `%i`, 8 comment, 9 epoch, 10 P, 11 V, 12 EP, 13 EV, 14 EOF. `instant8` is the instant at which the next epoch must
  * stand, `identifier` the satellite that the next row must name; each is 0 where no epoch (no row) must come, the latter also where fewer identifiers are
- * lent. `repeats` says that a `+ ` line stands there which is refused with 8 since it names an identifier again. */
+ * lent. `repeats` says that a `+ ` line stands there which is refused with 8 though its slots after the last satellite are right: it names an
+ * identifier again. */
 typedef struct {
     uint64_t kind, also, instant8, identifier;
     bool repeats;

@@ -5,12 +5,13 @@ use mathlib.Core.List.{List, [], _∷_}
 use Prim.Native.Nat.{ℕ, _+_, _%_, _^_}
 use lib.Dec.{eqb}
 use lib.ListN.{drop}
+use Rattle.layout.specs.Fault.{clean}
 use Rattle.layout.specs.Line.{padded}
 use Rattle.lines.specs.Lines.{linesOf}
 use Rattle.record.specs.LineKinds.{satellitesKind, epochKind, positionKind, velocityKind}
 use Rattle.header.specs.declared.types.Rules.{Rules}
 use Rattle.machine.specs.State.{identifierDue}
-use Rattle.machine.specs.Faults.{namesAgain}
+use Rattle.machine.specs.Faults.{slotsFault}
 use Rattle.machine.specs.Step.{stepOf}
 use Rattle.machine.specs.declared.types.State.{State}
 use Rattle.machine.specs.declared.types.Verdict.{Verdict}
@@ -31,11 +32,12 @@ isEight (verdict.Fault number column) = eqb number 8
 isEight (verdict.Next s) = false
 isEight verdict.Finished = false
 
--- a `+ ` line is due, and the first of these lines is refused with 8 since it names an identifier again
+-- a `+ ` line is due, and the first of these lines is refused with 8 though its slots are right, those after the last satellite too: it names an
+-- identifier again
 unfoldable pub againAt : Rules → State → List ℕ → List (List ℕ) → Bool
 againAt rules s identifiers [] = false
 againAt rules s identifiers (l ∷ ls) =
-    cond (eqb (s .due) satellitesKind) (cond (isEight (stepOf rules s identifiers l)) (namesAgain rules s identifiers (padded l)) false) false
+    cond (eqb (s .due) satellitesKind) (isEight (stepOf rules s identifiers l) && eqb (slotsFault rules s (padded l)) clean) false
 
 unfoldable pub dueAt : Rules → List ℕ → ℕ → State → List ℕ → Due
 dueAt rules bytes at s identifiers = record {

@@ -1,7 +1,10 @@
 // What must stand at a byte of a file, for those who correct a line that was refused.
 ghost use mathlib.Core.Path.{_≡_};
+ghost use lib.Dec.{eqb};
 ghost use lib.ListN.{drop};
+ghost use Rattle.layout.specs.Fault.{clean};
 ghost use Rattle.lines.specs.Lines.{linesOf};
+ghost use Rattle.machine.specs.Faults.{slotsFault};
 ghost use Rattle.machine.specs.Due.{instantDue, satelliteDue, againAt, dueAt};
 use crate::faults;
 use crate::step;
@@ -34,7 +37,19 @@ fn satellite_due(state: State, identifiers: &[u64]) -> u64
     0
 }
 
-// Whether the line at a byte, where a `+ ` line is due, is refused with 8 since it names an identifier again.
+// Whether the slots of a `+ ` line, those after the last satellite too, have no fault by themselves.
+fn slots_clean(rules: Rules, state: State, line: &[u8; 80]) -> bool
+    ensures { λ r. ⌜ r ≡ eqb (slotsFault rules state (now (line .entry))) clean ⌝ }
+{
+    if state.satellites == 0 {
+        let first = record::slots::read_satellites(rules, line);
+        return first.fault == 0;
+    }
+    let more = record::slots::read_slots(line, false, state.left);
+    more.fault == 0
+}
+
+// Whether the line at a byte, where a `+ ` line is due, is refused with 8 though its slots are right: it names an identifier again.
 fn names_again(rules: Rules, bytes: &[u8], at: usize, state: State, identifiers: &[u64]) -> bool
     ensures { λ r. ⌜ r ≡ againAt rules state (now (identifiers .entry)) (linesOf (drop at (now (bytes .entry)))) ⌝ }
 {
@@ -58,8 +73,7 @@ fn names_again(rules: Rules, bytes: &[u8], at: usize, state: State, identifiers:
         return false;
     }
     let padded = layout::pad(&bytes[at..end]);
-    let said = faults::slots_said(rules, state, identifiers, &padded);
-    said.again
+    slots_clean(rules, state, &padded)
 }
 
 // What must stand at a byte, where the state and the identifiers are those of the lines before it.

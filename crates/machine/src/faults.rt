@@ -7,9 +7,8 @@ ghost use Rattle.layout.specs.Fault.{lower, keyed};
 ghost use Rattle.layout.specs.Kind.{unless};
 ghost use Rattle.record.specs.LineKinds.{toldKind, longest};
 ghost use Rattle.machine.specs.State.{seen, identifierDue};
-ghost use Rattle.machine.specs.Faults.{slotsFault, namesAgain, secondFault, satellitesFault, charactersFault, floatsFault, epochFault, namedFault, recordFault, standingFault};
+ghost use Rattle.machine.specs.Faults.{secondFault, satellitesFault, charactersFault, floatsFault, epochFault, namedFault, recordFault, standingFault};
 use crate::checks;
-use crate::types::SlotsSaid;
 use crate::types::State;
 use header::Rules;
 use record::LineKind;
@@ -88,39 +87,21 @@ fn second_fault(state: State, line: &[u8; 80]) -> usize
     lower_unless(second.fault, agrees, 8)
 }
 
-// What the slots of a `+ ` line say: the fault of its columns, and whether it names an identifier again.
-pub(crate) fn slots_said(
-    rules: Rules,
-    state: State,
-    identifiers: &[u64],
-    line: &[u8; 80],
-) -> SlotsSaid
-    ensures fault { λ r. ⌜ r .fault ≡ slotsFault rules state (now (line .entry)) ⌝ }
-    ensures again { λ r. ⌜ r .again ≡ namesAgain rules state (now (identifiers .entry)) (now (line .entry)) ⌝ }
+// A `+ ` line: no identifier repeats.
+fn satellites_fault(rules: Rules, state: State, identifiers: &[u64], line: &[u8; 80]) -> usize
+    ensures { λ r. ⌜ r ≡ satellitesFault rules state (now (identifiers .entry)) (now (line .entry)) ⌝ }
 {
     let known = front_of(identifiers, seen_so_far(state));
     if state.satellites == 0 {
         let first = record::slots::read_satellites(rules, line);
         let all = first.identifiers;
-        return SlotsSaid {
-            fault: first.fault,
-            again: checks::repeats_identifier(known, front_of(&all, first.count as usize)),
-        };
+        let repeated = checks::repeats_identifier(known, front_of(&all, first.count as usize));
+        return lower_unless(first.fault, !repeated, 8);
     }
     let more = record::slots::read_slots(line, false, state.left);
     let all = more.values;
-    SlotsSaid {
-        fault: more.fault,
-        again: checks::repeats_identifier(known, front_of(&all, state.left as usize)),
-    }
-}
-
-// A `+ ` line: no identifier repeats.
-fn satellites_fault(rules: Rules, state: State, identifiers: &[u64], line: &[u8; 80]) -> usize
-    ensures { λ r. ⌜ r ≡ satellitesFault rules state (now (identifiers .entry)) (now (line .entry)) ⌝ }
-{
-    let said = slots_said(rules, state, identifiers, line);
-    lower_unless(said.fault, !said.again, 8)
+    let repeated = checks::repeats_identifier(known, front_of(&all, state.left as usize));
+    lower_unless(more.fault, !repeated, 8)
 }
 
 // The first `%c` agrees with the identifiers; the second has placeholders alone.

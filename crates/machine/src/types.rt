@@ -21,15 +21,9 @@ pub struct State {
     pub interval8: u64,
 }
 
-// What the slots of a `+ ` line say: the fault of its columns, and whether it names an identifier again.
-pub(crate) struct SlotsSaid {
-    pub fault: usize,
-    pub again: bool,
-}
-
 // What must stand at a byte: the kind of line that must come, and the kind that may stand there before it (none: `NO_KIND`); the instant at which an
 // epoch must stand and the satellite that a row must name, each 0 where none must come; whether the `+ ` line that stands there is refused
-// with 8 since it names an identifier again.
+// with 8 though its slots are right: it names an identifier again.
 #[repr(C)]
 pub struct Due {
     pub kind: u64,

@@ -1,7 +1,7 @@
 -- `machine::due::names_again` meets its contract: no `+ ` line is due, or no line is left, or the slots of the line say it.
 -- Assumes nothing.
 use mathlib.Core.Path.{_≡_, refl, sym, ap, _∙_, subst}
-use mathlib.Core.Bool.{true, false, cond}
+use mathlib.Core.Bool.{true, false, _&&_}
 use mathlib.Core.List.{List, [], _∷_}
 use Prim.Native.Nat.{ℕ, _+_}
 use native.Mathlib.Omega.{arith}
@@ -12,12 +12,13 @@ use borrow.Author.Tests.{eq-eqb, ne-eqb}
 use lib.Dec.{eqb}
 use lib.ListN.{length, drop}
 use Rattle.lines.specs.Lines.{linesOf}
+use Rattle.layout.specs.Fault.{clean}
 use Rattle.layout.specs.Line.{padded}
 use Rattle.lines.proofs.Ends.{no-line, first-line}
 use Rattle.record.specs.LineKinds.{satellitesKind}
 use Rattle.header.specs.declared.types.Rules.{Rules}
 use Rattle.machine.specs.Due.{isEight, againAt}
-use Rattle.machine.specs.Faults.{namesAgain}
+use Rattle.machine.specs.Faults.{slotsFault}
 use Rattle.machine.specs.Step.{stepOf, readAs, readFirst, lineKnown}
 use Rattle.machine.specs.Told.{toldRead}
 use Rattle.machine.specs.declared.types.State.{State}
@@ -66,14 +67,14 @@ module _ (rules : Rules) (s : State) (identifiers bytes : List ℕ) (at : ℕ) (
   abbrev does : Verdict
   does = stepOf rules s identifiers (g .line)
 
-  here : againAt rules s identifiers (linesOf (drop at bytes)) ≡ cond (isEight does) (namesAgain rules s identifiers (padded (g .line))) false
+  here : againAt rules s identifiers (linesOf (drop at bytes)) ≡ (isEight does && eqb (slotsFault rules s (padded (g .line))) clean)
   unfolding againAt
   here = rw (g .first, g .due) refl
 
   not-eight : isEight does ≡ false → false ≡ againAt rules s identifiers (linesOf (drop at bytes))
   not-eight e = sym (here ∙ rw e refl)
 
-  eight : isEight does ≡ true → namesAgain rules s identifiers (padded (g .line)) ≡ againAt rules s identifiers (linesOf (drop at bytes))
+  eight : isEight does ≡ true → eqb (slotsFault rules s (padded (g .line))) clean ≡ againAt rules s identifiers (linesOf (drop at bytes))
   eight e = sym (here ∙ rw e refl)
 
   is : r ≡ readAs does (at + length (g .line) + 1)
@@ -129,8 +130,8 @@ returns-5 c =
     let told = tested .before .before in
     let a = told .before .before .before .before .before .before .before .before .before .args in
     let g = read (told .before .before) in
-    c .slots-said .ensures .1
-    ∙ ap (namesAgain (a .rules) (a .state) (a .identifiers .now)) (c .before .before .pad .ensures)
+    c .slots-clean .ensures
+    ∙ ap (λ (line : List ℕ). eqb (slotsFault (a .rules) (a .state) line) clean) (c .before .before .pad .ensures)
     ∙ eight _ _ _ _ _ _ g (number-is _ _ _ _ _ _ g _ _ (told .number .given .1) ∙ eq-eqb _ _ (tested .if3 .left))
 
 pub names-again-spec : {M : Type 1} → statement M
