@@ -74,8 +74,8 @@
 //! the epoch that must come, IDENTIFIER the satellite (7107) that the row that must
 //! come must name; 0 where none must, IDENTIFIER also where fewer are lent. REPEATS
 //! is 1 where a `+ ` line is due and the line there, LF and all, is refused with 8
-//! since one of its identifiers repeats: another of its own, or one of the lines
-//! before, as the lent list has them. What fills a slot after n is no identifier.
+//! though its slots are right: one of its identifiers repeats another of its own, or
+//! one of the lines before, as the lent list has them.
 //!
 //! EP and EV are lines like others: they are judged, and a row is met before the
 //! note after it.
@@ -284,7 +284,8 @@ impl Passed<'_> {
     }
 
     /// Whether the line at the front of these bytes, where a `+ ` line is due, is
-    /// refused with 8 since its identifiers and those before are not "all different".
+    /// refused with 8 though its columns are right: its identifiers and those before
+    /// are not "all different".
     fn repeats(&self, rest: &[u8], identifiers: &[u64]) -> bool {
         let Ok(text) = files::Lines::new(rest).take() else {
             return false;
@@ -294,9 +295,8 @@ impl Passed<'_> {
             0 => files::lines::read_first_satellites(&mut reader),
             _ => files::lines::read_further_satellites(&mut reader, self.left()),
         };
-        let number = reader.deciding.map_or(files::DISAGREES, |fault| fault.number);
         let brought = identifiers.len().min(self.said().0 - self.left());
-        number == files::DISAGREES && !files::all_new(&identifiers[..brought], &line)
+        reader.deciding.is_none() && !files::all_new(&identifiers[..brought], &line)
     }
 
     /// Satellites of which a slot in the lines of this kind, or a row of this
@@ -1797,19 +1797,19 @@ const DUE: &[DueFile] = &[
         ["3 0 0 0 1", "3 0 0 0 0", "3 0 0 0 1"],
     ),
     // A slot after n that is filled, with an identifier of the header too, is no
-    // repeat; beside one it is.
+    // repeat, and is told before one.
     (Paper, &[Put(3, 13, "G08")], 1, &[7108], "stopped 8 line 3 column 0", ["3 0 0 0 0"; 3]),
     (Paper, &[Put(3, 13, "G07")], 1, &[7107], "stopped 8 line 3 column 0", ["3 0 0 0 0"; 3]),
     (Paper, &[Put(4, 10, "G07")], 1, &[7107], "stopped 8 line 4 column 0", ["3 0 0 0 0"; 3]),
     (ManyFile(20), &[Put(4, 19, "G18")], 20, &[], "stopped 8 line 4 column 0", ["3 0 0 0 0"; 3]),
-    (Night, &[Put(3, 13, "G07G07")], 2, &[7107], "stopped 8 line 3 column 0", ["3 0 0 0 1"; 3]),
+    (Night, &[Put(3, 13, "G07G07")], 2, &[7107], "stopped 8 line 3 column 0", ["3 0 0 0 0"; 3]),
     (
         ManyFile(20),
         &[Put(4, 10, "G17G19G20G17")],
         20,
         &[7117],
         "stopped 8 line 4 column 0",
-        ["3 0 0 0 1"; 3],
+        ["3 0 0 0 0"; 3],
     ),
     // A repeat beside a fault with a lower number: 2 to 7.
     (

@@ -107,7 +107,7 @@ const WRONG_BYTE: u8 = 2;
 /// "more than 80 characters"
 const TOO_LONG: u8 = 3;
 /// "line 2 disagrees with the start; ..; an identifier repeats; the file type disagrees"
-pub(crate) const DISAGREES: u8 = 8;
+const DISAGREES: u8 = 8;
 /// "an epoch stands at the wrong instant"
 const WRONG_INSTANT: u8 = 9;
 /// "a P or V names another satellite than the header has here"

@@ -41,10 +41,16 @@ def hint(content, number, line):
     return "another file follows: sp3 divide FILE" if number == 11 and text.startswith(b"#") else ""
 
 
+def slots_in(lines):
+    """The slots of the `+ ` lines as far as they have come: those of the satellites, and those after the last."""
+    slots = [f"{line[first : first + 3]:3}" for line in lines if line.startswith("+ ") for first in range(9, 60, 3)]
+    n = int(lines[2][3:6])
+    return slots[:n], slots[n:]
+
+
 def satellites_in(lines):
     """The identifiers of the satellites, as far as the `+ ` lines have come."""
-    slots = [line[first : first + 3] for line in lines if line.startswith("+ ") for first in range(9, 60, 3)]
-    return slots[: int(lines[2][3:6])]
+    return slots_in(lines)[0]
 
 
 def opening(lines):
@@ -87,9 +93,9 @@ def instants(before, line):
 def disagreement(lines):
     """Which of the four causes of 8 it is in the last of these lines."""
     start, slot, repeated, file_type = re.split(", (?:or )?", WORDS[8])
-    names = satellites_in(lines) if len(lines) > 2 else []
-    repeats = lines[-1].startswith("+ ") and len(set(names)) < len(names)
-    return {"##": start, "+ ": repeated if repeats else slot, "++": slot, "%c": f"{file_type} with the identifiers"}[lines[-1][:2]]
+    after = slots_in(lines)[1] if len(lines) > 2 else []
+    right = all(text == "  0" for text in after)
+    return {"##": start, "+ ": repeated if right else slot, "++": slot, "%c": f"{file_type} with the identifiers"}[lines[-1][:2]]
 
 
 def cause(content, number, line):

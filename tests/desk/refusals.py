@@ -127,7 +127,7 @@ def unhinted():
 
 def disagreeing():
     """Each cause of 8, with its line: line 2; a slot after the last satellite, in the first and in a further line of either kind; an identifier that
-    repeats, in the first line, in a further one, after the one before; the file type. An identifier that repeats is said before a slot."""
+    repeats, in the first line, in a further one, after the one before; the file type. A slot is said before an identifier that repeats."""
     start, file_type = "line 2 disagrees with the start", "the file type disagrees with the identifiers"
     slot, repeated = "a slot after the last satellite is not `  0`", "an identifier repeats"
     twenty = many()
@@ -136,7 +136,7 @@ def disagreeing():
             (changed(4, 10, "  1"), 4, slot), (changed(7, 58, "   "), 7, slot), (changed(8, 13, "  1"), 8, slot), (changed(9, 10, "  x"), 9, slot),
             (put(twenty, 4, 19, "G21"), 4, slot), (put(twenty, 4, 19, "G01"), 4, slot), (put(twenty, 9, 19, "000"), 9, slot),
             (put(twenty, 3, 13, "G01"), 3, repeated), (put(twenty, 3, 58, "G16"), 3, repeated), (put(twenty, 4, 10, "G17"), 4, repeated),
-            (put(twenty, 4, 16, "G18"), 4, repeated), (put(twenty, 4, 16, "G18G21"), 4, repeated), (changed(13, 4, "R "), 13, file_type),
+            (put(twenty, 4, 16, "G18"), 4, repeated), (put(twenty, 4, 16, "G18G21"), 4, slot), (changed(13, 4, "R "), 13, file_type),
             (put(moving(), 13, 4, "G "), 13, file_type)]
 
 

@@ -107,10 +107,10 @@ pub struct Due {
     pub also: Option<u64>,
     /// The instant at which the epoch must stand, in 10^-8 s since MJD 0; `None` where no epoch must come.
     pub instant8: Option<u64>,
-    /// The satellite that the row must name; `None` where no row must come.
+    /// The satellite that the row must name; `None` where no row must come, and where fewer identifiers are lent.
     pub identifier: Option<u64>,
-    /// Of a `+ ` line that is refused with 8: whether it names an identifier again, in itself or after the lines before it. The other cause is
-    /// a slot after the last satellite. Beside any other refusal this says nothing.
+    /// Whether a `+ ` line stands there that is refused with 8 though its slots after the last satellite are right: it names an identifier again,
+    /// in itself or after the lines before it.
     pub repeats: bool,
 }
 
