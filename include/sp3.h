@@ -10,9 +10,10 @@
  * THREADS. No function keeps a state: an answer follows from what the call is given. So they may be called from several threads at once, each call
  * with lent memory of its own; a slice that is only looked at (`const`) may be lent to several calls at the same time.
  *
- * REFUSALS. Each answer has a `refusal`, 0 for accepted, and where a file is judged its `line` and `column`, counted from 1 (0 where the refusal names
- * none). A refusal changes nothing that was lent, and every other part of the answer is then empty: 0, blank, or absent. After success the places past those
- * that are filled are unchanged too. The first faulty line decides, in a line the lowest number, of several faults with that number the leftmost:
+ * REFUSALS. Each answer has a `refusal`, 0 for accepted, and where a file is judged its `line` and `column`, counted from 1 (0 where the refusal
+ * names none). A refusal changes nothing that was lent, and every other part of the answer is then empty: 0, blank, or absent. After success the
+ * places past those that are filled are unchanged too. The first faulty line decides, in a line the lowest number, of several faults with that
+ * number the leftmost:
  *
  *    0  accepted
  *    1  no line end is left before the file's EOF line is complete
@@ -323,10 +324,10 @@ sp3_line_answer_t sp3_read_line(const uint8_t *file, size_t length, sp3_spot_t s
 sp3_line_answer_t sp3_next_line(const uint8_t *file, size_t length, const uint64_t *identifiers, size_t identifier_count, sp3_spot_t spot);
 
 /* What must stand at a spot: the kind of line that must come, and the kind that may stand there before it (0 for none). Kinds are 1 `#d`, 2 `##`,
- * 3 `+ `, 4 `++`, 5 `%c`, 6 `%f`, 7 `%i`, 8 comment, 9 epoch, 10 P, 11 V, 12 EP, 13 EV, 14 EOF. `instant8` is the instant at which the next epoch must
- * stand, `identifier` the satellite that the next row must name; each is 0 where no epoch (no row) must come, the latter also where fewer identifiers are
- * lent. `repeats` says that a `+ ` line stands there which is refused with 8 though its slots after the last satellite are right: it names an
- * identifier again. */
+ * 3 `+ `, 4 `++`, 5 `%c`, 6 `%f`, 7 `%i`, 8 comment, 9 epoch, 10 P, 11 V, 12 EP, 13 EV, 14 EOF. `instant8` is the instant at which the epoch that
+ * comes next must stand, `identifier` the satellite that the row that comes next must name; each is 0 where no epoch (no row) must come, the latter
+ * also where fewer identifiers are lent. `repeats` says that a `+ ` line stands there which is refused with 8 though its slots after the last
+ * satellite are right: it names an identifier again. */
 typedef struct {
     uint64_t kind, also, instant8, identifier;
     bool repeats;
