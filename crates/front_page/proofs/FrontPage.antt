@@ -318,6 +318,11 @@ pub row-refused : (bytes : List ℕ) (number line column : ℕ) → fileOf d byt
     → (k j : ℕ) → asked bytes k j ≡ rowRefused number line column
 row-refused bytes number line column e k j = floats.row-refused bytes number line column e k j
 
+-- and where it begins,
+pub row-begins-refused : (bytes : List ℕ) (number line column : ℕ) → fileOf d bytes ≡ front.Refused number line column
+    → (k j : ℕ) → rowBegins d bytes (fileOf d bytes) k j ≡ noRow number line column
+row-begins-refused bytes number line column e k j = floats.row-begins-refused bytes number line column e k j
+
 -- the comment, whose text is then empty,
 pub comment-refused : (bytes : List ℕ) (number line column : ℕ) → fileOf d bytes ≡ front.Refused number line column
     → (k : ℕ) → (commentAnswer d bytes (fileOf d bytes) k ≡ noComment number line column) × (commentWords d bytes (fileOf d bytes) k ≡ [])

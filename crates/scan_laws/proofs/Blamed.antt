@@ -1,14 +1,14 @@
 -- Which column a fault names, computed over every layout: an unused column itself, of a field its first column (4 for year, month and day), of a symbol and
 -- of a slot after the last satellite none. Assumes nothing.
 use mathlib.Core.Path.{_≡_, refl, sym, ap, _∙_, subst}
-use mathlib.Core.Logic.{_⊎_, inl, inr}
+use mathlib.Core.Logic.{_⊎_, inl, inr, ⊎-elim}
 use mathlib.Core.Bool.{Bool, true, false, false≢true, cond, _&&_, _||_}
 use mathlib.Core.List.{List, [], _∷_, _++_}
 use Prim.Native.Nat.{ℕ, zero, suc, _+_, _-_, _*_, _≤_, _<_}
 use native.Mathlib.Omega.{arith}
-use borrow.Author.Tests.{eqb-true, eqb-false, leb-true, le-leb, ltb-true, eq-eqb}
+use borrow.Author.Tests.{eqb-true, leb-true, le-leb, eq-eqb}
 use lib.Dec.{eqb, leb, ltb}
-use lib.ListN.{length, getD, take, drop, length-take}
+use lib.ListN.{length, getD, drop, length-take}
 use lib.Seq.{getD-take, getD-drop}
 use Rattle.laws.specs.Tests.{within}
 use Rattle.laws.specs.Texts.{every}
@@ -170,17 +170,16 @@ allRight k [] = true
 allRight k (item ∷ items) = standsRight k item && allRight k items
 
 -- slots, whichever of them are of satellites
+slot-placed : (at : ℕ) → 1 ≤ at → at ≤ 78 → (within 1 80 at && leb (at + 2) 80) ≡ true
+slot-placed at p q =
+    and-both (within 1 80 at) (leb (at + 2) 80) (and-both (leb 1 at) (leb at 80) (le-leb 1 at p) (le-leb at 80 (omega arith))) (le-leb (at + 2) 80 (omega arith))
+
 slot-right : (k : LineKind) → ((column : ℕ) → inDate k column ≡ false) → (c : Kind) → isUnused c ≡ false → isNumbered c ≡ true → isTold c ≡ true
     → (used : Bool) (at : ℕ) → 1 ≤ at → at ≤ 78 → standsRight k (record { first = at; last = at + 2; blamed = cond used at 0; kind = slotFor used c }) ≡ true
 slot-right k undated c u n t true at p q =
-    let placed : (within 1 80 at && leb (at + 2) 80) ≡ true =
-    and-both (within 1 80 at) (leb (at + 2) 80) (and-both (leb 1 at) (leb at 80) (le-leb 1 at p) (le-leb at 80 (omega arith))) (le-leb (at + 2) 80 (omega arith)) in
     let named : eqb at (blamedOf k (record { first = at; last = at + 2; blamed = at; kind = c })) ≡ true = rw (u, t, undated at) (eq-eqb at at refl) in
-    and-both _ _ placed (and-both _ _ n named)
-slot-right k undated c u n t false at p q =
-    let placed : (within 1 80 at && leb (at + 2) 80) ≡ true =
-    and-both (within 1 80 at) (leb (at + 2) 80) (and-both (leb 1 at) (leb at 80) (le-leb 1 at p) (le-leb at 80 (omega arith))) (le-leb (at + 2) 80 (omega arith)) in
-    and-both _ _ placed refl
+    and-both _ _ (slot-placed at p q) (and-both _ _ n named)
+slot-right k undated c u n t false at p q = and-both _ _ (slot-placed at p q) refl
 
 slots-right : (k : LineKind) → ((column : ℕ) → inDate k column ≡ false) → (c : Kind) → isUnused c ≡ false → isNumbered c ≡ true → isTold c ≡ true
     → (count left at : ℕ) → 1 ≤ at → at + 3 * count ≤ 80 + 1 → (rest : List Item) → allRight k rest ≡ true → allRight k (slotsFrom c count left at ++ rest) ≡ true
@@ -190,17 +189,12 @@ slots-right k undated c u n t (suc count) left at p h rest r =
     and-both _ _ (slot-right k undated c u n t (ltb 0 left) at p (omega arith))
     (slots-right k undated c u n t count (left - 1) (at + 3) (omega arith) (omega arith) rest r)
 
-satellites-right : (rules : Rules) (n : ℕ) → allRight kind.Satellites (satelliteItems rules n) ≡ true
-satellites-right rules n =
-    slots-right kind.Satellites (λ column. refl) (slotKind false) refl refl refl 17 n 10 (omega arith) (omega arith) (columns 61 80 unused ∷ []) refl
-
-more-right : (left : ℕ) → allRight kind.Satellites (moreItems false left) ≡ true
-more-right left =
-    slots-right kind.Satellites (λ column. refl) (slotKind false) refl refl refl 17 left 10 (omega arith) (omega arith) (columns 61 80 unused ∷ []) refl
-
-accuracies-right : (left : ℕ) → allRight kind.Accuracies (moreItems true left) ≡ true
-accuracies-right left =
-    slots-right kind.Accuracies (λ column. refl) (slotKind true) refl refl refl 17 left 10 (omega arith) (omega arith) (columns 61 80 unused ∷ []) refl
+-- the seventeen slots of a line, so many of satellites, and the unused columns after them
+seventeen : (k : LineKind) → ((column : ℕ) → inDate k column ≡ false) → (accuracies : Bool) → isUnused (slotKind accuracies) ≡ false
+    → isNumbered (slotKind accuracies) ≡ true → isTold (slotKind accuracies) ≡ true → (left : ℕ)
+    → allRight k (slotsFrom (slotKind accuracies) 17 left 10 ++ (columns 61 80 unused ∷ [])) ≡ true
+seventeen k undated accuracies u n t left =
+    slots-right k undated (slotKind accuracies) u n t 17 left 10 (omega arith) (omega arith) (columns 61 80 unused ∷ []) refl
 
 pub layouts-right : (k : LineKind) (rules : Rules) (s : State) (line : List ℕ) → allRight k (itemsAt k rules s line) ≡ true
 layouts-right kind.Other rules s line = refl
@@ -209,9 +203,9 @@ layouts-right kind.Second rules s line = refl
 layouts-right kind.Satellites rules s line = go (isFirst s)
   where
     go : (t : Bool) → allRight kind.Satellites (cond t (satelliteItems rules (countIn rules line)) (moreItems false (s .left))) ≡ true
-    go true = satellites-right rules (countIn rules line)
-    go false = more-right (s .left)
-layouts-right kind.Accuracies rules s line = accuracies-right (s .left)
+    go true = seventeen kind.Satellites (λ column. refl) false refl refl refl (countIn rules line)
+    go false = seventeen kind.Satellites (λ column. refl) false refl refl refl (s .left)
+layouts-right kind.Accuracies rules s line = seventeen kind.Accuracies (λ column. refl) true refl refl refl (s .left)
 layouts-right kind.Characters rules s line = go (eqb (s .lines) 2)
   where
     go : (t : Bool) → allRight kind.Characters (cond t descriptorItems characterItems) ≡ true
@@ -310,10 +304,13 @@ module _ (k : LineKind) (item : Item) (line : List ℕ) (right : standsRight k i
     abbrev number : ℕ
     number = fieldNumber item line
 
-    -- the number, whatever column is named, and the column that is
+    -- its fault: a number from 4 to 8, and the column that it names
+    abbrev Named : Type 0
+    Named = (4 ≤ number) × (number ≤ 8) × (faultAt item line ≡ keyed number (fieldColumn k item number))
+
+    -- the number, whatever column is named, and the column that is; or neither number nor fault
     at-column : Tells (isTold (item .kind)) (λ column. faultIn (item .kind) column (partOf item line))
-        → ((number ≡ 0) × (faultAt item line ≡ clean))
-        ⊎ ((4 ≤ number) × (number ≤ 8) × (faultAt item line ≡ keyed number (fieldColumn k item number)))
+        → ((number ≡ 0) × (faultAt item line ≡ clean)) ⊎ Named
     at-column (no-fault f) = inl (ap keyNumber (f 0), f (item .blamed))
     at-column (a-fault n p q told f) =
         let is : number ≡ n = ap keyNumber (f 0) ∙ key-number n 0 (omega arith) in
@@ -321,26 +318,15 @@ module _ (k : LineKind) (item : Item) (line : List ℕ) (right : standsRight k i
         blamed ∙ rw u refl ∙ ap (λ (t : Bool). cond t (cond (inDate k (item .first)) 4 (item .first)) 0) (sym told ∙ ap (within 5 7) (sym is)) in
         inr (omega (arith, is), omega (arith, is), f (item .blamed) ∙ ap (λ (m : ℕ). keyed m (item .blamed)) (sym is) ∙ ap (keyed number) names)
 
-    field-is : ((number ≡ 0) × (faultAt item line ≡ clean)) ⊎ ((4 ≤ number) × (number ≤ 8) × (faultAt item line ≡ keyed number (fieldColumn k item number)))
-    field-is = at-column (field-tells (item .kind) (partOf item line) u numbered)
+    one-of-both : ((number ≡ 0) × (faultAt item line ≡ clean) → ⊥) → Named
+    one-of-both some = ⊎-elim (λ none. absurd (some none)) (λ named. named) (at-column (field-tells (item .kind) (partOf item line) u numbered))
 
-    -- its fault has its number, and the column that it names
+    -- a fault is so, and where a number is earned there is that fault
     pub field-named : 0 < faultAt item line → (4 ≤ number) × (number ≤ 8) × (faultAt item line ≡ keyed number (fieldColumn k item number))
-    field-named h = go field-is
-      where
-        go : ((number ≡ 0) × (faultAt item line ≡ clean)) ⊎ ((4 ≤ number) × (number ≤ 8) × (faultAt item line ≡ keyed number (fieldColumn k item number)))
-            → (4 ≤ number) × (number ≤ 8) × (faultAt item line ≡ keyed number (fieldColumn k item number))
-        go (inl (_, e)) = absurd (omega (arith, e))
-        go (inr found) = found
+    field-named h = one-of-both (λ none. omega (arith, none .1))
 
-    -- and a number that it earns is that of its fault
     pub field-earned : 0 < number → (4 ≤ number) × (number ≤ 8) × (faultAt item line ≡ keyed number (fieldColumn k item number))
-    field-earned h = go field-is
-      where
-        go : ((number ≡ 0) × (faultAt item line ≡ clean)) ⊎ ((4 ≤ number) × (number ≤ 8) × (faultAt item line ≡ keyed number (fieldColumn k item number)))
-            → (4 ≤ number) × (number ≤ 8) × (faultAt item line ≡ keyed number (fieldColumn k item number))
-        go (inl (e, _)) = absurd (omega (arith, e))
-        go (inr found) = found
+    field-earned h = one-of-both (λ none. omega (arith, none .0))
 
   -- a column of 5 to 7 is one of the 80, of other numbers 0
   pub field-columns : (n : ℕ) → (fieldColumn k item n ≤ 80) × (within 5 7 n ≡ true → 1 ≤ fieldColumn k item n) × (within 5 7 n ≡ false → fieldColumn k item n ≡ 0)

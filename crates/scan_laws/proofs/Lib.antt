@@ -1,5 +1,7 @@
 pub mod LeastKey
 pub mod Blamed
+pub mod Checks
+pub mod Unprintable
 pub mod Lowest
 pub mod Used
 pub mod Local

@@ -2,25 +2,22 @@
 -- it is refused exactly when it earns a fault. Assumes nothing.
 use mathlib.Core.Path.{_≡_, refl, sym, ap, ap₂, _∙_, subst}
 use mathlib.Core.Logic.{_⊎_, inl, inr, ⊎-elim, _↔_}
-use mathlib.Core.Bool.{Bool, true, false, false≢true, cond, _&&_, _||_}
+use mathlib.Core.Bool.{Bool, true, false, false≢true, cond, _&&_}
 use mathlib.Core.List.{List, [], _∷_, _++_, map, append-nil}
-use Prim.Native.Nat.{ℕ, zero, suc, _+_, _-_, _≤_, _<_}
+use Prim.Native.Nat.{ℕ, _+_, _-_, _≤_, _<_}
 use native.Mathlib.Decide.{decLe}
 use native.Mathlib.Omega.{arith}
 use borrow.Author.Tests.{eqb-true, eqb-false, leb-false, le-leb, lt-leb, eq-eqb, ne-eqb}
 use lib.Dec.{eqb, leb}
-use lib.ListN.{length, getD, take}
+use lib.ListN.{length, getD}
 use Rattle.laws.specs.Tests.{within}
 use Rattle.laws.specs.Texts.{every, isPrintable}
-use Rattle.laws.proofs.Bools.{and-left, and-right, and-both}
-use Rattle.laws.proofs.Bounds.{within-true}
+use Rattle.laws.proofs.Bools.{and-both}
 use Rattle.layout.specs.Fault.{clean, keyed, keyNumber, columnOf, lowerOf}
 use Rattle.layout.specs.Kind.{unless, isUnused}
 use Rattle.layout.specs.Layout.{Item, faultAt, faultOf}
 use Rattle.layout.specs.Line.{padded}
 use Rattle.record.specs.LineKinds.{longest}
-use Rattle.record.specs.Agrees.{typeAgrees}
-use Rattle.record.specs.Descriptors.{descriptorOf}
 use Rattle.header.specs.declared.types.Rules.{Rules}
 use Rattle.record.specs.declared.types.LineKind.{LineKind}
 use Rattle.record.specs.declared.types.LineKind.the-variants as kind
@@ -32,8 +29,10 @@ use Rattle.machine.specs.declared.types.State.{State}
 use Rattle.machine.specs.declared.types.Verdict.{Verdict}
 use Rattle.machine.specs.declared.types.Verdict.the-variants as verdict
 use Rattle.scan_laws.proofs.Blamed.{standsRight, layouts-right, among-right, unused-named, unused-earned, field-named, field-earned, field-columns, first-bounds, last-bound, key-number, key-column}
+use Rattle.scan_laws.proofs.Checks.{Bounds, checked}
 use Rattle.scan_laws.proofs.LeastKey.{lowestOf, Lowest, lowest-is, items-lowest}
-use Rattle.scan_laws.specs.Earned.{Among, Check, must, itemsAt, checksAt, kindAt, byteAt, fieldNumber, fieldColumn, NotBlank, WrongField, Failed, Earns, Before, Decides}
+use Rattle.scan_laws.proofs.Unprintable.{unprintable-first, unprintable-before}
+use Rattle.scan_laws.specs.Earned.{Among, Check, itemsAt, checksAt, kindAt, byteAt, fieldNumber, fieldColumn, NotBlank, WrongField, Failed, Earns, Before, Decides}
 use Rattle.scan_laws.specs.Earned.Earns.{by-byte, by-length, by-kind, by-unused, by-field, by-check}
 
 -- the keys of what a line's tests earn; 0 is none
@@ -108,34 +107,6 @@ not-refused : (v : Verdict) → isFault v ≡ false → NotRefused v
 unfolding isFault
 not-refused v e m c f = false≢true (sym e ∙ ap isFault f)
 
--- THE BYTES: the first that is outside 32 to 126 is named, and no such byte stands before it.
-unprintable-first : (line : List ℕ) → every isPrintable line ≡ false
-    → (i : ℕ) × (firstUnprintable line ≡ suc i) × (i < length line) × (isPrintable (getD line i 32) ≡ false)
-unfolding firstUnprintable
-unprintable-first [] e = absurd (false≢true (sym e))
-unprintable-first (b ∷ bs) e = go (isPrintable b) refl (unprintable-first bs)
-  where
-    go : (t : Bool) → isPrintable b ≡ t
-        → (every isPrintable bs ≡ false → (i : ℕ) × (firstUnprintable bs ≡ suc i) × (i < length bs) × (isPrintable (getD bs i 32) ≡ false))
-        → (i : ℕ) × (firstUnprintable (b ∷ bs) ≡ suc i) × (i < suc (length bs)) × (isPrintable (getD (b ∷ bs) i 32) ≡ false)
-    go false f later = (0, rw f refl, omega arith, f)
-    go true f later =
-        let found = later (sym (ap (λ (t : Bool). t && every isPrintable bs) f) ∙ e) in
-        let here : firstUnprintable (b ∷ bs) ≡ suc (firstUnprintable bs) = rw f refl in
-        (suc (found .0), here ∙ ap suc (found .1), omega (arith, found .2), found .3)
-
-unprintable-before : (line : List ℕ) (i : ℕ) → isPrintable (getD line i 32) ≡ false → (every isPrintable line ≡ false) × (firstUnprintable line ≤ suc i)
-unfolding firstUnprintable
-unprintable-before [] i e = absurd (false≢true (sym e))
-unprintable-before (b ∷ bs) i e = go (isPrintable b) refl i e (unprintable-before bs)
-  where
-    go : (t : Bool) → isPrintable b ≡ t → (i : ℕ) → isPrintable (getD (b ∷ bs) i 32) ≡ false
-        → ((i : ℕ) → isPrintable (getD bs i 32) ≡ false → (every isPrintable bs ≡ false) × (firstUnprintable bs ≤ suc i))
-        → (every isPrintable (b ∷ bs) ≡ false) × (firstUnprintable (b ∷ bs) ≤ suc i)
-    go false f i e later = (rw f refl, rw f (omega arith))
-    go true f zero e later = absurd (false≢true (sym e ∙ f))
-    go true f (suc i) e later = let before = later i e in (rw f (before .0), rw f (omega (arith, before .1)))
-
 -- LISTS of keys
 among-map : {A : Type 0} (f : A → ℕ) (xs : List A) (x : A) (more : List ℕ) → Among x xs → Among (f x) (map f xs ++ more)
 among-map f [] x more a = absurd a
@@ -150,65 +121,6 @@ among-of : {A : Type 0} (f : A → ℕ) (xs : List A) (key : ℕ) (more : List �
 among-of f [] key more a = inr a
 among-of f (y ∷ ys) key more (inl e) = inl (y, inl refl, e)
 among-of f (y ∷ ys) key more (inr a) = ⊎-elim (λ found. inl (found .0, inr (found .1), found .2)) (λ later. inr later) (among-of f ys key more a)
-
--- CHECKS: every one has number 4 or one of 7 to 10, and a column of 4 for 7, else of 0
-abbrev checkRight : Check → Bool
-checkRight c = (eqb (c .number) 4 || within 7 10 (c .number)) && eqb (c .column) (cond (eqb (c .number) 7) 4 0)
-
-abbrev checksRight : List Check → Bool
-checksRight [] = true
-checksRight (c ∷ checks) = checkRight c && checksRight checks
-
-checks-right : (k : LineKind) (rules : Rules) (s : State) (identifiers line : List ℕ) → checksRight (checksAt k rules s identifiers line) ≡ true
-checks-right kind.Other rules s identifiers line = refl
-checks-right kind.First rules s identifiers line = refl
-checks-right kind.Second rules s identifiers line = refl
-checks-right kind.Satellites rules s identifiers line = refl
-checks-right kind.Accuracies rules s identifiers line = refl
-checks-right kind.Characters rules s identifiers line = go (eqb (s .lines) 2)
-  where
-    go : (t : Bool) → checksRight (cond t (must (typeAgrees (descriptorOf line .«file_type») (take (s .satellites) identifiers)) 8 0 ∷ []) []) ≡ true
-    go true = refl
-    go false = refl
-checks-right kind.Floats rules s identifiers line = refl
-checks-right kind.Integers rules s identifiers line = refl
-checks-right kind.Comment rules s identifiers line = refl
-checks-right kind.Epoch rules s identifiers line = refl
-checks-right kind.Position rules s identifiers line = refl
-checks-right kind.Velocity rules s identifiers line = refl
-checks-right kind.PositionCorrelation rules s identifiers line = refl
-checks-right kind.VelocityCorrelation rules s identifiers line = refl
-checks-right kind.EndOfFile rules s identifiers line = refl
-
-check-right : (checks : List Check) (c : Check) → Among c checks → checksRight checks ≡ true → checkRight c ≡ true
-check-right [] c a e = absurd a
-check-right (d ∷ checks) c (inl is) e = ap checkRight is ∙ and-left (checkRight d) _ e
-check-right (d ∷ checks) c (inr a) e = check-right checks c a (and-right (checkRight d) _ e)
-
-record Bounds (c : Check) : Type 0 where
-  low : 4 ≤ c .number
-  high : c .number ≤ 10
-  ranges : (c .number ≡ 4) ⊎ (7 ≤ c .number)
-  named : c .column ≡ cond (eqb (c .number) 7) 4 0
-  small : c .column < 128
-
-check-bounds : (c : Check) → checkRight c ≡ true → Bounds c
-check-bounds c e = go (eqb (c .number) 4) refl (and-left (eqb (c .number) 4 || within 7 10 (c .number)) _ e)
-  where
-    named : c .column ≡ cond (eqb (c .number) 7) 4 0
-    named = eqb-true (c .column) (cond (eqb (c .number) 7) 4 0) (and-right (eqb (c .number) 4 || within 7 10 (c .number)) _ e)
-
-    small : (t : Bool) → c .column ≡ cond t 4 0 → c .column < 128
-    small true e = omega arith
-    small false e = omega arith
-
-    go : (t : Bool) → eqb (c .number) 4 ≡ t → (t || within 7 10 (c .number)) ≡ true → Bounds c
-    go true four _ =
-        let n = eqb-true (c .number) 4 four in
-        record { low = omega (arith, n); high = omega (arith, n); ranges = inl n; named = named; small = small (eqb (c .number) 7) named }
-    go false _ range =
-        let n = within-true 7 10 (c .number) range in
-        record { low = omega (arith, n .0); high = n .1; ranges = inr (n .0); named = named; small = small (eqb (c .number) 7) named }
 
 -- faults in order
 before-both : (n c m e : ℕ) → Before n c m e → Before m e n c → (n ≡ m) × (c ≡ e)
@@ -292,7 +204,7 @@ module _ (rules : Rules) (s : State) (identifiers line : List ℕ) where
       go : (t : Bool) → c .passes ≡ t → Keyed (checkKey c)
       go true p = absurd (omega (arith, ap (λ (t : Bool). unless t (c .number) (c .column)) p, h))
       go false p =
-          let bounds = check-bounds c (check-right checks c a (checks-right k rules s identifiers (padded line))) in
+          let bounds = checked k rules s identifiers (padded line) c a in
           record {
             number = c .number;
             column = c .column;
@@ -355,7 +267,7 @@ module _ (rules : Rules) (s : State) (identifiers line : List ℕ) where
 
   check-part : (number column : ℕ) → Failed rules s identifiers line number column → Part number column
   check-part number column f =
-      let bounds = check-bounds (f .check) (check-right checks (f .check) (f .asked) (checks-right k rules s identifiers (padded line))) in
+      let bounds = checked k rules s identifiers (padded line) (f .check) (f .asked) in
       let is : checkKey (f .check) ≡ keyed number column =
       ap (λ (t : Bool). unless t (f .check .number) (f .check .column)) (f .fails) ∙ ap₂ keyed (sym (f .earned)) (sym (f .names)) in
       record {
@@ -421,7 +333,7 @@ module _ (rules : Rules) (s : State) (identifiers line : List ℕ) where
   check-told c a p q = go (bounds .ranges)
     where
       bounds : Bounds c
-      bounds = check-bounds c (check-right checks c a (checks-right k rules s identifiers (padded line)))
+      bounds = checked k rules s identifiers (padded line) c a
 
       go : (c .number ≡ 4) ⊎ (7 ≤ c .number) → (1 ≤ c .column) × (c .column ≤ 80)
       go (inl e) = absurd (omega arith)
@@ -455,7 +367,7 @@ module _ (rules : Rules) (s : State) (identifiers line : List ℕ) where
 
   check-untold : (c : Check) → Among c checks → (c .number ≡ 7 → ⊥) → c .column ≡ 0
   check-untold c a apart =
-      let bounds = check-bounds c (check-right checks c a (checks-right k rules s identifiers (padded line))) in
+      let bounds = checked k rules s identifiers (padded line) c a in
       bounds .named ∙ ap (λ (t : Bool). cond t 4 0) (ne-eqb (c .number) 7 apart)
 
   pub no-column : (number column : ℕ) → (number ≡ 4) ⊎ (8 ≤ number) → Fault number column → column ≡ 0

@@ -19,7 +19,7 @@ use Rattle.record.specs.LineKinds.{longest}
 use Rattle.record.specs.declared.types.LineKind.{LineKind}
 use Rattle.record.specs.declared.types.LineKind.the-variants as kind
 use Rattle.reader.specs.Reading.{frontOf}
-use Rattle.scan.specs.declared.Tally.{Tally}
+use Rattle.scan.specs.Run.{Going}
 use Rattle.scan.specs.declared.Front.the-variants as front
 use Rattle.machine.specs.declared.types.State.{State}
 use Rattle.scan_laws.specs.Earned.{Among, itemsAt, kindAt, byteAt, fieldNumber, fieldColumn, Before}
@@ -81,38 +81,45 @@ module _ (bytes : List ℕ) (number line column : ℕ) where
     abbrev text : List ℕ
     text = refusedLine bytes line
 
+    abbrev g : Going
+    g = after bytes (line - 1)
+
+    -- a number other than 1 and 11 is that of the fault which decides the line
+    by-line : (number ≡ 1 → ⊥) → (number ≡ 11 → ⊥) → Decided bytes (line - 1) number column
+    by-line not-one not-eleven = go (why-found whole found)
+      where
+        go : Why ⊎ ((number ≡ 11) × (column ≡ 0)) → Decided bytes (line - 1) number column
+        go (inl (inl (one, _))) = absurd (not-one one)
+        go (inl (inr decided)) = decided
+        go (inr (eleven, _)) = absurd (not-eleven eleven)
+
     -- 2: the first byte of the line that is outside 32 to 126,
     pub two-byte : number ≡ 2 → Outside text column × ((e : ℕ) → Outside text e → column ≤ e)
-    two-byte n = go (why-found whole found)
+    two-byte n = (
+      two-column d (g .state) (g .identifiers) text column (subst (λ (m : ℕ). Earned bytes (line - 1) m column) n (decided .earned)),
+      λ e outside. left e (decided .before 2 e (by-byte (outside .0) (outside .1) (outside .2) refl)),
+    )
       where
-        go : Why ⊎ ((number ≡ 11) × (column ≡ 0)) → Outside text column × ((e : ℕ) → Outside text e → column ≤ e)
-        go (inl (inl (one, _))) = absurd (omega arith)
-        go (inr (eleven, _)) = absurd (omega arith)
-        go (inl (inr decided)) =
-            let g = after bytes (line - 1) in (
-              two-column d (g .state) (g .identifiers) text column (subst (λ (m : ℕ). Earned bytes (line - 1) m column) n (decided .earned)),
-              λ e outside. before e (decided .before 2 e (by-byte (outside .0) (outside .1) (outside .2) refl)),
-            )
-          where
-            before : (e : ℕ) → Before number column 2 e → column ≤ e
-            before e (inl less) = absurd (omega arith)
-            before e (inr (_, left)) = left
+        decided : Decided bytes (line - 1) number column
+        decided = by-line (λ one. omega arith) (λ eleven. omega arith)
+
+        left : (e : ℕ) → Before number column 2 e → column ≤ e
+        left e (inl less) = absurd (omega arith)
+        left e (inr (_, so)) = so
 
     -- 3: column 81,
     pub three-81 : number ≡ 3 → column ≡ 81
-    three-81 n = go (why-found whole found)
-      where
-        go : Why ⊎ ((number ≡ 11) × (column ≡ 0)) → column ≡ 81
-        go (inl (inl (one, _))) = absurd (omega arith)
-        go (inr (eleven, _)) = absurd (omega arith)
-        go (inl (inr decided)) =
-            let g = after bytes (line - 1) in
-            let is = three-column d (g .state) (g .identifiers) text column (subst (λ (m : ℕ). Earned bytes (line - 1) m column) n (decided .earned)) in
-            omega (arith, is, longest-d (kindAt d text))
+    three-81 n =
+        let decided = by-line (λ one. omega arith) (λ eleven. omega arith) in
+        let is = three-column d (g .state) (g .identifiers) text column (subst (λ (m : ℕ). Earned bytes (line - 1) m column) n (decided .earned)) in
+        omega (arith, is, longest-d (kindAt d text))
 
     -- 5, 6 and 7: one of the 80 columns, by what stands in them,
     pub field-80 : 5 ≤ number → number ≤ 7 → (1 ≤ column) × (column ≤ 80) × InColumns bytes (line - 1) number column
-    field-80 p q = go (why-found whole found)
+    field-80 p q =
+        let decided = by-line (λ one. omega arith) (λ eleven. omega arith) in
+        let columns = field-column d (g .state) (g .identifiers) text number column p q (decided .earned) in
+        (columns .0, columns .1, by (decided .earned))
       where
         by : Earned bytes (line - 1) number column → InColumns bytes (line - 1) number column
         by (by-byte _ _ _ n) = absurd (omega arith)
@@ -122,14 +129,6 @@ module _ (bytes : List ℕ) (number line column : ℕ) where
         by (by-field w) = inr (inl w)
         by (by-check f) = inr (inr f)
 
-        go : Why ⊎ ((number ≡ 11) × (column ≡ 0)) → (1 ≤ column) × (column ≤ 80) × InColumns bytes (line - 1) number column
-        go (inl (inl (one, _))) = absurd (omega arith)
-        go (inr (eleven, _)) = absurd (omega arith)
-        go (inl (inr decided)) =
-            let g = after bytes (line - 1) in
-            let columns = field-column d (g .state) (g .identifiers) text number column p q (decided .earned) in
-            (columns .0, columns .1, by (decided .earned))
-
     -- every other number: none.
     pub others-none : (number ≡ 1) ⊎ ((number ≡ 4) ⊎ (8 ≤ number)) → column ≡ 0
     others-none other = go other (why-found whole found)
@@ -137,10 +136,8 @@ module _ (bytes : List ℕ) (number line column : ℕ) where
         go : (number ≡ 1) ⊎ ((number ≡ 4) ⊎ (8 ≤ number)) → Why ⊎ ((number ≡ 11) × (column ≡ 0)) → column ≡ 0
         go _ (inl (inl (_, c))) = c
         go _ (inr (_, c)) = c
-        go (inr h) (inl (inr decided)) = let g = after bytes (line - 1) in no-column d (g .state) (g .identifiers) text number column h (decided .earned)
-        go (inl one) (inl (inr decided)) =
-            let g = after bytes (line - 1) in
-            absurd (omega (arith, earned-numbered d (g .state) (g .identifiers) text number column (decided .earned) .0))
+        go (inr h) (inl (inr decided)) = no-column d (g .state) (g .identifiers) text number column h (decided .earned)
+        go (inl one) (inl (inr decided)) = absurd (omega (arith, earned-numbered d (g .state) (g .identifiers) text number column (decided .earned) .0))
 
 -- WHICH COLUMN EACH FIELD BLAMES, over every layout: an unused column the one that is not blank, any other field the one that 02 gives its number.
 module _ (k : LineKind) (rules : Rules) (s : State) (line : List ℕ) (item : Item) (listed : Among item (itemsAt k rules s line)) where

@@ -18,7 +18,7 @@ use Rattle.file.specs.Table.{headerIn}
 use Rattle.file.proofs.Finding.{line-at-place}
 use Rattle.scan.specs.Run.{IsFile}
 use Rattle.reader.specs.Reading.{fileOf}
-use Rattle.questions.specs.Questions.{rowBegins, rowAnswer}
+use Rattle.questions.specs.Questions.{rowBegins, rowAnswer, noRow}
 use Rattle.float_row.specs.Floats.{floatRow}
 use Rattle.scan_laws.proofs.Files.{whole-taken}
 use Rattle.float_row.specs.Floats.{Exactly}
@@ -57,7 +57,13 @@ row-not-there bytes (t, e) k j missing = go (ltb k (header bytes .epochs)) (ltb 
     go true false some one = rw (e, whole-taken bytes t e, some, one)
     go false b some one = rw (e, whole-taken bytes t e, some)
 
--- A file that is refused: its own number, line and column come first, and both are absent.
+-- A file that is refused: its own number, line and column come first, where a row is asked for by its place,
+pub row-begins-refused : (bytes : List ℕ) (number line column : ℕ) → fileOf d bytes ≡ front.Refused number line column
+    → (k j : ℕ) → rowBegins d bytes (fileOf d bytes) k j ≡ noRow number line column
+unfolding rowBegins
+row-begins-refused bytes number line column e k j = rw e
+
+-- and where it is asked for as floats, both of which are then absent.
 pub row-refused : (bytes : List ℕ) (number line column : ℕ) → fileOf d bytes ≡ front.Refused number line column
     → (k j : ℕ) → asked bytes k j ≡ rowRefused number line column
 unfolding rowAnswer rowBegins

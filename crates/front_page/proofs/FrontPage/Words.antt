@@ -49,7 +49,7 @@ pub use Rattle.file_laws.proofs.Rule.{absentIn}
 pub use Rattle.scan_laws.specs.Lines.{Stands}
 pub use Rattle.laws.specs.Places.{PartAt}
 pub use Rattle.laws.proofs.Places as places
-pub use Rattle.questions.specs.Questions.{commentAnswer, textIn, commentLine, commentWords, noComment, noSatellite, satelliteAnswer}
+pub use Rattle.questions.specs.Questions.{rowBegins, noRow, commentAnswer, textIn, commentLine, commentWords, noComment, noSatellite, satelliteAnswer}
 pub use Rattle.questions.proofs.Theorems as asking
 pub use Rattle.questions.proofs.Theorems.{CommentPost}
 pub use Rattle.theorems.proofs.Judging as judging
