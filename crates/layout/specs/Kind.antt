@@ -11,6 +11,7 @@ use lib.Dec.{leb, ltb, eqb}
 use Rattle.laws.specs.Tests.{within}
 use Rattle.laws.specs.Texts.{every, isPrintable, blanks}
 use Rattle.field.specs.Digits.{isDigit}
+pub use Rattle.field.specs.Digits.{isBlank}
 use Rattle.field.specs.Read.{wholeOf, exponentOf, signedWholeOf, decimalOf}
 use Rattle.field.specs.Show.{fitsWhole, putWhole, fitsSigned, putSigned, fitsDecimal, putDecimal}
 use Rattle.field.specs.Sign.{largest}
@@ -151,10 +152,6 @@ isOneOf b (c ∷ cs) = eqb b c || isOneOf b cs
 abbrev pub isListed : List ℕ → List (List ℕ) → Bool
 isListed bs [] = false
 isListed bs (word ∷ these) = sameBytes bs word || isListed bs these
-
--- a blank
-abbrev pub isBlank : ℕ → Bool
-isBlank b = eqb b 32
 
 -- one of these letters, and blanks after it
 abbrev pub isLettered : List ℕ → List ℕ → Bool
