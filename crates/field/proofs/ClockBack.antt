@@ -19,7 +19,7 @@ use Rattle.field.specs.Clock.{sixNines, allNines, ninesBefore, hasPoint,
 use Rattle.field.specs.declared.Amount.{Amount}
 use Rattle.field.specs.declared.Amount.the-variants as amount
 use Rattle.laws.proofs.Bools.{and-left, and-right, and-both, and-false, tested, same-truth}
-use Rattle.field.proofs.Accepted.{decimal-taken}
+use Rattle.field.proofs.Accepted.{settled-sign, decimal-taken}
 use Rattle.field.proofs.Powers.{ten-pos}
 use Rattle.field.proofs.Fitting.{decimal-test, decimal-facts}
 use Rattle.field.proofs.Bounds.{places-after}
@@ -81,10 +81,6 @@ bare-fits s places e =
       sign = refl;
       absent = eq-eqb (allNines places) (allNines places) refl ∙ sym nines;
     }
-
-settled-sign : (k n : Bool) (m : ℕ) → (k && ltb 0 m) ≡ n → (not n || ltb 0 m) ≡ true
-settled-sign k true m e = and-right k (ltb 0 m) e
-settled-sign k false m e = refl
 
 -- a decimal
 read-fits : (s : List ℕ) (places : ℕ) (n : Bool) (m : ℕ) → decimalOf s places true ≡ amount.Value n m → Clocked s places n (clockHeld places n m)

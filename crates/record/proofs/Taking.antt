@@ -7,16 +7,18 @@ use Prim.Native.Nat.{ℕ, _-_, _≤_}
 use native.Mathlib.Omega.{arith}
 use lib.ListN.{length, drop, length-take}
 use Rattle.field.specs.Read.{decimalOf}
+use Rattle.field.specs.Clock.{clockOf}
 use Rattle.field.specs.Sign.{largest}
 use Rattle.layout.specs.Fault.{clean, keyed, lower}
 use Rattle.layout.specs.Kind.{named, identifierNumber, boundFault, amountFault, signHeld, amountHeld}
 use Rattle.layout.specs.Kind.Kind.{unused, fixed, signed, clock, identifier}
 use Rattle.layout.specs.Layout.{Item, columns, partAt, faultAt, faultFrom, valuesOf}
-use Rattle.record.specs.Rows.{bodyItems, flagItems, rowItems, rowFrom, rowFault, rowTaken, signedIn, cut}
+use Rattle.record.specs.Rows.{bodyItems, flagItems, rowItems, rowFrom, rowFault, rowTaken, signedIn, clockFieldIn, cut}
 use Rattle.field.specs.declared.Amount.{Amount}
 use Rattle.field.specs.declared.Amount.the-variants as amounts
 use Rattle.record.specs.declared.types.Signed.{Signed}
 use Rattle.field.proofs.KnownGood.{known-magnitude, known-negative}
+use Rattle.field.proofs.ClockBack.{clock-known}
 use Rattle.layout.proofs.Again.{item-clean}
 
 -- the number that a field of 14 columns says
@@ -34,6 +36,20 @@ module _ (bs : List ℕ) (narrow : length bs ≤ 17) (column : ℕ) where
   pub signed-taken : amountFault column 0 largest (decimalOf bs 6 true) ≡ clean
       → signedIn bs ≡ heldSigned bs
   signed-taken f = taken-by (decimalOf bs 6 true) refl f
+
+-- the clock that its field says
+abbrev heldClock : List ℕ → Signed
+heldClock bs = record { negative = signHeld (clockOf bs 6); magnitude = amountHeld (clockOf bs 6) }
+
+-- and so is a clock, an absent one too
+clock-taken : (bs : List ℕ) → length bs ≤ 17 → (column : ℕ) → amountFault column 0 largest (clockOf bs 6) ≡ clean → clockFieldIn bs ≡ heldClock bs
+clock-taken bs narrow column f = go (clockOf bs 6) refl f
+  where
+    go : (a : Amount) → clockOf bs 6 ≡ a → amountFault column 0 largest a ≡ clean → clockFieldIn bs ≡ record { negative = signHeld a; magnitude = amountHeld a }
+    go (amounts.Value n m) e h =
+        let known = clock-known bs 6 n m narrow e in
+        λ i. record { negative = (known .0) i; magnitude = (known .1) i }
+    go amounts.Malformed e h = absurd (omega arith)
 
 -- an identifier without fault is named
 identifier-taken : (bs : List ℕ) (column : ℕ) (t : Bool) → named bs ≡ t → cond t (boundFault column 1 99 (identifierNumber bs)) (keyed 6 column) ≡ clean
@@ -73,7 +89,7 @@ record Parts (line : List ℕ) : Type 0 where
   x : signedIn (cut 5 18 line) ≡ heldSigned (cut 5 18 line)
   y : signedIn (cut 19 32 line) ≡ heldSigned (cut 19 32 line)
   z : signedIn (cut 33 46 line) ≡ heldSigned (cut 33 46 line)
-  clock : signedIn (cut 47 60 line) ≡ heldSigned (cut 47 60 line)
+  clock : clockFieldIn (cut 47 60 line) ≡ heldClock (cut 47 60 line)
 
 parts : (line : List ℕ) → Sound line → Parts line
 parts line s = record {
@@ -81,7 +97,7 @@ parts line s = record {
   x = signed-taken (cut 5 18 line) (part-narrow 5 18 line (omega arith)) 5 (s .x);
   y = signed-taken (cut 19 32 line) (part-narrow 19 32 line (omega arith)) 19 (s .y);
   z = signed-taken (cut 33 46 line) (part-narrow 33 46 line (omega arith)) 33 (s .z);
-  clock = signed-taken (cut 47 60 line) (part-narrow 47 60 line (omega arith)) 47 (s .clock);
+  clock = clock-taken (cut 47 60 line) (part-narrow 47 60 line (omega arith)) 47 (s .clock);
 }
 
 pub row-taken : (velocity : Bool) (line : List ℕ) → rowFault velocity line ≡ clean → rowTaken velocity line ≡ rowFrom velocity (valuesOf (rowItems velocity) line)

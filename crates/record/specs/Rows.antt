@@ -8,6 +8,7 @@ use lib.Dec.{eqb}
 use lib.ListN.{getD, take, drop}
 use Rattle.field.specs.Read.{exponentOf}
 use Rattle.field.specs.Known.{knownMagnitude, knownNegative}
+use Rattle.field.specs.Clock.{clockHeld}
 use Rattle.layout.specs.Kind.{identifierCode, exponentHeld, exponent}
 use Rattle.layout.specs.Kind.Kind.{unused, fixed, signed, clock, flag, identifier}
 use Rattle.layout.specs.Kind.Held.{one, amount, mark}
@@ -112,6 +113,10 @@ cut first last line = take (last - (first - 1)) (drop (first - 1) line)
 abbrev pub signedIn : List ℕ → Signed
 signedIn bytes = record { negative = knownNegative bytes 6; magnitude = knownMagnitude bytes 6 }
 
+-- a clock or rate: such a field, and six nines with no minus are absent, which is held as twelve nines
+abbrev pub clockFieldIn : List ℕ → Signed
+clockFieldIn bytes = record { negative = knownNegative bytes 6; magnitude = clockHeld 6 (knownNegative bytes 6) (knownMagnitude bytes 6) }
+
 -- an exponent, or the number that stands for unknown
 abbrev pub exponentIn : List ℕ → ℕ
 exponentIn bytes = exponentHeld (exponentOf bytes)
@@ -127,7 +132,7 @@ rowTaken velocity line = record {
   x = signedIn (cut 5 18 line);
   y = signedIn (cut 19 32 line);
   z = signedIn (cut 33 46 line);
-  clock = signedIn (cut 47 60 line);
+  clock = clockFieldIn (cut 47 60 line);
   «x_exponent» = exponentIn (cut 62 63 line);
   «y_exponent» = exponentIn (cut 65 66 line);
   «z_exponent» = exponentIn (cut 68 69 line);
