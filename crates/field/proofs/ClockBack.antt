@@ -8,7 +8,7 @@ use native.Mathlib.Omega.{arith}
 use borrow.Author.Tests.{eqb-true, eq-eqb, ne-eqb, not-true}
 use lib.Arith.{digits-div}
 use lib.Dec.{ltb, eqb}
-use lib.ListN.{length, take, drop}
+use lib.ListN.{length, getD, take, drop}
 use lib.Seq.{length-take-le}
 use Rattle.laws.specs.Texts.{every}
 use Rattle.field.specs.Digits.{isBlank, valueFrom, pointOf}
@@ -58,12 +58,14 @@ nines-fit : (w places : ℕ) → w ≤ 18 → places < w → fitsInteger (pointO
 nines-fit w places narrow room fits =
     sym (decimal-test w places false (allNines places) narrow room) ∙ ap (fitsInteger (pointOf places w) false) (nines-whole places) ∙ fits
 
--- what a clock field says of what was read from it: it fits, it is held as it is, minus zero is zero, and it is absent where six nines say so
+-- what a clock field says of what was read from it: it fits, it is held as it is, minus zero is zero, it is absent where six nines say so, and the point
+-- stands
 pub record Clocked (s : List ℕ) (places : ℕ) (n : Bool) (m : ℕ) : Type 0 where
   pub fits : fitsDecimal (length s) places n m ≡ true
   pub kept : clockKept places n m ≡ true
   pub sign : (not n || ltb 0 m) ≡ true
   pub absent : (not n && eqb m (allNines places)) ≡ ninesBefore s places
+  pub point : getD s (pointOf places (length s)) 0 ≡ 46
 
 -- six nines, the point and blanks
 bare-fits : (s : List ℕ) (places : ℕ) → bareNines s places ≡ true → Clocked s places false (allNines places)
@@ -80,6 +82,7 @@ bare-fits s places e =
       kept = nines-kept places;
       sign = refl;
       absent = eq-eqb (allNines places) (allNines places) refl ∙ sym nines;
+      point = f .point;
     }
 
 -- a decimal
@@ -98,6 +101,7 @@ read-fits s places n m e = go (isNines places n m) refl
           kept = nines-kept places;
           sign = refl;
           absent = eq-eqb (allNines places) (allNines places) refl ∙ sym (nines-are s places n m e ∙ q);
+          point = decimal-taken s places true n m e .point;
         })
     go false q =
         let c = decimal-taken s places true n m e .parts in
@@ -106,6 +110,7 @@ read-fits s places n m e = go (isNines places n m) refl
           kept = rw q refl;
           sign = settled-sign (c .minus) n m (c .sign);
           absent = none (eqb m (allNines places)) refl ∙ sym (nines-are s places n m e ∙ q);
+          point = decimal-taken s places true n m e .point;
         }
       where
         none : (t : Bool) → eqb m (allNines places) ≡ t → (not n && t) ≡ false
