@@ -2,23 +2,22 @@
 -- Assumes nothing.
 use mathlib.Core.Path.{_≡_, refl, sym, _∙_, ap, subst₂}
 use mathlib.Core.List.{List}
-use mathlib.Core.Bool.{Bool, true, false, cond, not, _&&_, _||_}
+use mathlib.Core.Bool.{Bool, true, false, cond, not, _&&_, _||_, or-true}
 use Prim.Native.Nat.{ℕ, _+_, _*_, _/_, _^_, _<_, _≤_}
 use native.Mathlib.Omega.{arith}
-use borrow.Author.Tests.{eqb-true, eq-eqb, ne-eqb, not-true}
+use borrow.Author.Tests.{eqb-true, eq-eqb, not-true}
 use lib.Arith.{digits-div}
 use lib.Dec.{ltb, eqb}
 use lib.ListN.{length, getD, take, drop}
 use lib.Seq.{length-take-le}
-use Rattle.laws.specs.Texts.{every}
-use Rattle.field.specs.Digits.{isBlank, valueFrom, pointOf}
+use Rattle.field.specs.Digits.{valueFrom, pointOf}
 use Rattle.field.specs.Known.{knownMagnitude, knownNegative}
 use Rattle.field.specs.Read.{decimalOf}
 use Rattle.field.specs.Show.{shownNegative, fitsInteger, fitsWhole, showDecimal, fitsDecimal}
-use Rattle.field.specs.Clock.{sixNines, allNines, ninesBefore, hasPoint, isNines, clockHeld, clockKept, bareNines, bareClock, clockOf}
+use Rattle.field.specs.Clock.{sixNines, allNines, ninesBefore, hasPoint, isNines, clockHeld, clockKept, bareNines, clockOf}
 use Rattle.field.specs.declared.Amount.{Amount}
 use Rattle.field.specs.declared.Amount.the-variants as amount
-use Rattle.laws.proofs.Bools.{and-left, and-right, and-both, and-false, tested, same-truth}
+use Rattle.laws.proofs.Bools.{and-left, and-right, and-false, tested}
 use Rattle.field.proofs.Accepted.{settled-sign, decimal-taken}
 use Rattle.field.proofs.Powers.{ten-pos}
 use Rattle.field.proofs.Fitting.{decimal-test, decimal-facts}
@@ -31,10 +30,6 @@ use Rattle.field.proofs.Clocks.{nines-whole, nines-are, clock-decimal, 
 nines-kept : (places : ℕ) → clockKept places false (allNines places) ≡ true
 unfolding clockKept
 nines-kept places = rw (eq-eqb (allNines places) (allNines places) refl) (or-true (not (isNines places false (allNines places))))
-  where
-    or-true : (t : Bool) → (t || true) ≡ true
-    or-true true = refl
-    or-true false = refl
 
 -- what is kept is held as it is
 held-kept : (places : ℕ) (negative : Bool) (m : ℕ) → clockKept places negative m ≡ true → clockHeld places negative m ≡ m

@@ -19,7 +19,6 @@ use Rattle.field.specs.Show.{signWidth}
 use Rattle.field.specs.Clock.{sixNines, allNines, isSixNines, ninesBefore, hasPoint, clockMissing, clockOf, isNines, clockHeld, bareNines, bareClock}
 use Rattle.field.specs.declared.Whole.{Whole}
 use Rattle.field.specs.declared.Whole.the-variants as whole
-use Rattle.field.specs.declared.Amount.{Amount}
 use Rattle.field.specs.declared.Amount.the-variants as amount
 use Rattle.laws.proofs.Bools.{and-left, and-right, and-true, and-false}
 use Rattle.field.proofs.Blanks.{blanks-within, blank-all}

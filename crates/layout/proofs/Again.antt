@@ -1,7 +1,7 @@
 -- A line without fault can be shown again: each of its fields can hold what it holds. One law over every kind, then over every layout.
 -- Assumes nothing.
 use mathlib.Core.Path.{_≡_, refl, sym, ap, _∙_}
-use mathlib.Core.Bool.{Bool, true, false, cond, not, _&&_, _||_}
+use mathlib.Core.Bool.{Bool, true, false, cond, _&&_, _||_}
 use mathlib.Core.List.{List, [], _∷_}
 use Prim.Native.Nat.{ℕ, zero, suc, _-_, min, _<_, _≤_}
 use native.Mathlib.Omega.{arith}

@@ -4,9 +4,7 @@ use mathlib.Core.Path.{_≡_, _∙_, ap, sym}
 use Prim.Native.Nat.{ℕ, _+_, _-_, _*_, _/_, _^_}
 use native.Mathlib.Omega.{arith}
 use borrow.Author.Needs.{needs}
-use borrow.Author.Tests.{not-true}
-use Rattle.field.specs.Scale.{tenTo}
-use Rattle.field.specs.Clock.{sixNines, clockHeld}
+use Rattle.field.specs.Clock.{sixNines}
 use Rattle.field.proofs.Powers.{ten-pos}
 use Rattle.field.proofs.Clocks.{held-minus, held-other, held-nines, held-wide, nines-places, unit-is}
 use Rattle.field.proofs.known.clock_held.Statement.{statement}
