@@ -25,7 +25,7 @@ use Rattle.field.proofs.Bounds.{places-after}
 use Rattle.field.proofs.KnownGood.{known-folded, known-magnitude, known-negative, whole-known, blanks-carry}
 use Rattle.field.proofs.Back.{decimal-back}
 use Rattle.field.proofs.Again.{whole-again, decimal-again}
-use Rattle.field.proofs.Clocks.{nines-whole, nines-are, clock-decimal, clock-bare, point-facts, nines-read}
+use Rattle.field.proofs.Clocks.{nines-whole, nines-tell, clock-decimal, clock-bare, point-facts, nines-read}
 
 nines-kept : (places : ℕ) → clockKept places false (allNines places) ≡ true
 unfolding clockKept
@@ -95,7 +95,7 @@ read-fits s places n m e = go (isNines places n m) refl
           fits = nines-fit (length s) places (facts .0) (facts .1) fits;
           kept = nines-kept places;
           sign = refl;
-          absent = eq-eqb (allNines places) (allNines places) refl ∙ sym (nines-are s places n m e ∙ q);
+          absent = eq-eqb (allNines places) (allNines places) refl ∙ sym (nines-tell s places n m e ∙ q);
           point = decimal-taken s places true n m e .point;
         })
     go false q =
@@ -104,7 +104,7 @@ read-fits s places n m e = go (isNines places n m) refl
           fits = decimal-again s places true n m e;
           kept = rw q refl;
           sign = settled-sign (c .minus) n m (c .sign);
-          absent = none (eqb m (allNines places)) refl ∙ sym (nines-are s places n m e ∙ q);
+          absent = none (eqb m (allNines places)) refl ∙ sym (nines-tell s places n m e ∙ q);
           point = decimal-taken s places true n m e .point;
         }
       where

@@ -6,23 +6,22 @@ use mathlib.Core.Bool.{Bool, true, false, cond, not, _&&_, _||_}
 use Prim.Native.Nat.{ℕ, zero, suc, _+_, _-_, _*_, _/_, _^_, _<_, _≤_}
 use native.Mathlib.Nat.{div-lt-iff-lt-mul}
 use native.Mathlib.Omega.{arith}
-use borrow.Author.Tests.{leb-true, leb-false, ltb-true, ltb-false, eqb-true, eq-eqb, ne-eqb, le-leb, lt-leb, lt-ltb, le-ltb, not-true}
+use borrow.Author.Tests.{leb-true, leb-false, ltb-true, ltb-false, eqb-true, eqb-false, eq-eqb, ne-eqb, le-leb, lt-leb, lt-ltb, le-ltb, not-true}
 use lib.Arith.{digits-div}
 use lib.Dec.{leb, ltb, eqb}
 use lib.ListN.{length, getD, take, drop}
 use lib.Seq.{length-take-le}
 use Rattle.laws.specs.Texts.{every}
 use Rattle.field.specs.Digits.{blanksOf, trim, isBlank, allDigits, valueFrom, pointOf}
-use Rattle.field.specs.Scale.{tenTo}
 use Rattle.field.specs.Read.{numberOf, wholeOf, minusFirst, withSign, integerOf, settled, carried, decimalOf}
 use Rattle.field.specs.Show.{signWidth}
 use Rattle.field.specs.Clock.{sixNines, allNines, isSixNines, ninesBefore, hasPoint, clockMissing, clockOf, isNines, clockHeld, bareNines, bareClock}
 use Rattle.field.specs.declared.Whole.{Whole}
 use Rattle.field.specs.declared.Whole.the-variants as whole
 use Rattle.field.specs.declared.Amount.the-variants as amount
-use Rattle.laws.proofs.Bools.{and-left, and-right, and-true, and-false}
+use Rattle.laws.proofs.Bools.{and-left, and-right, and-both, and-true, and-false, same-truth}
 use Rattle.field.proofs.Blanks.{blanks-within, blank-all}
-use Rattle.field.proofs.Powers.{ten-pos, ten-mono, ten-to-is, ten-to-above}
+use Rattle.field.proofs.Powers.{ten-pos, ten-mono}
 use Rattle.field.proofs.Texts.{carried-from, first-digit}
 use Rattle.field.proofs.Reading.{whole-read, minus-none, signed-plain, decimal-read}
 use Rattle.field.proofs.Accepted.{Taken, whole-taken, number-taken, digits-taken, signed-taken, decimal-taken}
@@ -86,9 +85,9 @@ module _ (s : List ℕ) (places : ℕ) (n : Bool) (m : ℕ) (e : decimalOf s pla
       ∙ carried-from after (c .high) (c .digits)
 
   -- six nines stand before its point exactly where its value says so and it has no minus
-  pub nines-are : ninesBefore s places ≡ isNines places n m
+  pub nines-tell : ninesBefore s places ≡ isNines places n m
   unfolding ninesBefore
-  nines-are =
+  nines-tell =
       let c = taken .parts in
       let before = take (pointOf places (length s)) s in
       let wide : length before ≡ pointOf places (length s) = length-take-le (pointOf places (length s)) s (omega arith) in
@@ -109,7 +108,7 @@ module _ (s : List ℕ) (places : ℕ) (n : Bool) (m : ℕ) (e : decimalOf s pla
   -- A DECIMAL is a clock as it stands, but for six nines, which are all nines.
   pub clock-decimal : clockOf s places ≡ amount.Value n (clockHeld places n m)
   unfolding clockOf clockMissing clockHeld
-  clock-decimal = rw (pointed, taken .parts .digits, nines-are, and-true (isNines places n m), e) (go (isNines places n m) refl)
+  clock-decimal = rw (pointed, taken .parts .digits, nines-tell, and-true (isNines places n m), e) (go (isNines places n m) refl)
     where
       go : (t : Bool) → isNines places n m ≡ t → cond t (amount.Value false (allNines places)) (amount.Value n m) ≡ amount.Value n (cond t (allNines places) m)
       go true q = rw (not-true n (and-left (not n) _ q))
@@ -229,11 +228,11 @@ module _ (places m : ℕ) where
   unfolding clockHeld
   held-minus = refl
 
-  pub held-other : (m / 10 ^ places ≡ sixNines → ⊥) → m ≡ clockHeld places false m
+  held-other : (m / 10 ^ places ≡ sixNines → ⊥) → m ≡ clockHeld places false m
   unfolding clockHeld
   held-other n = rw (ne-eqb (m / 10 ^ places) sixNines n)
 
-  pub held-nines : m / 10 ^ places ≡ sixNines → allNines places ≡ clockHeld places false m
+  held-nines : m / 10 ^ places ≡ sixNines → allNines places ≡ clockHeld places false m
   unfolding clockHeld
   held-nines e = rw (eq-eqb (m / 10 ^ places) sixNines e)
 
@@ -246,25 +245,41 @@ module _ (places m : ℕ) where
       go false h = ltb-false m (sixNines * 10 ^ places) h
 
   -- so in 64 bits there are 13 places at most
-  pub nines-places : m < 2 ^ 64 → m / 10 ^ places ≡ sixNines → 10 ^ places ≤ 10 ^ 13
+  nines-places : m < 2 ^ 64 → m / 10 ^ places ≡ sixNines → 10 ^ places ≤ 10 ^ 13
   nines-places small e = go (leb places 13) refl
     where
       go : (t : Bool) → leb places 13 ≡ t → 10 ^ places ≤ 10 ^ 13
       go true h = ten-mono {i = places} {j = 13} (leb-true places 13 h)
       go false h = absurd (omega (arith, nines-least e, ten-mono {i = 14} {j = places} (leb-false places 13 h)))
 
-  -- and 19 places or more hold no six nines
-  pub held-wide : m < 2 ^ 64 → tenTo places ≡ 0 → m ≡ clockHeld places false m
-  held-wide small none = held-other (λ e. go (leb places 18) refl e)
-    where
-      go : (t : Bool) → leb places 18 ≡ t → m / 10 ^ places ≡ sixNines → ⊥
-      go true h e = omega (arith, ten-to-is places (leb-true places 18 h), ten-pos places)
-      go false h e = omega (arith, nines-places small e, ten-mono {i = 19} {j = places} (leb-false places 18 h))
+  -- with more places there are no six nines
+  pub held-wide : m < 2 ^ 64 → 13 < places → m ≡ clockHeld places false m
+  held-wide small more = held-other (λ e. omega (arith, nines-places small e, ten-mono {i = 14} {j = places} more))
 
--- a power of ten that is not 0 is one
-pub unit-is : (places : ℕ) → (tenTo places ≡ 0 → ⊥) → tenTo places ≡ 10 ^ places
-unit-is places some = go (leb places 18) refl
-  where
-    go : (t : Bool) → leb places 18 ≡ t → tenTo places ≡ 10 ^ places
-    go true h = ten-to-is places (leb-true places 18 h)
-    go false h = absurd (some (ten-to-above places (leb-false places 18 h)))
+  -- six nines before the point: from the number before them to all nines
+  nines-range : (ltb (allNines places - 10 ^ places) m && leb m (allNines places)) ≡ eqb (m / 10 ^ places) sixNines
+  nines-range =
+      same-truth (ltb (allNines places - 10 ^ places) m && leb m (allNines places)) (eqb (m / 10 ^ places) sixNines)
+      (λ t. eq-eqb (m / 10 ^ places) sixNines (inside (ltb-true _ m (and-left _ (leb m (allNines places)) t)) (leb-true m _ (and-right (ltb (allNines places - 10 ^ places) m) _ t))))
+      (λ t. outside (eqb-true (m / 10 ^ places) sixNines t))
+    where
+      inside : allNines places - 10 ^ places < m → m ≤ allNines places → m / 10 ^ places ≡ sixNines
+      inside low high =
+          let t = 10 ^ places in
+          let some : 1 ≤ t = ten-pos places in
+          let below : m - sixNines * t < t = omega arith in
+          let parts : m ≡ sixNines * t + (m - sixNines * t) = omega arith in
+          ap (λ (n : ℕ). n / t) parts ∙ digits-div sixNines below
+
+      outside : m / 10 ^ places ≡ sixNines → (ltb (allNines places - 10 ^ places) m && leb m (allNines places)) ≡ true
+      outside e =
+          let some : 1 ≤ 10 ^ places = ten-pos places in
+          let low = nines-least e in
+          let high : m < (sixNines + 1) * 10 ^ places = div-lt-iff-lt-mul {k = 10 ^ places} {x = m} {y = sixNines + 1} (ten-pos places) .0 (omega (arith, e)) in
+          and-both (ltb (allNines places - 10 ^ places) m) _ (lt-ltb _ m (omega arith)) (le-leb m _ (omega arith))
+
+  pub held-inside : (ltb (allNines places - 10 ^ places) m && leb m (allNines places)) ≡ true → allNines places ≡ clockHeld places false m
+  held-inside t = held-nines (eqb-true (m / 10 ^ places) sixNines (sym nines-range ∙ t))
+
+  pub held-outside : (ltb (allNines places - 10 ^ places) m && leb m (allNines places)) ≡ false → m ≡ clockHeld places false m
+  held-outside t = held-other (eqb-false (m / 10 ^ places) sixNines (sym nines-range ∙ t))

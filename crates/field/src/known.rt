@@ -87,6 +87,9 @@ pub fn is_negative(s: &[u8], places: usize, magnitude: u64) -> bool
 // The whole part of a clock that is absent.
 pub const SIX_NINES: u64 = 999_999;
 
+// The most places with which six nines are a number of 64 bits.
+const MOST_PLACES: usize = 13;
+
 // Six nines and nines in every place, where the last place is one of so many of a whole.
 pub(crate) fn all_nines(unit: u64) -> u64
     requires { ⌜ (1 ≤ unit) × (unit ≤ 10 ^ 13) ⌝ }
@@ -103,12 +106,13 @@ pub fn clock_held(negative: bool, magnitude: u64, places: usize) -> u64
     if negative {
         return magnitude;
     }
+    if places > MOST_PLACES {
+        return magnitude;
+    }
     let unit = scale::ten_to(places);
-    if unit == 0 {
-        return magnitude;
+    let nines = all_nines(unit);
+    if (nines - unit < magnitude) & (magnitude <= nines) {
+        return nines;
     }
-    if magnitude / unit != SIX_NINES {
-        return magnitude;
-    }
-    all_nines(unit)
+    magnitude
 }
