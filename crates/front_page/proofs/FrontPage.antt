@@ -485,7 +485,7 @@ module _ (bytes : List ℕ) (t : Tally) (accepted : fileOf d bytes ≡ front.Fil
   walk-at k j there present = walked.walk-at bytes t accepted identifiers identified k j there present
 
   -- its clock marked absent exactly when columns 47 to 53 of its line hold 999999 without a minus, by the door for C too,
-  pub walk-clock : (k j : ℕ) → There bytes k j → rowGiven (walkStep bytes identifiers (rowAt bytes k j)) .«clock_absent» ≡ sixNinesIn (lineAsked false bytes k j)
+  pub walk-clock : (k j : ℕ) → There bytes k j → rowOfStep (walkStep bytes identifiers (rowAt bytes k j)) .«clock_absent» ≡ sixNinesIn (lineAsked false bytes k j)
   walk-clock k j there = walked.walk-clock bytes t accepted identifiers identified k j there
 
   pub door-walk-clock : (from : RowWalk) (k j : ℕ) → There bytes k j

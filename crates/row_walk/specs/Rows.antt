@@ -87,8 +87,8 @@ abbrev pub rowStep : Rules → List ℕ → List ℕ → RowWalk → RowStep
 rowStep rules file identifiers w = stepFrom rules file identifiers (w .passed) (rowAhead rules file identifiers (w .spot))
 
 -- the row that a step gives; one that gives none has it absent in both parts
-abbrev pub rowGiven : RowStep → FloatRow
-rowGiven (step.At epoch satellite row next) = row
-rowGiven (step.Absent epoch satellite row next) = row
-rowGiven step.End = absentRow
-rowGiven (step.Refused number line column) = absentRow
+abbrev pub rowOfStep : RowStep → FloatRow
+rowOfStep (step.At epoch satellite row next) = row
+rowOfStep (step.Absent epoch satellite row next) = row
+rowOfStep step.End = absentRow
+rowOfStep (step.Refused number line column) = absentRow

@@ -16,7 +16,7 @@ use Rattle.stored_row.specs.declared.types.NoteDeviation.{NoteDeviation}
 use Rattle.stored_row.specs.declared.types.NoteDeviation.the-variants as noteDeviation
 use Rattle.stored_row.specs.declared.types.NoteCorrelation.{NoteCorrelation}
 use Rattle.stored_row.specs.declared.types.NoteCorrelation.the-variants as noteCorrelation
-use Rattle.row_walk.specs.Rows.{rowGiven}
+use Rattle.row_walk.specs.Rows.{rowOfStep}
 use Rattle.row_walk.specs.declared.types.RowWalk.{RowWalk}
 use Rattle.row_walk.specs.declared.types.RowStep.{RowStep}
 use Rattle.row_walk.specs.declared.types.RowStep.the-variants as step
@@ -138,7 +138,7 @@ clock-mark c absent v e = ap (λ (k : ClockRead). clockDoor k .absent) e ∙ go 
     go true = refl
     go false = refl
 
-pub row-clock-mark : (from : RowWalk) (s : RowStep) (absent : Bool) → rowGiven s .«clock_absent» ≡ absent → rowDoor from s .row .«clock_absent» ≡ absent
+pub row-clock-mark : (from : RowWalk) (s : RowStep) (absent : Bool) → rowOfStep s .«clock_absent» ≡ absent → rowDoor from s .row .«clock_absent» ≡ absent
 unfolding rowDoor
 row-clock-mark from (step.At epoch satellite row next) absent e = e
 row-clock-mark from (step.Absent epoch satellite row next) absent e = e

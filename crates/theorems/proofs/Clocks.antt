@@ -63,7 +63,7 @@ module _ (first : ℕ) (line : List ℕ) (wide : length line ≡ 80) (within : f
   last-six =
       ap (λ (p : ℕ). drop (p + 1) (take 14 (drop first line))) point-at
       ∙ front-rest 8 14 (drop first line)
-      ∙ ap (take 6) (drop-drop 8 first line ∙ ap (λ (n : ℕ). drop n line) (omega arith))
+      ∙ ap (take 6) (drop-drop 8 first line)
 
   first-seven : take (pointOf 6 (length (take 14 (drop first line)))) (take 14 (drop first line)) ≡ take 7 (drop first line)
   first-seven = ap (λ (p : ℕ). take p (take 14 (drop first line))) point-at ∙ take-take 7 14 (drop first line) (omega arith)

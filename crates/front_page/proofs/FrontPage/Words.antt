@@ -97,7 +97,7 @@ pub use Rattle.scan.specs.declared.Front.the-variants as front
 pub use Rattle.divide.specs.declared.Division.{Division}
 pub use Rattle.line_walk.specs.declared.Walker.{Walker}
 pub use Rattle.row_walk.specs.declared.types.RowWalk.{RowWalk}
-pub use Rattle.row_walk.specs.Rows.{lineNumber, rowStep, rowGiven}
+pub use Rattle.row_walk.specs.Rows.{lineNumber, rowStep, rowOfStep}
 pub use Rattle.sp3.specs.Doors.{clockDoor, rowDoor}
 pub use Rattle.sp3.proofs.Marks.{clock-mark, row-clock-mark}
 pub use Rattle.row_walk.specs.declared.types.RowStep.the-variants as step
