@@ -88,13 +88,13 @@ clock-says line wide f = go (clockOf bytes 6) refl f
         let front : take (pointOf 6 (length bytes)) bytes ≡ cut 47 53 line = ap (λ (k : ℕ). take k bytes) point-at ∙ take-take 7 14 (drop 46 line) (omega arith) in
         record {
           absent =
-            subst₂ (λ (k : Bool) (v : ℕ). clockAbsent k v ≡ isSixNines (wholeOf (cut 47 53 line))) (sym (known .0)) (sym (known .1))
-            (c .absent ∙ ap (λ (s : List ℕ). isSixNines (wholeOf s)) front);
+              subst₂ (λ (k : Bool) (v : ℕ). clockAbsent k v ≡ isSixNines (wholeOf (cut 47 53 line))) (sym (known .0)) (sym (known .1))
+              (c .absent ∙ ap (λ (s : List ℕ). isSixNines (wholeOf s)) front);
           point =
-            sym (getD-drop 46 line 7 0)
-            ∙ sym (getD-take 14 (drop 46 line) 7 0 (omega arith))
-            ∙ ap (λ (k : ℕ). getD bytes k 0) (sym point-at)
-            ∙ c .point;
+              sym (getD-drop 46 line 7 0)
+              ∙ sym (getD-take 14 (drop 46 line) 7 0 (omega arith))
+              ∙ ap (λ (k : ℕ). getD bytes k 0) (sym point-at)
+              ∙ c .point;
           kept = subst₂ (λ (k : Bool) (v : ℕ). clockKept 6 k v ≡ true) (sym (known .0)) (sym (known .1)) (c .kept);
         }
     go amounts.Malformed e h = absurd (omega arith)

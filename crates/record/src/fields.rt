@@ -438,7 +438,12 @@ pub(crate) fn correlation_in(lowest: usize, line: &[u8; 80], first: usize, last:
     if is_blank(bytes) {
         return lowest;
     }
-    amount_fault(lowest, field::read::signed_whole(bytes), LARGEST_CORRELATION, first)
+    amount_fault(
+        lowest,
+        field::read::signed_whole(bytes),
+        LARGEST_CORRELATION,
+        first,
+    )
 }
 
 // A flag: its letter or blank.
