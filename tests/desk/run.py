@@ -20,7 +20,7 @@ import threading
 import expected
 import refusals
 from expected import ROOT, of_model, refused
-from refusals import PAPER, after_row, as_content, changed, make
+from refusals import PAPER, after_row, as_content, changed, make, moving, with_clock
 
 SEED = 20130403
 GENERATED = 80
@@ -173,7 +173,7 @@ def about(name):
 
 
 def test_damaged(desk):
-    """Each of the refusals 1 to 11, by each command; then the columns."""
+    """Each of the refusals 1 to 11, by each command; then the columns, and clocks that are none."""
     assert {number for _, number, _, _ in refusals.damaged()} == set(range(1, 12))
     for content, *refusal in refusals.damaged():
         content = as_content(content)
@@ -181,7 +181,7 @@ def test_damaged(desk):
         for words in [*about(name), ["row", name, "9", "0"]]:
             desk.expect_refused(words, refused(name, *refusal, content))
         expect_refusal(desk, content, refusal)
-    for content, *refusal in refusals.columned():
+    for content, *refusal in [*refusals.columned(), *refusals.clocked()]:
         expect_refusal(desk, as_content(content), refusal)
 
 
@@ -231,6 +231,58 @@ def test_edges(desk):
         desk.expect(["row", name, "0", satellite], 1, "", refused(f"{name}: satellite {satellite}", 13))
     for k in ("4", "18446744073709551615"):
         desk.expect(["comment", name, k], 1, "", refused(f"{name}: comment {k}", 13))
+
+
+ABSENT_CLOCKS = (" 999999.999999", " 999999.000000", " 999999.999998", " 999999.123456", "0999999.123456", "0999999.000000", " 999999.      ",
+                 "0999999.      ", " 999999.", "0999999.", " 999999.   ")
+CLOCKS = ((" 999998.999999", 999_998_999_999), ("0999998.000000", 999_998_000_000), ("-999999.000000", -999_999_000_000),
+          ("-999999.999999", -999_999_999_999), ("-999999.123456", -999_999_123_456), (" 099999.000000", 99_999_000_000), ("     -0.000000", 0))
+
+
+def clock_of_paper(text, number):
+    """What is told of the paper's file, with another number for its absent clock."""
+    return text if number is None else text.replace("         absent", f"{number:15}").replace("clocks known 0 absent 1", "clocks known 1 absent 0")
+
+
+def test_clocks(desk):
+    """Every spelling of an absent clock is told and written as the paper's own, in a row with nothing after it and in one with exponents and flags;
+    clocks beside them are told as their numbers."""
+    for spelt, number in [*((spelt, None) for spelt in ABSENT_CLOCKS), *CLOCKS]:
+        form = PAPER if number is None else with_clock(PAPER, 24, make.fixed(number, 6, 14))
+        shown = "absent" if number is None else f"{number} ps"
+        for after in ("", " 18 99    219 EP  MP"):
+            columns = spelt.ljust(14) + after if after else spelt
+            content, table = make.joined(with_clock(PAPER, 24, columns)), clock_of_paper(PAPER_TABLE, number)
+            table = table.replace(" -  -  -   - ....", "18  >  - 219 EPMP") if after else table
+            name = desk.file("clock.sp3", content)
+            assert expected.table(desk.oracles.judged(content)[1]) == table, columns
+            desk.expect(["check", name], 0, clock_of_paper(paper_checked(name, "EP 0 EV 0"), number))
+            desk.expect(["table", name], 0, table)
+            desk.expect(["row", name, "0", "G07"], 0,
+                        f"epoch 0 2013-04-03 00:00:00.00000000\nsatellite 0 G07\nplace 5000000001 -500000 0 mm\nclock {shown}\n")
+            desk.expect(["rewrite", name], 0, make.joined(form[:23] + [form[23] + after] + form[24:]))
+            desk.expect(["divide", "-"], 0, expected.divide([len(content), len(make.joined(PAPER))]), stdin=content + make.joined(PAPER))
+
+
+def test_rates(desk):
+    """The same of the rate in a V row, line 30 of samples/velocity.sp3; there `check` counts the clocks of P rows alone."""
+    for spelt, number in [*((spelt, None) for spelt in ABSENT_CLOCKS), *CLOCKS]:
+        model = make.velocity()
+        model.rows[0][1][1].clock = number
+        content, held = make.joined(with_clock(moving(), 30, spelt)), of_model(model)
+        name = desk.file("rate.sp3", content)
+        assert expected.table(desk.oracles.judged(content)[1]) == expected.table(held), spelt
+        desk.expect(["check", name], 0, expected.check(name, of_model(make.velocity())))
+        desk.expect(["table", name], 0, expected.table(held))
+        desk.expect(["rewrite", name], 0, make.joined(make.file_lines(model)))
+
+
+def test_nines_in_places(desk):
+    """Six nines in x, y or z are a coordinate."""
+    for first, place in ((5, "999999000000 -500000 0"), (19, "5000000001 999999000000 0"), (33, "5000000001 -500000 999999000000")):
+        name = desk.file("nines.sp3", changed(24, first, " 999999.000000"))
+        desk.expect(["row", name, "0", "0"], 0, f"epoch 0 2013-04-03 00:00:00.00000000\nsatellite 0 G07\nplace {place} mm\nclock absent\n")
+        desk.expect(["rewrite", name], 0, make.joined(changed(24, first, " 999999.000000")))
 
 
 def ep_line(*fields):
@@ -300,12 +352,14 @@ def test_moving_notes(desk):
 
 
 def test_samples(desk):
-    """The stored samples, by the numbers that they were made from; one that is refused, which README.md shows."""
+    """The stored samples, by the numbers that they were made from; one that is refused, which README.md shows; one with every spelling of an absent
+    clock, which the canonical form writes in one way."""
     late = str(ROOT / "samples/late.sp3")
     desk.expect(["check", late], 1, refused(late, 9, 23, 0, make.samples()["late.sp3"]))
     models, files = {"day.sp3": make.day(), "velocity.sp3": make.velocity(), "correlations.sp3": make.correlations()}, make.season_files()
+    models["six-nines.sp3"] = make.six_nines()
     for sample, model in models.items():
-        name, held, form = str(ROOT / "samples" / sample), of_model(model), make.samples()[sample]
+        name, held, form = str(ROOT / "samples" / sample), of_model(model), make.joined(make.file_lines(model))
         desk.expect(["check", name], 0, expected.check(name, held))
         desk.expect(["table", name], 0, expected.table(held))
         desk.expect(["rewrite", name], 0, form)
@@ -574,8 +628,9 @@ def expect_without_memory(desk, words, out, content, tool):
 
 def main():
     desk = Desk(pathlib.Path(sys.argv[1]).resolve())
-    for test in (test_paper, test_dates, test_damaged, test_causes, test_pictures, test_edges, test_notes, test_moving_notes, test_samples,
-                 test_generated, test_usage, test_numbers, test_inputs, test_pipes, test_many, test_outputs, test_failing, test_large):
+    for test in (test_paper, test_dates, test_damaged, test_causes, test_pictures, test_edges, test_clocks, test_rates, test_nines_in_places,
+                 test_notes, test_moving_notes, test_samples, test_generated, test_usage, test_numbers, test_inputs, test_pipes, test_many,
+                 test_outputs, test_failing, test_large):
         test(desk)
     print(f"desk: {desk.passed} tests passed")
 
