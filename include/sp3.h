@@ -121,9 +121,8 @@ typedef struct {
 
 /* Writes the canonical form of a table into the first bytes of `out`, an absent clock as ` 999999.999999`. Places of the lists past the header's
  * counts are not looked at.
- * Refused: 13 where the table is not valid (1000 among the exponents of the header, a flag of 2, a clock of 999,999,000,000 or any other above
- * 999,998,999,999 but SP3_NO_CLOCK, a deviation beside a row without its record, a list shorter than its count); then 12 where `out` is one byte
- * too short. */
+ * Refused: 13 where the table is not valid (1000 among the exponents of the header, a flag of 2, a clock above 999,998,999,999 that is not
+ * SP3_NO_CLOCK, a deviation beside a row without its record, a list shorter than its count); then 12 where `out` is one byte too short. */
 sp3_measured_t sp3_write(sp3_header_t header, const uint64_t *identifiers, size_t identifier_count, const uint64_t *exponents,
                          size_t exponent_count, const uint8_t *comments, size_t comment_bytes, const int64_t *rows, size_t row_numbers,
                          uint8_t *out, size_t out_room);

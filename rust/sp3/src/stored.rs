@@ -67,11 +67,11 @@ pub fn place_of(rows: &[i64], k: usize) -> Result<Option<[i64; 3]>, Refusal> {
 /// assert_eq!(sp3::clock_of(&rows, 0)?, Some(0));
 /// rows[3] = 999_999_999_999;
 /// assert_eq!(sp3::clock_of(&rows, 0)?, None);
+/// assert_eq!(sp3::clock_of(&rows, 1), Err(sp3::Refusal { number: 13, line: 0, column: 0 }));
 ///
 /// let table = sp3::Table::read(include_bytes!("../../../samples/six-nines.sp3"))?;
-/// assert_eq!(table.clock_of(0)?, None, "999999.000000");
-/// assert_eq!(table.clock_of(8)?, Some(-999_999_000_000), "-999999.000000");
-/// assert_eq!(sp3::clock_of(&rows, 1), Err(sp3::Refusal { number: 13, line: 0, column: 0 }));
+/// assert_eq!(sp3::clock_of(&table.rows, 0)?, None, "999999.000000");
+/// assert_eq!(sp3::clock_of(&table.rows, 8)?, Some(-999_999_000_000), "-999999.000000");
 /// # Ok::<(), sp3::Refusal>(())
 /// ```
 pub fn clock_of(rows: &[i64], k: usize) -> Result<Option<i64>, Refusal> {
