@@ -51,6 +51,7 @@ row  epoch date       time              sat              x              y       
 P        0 2013-04-03 00:00:00.00000000 G07     5000000001        -500000              0         absent  -  -  -   - ....
 rows known 1 absent 0, clocks known 0 absent 1
 """
+PAPER_ROW = "epoch 0 2013-04-03 00:00:00.00000000\nsatellite 0 G07\nplace 5000000001 -500000 0 mm\nclock absent\n"
 PAPER_TALLY = "rows known 1 absent 0, clocks known 0 absent 1"
 NOTE_UNITS = """\
 EP notes      of the P row before: x-sdev y-sdev z-sdev in mm, clock-sdev in ps
@@ -142,10 +143,8 @@ def test_paper(desk):
     odd = desk.file("odd.sp3", [line.replace("     -0.500000", "    -00.500000") for line in PAPER])
     desk.expect(["rewrite", odd], 0, make.joined(PAPER))
     desk.expect(["table", odd], 0, PAPER_TABLE)
-    row = "epoch 0 2013-04-03 00:00:00.00000000\nsatellite 0 G07\nplace 5000000001 -500000 0 mm\nclock absent\n"
-    desk.expect(["row", name, "0", "G07"], 0, row)
-    desk.expect(["row", name, "0", "0"], 0, row)
-    desk.expect(["row", name, "000", "00"], 0, row)
+    for words in (("0", "G07"), ("0", "0"), ("000", "00")):
+        desk.expect(["row", name, *words], 0, PAPER_ROW)
     for k, text in enumerate(["ONE ROW", "", "", ""]):
         desk.expect(["comment", name, str(k)], 0, text + "\n")
     desk.expect(["divide", name], 0, "file 0 first byte 0 length 1215\nnothing is left: files 1, bytes 1215\n")
@@ -233,40 +232,46 @@ def test_edges(desk):
         desk.expect(["comment", name, k], 1, "", refused(f"{name}: comment {k}", 13))
 
 
-ABSENT_CLOCKS = (" 999999.999999", " 999999.000000", " 999999.999998", " 999999.123456", "0999999.123456", "0999999.000000", " 999999.      ",
-                 "0999999.      ", " 999999.", "0999999.", " 999999.   ")
-CLOCKS = ((" 999998.999999", 999_998_999_999), ("0999998.000000", 999_998_000_000), ("-999999.000000", -999_999_000_000),
-          ("-999999.999999", -999_999_999_999), ("-999999.123456", -999_999_123_456), (" 099999.000000", 99_999_000_000), ("     -0.000000", 0))
+def clocks():
+    """Clocks as they are spelt from column 47 on, each with its number; None is absent. The short ones end their lines."""
+    absent = (" 999999.999999", " 999999.000000", " 999999.999998", " 999999.123456", "0999999.123456", "0999999.000000", " 999999.      ",
+              "0999999.      ", " 999999.", "0999999.", " 999999.   ")
+    known = ((" 999998.999999", 999_998_999_999), ("0999998.000000", 999_998_000_000), ("-999999.000000", -999_999_000_000),
+             ("-999999.999999", -999_999_999_999), ("-999999.123456", -999_999_123_456), (" 099999.000000", 99_999_000_000), ("     -0.000000", 0))
+    return [*((spelt, None) for spelt in absent), *known]
 
 
-def clock_of_paper(text, number):
-    """What is told of the paper's file, with another number for its absent clock."""
+def with_number(text, number):
+    """What is told of the paper's file, with this number for its absent clock."""
     return text if number is None else text.replace("         absent", f"{number:15}").replace("clocks known 0 absent 1", "clocks known 1 absent 0")
 
 
 def test_clocks(desk):
-    """Every spelling of an absent clock is told and written as the paper's own, in a row with nothing after it and in one with exponents and flags;
-    clocks beside them are told as their numbers."""
-    for spelt, number in [*((spelt, None) for spelt in ABSENT_CLOCKS), *CLOCKS]:
-        form = PAPER if number is None else with_clock(PAPER, 24, make.fixed(number, 6, 14))
-        shown = "absent" if number is None else f"{number} ps"
-        for after in ("", " 18 99    219 EP  MP"):
-            columns = spelt.ljust(14) + after if after else spelt
-            content, table = make.joined(with_clock(PAPER, 24, columns)), clock_of_paper(PAPER_TABLE, number)
-            table = table.replace(" -  -  -   - ....", "18  >  - 219 EPMP") if after else table
-            name = desk.file("clock.sp3", content)
-            assert expected.table(desk.oracles.judged(content)[1]) == table, columns
-            desk.expect(["check", name], 0, clock_of_paper(paper_checked(name, "EP 0 EV 0"), number))
-            desk.expect(["table", name], 0, table)
-            desk.expect(["row", name, "0", "G07"], 0,
-                        f"epoch 0 2013-04-03 00:00:00.00000000\nsatellite 0 G07\nplace 5000000001 -500000 0 mm\nclock {shown}\n")
-            desk.expect(["rewrite", name], 0, make.joined(form[:23] + [form[23] + after] + form[24:]))
-            desk.expect(["divide", "-"], 0, expected.divide([len(content), len(make.joined(PAPER))]), stdin=content + make.joined(PAPER))
+    """An absent clock is told and written as the paper's own, however it is spelt; a clock beside the nines is told as its number."""
+    for spelt, number in clocks():
+        content, table = make.joined(with_clock(PAPER, 24, spelt)), with_number(PAPER_TABLE, number)
+        name, shown = desk.file("clock.sp3", content), "absent" if number is None else f"{number} ps"
+        assert expected.table(desk.oracles.judged(content)[1]) == table, spelt
+        desk.expect(["check", name], 0, with_number(paper_checked(name, "EP 0 EV 0"), number))
+        desk.expect(["table", name], 0, table)
+        desk.expect(["row", name, "0", "G07"], 0, PAPER_ROW.replace("clock absent", f"clock {shown}"))
+        desk.expect(["rewrite", name], 0, make.joined(PAPER if number is None else with_clock(PAPER, 24, make.fixed(number, 6, 14))))
+        desk.expect(["divide", "-"], 0, expected.divide([len(content), 1215]), stdin=content + make.joined(PAPER))
+
+
+def test_clocks_before_exponents(desk):
+    """The same where exponents and flags stand after the clock."""
+    after, shown = " 18 99    219 EP  MP", "18  >  - 219 EPMP"
+    for spelt, number in clocks():
+        name = desk.file("clock.sp3", with_clock(PAPER, 24, spelt.ljust(14) + after))
+        form = with_clock(PAPER, 24, make.fixed(make.ABSENT_CLOCK if number is None else number, 6, 14) + after)
+        desk.expect(["table", name], 0, with_number(PAPER_TABLE, number).replace(" -  -  -   - ....", shown))
+        desk.expect(["rewrite", name], 0, make.joined(form))
 
 
 def test_rates(desk):
-    """The same of the rate in a V row, line 30 of samples/velocity.sp3; there `check` counts the clocks of P rows alone."""
-    for spelt, number in [*((spelt, None) for spelt in ABSENT_CLOCKS), *CLOCKS]:
+    """The same of the rate in a V row, line 30 of samples/velocity.sp3; `check` counts the clocks of P rows alone."""
+    for spelt, number in clocks():
         model = make.velocity()
         model.rows[0][1][1].clock = number
         content, held = make.joined(with_clock(moving(), 30, spelt)), of_model(model)
@@ -280,9 +285,10 @@ def test_rates(desk):
 def test_nines_in_places(desk):
     """Six nines in x, y or z are a coordinate."""
     for first, place in ((5, "999999000000 -500000 0"), (19, "5000000001 999999000000 0"), (33, "5000000001 -500000 999999000000")):
-        name = desk.file("nines.sp3", changed(24, first, " 999999.000000"))
-        desk.expect(["row", name, "0", "0"], 0, f"epoch 0 2013-04-03 00:00:00.00000000\nsatellite 0 G07\nplace {place} mm\nclock absent\n")
-        desk.expect(["rewrite", name], 0, make.joined(changed(24, first, " 999999.000000")))
+        lines = changed(24, first, " 999999.000000")
+        name = desk.file("nines.sp3", lines)
+        desk.expect(["row", name, "0", "0"], 0, PAPER_ROW.replace("5000000001 -500000 0", place))
+        desk.expect(["rewrite", name], 0, make.joined(lines))
 
 
 def ep_line(*fields):
@@ -628,9 +634,9 @@ def expect_without_memory(desk, words, out, content, tool):
 
 def main():
     desk = Desk(pathlib.Path(sys.argv[1]).resolve())
-    for test in (test_paper, test_dates, test_damaged, test_causes, test_pictures, test_edges, test_clocks, test_rates, test_nines_in_places,
-                 test_notes, test_moving_notes, test_samples, test_generated, test_usage, test_numbers, test_inputs, test_pipes, test_many,
-                 test_outputs, test_failing, test_large):
+    for test in (test_paper, test_dates, test_damaged, test_causes, test_pictures, test_edges, test_clocks, test_clocks_before_exponents,
+                 test_rates, test_nines_in_places, test_notes, test_moving_notes, test_samples, test_generated, test_usage, test_numbers,
+                 test_inputs, test_pipes, test_many, test_outputs, test_failing, test_large):
         test(desk)
     print(f"desk: {desk.passed} tests passed")
 
