@@ -80,7 +80,7 @@
 //! EP and EV are lines like others: they are judged, and a row is met before the
 //! note after it.
 //!
-//! "The paper" is 01-scope.md as requests 1 and 2 of 02-change-requests.md
+//! "The paper" is 01-scope.md as requests 1 to 3 of 02-change-requests.md
 //! changed it, "000" is the SP3-d document.
 
 #[allow(dead_code)]

@@ -66,14 +66,14 @@
 //! P 0 G07 1 2 3 4 18 18 18 219 .... note 55 large unknown 222 -30 unknown 0 1 2 3
 //! ```
 //!
-//! "The paper" is 01-scope.md as requests 1 and 2 of 02-change-requests.md
+//! "The paper" is 01-scope.md as requests 1 to 3 of 02-change-requests.md
 //! changed it, "000" is the SP3-d document.
 
 #[allow(dead_code)]
 #[path = "lines.rs"]
 pub(crate) mod lines;
 
-use lines::{fail, without_trailing_blanks};
+use lines::{fail, without_trailing_blanks, ABSENT_CLOCK};
 use lines::{Exponent, Identifier, Line, Moment, Note, Random, Reader, Tally, EP, EV};
 use std::collections::{BTreeMap, BTreeSet, HashSet};
 use std::io::{Read, Write};
@@ -233,8 +233,6 @@ fn line_two_agrees(two: &lines::LineTwo, start: i64) -> bool {
 // The table of a file
 // ---------------------------------------------------------------------------
 
-/// "An absent clock or rate is held as its twelve nines."
-const ABSENT_CLOCK: i64 = 999_999_999_999;
 /// How an unknown exponent is held.
 pub(crate) const UNKNOWN: i64 = 1000;
 /// How each number of a note is held that is unknown, and all ten where there is
@@ -262,7 +260,7 @@ impl Row {
         self.place == [0, 0, 0]
     }
 
-    /// "A clock or rate is absent exactly at +999,999,999,999."
+    /// A clock or rate is absent exactly where it is held as its twelve nines.
     fn clock_is_absent(&self) -> bool {
         self.clock == ABSENT_CLOCK
     }

@@ -56,7 +56,7 @@
 //! kept                      every byte past them still holds the mark
 //! ```
 //!
-//! "The paper" is 01-scope.md as requests 1 and 2 of 02-change-requests.md
+//! "The paper" is 01-scope.md as requests 1 to 3 of 02-change-requests.md
 //! changed it, "000" is the SP3-d document.
 
 #[allow(dead_code)]
@@ -200,9 +200,16 @@ fn is_exponent(value: i64, most: i64) -> bool {
     (0..=most).contains(&value) || value == UNKNOWN
 }
 
+/// A present clock or rate as a row can hold it ("The largest valid clock is now
+/// 999,998,999,999"), or the twelve nines of an absent one.
+fn is_clock(value: i64) -> bool {
+    (-lines::MOST_MAGNITUDE..=lines::MOST_CLOCK).contains(&value) || value == lines::ABSENT_CLOCK
+}
+
 fn row_is_valid(row: &[i64], velocity: bool) -> bool {
     let most_flag = if velocity { 0 } else { 1 };
-    row[..4].iter().all(|&value| value.unsigned_abs() <= most_of(12))
+    row[..3].iter().all(|&value| value.unsigned_abs() <= most_of(12))
+        && is_clock(row[3])
         && row[4..7].iter().all(|&value| is_exponent(value, 99))
         && is_exponent(row[7], 999)
         && row[8..MARK].iter().all(|&flag| (0..=most_flag).contains(&flag))

@@ -28,7 +28,7 @@
 //! any other record does: `0 0 EP    55               222`, and `0 0 EP` where
 //! all of them are unknown.
 //!
-//! "The paper" is 01-scope.md as requests 1 and 2 of 02-change-requests.md
+//! "The paper" is 01-scope.md as requests 1 to 3 of 02-change-requests.md
 //! changed it, "000" is the SP3-d document; the words beside the columns below
 //! are those of its column-by-column description.
 
@@ -151,6 +151,17 @@ fn read_decimal(field: &[u8], places: usize, minus_allowed: bool) -> Option<i64>
 
 pub(crate) fn power_of_ten(places: usize) -> i64 {
     (0..places).fold(1, |power, _| 10 * power)
+}
+
+/// Request 3: "So a clock or rate without a minus whose whole part has the value
+/// 999999 is absent; after the point all six columns are digits or all six are
+/// blank." Of the fourteen columns the whole part has seven, the point one.
+fn is_absent_clock(field: &[u8]) -> bool {
+    let (whole, rest) = field.split_at(7);
+    let (point, fraction) = rest.split_at(1);
+    read_integer(whole) == Some(999_999)
+        && point == b"."
+        && (is_blank(fraction) || read_digits(fraction).is_some())
 }
 
 /// "a blank exponent is unknown (in P and V, not in `++`)"
@@ -306,8 +317,18 @@ impl Reader {
     /// "Only x, y, z and clock fields allow the minus."
     fn coordinate(&mut self, first: usize, last: usize) -> i64 {
         let field = self.take(first, last, Role::Field);
-        let largest = 999_999_999_999;
-        self.bounded(read_decimal(&field, 6, true), first, -largest..=largest)
+        let bounds = -MOST_MAGNITUDE..=MOST_MAGNITUDE;
+        self.bounded(read_decimal(&field, 6, true), first, bounds)
+    }
+
+    /// A clock or rate: absent by its six nines, or a decimal that may have a
+    /// minus. "A blank fraction elsewhere stays 6."
+    fn clock(&mut self, first: usize, last: usize) -> i64 {
+        let field = self.take(first, last, Role::Field);
+        if is_absent_clock(&field) {
+            return ABSENT_CLOCK;
+        }
+        self.bounded(read_decimal(&field, 6, true), first, -MOST_MAGNITUDE..=MOST_CLOCK)
     }
 
     fn exponent(&mut self, first: usize, last: usize) -> Exponent {
@@ -497,6 +518,13 @@ enum Record {
 pub(crate) const SLOTS: usize = 17;
 pub(crate) const MOST_SATELLITES: i64 = 255;
 pub(crate) const MOST_EPOCHS: i64 = 100_000;
+/// Of x, y and z, and of a clock or rate below zero: "with magnitude at most
+/// 999,999,999,999".
+pub(crate) const MOST_MAGNITUDE: i64 = 999_999_999_999;
+/// Request 3: "The largest valid clock is now 999,998,999,999."
+pub(crate) const MOST_CLOCK: i64 = 999_998_999_999;
+/// "An absent clock or rate is held as its twelve nines", whatever its fraction.
+pub(crate) const ABSENT_CLOCK: i64 = 999_999_999_999;
 /// In 10^-7: "a correlation coefficient between -0.9999999 and +0.9999999".
 pub(crate) const MOST_CORRELATION: i64 = 9_999_999;
 
@@ -747,7 +775,7 @@ fn read_row(r: &mut Reader) -> Row {
     let x = r.coordinate(5, 18); //         Columns 5-18   x-coordinate, x-velocity     F14.6
     let y = r.coordinate(19, 32); //        Columns 19-32  y-coordinate, y-velocity     F14.6
     let z = r.coordinate(33, 46); //        Columns 33-46  z-coordinate, z-velocity     F14.6
-    let clock = r.coordinate(47, 60); //    Columns 47-60  clock, clock rate-chg        F14.6
+    let clock = r.clock(47, 60); //         Columns 47-60  clock, clock rate-chg        F14.6
     r.unused(61, 61); //                    Column 61      Unused
     let x_sdev = r.exponent(62, 63); //     Columns 62-63  x-sdev                       I2
     r.unused(64, 64); //                    Column 64      Unused
