@@ -115,7 +115,7 @@ static const struct {
 
 enum { CLOCKS = sizeof clocks / sizeof *clocks, ROOM = 2000, ROW = 61, CLOCK = 46, WIDTH = 14 };
 
-// A row with x, y and z within their bounds, which no clock may have; nothing else is known.
+// A row with this clock; x and y are within their bounds and past those of a clock, and nothing else is known.
 static void fill_row(int64_t *row, int64_t clock) {
     const int64_t numbers[] = {999999000000, 999999999998, -999999999999, clock, UNKNOWN, UNKNOWN, UNKNOWN, UNKNOWN, 0, 0, 0, 0, 0};
     memcpy(row, numbers, sizeof numbers);
