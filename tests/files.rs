@@ -921,7 +921,7 @@ impl Draft {
 
     /// Puts bytes into line `line` at column `column`, both counted from 1;
     /// the line is lengthened by blanks where needed.
-    fn put(&mut self, line: usize, column: usize, bytes: &[u8]) {
+    pub(crate) fn put(&mut self, line: usize, column: usize, bytes: &[u8]) {
         let Some(text) = self.0.get_mut(line - 1) else {
             return;
         };
@@ -3490,7 +3490,8 @@ fn kinds_of_rows(rows: &[Row]) -> Vec<(&'static str, bool)> {
 
 /// How the clocks of an accepted file are spelt that have six nines.
 fn kinds_of_clocks(file: &[u8]) -> Vec<(&'static str, bool)> {
-    let rows = |letter: u8| file.split(|&c| c == b'\n').filter(move |row| row.starts_with(&[letter]));
+    let rows =
+        |letter: u8| file.split(|&c| c == b'\n').filter(move |row| row.starts_with(&[letter]));
     let some = |holds: fn(&[u8]) -> bool| rows(b'P').chain(rows(b'V')).any(holds);
     let of_rates = |holds: fn(&[u8]) -> bool| rows(b'V').any(holds);
     vec![
@@ -4774,10 +4775,7 @@ const ROWS_ASKED: &[Asked] = &[
         &[Put(25, 10, "-"), Put(25, 60, "8"), Put(25, 73, "0"), Put(25, 79, "M")],
         [2, 2, 308, 92],
         [0, 0, 1, 7107],
-        &[
-            "P 0 R20 absent absent unknown unknown unknown 0 ..M.",
-            "row 0 0 0 absent absent",
-        ],
+        &["P 0 R20 absent absent unknown unknown unknown 0 ..M.", "row 0 0 0 absent absent"],
     ),
     (
         Rows,
@@ -4899,8 +4897,8 @@ fn number_shown(text: &str) -> i64 {
 
 /// Files that differ in the fractions of six nines have equal tables.
 fn test_equal_tables(tally: &mut Tally) {
-    let absent: Vec<&str> =
-        lines::CLOCKS.iter().filter(|(_, shown)| *shown == Ok(" 999999.999999")).map(|c| c.0).collect();
+    let nines = lines::CLOCKS.iter().filter(|(_, shown)| *shown == Ok(" 999999.999999"));
+    let absent: Vec<&str> = nines.map(|&(given, _)| given).collect();
     for (base, line, rooms) in
         [(Paper, 24, [1, 1, 308, 23]), (Night, 28, [2, 2, 308, 138]), (Motion, 29, [2, 2, 308, 92])]
     {

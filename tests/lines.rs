@@ -1540,7 +1540,12 @@ const COORDINATES: &[(&str, Result<&str, u8>)] = &[
 ];
 
 /// A P or V with a text in one of its four numbers, and the answer to it.
-fn number_case(base: &Case, column: usize, given: &str, wanted: Result<&str, u8>) -> (Case, String) {
+fn number_case(
+    base: &Case,
+    column: usize,
+    given: &str,
+    wanted: Result<&str, u8>,
+) -> (Case, String) {
     let answer = match wanted {
         Ok(shown) => format!("0 0 {}", edited(base, column, shown).line),
         Err(number) => format!("{number} {column}"),
