@@ -80,7 +80,7 @@
 //! EP and EV are lines like others: they are judged, and a row is met before the
 //! note after it.
 //!
-//! "The paper" is 01-scope.md as requests 1 and 2 of 02-change-requests.md
+//! "The paper" is 01-scope.md as requests 1 to 3 of 02-change-requests.md
 //! changed it, "000" is the SP3-d document.
 
 #[allow(dead_code)]
@@ -545,7 +545,8 @@ enum Part {
     Many(u8, usize),
 }
 
-use Base::{Many as ManyFile, Motion, MovingNotes, MovingRows, Night, Notes, Nothing, Paper};
+use Base::{Clocks, Many as ManyFile, Motion, MovingClocks, MovingNotes, MovingRows};
+use Base::{Night, Notes, Nothing, Paper};
 use Edit::{
     After, AfterItself, Byte, CarriageReturns, Drop, Insert, Join, Keep, Line as Whole, Put, Swap,
 };
@@ -566,6 +567,10 @@ const N: Part = File(Night, &[]);
 const M: Part = File(Motion, &[]);
 /// Refused with 5 at line 24, column 61.
 const X: Part = File(Paper, &[Put(24, 61, "x")]);
+
+/// The paper's row with its clock cut after the point; its file has 1,209 bytes.
+const CUT_ROW: &str = "PG07   5000.000001     -0.500000      0.000000 999999.";
+const C: Part = File(Paper, &[Whole(24, CUT_ROW)]);
 
 /// Parts and room; refusal, line, column, number of files, where the rest begins;
 /// lengths.
@@ -604,6 +609,19 @@ const DIVIDED: &[Divided] = &[
     (&[Bytes(b"x")], 0, [1, 1, 0, 0, 0], &[]),
     // A line of 80 characters.
     (&[File(Paper, &[Put(24, 80, " ")]), P], 2, [0, 0, 0, 2, 2450], &[1235, 1215]),
+    // Rows that end after the point of a clock: their own lengths.
+    (&[C], 1, [0, 0, 0, 1, 1209], &[1209]),
+    (&[C, P, C], 3, [0, 0, 0, 3, 3633], &[1209, 1215, 1209]),
+    (&[C, C], 1, [12, 0, 0, 0, 0], &[]),
+    (
+        &[P, File(Motion, &[Whole(29, "VG02      0.000000      0.000000      0.000000 999999.")]), P],
+        3,
+        [0, 0, 0, 3, 4029],
+        &[1215, 1599, 1215],
+    ),
+    (&[C, File(Paper, &[Put(24, 47, "-999999.      ")]), C], 3, [6, 24, 47, 1, 1209], &[1209]),
+    (&[C, File(Motion, &[Put(26, 47, " 999999.     0")]), C], 3, [6, 26, 47, 1, 1209], &[1209]),
+    (&[C, File(Paper, &[Put(24, 47, " 999999.      0")])], 2, [5, 24, 61, 1, 1209], &[1209]),
     // EP and EV, and files without: their own lengths.
     (&[File(Motion, &[Drop(27), Drop(25)]), P], 2, [0, 0, 0, 2, 2658], &[1443, 1215]),
     (&[File(Motion, &[Drop(25)])], 1, [0, 0, 0, 1, 1524], &[1524]),
@@ -723,6 +741,16 @@ const DIVIDED: &[Divided] = &[
 /// lines of the answer in their order.
 type Walked = (Base, &'static [Edit], usize, &'static [u64], &'static [&'static str]);
 
+/// A clock of the paper's file that is malformed, and a rate of `motion`.
+const SIX_IN_P: &[&str] =
+    &["begin 6 24 47 0 0 0", "kept", "refused 6 line 24 column 47", "spot 25 1150 10 1 0"];
+const SIX_IN_V: &[&str] = &[
+    "begin 6 26 47 0 0 0",
+    "row 0 0 at -11044805800 -10475672350 21929418200 189163300",
+    "refused 6 line 26 column 47",
+    "spot 30 1305 11 2 0",
+];
+
 const WALKED: &[Walked] = &[
     (
         Paper,
@@ -761,7 +789,7 @@ const WALKED: &[Walked] = &[
             "row 0 1 absent absent",
             "row 1 0 absent -1",
             "row 1 1 at 0 0 1 absent",
-            "row 2 0 at -500000 0 0 999999000000",
+            "row 2 0 at -500000 0 0 absent",
             "row 2 1 at 999999999999 -999999999999 999999999999 -999999999999",
             "end",
             "spot 3 183 3 0 3",
@@ -896,7 +924,14 @@ const WALKED: &[Walked] = &[
         &[Put(24, 5, "     -0.000001      0.000000      0.000000 999999.999998")],
         1,
         &[],
-        &["row 0 0 at -1 0 0 999999999998", "end"],
+        &["row 0 0 at -1 0 0 absent", "end"],
+    ),
+    (
+        Paper,
+        &[Put(24, 5, "     -0.000001      0.000000      0.000000 999998.999999")],
+        1,
+        &[],
+        &["row 0 0 at -1 0 0 999998999999", "end"],
     ),
     (
         Paper,
@@ -904,6 +939,173 @@ const WALKED: &[Walked] = &[
         1,
         &[],
         &["row 0 0 at 1000000 1000000 0 absent", "end"],
+    ),
+    // Clocks by their six nines: bare, the line cut there, before exponents and flags,
+    // with other digits, after a zero; then those that are present.
+    (
+        Paper,
+        &[Whole(24, CUT_ROW)],
+        1,
+        &[],
+        &[
+            "begin 0 0 0 1209 1 1",
+            "row 0 0 at 5000000001 -500000 0 absent",
+            "end",
+            "then 25 1205 14 0 0",
+            "spot 25 1205 14 0 0",
+            "short 25 1205 14 0 0",
+        ],
+    ),
+    (
+        Night,
+        &[
+            Put(24, 47, " 999999.      "),
+            Whole(25, "PR24      0.000000      0.000000      0.000000 999999."),
+            Put(27, 47, " 999999.      "),
+            Put(28, 47, " 999999.999998"),
+            Put(31, 47, "0999999.123456"),
+        ],
+        2,
+        &[],
+        &[
+            "begin 0 0 0 1630 2 3",
+            "row 0 0 at 15000000000 -20000500000 0 absent",
+            "row 0 1 absent absent",
+            "row 1 0 absent absent",
+            "row 1 1 at 0 0 1 absent",
+            "row 2 0 at -500000 0 0 absent",
+            "row 2 1 at 999999999999 -999999999999 999999999999 absent",
+            "end",
+            "spot 32 1626 14 0 0",
+        ],
+    ),
+    (
+        Night,
+        &[
+            Put(24, 47, " 999998.999999"),
+            Put(25, 47, "-999999.000000"),
+            Put(27, 47, "-999999.999999"),
+            Put(28, 47, "0999998.000000"),
+            Put(30, 5, " 999999.000000 999999.999998-999999.000000      0.999999"),
+        ],
+        2,
+        &[],
+        &[
+            "begin 0 0 0 1636 2 3",
+            "row 0 0 at 15000000000 -20000500000 0 999998999999",
+            "row 0 1 absent -999999000000",
+            "row 1 0 absent -999999999999",
+            "row 1 1 at 0 0 1 999998000000",
+            "row 2 0 at 999999000000 999999999998 -999999000000 999999",
+            "end",
+        ],
+    ),
+    // The same of rates, beside clocks that are present or not.
+    (
+        MovingRows,
+        &[
+            Put(25, 47, " 999999.      "),
+            Whole(27, "VR20      0.000000      0.000000      0.000000 999999."),
+            Put(29, 47, "-999999.000000"),
+            Put(30, 47, " 999999.000000"),
+            Put(31, 47, " 999999.999998"),
+            Put(32, 47, "0999999.123456"),
+        ],
+        2,
+        &[],
+        &[
+            "begin 0 0 0 1763 2 2",
+            "row 0 0 at 123456789012 234567890123 999999999999 987654321098",
+            "row 0 1 absent absent",
+            "row 1 0 at -12500000 -23456789012 -3456789012 -999999000000",
+            "row 1 1 at 12500000 1000000 -500000 absent",
+            "end",
+            "spot 33 1759 14 0 0",
+        ],
+    ),
+    (
+        MovingRows,
+        &[
+            Put(25, 47, " 999998.999999"),
+            Put(27, 47, "-999999.000000"),
+            Put(30, 47, "-999999.999999"),
+            Put(32, 47, "0999998.000000"),
+        ],
+        2,
+        &[],
+        &["begin 0 0 0 1769 2 2", "row 1 1 at 12500000 1000000 -500000 absent", "end"],
+    ),
+    // Neither absent nor a decimal, in P and in V.
+    (Paper, &[Put(24, 47, "-999999.      ")], 1, &[7107], SIX_IN_P),
+    (Paper, &[Put(24, 47, " 999999.00000 ")], 1, &[7107], SIX_IN_P),
+    (Paper, &[Put(24, 47, " 999999.     0")], 1, &[7107], SIX_IN_P),
+    (Paper, &[Put(24, 47, " 999998.      ")], 1, &[7107], SIX_IN_P),
+    (Paper, &[Put(24, 47, "1000000.      ")], 1, &[7107], SIX_IN_P),
+    (Paper, &[Put(24, 47, " 999999       ")], 1, &[7107], SIX_IN_P),
+    (Paper, &[Put(24, 47, "              ")], 1, &[7107], SIX_IN_P),
+    (Paper, &[Put(24, 47, "999999.       ")], 1, &[7107], SIX_IN_P),
+    (Motion, &[Put(26, 47, "-999999.      ")], 2, &[7101, 7102], SIX_IN_V),
+    (Motion, &[Put(26, 47, " 999999.00000 ")], 2, &[7101, 7102], SIX_IN_V),
+    (Motion, &[Put(26, 47, " 999999.     0")], 2, &[7101, 7102], SIX_IN_V),
+    (Motion, &[Put(26, 47, " 999998.      ")], 2, &[7101, 7102], SIX_IN_V),
+    (Motion, &[Put(26, 47, "1000000.      ")], 2, &[7101, 7102], SIX_IN_V),
+    (Motion, &[Put(26, 47, " 999999       ")], 2, &[7101, 7102], SIX_IN_V),
+    (Motion, &[Put(26, 47, "              ")], 2, &[7101, 7102], SIX_IN_V),
+    (Motion, &[Put(26, 47, "999999.       ")], 2, &[7101, 7102], SIX_IN_V),
+    (
+        Paper,
+        &[Put(24, 47, "1000000.000000")],
+        1,
+        &[7107],
+        &["begin 7 24 47 0 0 0", "kept", "refused 7 line 24 column 47", "spot 25 1150 10 1 0"],
+    ),
+    (
+        Motion,
+        &[Put(26, 47, "1000000.000000")],
+        2,
+        &[7101, 7102],
+        &[
+            "begin 7 26 47 0 0 0",
+            "row 0 0 at -11044805800 -10475672350 21929418200 189163300",
+            "refused 7 line 26 column 47",
+        ],
+    ),
+    // A line cut before the point; a blank fraction of x; column 61 after a bare clock;
+    // two faults; another satellite.
+    (
+        Paper,
+        &[Whole(24, "PG07   5000.000001     -0.500000      0.000000 999999")],
+        1,
+        &[7107],
+        SIX_IN_P,
+    ),
+    (
+        Paper,
+        &[Put(24, 5, " 999999.      ")],
+        1,
+        &[7107],
+        &["begin 6 24 5 0 0 0", "kept", "refused 6 line 24 column 5"],
+    ),
+    (
+        Paper,
+        &[Put(24, 47, " 999999.      0")],
+        1,
+        &[7107],
+        &["begin 5 24 61 0 0 0", "kept", "refused 5 line 24 column 61"],
+    ),
+    (
+        Motion,
+        &[Put(26, 5, "1000000.000000"), Put(26, 47, " 999999.     0")],
+        2,
+        &[7101, 7102],
+        SIX_IN_V,
+    ),
+    (
+        Paper,
+        &[Put(24, 2, "G08"), Put(24, 47, " 999999.      ")],
+        1,
+        &[7107],
+        &["begin 10 24 0 0 0 0", "kept", "refused 10 line 24 column 0"],
     ),
     // Too little room: 12 with line 0, and the identifiers that are given; the walker
     // stays at the `+ ` line that brings too many.
@@ -1409,6 +1611,17 @@ const READ: &[ReadFile] = &[
     (Paper, &[NOTE, BARE], 1, &["line 25 1214 14 0 0", "stopped 4 line 26 column 0"]),
     (Paper, &[Insert(25, "EVx")], 1, &["stopped 4 line 25 column 0"]),
     (Motion, &[Put(27, 64, "19999999")], 2, &["stopped 7 line 27 column 64"]),
+    // Clocks and rates: rows that end after the point, and those that are malformed.
+    (Paper, &[Whole(24, CUT_ROW)], 1, &["line 24 1205 14 0 0", "finished 25 1209"]),
+    (Clocks, &[], 2, &["line 24 1231 10 1 1", "line 25 1286 9 0 1", "finished 29 1480"]),
+    (MovingClocks, &[], 2, &["line 25 1305 10 1 1", "line 27 1415 9 0 1", "finished 33 1757"]),
+    (Paper, &[Put(24, 47, "-999999.      ")], 1, &["stopped 6 line 24 column 47"]),
+    (Paper, &[Put(24, 47, " 999999.00000 ")], 1, &["stopped 6 line 24 column 47"]),
+    (Paper, &[Put(24, 47, "1000000.000000")], 1, &["stopped 7 line 24 column 47"]),
+    (Paper, &[Put(24, 47, " 999999.      0")], 1, &["stopped 5 line 24 column 61"]),
+    (Paper, &[Put(24, 5, " 999999.      ")], 1, &["stopped 6 line 24 column 5"]),
+    (MovingClocks, &[Put(25, 60, "0")], 2, &["stopped 6 line 25 column 47"]),
+    (MovingClocks, &[Put(27, 53, "8")], 2, &["line 26 1360 11 1 1", "stopped 6 line 27 column 47"]),
     // Room for n - 1, n and n + 1: "lent room is too small" at the `+ ` line that
     // brings more than fit, and the list is as it was.
     (Paper, &[], 0, &["line 2 122 3 0 1", "stopped 12 line 3 column 0", "identifiers"]),

@@ -3,10 +3,10 @@
 
     tests/fields.py stdin     the spellings of fields, one to a line
     tests/fields.py stdout    what the program must print
-    tests/fields.py check     compares both with the files of crates/cases_fields
+    tests/fields.py check     compares both with the files of crates/cases_fields, and its clocks with those worked out by hand
 
-Written from the paper (documents/01-scope.md) alone: dates by Python's datetime, fields by regular expressions,
-numbers as Python's whole numbers of any size. It shares no code with the library.
+Written from the papers (documents/01-scope.md, and request 3 of 02-change-requests.md for clocks) alone: dates by Python's
+datetime, fields by regular expressions, numbers as Python's whole numbers of any size. It shares no code with the library.
 """
 import datetime
 import itertools
@@ -33,14 +33,39 @@ def date(year, month, day):
     return [0, (d - MJD_ZERO).days, since // 7, since % 7 * 86400]
 
 
+# Fourteen columns with six places, and what a clock reads as there, by hand: absent by its six nines, present, malformed, too large.
+NINES = [0, 0, 999_999_999_999]
+CLOCKS = [
+    (" 999999.      ", NINES), (" 999999.000000", NINES), (" 999999.999998", NINES), (" 999999.999999", NINES),
+    ("0999999.123456", NINES), ("0999999.      ", NINES), ("0999999.999999", NINES),
+    (" 999998.999999", [0, 0, 999_998_999_999]), ("0999998.000000", [0, 0, 999_998_000_000]),
+    ("-999999.000000", [0, 1, 999_999_000_000]), ("-999999.999999", [0, 1, 999_999_999_999]),
+    ("     -0.500000", [0, 1, 500_000]), ("     -0.000000", [0, 0, 0]), ("      0.999999", [0, 0, 999_999]),
+    (" 099999.900000", [0, 0, 99_999_900_000]), ("  99999.999999", [0, 0, 99_999_999_999]),
+    ("-999999.      ", [6]), (" 999999.00000 ", [6]), (" 999999.     0", [6]), (" 999998.      ", [6]), ("1000000.      ", [6]),
+    (" 999999       ", [6]), ("              ", [6]), ("999999.       ", [6]), (" 999999. 00000", [6]), (" 999999.9     ", [6]),
+    ("-999998.      ", [6]), ("- 99999.000000", [6]), ("9 99999.      ", [6]), ("       .      ", [6]), (" 999999,      ", [6]),
+    ("+999999.000000", [6]), (" 999999.00x000", [6]), (" 99999 .      ", [6]), ("       .999999", [6]), ("9999990.      ", [6]),
+    ("1000000.000000", [0, 0, 1_000_000_000_000]), ("9999999.000000", [0, 0, 9_999_999_000_000]),
+]
+
+
+def absent(places, s):
+    """Request 3: no minus, a whole part of the value 999999, and after the point all places digits or all of them blank."""
+    found = re.fullmatch(r" *([0-9]+)\.([0-9]{%d}| {%d})" % (places, places), s)
+    return found is not None and int(found.group(1)) == 999_999
+
+
 def field(kind, places, s):
     """What a field reads as: [6], [0] for unknown, or 0 and its values (a sign, where there is one, then the magnitude)."""
     if len(s) > WIDEST:
         return [6]
     if kind == "E" and s.strip(" ") == "":
         return [0]
-    minus = "-?" if kind in "SD" else ""
-    end = r"\.([0-9]{%d})" % places if kind in "UD" else "()"
+    if kind == "C" and absent(places, s):
+        return [0, 0, int("999999" + "9" * places)]
+    minus = "-?" if kind in "SDC" else ""
+    end = r"\.([0-9]{%d})" % places if kind in "UDC" else "()"
     found = re.fullmatch(" *(%s)([0-9]+)%s" % (minus, end), s)
     if not found:
         return [6]
@@ -57,10 +82,10 @@ def shown(kind, places, answer, width):
         text = " " * width
     elif answer[0] == 0:
         digits = str(answer[-1])
-        if kind in "UD":
+        if kind in "UDC":
             digits = digits.zfill(places + 1)
             digits = digits[: len(digits) - places] + "." + digits[len(digits) - places :]
-        text = ("-" if kind in "SD" and answer[1] else "") + digits
+        text = ("-" if kind in "SDC" and answer[1] else "") + digits
     if text is None or width > WIDEST or len(text) > width:
         return " |" + "#" * width + "|"
     return " |" + text.rjust(width) + "|"
@@ -74,7 +99,7 @@ def spelt(line):
         for width in (len(s), max(len(s) - 1, 0)):
             if width <= 20:
                 out += shown(kind, places, answer, width)
-    if answer[0] == 0 and kind in "UD":
+    if answer[0] == 0 and kind in "UDC":
         out += " 7" if answer[2] > LARGEST else " " + " ".join(map(str, answer))
     return out
 
@@ -107,6 +132,40 @@ def spellings():
             at = dice.randrange(len(text))
             text = text[:at] + dice.choice(" -.0123456789:AeE+,") + text[at + 1 :]
         lines.append("%s%02d%s" % (kind, places, text))
+    return lines + clock_spellings()
+
+
+def clock_spellings():
+    """Clocks: those by hand (as a decimal too), and what stands around six nines in every width, with other places, damaged and odd."""
+    lines = [kind + "06" + text for text, _ in CLOCKS for kind in "CD"]
+    for text in map("".join, itertools.product(" -.9", repeat=3)):
+        lines += ["C00" + text, "C01" + text] + ["C02" + front + "999999" + text for front in ("", "0", "-")]
+    for text in (" 999999.000000", " 999999.      "):
+        lines += ["C06" + text[:at] + c + text[at + 1 :] for at in range(14) for c in " -.089:"]
+    lines += ["C06" + " 999999.      "[:width] for width in range(14)] + ["C06" + "0999999.123456"[at:] for at in range(1, 14)]
+    for places in (0, 1, 6, 9, 11):
+        for width in range(places + 1, WIDEST + 3):
+            for whole, fraction in (("999999", "0"), ("999999", " "), ("0999999", "7"), ("-999999", "9"), ("999998", " ")):
+                lines.append("C%02d%s" % (places, (whole.rjust(width - places - 1) + "." + fraction * places)[-width:]))
+        lines += ["C%02d%s." % (places, "999999".zfill(WIDEST - places - 1)) + "0" * (places - 1) + end for end in (" ", "", "0")]
+    lines += ["C06" + " 999999.      ".rjust(width) for width in (19, 20, 1000)] + ["C99" + "9" * 18, "C17." + "9" * 17, "C12999999." + " " * 11]
+    return lines + random_clocks(random.Random(20160221), 500)
+
+
+def random_clocks(dice, count):
+    """Mostly six nines, or one digit away from them; digits or blanks after the point; some with a byte changed."""
+    lines = []
+    for _ in range(count):
+        places = dice.choice((0, 1, 6, 6, 6, 6, 9, 11))
+        width = max(dice.choice((7, 8, 14, 14, 14, 18)), places + 2)
+        whole = dice.choice(("999999", "999999", "999999", "0999999", "00999999", "999998", "1000000", "99999", str(dice.randrange(10**7))))
+        whole = dice.choice(("", "", "", "", "-", "+")) + whole
+        fraction = dice.choice((" " * places, " " * places, "".join(dice.choice("0123456789") for _ in range(places))))
+        text = (whole + "." + fraction).rjust(width)[-width:]
+        if dice.random() < 0.3:
+            at = dice.randrange(len(text))
+            text = text[:at] + dice.choice(" -.0189:") + text[at + 1 :]
+        lines.append("C%02d%s" % (places, text))
     return lines
 
 
@@ -187,7 +246,10 @@ def main():
         differing = [name for name, text in texts.items() if (crate / name).read_bytes() != text.encode("latin-1")]
         for name in differing:
             print("crates/cases_fields/%s is not what tests/fields.py makes" % name, file=sys.stderr)
-        sys.exit(1 if differing else 0)
+        misread = [text for text, answer in CLOCKS if field("C", 6, text) != answer]
+        for text in misread:
+            print("tests/fields.py reads the clock |%s| otherwise than by hand" % text, file=sys.stderr)
+        sys.exit(1 if differing or misread else 0)
     else:
         sys.exit(__doc__)
 

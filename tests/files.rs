@@ -66,14 +66,14 @@
 //! P 0 G07 1 2 3 4 18 18 18 219 .... note 55 large unknown 222 -30 unknown 0 1 2 3
 //! ```
 //!
-//! "The paper" is 01-scope.md as requests 1 and 2 of 02-change-requests.md
+//! "The paper" is 01-scope.md as requests 1 to 3 of 02-change-requests.md
 //! changed it, "000" is the SP3-d document.
 
 #[allow(dead_code)]
 #[path = "lines.rs"]
 pub(crate) mod lines;
 
-use lines::{fail, without_trailing_blanks};
+use lines::{fail, without_trailing_blanks, ABSENT_CLOCK};
 use lines::{Exponent, Identifier, Line, Moment, Note, Random, Reader, Tally, EP, EV};
 use std::collections::{BTreeMap, BTreeSet, HashSet};
 use std::io::{Read, Write};
@@ -233,8 +233,6 @@ fn line_two_agrees(two: &lines::LineTwo, start: i64) -> bool {
 // The table of a file
 // ---------------------------------------------------------------------------
 
-/// "An absent clock or rate is held as its twelve nines."
-const ABSENT_CLOCK: i64 = 999_999_999_999;
 /// How an unknown exponent is held.
 pub(crate) const UNKNOWN: i64 = 1000;
 /// How each number of a note is held that is unknown, and all ten where there is
@@ -262,7 +260,7 @@ impl Row {
         self.place == [0, 0, 0]
     }
 
-    /// "A clock or rate is absent exactly at +999,999,999,999."
+    /// A clock or rate is absent exactly where it is held as its twelve nines.
     fn clock_is_absent(&self) -> bool {
         self.clock == ABSENT_CLOCK
     }
@@ -923,7 +921,7 @@ impl Draft {
 
     /// Puts bytes into line `line` at column `column`, both counted from 1;
     /// the line is lengthened by blanks where needed.
-    fn put(&mut self, line: usize, column: usize, bytes: &[u8]) {
+    pub(crate) fn put(&mut self, line: usize, column: usize, bytes: &[u8]) {
         let Some(text) = self.0.get_mut(line - 1) else {
             return;
         };
@@ -969,6 +967,14 @@ impl Draft {
     fn lose_end(&mut self, line: usize) {
         if let Some(text) = self.0.get_mut(line - 1) {
             text.pop();
+        }
+    }
+
+    /// Only the first `length` columns of a line stay.
+    fn cut(&mut self, line: usize, length: usize) {
+        if let Some(text) = self.0.get_mut(line - 1).filter(|text| text.len() > length) {
+            text.truncate(length);
+            text.push(b'\n');
         }
     }
 
@@ -1089,9 +1095,19 @@ fn rows_file() -> Draft {
     Draft::of(&lines)
 }
 
-/// The same in mode V, 33 lines: each P has the V of its columns after it.
-fn moving_rows_file() -> Draft {
+/// The same rows without a clock but for its six nines: nothing after their point
+/// but exponents and flags; the line cut there; zeros; other digits.
+fn clocks_file() -> Draft {
     let mut draft = rows_file();
+    draft.put(24, 47, b" 999999.      ");
+    draft.cut(25, 54);
+    draft.put(27, 47, b" 999999.000000");
+    draft.put(28, 47, b"0999999.123456");
+    draft
+}
+
+/// A file in mode V, 33 lines of 29: each P has the V of its columns after it.
+fn moving(mut draft: Draft) -> Draft {
     draft.put(1, 3, b"V");
     for line in draft.lines_of("P").into_iter().rev() {
         let row = &draft.0[line - 1];
@@ -1171,7 +1187,9 @@ pub(crate) enum Base {
     Motion,
     Rows,
     MovingRows,
-    /// The same with notes: 33 lines, 41 in mode V.
+    Clocks,
+    MovingClocks,
+    /// `Rows` and `MovingRows` with notes: 33 lines, 41 in mode V.
     Notes,
     MovingNotes,
     Many(usize),
@@ -1206,9 +1224,11 @@ pub(crate) fn base_file(base: Base) -> Draft {
         Base::Night => night_file(),
         Base::Motion => motion_file(),
         Base::Rows => rows_file(),
-        Base::MovingRows => moving_rows_file(),
+        Base::MovingRows => moving(rows_file()),
+        Base::Clocks => clocks_file(),
+        Base::MovingClocks => moving(clocks_file()),
         Base::Notes => with_notes(rows_file()),
-        Base::MovingNotes => with_notes(moving_rows_file()),
+        Base::MovingNotes => with_notes(moving(rows_file())),
         Base::Many(n) => many_file(n),
         Base::Talkative(count) => talkative_file(count),
     }
@@ -1246,7 +1266,8 @@ pub(crate) fn hand_made(base: Base, edits: &[Edit]) -> Vec<u8> {
 // Answers worked out by hand
 // ---------------------------------------------------------------------------
 
-use Base::{Many, Motion, MovingNotes, MovingRows, Night, Notes, Nothing, Paper, Rows, Talkative};
+use Base::{Clocks, Many, Motion, MovingClocks, MovingNotes, MovingRows, Night, Notes};
+use Base::{Nothing, Paper, Rows, Talkative};
 use Edit::{
     After, AfterItself, AfterMany, Byte, CarriageReturns, Double, Drop, Insert, Join, Keep,
     Line as Whole, Put, Swap,
@@ -1882,6 +1903,45 @@ const HAND: &[Hand] = &[
     (Paper, &[Put(20, 80, " "), Put(21, 3, " "), Put(22, 4, "   x   y")], 0, 0, 0),
 ];
 
+/// Clocks and rates by request 3: what isn't absent by its six nines and is no
+/// decimal; what a bare clock stands beside.
+const CLOCKS_BY_HAND: &[Hand] = &[
+    (Paper, &[Put(24, 47, "-999999.      ")], 6, 24, 47),
+    (Paper, &[Put(24, 47, " 999999.00000 ")], 6, 24, 47),
+    (Paper, &[Put(24, 47, " 999999.     0")], 6, 24, 47),
+    (Paper, &[Put(24, 47, " 999998.      ")], 6, 24, 47),
+    (Paper, &[Put(24, 47, "1000000.      ")], 6, 24, 47),
+    (Paper, &[Put(24, 47, " 999999       ")], 6, 24, 47),
+    (Paper, &[Put(24, 47, "999999.       ")], 6, 24, 47),
+    (Paper, &[Put(24, 47, "1000000.000000")], 7, 24, 47),
+    (Motion, &[Put(26, 47, "-999999.      ")], 6, 26, 47),
+    (Motion, &[Put(26, 47, " 999999.00000 ")], 6, 26, 47),
+    (Motion, &[Put(26, 47, " 999999.     0")], 6, 26, 47),
+    (Motion, &[Put(26, 47, " 999998.      ")], 6, 26, 47),
+    (Motion, &[Put(26, 47, "1000000.      ")], 6, 26, 47),
+    (Motion, &[Put(26, 47, " 999999       ")], 6, 26, 47),
+    (Motion, &[Put(26, 47, "              ")], 6, 26, 47),
+    (Motion, &[Put(26, 47, "999999.       ")], 6, 26, 47),
+    (Motion, &[Put(26, 47, "1000000.000000")], 7, 26, 47),
+    // A line that ends before the point, or in the fraction.
+    (Paper, &[Whole(24, "PG07   5000.000001     -0.500000      0.000000 999999")], 6, 24, 47),
+    (Paper, &[Whole(24, "PG07   5000.000001     -0.500000      0.000000 999999.0")], 6, 24, 47),
+    (Motion, &[Whole(29, "VG02      0.000000      0.000000      0.000000 999999")], 6, 29, 47),
+    // A blank fraction of x, y and z.
+    (Paper, &[Put(24, 5, " 999999.      ")], 6, 24, 5),
+    (Paper, &[Put(24, 33, " 999999.      ")], 6, 24, 33),
+    (Motion, &[Put(26, 19, " 999999.      ")], 6, 26, 19),
+    // Beside other faults: the lowest number, then the leftmost column.
+    (Paper, &[Put(24, 47, " 999999.      0")], 5, 24, 61),
+    (Motion, &[Put(26, 47, "-999999.      014")], 5, 26, 61),
+    (Paper, &[Put(24, 47, " 999999.       9 ")], 6, 24, 62),
+    (Paper, &[Put(24, 47, "1000000.000000 9 ")], 6, 24, 62),
+    (Paper, &[Put(24, 5, "1000000.000000"), Put(24, 47, " 999999.      ")], 7, 24, 5),
+    (Paper, &[Put(24, 5, "1000000.000000"), Put(24, 47, " 999998.      ")], 6, 24, 47),
+    (Paper, &[Put(24, 2, "G08"), Put(24, 47, " 999999.      ")], 10, 24, 0),
+    (Paper, &[Put(24, 2, "G08"), Put(24, 47, " 999999.     0")], 6, 24, 47),
+];
+
 /// A note after the row of the paper's file: 000's own, and one of which nothing
 /// is known. The row without place and clock.
 pub(crate) const NOTE: Edit =
@@ -2136,6 +2196,22 @@ impl Pen<'_> {
         self.signed_decimal(14, 6, value.abs(), minus)
     }
 
+    /// Request 3: an absent clock by its six nines, after which all six columns
+    /// are digits or all six are blank.
+    fn clock(&mut self, value: i64) -> String {
+        if value != ABSENT_CLOCK || !self.oddly(2) {
+            return self.coordinate(value);
+        }
+        let digits = self.random.next() % 1_000_000;
+        let fraction = match self.random.below(4) {
+            0 | 1 => " ".repeat(6),
+            2 => "000000".to_string(),
+            _ => format!("{digits:06}"),
+        };
+        let front = if self.oddly(4) { "0" } else { " " };
+        format!("{front}999999.{fraction}")
+    }
+
     fn moment(&mut self, instant: i64) -> String {
         let (year, month, day) = date_of(instant / DAY);
         let time = instant % DAY;
@@ -2334,11 +2410,15 @@ pub(crate) fn choose_place(random: &mut Random) -> [i64; 3] {
     place
 }
 
+/// Clocks that are present and near the bounds, or zero.
+const CLOCK_ENDS: &[i64] =
+    &[lines::MOST_CLOCK, 999_998_000_000, -999_999_000_000, -lines::MOST_MAGNITUDE, 0];
+
 /// The nines of an absent clock, numbers near them, and others.
 pub(crate) fn choose_clock(random: &mut Random) -> i64 {
     match random.below(8) {
         0 | 1 => ABSENT_CLOCK,
-        2 => *random.pick(&[-ABSENT_CLOCK, ABSENT_CLOCK - 1, 999_999_000_000, 0]),
+        2 => *random.pick(CLOCK_ENDS),
         _ => choose_value(random) % 1_000_000_000,
     }
 }
@@ -2373,7 +2453,7 @@ fn write_row(pen: &mut Pen, letter: char, code: u64) -> Vec<u8> {
     let numbers: String =
         choose_place(pen.random).into_iter().map(|value| pen.coordinate(value)).collect();
     let clock = choose_clock(pen.random);
-    let clock = pen.coordinate(clock);
+    let clock = pen.clock(clock);
     let with_tail = once_in(pen.random, 3);
     let tail = if with_tail { write_tail(pen, letter == 'P') } else { String::new() };
     pen.line(format!("{letter}{}{numbers}{clock}{tail}", show_code(code)))
@@ -2588,6 +2668,23 @@ fn correlation_inserted(draft: &mut Draft, _: &Plan, random: &mut Random) {
         let line = *random.pick(&rows) + random.below(2);
         let text = *random.pick(&["EP", "EP", "EV", "EV", "EPx", "EP  \u{7f}", "E", "Ep"]);
         draft.insert(line, text.as_bytes());
+    }
+}
+
+/// A clock or rate near six nines, absent or not, well formed or not; some lines
+/// end in it or have another fault.
+fn clock_near_nines(draft: &mut Draft, _: &Plan, random: &mut Random) {
+    let (positions, velocities) = (draft.lines_of("P"), draft.lines_of("V"));
+    let rows = if velocities.is_empty() || once_in(random, 2) { positions } else { velocities };
+    if rows.is_empty() {
+        return;
+    }
+    let line = *random.pick(&rows);
+    draft.put(line, 47, lines::clock_near_nines(random).as_bytes());
+    match random.below(6) {
+        0 | 1 => draft.cut(line, 52 + random.below(9)),
+        2 => spoil_line(draft, line, random, 1),
+        _ => {}
     }
 }
 
@@ -2816,10 +2913,8 @@ fn any_byte(draft: &mut Draft, _: &Plan, random: &mut Random) {
 /// A line without its last columns.
 fn line_cut(draft: &mut Draft, _: &Plan, random: &mut Random) {
     let line = choose_line(draft, random);
-    if let Some(text) = draft.0.get_mut(line - 1) {
-        text.truncate(random.below(text.len().max(1)));
-        text.push(b'\n');
-    }
+    let length = draft.0.get(line - 1).map_or(1, |text| text.len().max(1));
+    draft.cut(line, random.below(length));
 }
 
 /// Other characters in some columns of a line.
@@ -2878,6 +2973,7 @@ const DAMAGES: Damages = &[
     (3, "line: inserted", line_inserted),
     (2, "line: EP or EV inserted", correlation_inserted),
     (12, "line: a note, spoilt or not", note_spoilt),
+    (8, "field: a clock near six nines", clock_near_nines),
     (2, "line: its end spoilt", line_end_spoiled),
     (5, "field: another instant", wrong_instant),
     (2, "field: an identifier twice", identifier_repeats),
@@ -3100,7 +3196,7 @@ pub(crate) fn generated<C>(generate: Generate<C>, seed: u64, number: u64) -> C {
 // The stored cases
 // ---------------------------------------------------------------------------
 
-const MOST_BATCH: usize = 680_000;
+const MOST_BATCH: usize = 695_000;
 pub(crate) const STORED_SEED: u64 = 20_160_221;
 
 /// A file made by hand with rooms that suffice; most refused ones end after
@@ -3123,7 +3219,7 @@ fn hand_cases() -> Vec<Case> {
     });
     let mut cases: Vec<Case> = asked.collect();
     let mut files: HashSet<Vec<u8>> = cases.iter().map(|case| case.file.clone()).collect();
-    for (place, &(base, edits, ..)) in HAND.iter().enumerate() {
+    for (place, &(base, edits, ..)) in HAND.iter().chain(CLOCKS_BY_HAND).enumerate() {
         let case = hand_case(place, base, edits);
         if files.insert(case.file.clone()) {
             cases.push(case);
@@ -3169,6 +3265,8 @@ const OTHERS: &[u8] = b"\n 0-x\x7f";
 const BESIDE_FLAGS: &[u8] = b"DFLNOQ";
 /// The columns of a line, and the first that it hasn't.
 const ALL_COLUMNS: RangeInclusive<usize> = 1..=81;
+/// Those of a clock or rate, and the one before and after it.
+const CLOCK_COLUMNS: RangeInclusive<usize> = 46..=61;
 
 /// Files, a line, columns of it, and the bytes that each is given.
 const ALTERED: &[(Base, usize, RangeInclusive<usize>, &[u8])] = &[
@@ -3188,6 +3286,15 @@ const ALTERED: &[(Base, usize, RangeInclusive<usize>, &[u8])] = &[
     (MovingNotes, 25, ALL_COLUMNS, FEW),
     (MovingNotes, 27, ALL_COLUMNS, EDGES),
     (MovingNotes, 31, ALL_COLUMNS, FEW),
+    // Absent clocks and rates.
+    (Clocks, 24, CLOCK_COLUMNS, EDGES),
+    (Clocks, 25, CLOCK_COLUMNS, EDGES),
+    (Clocks, 27, CLOCK_COLUMNS, EDGES),
+    (Clocks, 28, CLOCK_COLUMNS, EDGES),
+    (MovingClocks, 25, CLOCK_COLUMNS, EDGES),
+    (MovingClocks, 27, CLOCK_COLUMNS, EDGES),
+    (MovingClocks, 30, CLOCK_COLUMNS, FEW),
+    (MovingClocks, 32, CLOCK_COLUMNS, FEW),
     // One line of each other kind.
     (Rows, 1, ALL_COLUMNS, OTHERS),
     (Rows, 2, ALL_COLUMNS, OTHERS),
@@ -3254,9 +3361,14 @@ fn pairs() -> Vec<[u8; 2]> {
 
 /// A pair in a row or a note of digits; a number in whose front it begins has
 /// only blanks before it.
-fn pairs_of_bytes(base: Base, line: usize, numbers: &[(usize, usize)]) -> Vec<Case> {
+fn pairs_of_bytes(
+    base: Base,
+    line: usize,
+    columns: RangeInclusive<usize>,
+    numbers: &[(usize, usize)],
+) -> Vec<Case> {
     let mut cases = Vec::new();
-    for column in 4..lines::WIDTH {
+    for column in columns {
         let number = numbers.iter().find(|&&(first, last)| (first..=last).contains(&column));
         let first = number.map_or(column, |&(first, _)| first);
         let blanks = vec![b' '; column - first];
@@ -3290,10 +3402,47 @@ fn lines_doubled() -> Vec<Case> {
     lines.map(|(base, line)| ask_for_row(base, line, |draft| draft.double_line(line))).collect()
 }
 
+/// Rows with absent clocks and rates, cut after each of the columns around them.
+fn clocks_cut() -> Vec<Case> {
+    let rows = [24, 25, 27, 28].map(|line| (Clocks, line));
+    let moving = [25, 27, 30, 32].map(|line| (MovingClocks, line));
+    let cut = |(base, line), length| ask_for_row(base, line, |draft| draft.cut(line, length));
+    let rows = rows.into_iter().chain(moving);
+    rows.flat_map(|row| (45..=75).map(move |length| cut(row, length))).collect()
+}
+
+/// Whole parts on both sides of 999999, in seven columns, with every fraction of
+/// digits and blanks.
+fn clocks_spelt() -> Vec<Case> {
+    let wholes = [
+        " 999999", "0999999", "-999999", "+999999", " 999998", "1000000", "1999999", "9999999",
+        "  99999", "9 99999", "999999 ",
+    ];
+    let fraction = |blanks: usize| -> String {
+        (0..6).map(|place| if blanks >> place & 1 == 1 { ' ' } else { '0' }).collect()
+    };
+    let mut cases = Vec::new();
+    for (whole, blanks) in wholes.iter().flat_map(|whole| (0..64).map(move |b| (whole, b))) {
+        let clock = format!("{whole}.{}", fraction(blanks));
+        for (base, line) in [(Clocks, 24), (MovingClocks, 27)] {
+            cases.push(ask_for_row(base, line, |draft| draft.put(line, 47, clock.as_bytes())));
+        }
+    }
+    cases
+}
+
 /// All of them, each once.
 fn altered_lines() -> Vec<Case> {
-    let pairs = [pairs_of_bytes(Rows, 24, NUMBERS), pairs_of_bytes(Notes, 25, NOTED)].concat();
-    let mut cases = [single_bytes(), pairs, names_alike(), lines_doubled()].concat();
+    let columns = 4..=lines::WIDTH - 1;
+    let pairs = [
+        pairs_of_bytes(Rows, 24, columns.clone(), NUMBERS),
+        pairs_of_bytes(Notes, 25, columns, NOTED),
+        pairs_of_bytes(Clocks, 24, CLOCK_COLUMNS, &[]),
+        pairs_of_bytes(MovingClocks, 27, CLOCK_COLUMNS, &[]),
+    ];
+    let clocks = [clocks_cut(), clocks_spelt()].concat();
+    let mut cases =
+        [single_bytes(), pairs.concat(), clocks, names_alike(), lines_doubled()].concat();
     let mut files = HashSet::new();
     cases.retain(|case| files.insert(case.file.clone()));
     cases
@@ -3339,6 +3488,25 @@ fn kinds_of_rows(rows: &[Row]) -> Vec<(&'static str, bool)> {
     ]
 }
 
+/// How the clocks of an accepted file are spelt that have six nines.
+fn kinds_of_clocks(file: &[u8]) -> Vec<(&'static str, bool)> {
+    let rows =
+        |letter: u8| file.split(|&c| c == b'\n').filter(move |row| row.starts_with(&[letter]));
+    let some = |holds: fn(&[u8]) -> bool| rows(b'P').chain(rows(b'V')).any(holds);
+    let of_rates = |holds: fn(&[u8]) -> bool| rows(b'V').any(holds);
+    vec![
+        ("clocks, bare and cut", some(|row| row.len() == 54)),
+        ("clocks, bare and blank", some(|row| row.len() > 54 && row[54] == b' ')),
+        ("clocks, bare before exponents", some(|row| row.len() > 61 && row[54] == b' ')),
+        ("clocks, bare rates", of_rates(|row| row.len() == 54 || row[54] == b' ')),
+        ("clocks, zeros after six nines", some(|row| row[47..].starts_with(b"999999.000000"))),
+        ("clocks, twelve nines", some(|row| row[47..].starts_with(b"999999.999999"))),
+        ("clocks, six nines and a minus", some(|row| row[46..].starts_with(b"-999999."))),
+        ("clocks, six nines after a zero", some(|row| row[46..].starts_with(b"0999999."))),
+        ("clocks, 999998", some(|row| row[47..].starts_with(b"999998."))),
+    ]
+}
+
 /// How many of the ten fields of a note aren't blank.
 fn known_in(note: &Note) -> usize {
     note.deviations.iter().flatten().count() + note.correlations.iter().flatten().count()
@@ -3361,7 +3529,7 @@ fn kinds_of_notes(rows: &[Row]) -> Vec<(&'static str, bool)> {
 }
 
 /// What an accepted file has of what the format allows.
-fn kinds_of_table(table: &Table) -> Vec<String> {
+fn kinds_of_table(table: &Table, file: &[u8]) -> Vec<String> {
     let mut named = vec![
         ("accepted", true),
         ("mode P", !table.velocities),
@@ -3370,6 +3538,7 @@ fn kinds_of_table(table: &Table) -> Vec<String> {
     ];
     named.extend(kinds_of_days(table));
     named.extend(kinds_of_rows(&table.rows));
+    named.extend(kinds_of_clocks(file));
     named.extend(kinds_of_notes(&table.rows));
     let mut kinds: Vec<String> =
         named.iter().filter(|(_, holds)| *holds).map(|(name, _)| name.to_string()).collect();
@@ -3381,7 +3550,7 @@ fn kinds_of_table(table: &Table) -> Vec<String> {
 /// What a generated file is: accepted and of which kinds, or damaged how.
 fn kinds_of(plan: &Plan, file: &[u8]) -> Vec<String> {
     let mut kinds = match judge(file) {
-        Ok((table, _)) => kinds_of_table(&table),
+        Ok((table, _)) => kinds_of_table(&table, file),
         Err(refusal) => vec!["refused".to_string(), format!("refused {:2}", refusal.number)],
     };
     if plan.odd && plan.done.is_empty() {
@@ -3617,7 +3786,7 @@ const ASKED: &[Asked] = &[
             "case 1636",
             "whole 0 0 0 1636",
             "read 0 0 0 1636",
-            "sums 228541 168 10666195931946167104 17937299097973125974",
+            "sums 228541 168 10666195931946167104 3143308803866154615",
             "mode P",
             "start8 486371430000000000",
             "epochs 3",
@@ -3632,7 +3801,7 @@ const ASKED: &[Asked] = &[
             "P 0 R24 absent absent unknown unknown unknown unknown ....",
             "P 1 G07 absent -1 18 18 18 219 EPMP",
             "P 1 R24 0 0 1 absent large large large large ....",
-            "P 2 G07 -500000 0 0 999999000000 unknown unknown unknown unknown ....",
+            "P 2 G07 -500000 0 0 absent unknown unknown unknown unknown ....",
             "P 2 R24 999999999999 -999999999999 999999999999 -999999999999 0 unknown 9 7 ..M.",
             "rows 6 known 4 absent 2",
             "comment 0 0 0 1117 0 ||",
@@ -3798,7 +3967,7 @@ const ASKED: &[Asked] = &[
         &[],
         [2, 2, 308, 138],
         [0, 2, 0, 8223],
-        &["read 0 0 0 1636", "row 0 0 0 -500000 0 0 999999000000"],
+        &["read 0 0 0 1636", "row 0 0 0 -500000 0 0 absent"],
     ),
     (
         Motion,
@@ -4110,6 +4279,158 @@ const ASKED: &[Asked] = &[
             "P 1 R24 0 0 1 absent large large large large ....",
         ],
     ),
+    // Absent clocks: bare, cut, bare before exponents and flags, other digits, zeros,
+    // a leading zero. With twelve nines in all of them the table is the same.
+    (
+        Night,
+        &[
+            Put(24, 47, " 999999.      "),
+            Whole(25, "PR24      0.000000      0.000000      0.000000 999999."),
+            Put(27, 47, " 999999.      "),
+            Put(28, 47, " 999999.999998"),
+            Put(31, 47, "0999999.123456"),
+        ],
+        [2, 2, 308, 138],
+        [3, 2, 1, 8224],
+        &[
+            "case 1630",
+            "read 0 0 0 1630",
+            "sums 228541 168 10666195931946167104 9354858664053465677",
+            "P 0 G07 15000000000 -20000500000 0 absent unknown unknown unknown unknown ....",
+            "P 0 R24 absent absent unknown unknown unknown unknown ....",
+            "P 1 G07 absent absent 18 18 18 219 EPMP",
+            "P 1 R24 0 0 1 absent large large large large ....",
+            "P 2 G07 -500000 0 0 absent unknown unknown unknown unknown ....",
+            "P 2 R24 999999999999 -999999999999 999999999999 absent 0 unknown 9 7 ..M.",
+            "rows 6 known 4 absent 2",
+            "row 0 0 0 999999999999 -999999999999 999999999999 absent",
+        ],
+    ),
+    (
+        Night,
+        &[
+            Put(24, 47, " 999999.999999"),
+            Put(27, 47, " 999999.999999"),
+            Put(30, 47, " 999999.999999"),
+            Put(31, 47, " 999999.999999"),
+        ],
+        [2, 2, 308, 138],
+        [3, 2, 1, 8224],
+        &[
+            "case 1636",
+            "read 0 0 0 1636",
+            "sums 228541 168 10666195931946167104 9354858664053465677",
+            "P 2 R24 999999999999 -999999999999 999999999999 absent 0 unknown 9 7 ..M.",
+            "row 0 0 0 999999999999 -999999999999 999999999999 absent",
+        ],
+    ),
+    // Present: 999998, a minus; x, y and z of six nines are a place.
+    (
+        Night,
+        &[
+            Put(24, 47, " 999998.999999"),
+            Put(25, 47, "-999999.000000"),
+            Put(27, 47, "-999999.999999"),
+            Put(28, 47, "0999998.000000"),
+            Put(30, 5, " 999999.000000 999999.999998-999999.000000      0.999999"),
+        ],
+        [2, 2, 308, 138],
+        [3, 0, 0, 8224],
+        &[
+            "P 0 G07 15000000000 -20000500000 0 999998999999 unknown unknown unknown unknown ....",
+            "P 0 R24 absent -999999000000 unknown unknown unknown unknown ....",
+            "P 1 G07 absent -999999999999 18 18 18 219 EPMP",
+            "P 1 R24 0 0 1 999998000000 large large large large ....",
+            "P 2 G07 999999000000 999999999998 -999999000000 999999 \
+             unknown unknown unknown unknown ....",
+            "rows 6 known 4 absent 2",
+            "row 0 0 0 15000000000 -20000500000 0 999998999999",
+        ],
+    ),
+    // The same of rates; the row that is asked for is the P.
+    (
+        MovingRows,
+        &[
+            Put(25, 47, " 999999.      "),
+            Whole(27, "VR20      0.000000      0.000000      0.000000 999999."),
+            Put(29, 47, "-999999.000000"),
+            Put(30, 47, " 999999.000000"),
+            Put(31, 47, " 999999.999998"),
+            Put(32, 47, "0999999.123456"),
+        ],
+        [2, 2, 308, 184],
+        [3, 1, 0, 8220],
+        &[
+            "P 0 G07 123456789012 234567890123 999999999999 987654321098 18 large 7 219 EPMP",
+            "V 0 G07 123456789012 234567890123 999999999999 absent 18 large 7 219 ....",
+            "P 0 R20 absent absent unknown unknown unknown unknown ....",
+            "V 0 R20 absent absent unknown unknown unknown unknown ....",
+            "P 1 G07 -12500000 -23456789012 -3456789012 -999999000000 5 unknown large 7 .P..",
+            "V 1 G07 -12500000 -23456789012 -3456789012 absent 5 unknown large 7 ....",
+            "P 1 R20 12500000 1000000 -500000 absent 0 1 10 12 ...P",
+            "V 1 R20 12500000 1000000 -500000 absent 0 1 10 12 ....",
+            "rows 8 known 6 absent 2",
+            "row 0 0 0 -12500000 -23456789012 -3456789012 -999999000000",
+        ],
+    ),
+    (
+        MovingRows,
+        &[
+            Put(25, 47, " 999998.999999"),
+            Put(27, 47, "-999999.000000"),
+            Put(29, 47, " 999999.      "),
+            Put(30, 47, "-999999.999999"),
+            Put(32, 5, " 999999.000000 999999.999998-999999.0000000999998.000000"),
+        ],
+        [2, 2, 308, 184],
+        [3, 1, 0, 8220],
+        &[
+            "V 0 G07 123456789012 234567890123 999999999999 999998999999 18 large 7 219 ....",
+            "V 0 R20 absent -999999000000 unknown unknown unknown unknown ....",
+            "P 1 G07 -12500000 -23456789012 -3456789012 absent 5 unknown large 7 .P..",
+            "V 1 G07 -12500000 -23456789012 -3456789012 -999999999999 5 unknown large 7 ....",
+            "V 1 R20 999999000000 999999999998 -999999000000 999998000000 0 1 10 12 ....",
+            "row 0 0 0 -12500000 -23456789012 -3456789012 absent",
+        ],
+    ),
+    // The paper's file with its clock cut after the point, and as `.000000`.
+    (
+        Paper,
+        &[Whole(24, "PG07   5000.000001     -0.500000      0.000000 999999.")],
+        [1, 1, 308, 23],
+        [0, 0, 0, 7107],
+        &[
+            "whole 0 0 0 1209",
+            "read 0 0 0 1209",
+            "sums 7107 0 10666195931946167104 9802001914446447297",
+            "P 0 G07 5000000001 -500000 0 absent unknown unknown unknown unknown ....",
+            "row 0 0 0 5000000001 -500000 0 absent",
+        ],
+    ),
+    (
+        Paper,
+        &[Put(24, 47, " 999999.000000")],
+        [1, 1, 308, 23],
+        [0, 0, 0, 7107],
+        &[
+            "read 0 0 0 1215",
+            "sums 7107 0 10666195931946167104 9802001914446447297",
+            "row 0 0 0 5000000001 -500000 0 absent",
+        ],
+    ),
+    // A bare clock after anything else than six nines refuses the row that is asked for.
+    (
+        Motion,
+        &[Put(28, 47, "-999999.      ")],
+        [2, 2, 308, 92],
+        [0, 0, 0, 7101],
+        &[
+            "whole 6 28 47 0",
+            "read 6 28 47 0",
+            "satellite 6 28 47 0",
+            "row 6 28 47 absent absent",
+        ],
+    ),
     // Minus zero is zero; the clock's nines with a leading zero are absent.
     (
         Paper,
@@ -4217,6 +4538,40 @@ const ROWS_BY_HAND: &[Hand] = &[
     (Rows, &[Put(24, 46, " ")], 6, 24, 33),
     (Rows, &[Put(24, 60, ":")], 6, 24, 47),
     (Rows, &[Put(25, 57, "-")], 6, 25, 47),
+    // Clocks by their six nines: bare, cut, with zeros, with other digits.
+    (Clocks, &[], 0, 0, 0),
+    (MovingClocks, &[], 0, 0, 0),
+    (Clocks, &[Put(24, 47, "-")], 6, 24, 47),
+    (Clocks, &[Put(24, 47, "0")], 0, 0, 0),
+    (Clocks, &[Put(24, 47, "1")], 6, 24, 47),
+    (Clocks, &[Put(24, 48, " ")], 6, 24, 47),
+    (Clocks, &[Put(24, 53, "8")], 6, 24, 47),
+    (Clocks, &[Put(24, 54, " ")], 6, 24, 47),
+    (Clocks, &[Put(24, 55, "0")], 6, 24, 47),
+    (Clocks, &[Put(24, 60, "9")], 6, 24, 47),
+    (Clocks, &[Put(24, 55, "000000")], 0, 0, 0),
+    (Clocks, &[Put(24, 61, "0")], 5, 24, 61),
+    (Clocks, &[Put(24, 5, "1")], 7, 24, 5),
+    (Clocks, &[Put(25, 54, " ")], 6, 25, 47),
+    (Clocks, &[Put(25, 55, "      ")], 0, 0, 0),
+    (Clocks, &[Put(25, 60, "0")], 6, 25, 47),
+    (Clocks, &[Put(25, 61, "x")], 5, 25, 61),
+    (Clocks, &[Put(25, 81, " ")], 3, 25, 81),
+    (Clocks, &[Put(27, 47, "-")], 0, 0, 0),
+    (Clocks, &[Put(27, 47, "1")], 7, 27, 47),
+    (Clocks, &[Put(27, 53, "8")], 0, 0, 0),
+    (Clocks, &[Put(27, 55, " ")], 6, 27, 47),
+    (Clocks, &[Put(28, 47, " ")], 0, 0, 0),
+    (Clocks, &[Put(28, 48, " ")], 6, 28, 47),
+    (Clocks, &[Put(28, 60, " ")], 6, 28, 47),
+    (MovingClocks, &[Put(25, 47, "-")], 6, 25, 47),
+    (MovingClocks, &[Put(25, 55, "0")], 6, 25, 47),
+    (MovingClocks, &[Put(25, 61, "0")], 5, 25, 61),
+    (MovingClocks, &[Put(27, 53, "8")], 6, 27, 47),
+    (MovingClocks, &[Put(27, 75, "E")], 5, 27, 75),
+    (MovingClocks, &[Put(30, 47, "-")], 0, 0, 0),
+    (MovingClocks, &[Put(32, 47, "1")], 7, 32, 47),
+    (MovingClocks, &[Put(32, 60, " ")], 6, 32, 47),
     // Unused columns.
     (Rows, &[Put(24, 61, "0")], 5, 24, 61),
     (Rows, &[Put(24, 64, "-")], 5, 24, 64),
@@ -4420,9 +4775,44 @@ const ROWS_ASKED: &[Asked] = &[
         &[Put(25, 10, "-"), Put(25, 60, "8"), Put(25, 73, "0"), Put(25, 79, "M")],
         [2, 2, 308, 92],
         [0, 0, 1, 7107],
+        &["P 0 R20 absent absent unknown unknown unknown 0 ..M.", "row 0 0 0 absent absent"],
+    ),
+    (
+        Rows,
+        &[Put(25, 10, "-"), Put(25, 53, "8"), Put(25, 73, "0"), Put(25, 79, "M")],
+        [2, 2, 308, 92],
+        [0, 0, 1, 7107],
         &[
-            "P 0 R20 absent 999999999998 unknown unknown unknown 0 ..M.",
-            "row 0 0 0 absent 999999999998",
+            "P 0 R20 absent 999998999999 unknown unknown unknown 0 ..M.",
+            "row 0 0 0 absent 999998999999",
+        ],
+    ),
+    (
+        Clocks,
+        &[],
+        [2, 2, 308, 92],
+        [0, 0, 0, 7107],
+        &[
+            "P 0 G07 123456789012 234567890123 999999999999 absent 18 large 7 219 EPMP",
+            "P 0 R20 absent absent unknown unknown unknown unknown ....",
+            "P 1 G07 -12500000 -23456789012 -3456789012 absent 5 unknown large 7 .P..",
+            "P 1 R20 12500000 1000000 -500000 absent 0 1 10 12 ...P",
+            "row 0 0 0 123456789012 234567890123 999999999999 absent",
+        ],
+    ),
+    (
+        MovingClocks,
+        &[Put(24, 53, "8.123456"), Put(27, 47, "-999999.100000"), Put(30, 47, "-")],
+        [2, 2, 308, 184],
+        [0, 0, 0, 7107],
+        &[
+            "P 0 G07 123456789012 234567890123 999999999999 999998123456 18 large 7 219 EPMP",
+            "V 0 G07 123456789012 234567890123 999999999999 absent 18 large 7 219 ....",
+            "V 0 R20 absent -999999100000 unknown unknown unknown unknown ....",
+            "P 1 G07 -12500000 -23456789012 -3456789012 absent 5 unknown large 7 .P..",
+            "V 1 G07 -12500000 -23456789012 -3456789012 -999999000000 5 unknown large 7 ....",
+            "V 1 R20 12500000 1000000 -500000 absent 0 1 10 12 ....",
+            "row 0 0 0 123456789012 234567890123 999999999999 999998123456",
         ],
     ),
     (
@@ -4477,6 +4867,50 @@ fn test_asked(tally: &mut Tally, list: &[Asked]) {
             format!("{base:?} {edits:?}\n  wanted {missing:?}\n  given {answer}")
         });
         tally.made += wanted.len() - 1;
+    }
+}
+
+/// Each clock that `lines.rs` has by hand, in P and in V: the number of the file,
+/// or what its row holds.
+fn test_clocks(tally: &mut Tally) {
+    for &(given, wanted) in lines::CLOCKS {
+        for (base, line, row) in [(Paper, 24, 0), (Motion, 26, 1), (Motion, 29, 3)] {
+            let mut draft = base_file(base);
+            draft.put(line, 47, given.as_bytes());
+            let judged = judge(&draft.bytes());
+            let right = match (&judged, wanted) {
+                (Ok((table, _)), Ok(shown)) => table.rows[row].clock == number_shown(shown),
+                (Err(refusal), Err(number)) => {
+                    (refusal.number, refusal.line, refusal.column) == (number, line, 47)
+                }
+                _ => false,
+            };
+            tally.holds(right, || format!("{base:?} clock {given:?}: {:?}", numbers(&judged)));
+        }
+    }
+}
+
+/// ` 999998.000001` is 999,998,000,001.
+fn number_shown(text: &str) -> i64 {
+    text.replace([' ', '.'], "").parse().unwrap_or_else(|_| fail(&format!("{text:?} is no number")))
+}
+
+/// Files that differ in the fractions of six nines have equal tables.
+fn test_equal_tables(tally: &mut Tally) {
+    let nines = lines::CLOCKS.iter().filter(|(_, shown)| *shown == Ok(" 999999.999999"));
+    let absent: Vec<&str> = nines.map(|&(given, _)| given).collect();
+    for (base, line, rooms) in
+        [(Paper, 24, [1, 1, 308, 23]), (Night, 28, [2, 2, 308, 138]), (Motion, 29, [2, 2, 308, 92])]
+    {
+        let lists = |clock: &&str| {
+            let (mut draft, mut lent) = (base_file(base), Lent::marked(rooms));
+            draft.put(line, 47, clock.as_bytes());
+            let read = read(&draft.bytes(), &mut lent).map(|_| ());
+            (read.is_ok(), lent.identifiers, lent.exponents, lent.comments, lent.rows)
+        };
+        let tables: Vec<_> = absent.iter().map(lists).collect();
+        let alike = tables.iter().all(|table| table.0 && *table == tables[0]);
+        tally.holds(alike, || format!("{base:?}: absent clocks make different tables"));
     }
 }
 
@@ -4630,11 +5064,14 @@ fn test_days(tally: &mut Tally) {
 fn self_test() {
     let mut tally = Tally::default();
     test_hand(&mut tally, HAND);
+    test_hand(&mut tally, CLOCKS_BY_HAND);
     test_hand(&mut tally, ROWS_BY_HAND);
     test_hand(&mut tally, NOTES_BY_HAND);
     test_asked(&mut tally, ASKED);
     test_asked(&mut tally, ROWS_ASKED);
     test_asked(&mut tally, NOTES_ASKED);
+    test_clocks(&mut tally);
+    test_equal_tables(&mut tally);
     test_types(&mut tally);
     test_days(&mut tally);
     test_kept(&mut tally);

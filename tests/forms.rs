@@ -56,7 +56,7 @@
 //! kept                      every byte past them still holds the mark
 //! ```
 //!
-//! "The paper" is 01-scope.md as requests 1 and 2 of 02-change-requests.md
+//! "The paper" is 01-scope.md as requests 1 to 3 of 02-change-requests.md
 //! changed it, "000" is the SP3-d document.
 
 #[allow(dead_code)]
@@ -113,6 +113,8 @@ impl Head {
 /// Width of a comment and of a row in the lists.
 const COMMENT: usize = 77;
 const ROW: usize = files::ROW_WIDTH;
+/// The place of the clock in a row.
+const CLOCK: usize = 3;
 /// Places in a row: whether it has a note, and the note's deviations and
 /// correlations.
 const MARK: usize = 12;
@@ -200,9 +202,16 @@ fn is_exponent(value: i64, most: i64) -> bool {
     (0..=most).contains(&value) || value == UNKNOWN
 }
 
+/// A present clock or rate as a row can hold it ("The largest valid clock is now
+/// 999,998,999,999"), or the twelve nines of an absent one.
+fn is_clock(value: i64) -> bool {
+    (-lines::MOST_MAGNITUDE..=lines::MOST_CLOCK).contains(&value) || value == lines::ABSENT_CLOCK
+}
+
 fn row_is_valid(row: &[i64], velocity: bool) -> bool {
     let most_flag = if velocity { 0 } else { 1 };
-    row[..4].iter().all(|&value| value.unsigned_abs() <= most_of(12))
+    row[..CLOCK].iter().all(|&value| value.unsigned_abs() <= most_of(12))
+        && is_clock(row[CLOCK])
         && row[4..7].iter().all(|&value| is_exponent(value, 99))
         && is_exponent(row[7], 999)
         && row[8..MARK].iter().all(|&flag| (0..=most_flag).contains(&flag))
@@ -764,7 +773,7 @@ use Change::{
     Argument, Comment, CommentByte, Epochs, Exponent as Accuracy, Field, Identifier as Name,
     Length, RowNumber, Start, System, Texts, Twice, Type,
 };
-use Edit::{After, Byte, Drop, Insert, Put};
+use Edit::{After, Byte, Drop, Insert, Line as Whole, Put};
 
 /// A number of a row: both counted from 0.
 const fn at(row: usize, place: usize) -> usize {
@@ -839,6 +848,15 @@ macro_rules! row {
     };
 }
 
+/// The paper's row with its clock cut after the point.
+const CUT_ROW: &str = "PG07   5000.000001     -0.500000      0.000000 999999.";
+
+macro_rules! clocked {
+    ($clock:expr) => {
+        concat!("PG07   5000.000001     -0.500000      0.000000", $clock)
+    };
+}
+
 macro_rules! noted {
     ($note:expr) => {
         &[(25, $note), (26, "EOF")]
@@ -878,6 +896,51 @@ const WRITTEN: &[(Base, &[Edit], Lines)] = &[
         Paper,
         &[Put(24, 5, "0000000.000001-000001.000000 999999.000000     -0.000000")],
         &[(24, "PG07      0.000001     -1.000000 999999.000000      0.000000")],
+    ),
+    // Request 3: "The canonical form still writes twelve nines." Bare, cut, with any
+    // digits, after a zero; before exponents and flags.
+    (Paper, &[Put(24, 47, " 999999.      ")], &[]),
+    (Paper, &[Whole(24, CUT_ROW)], &[]),
+    (Paper, &[Put(24, 47, " 999999.000000")], &[]),
+    (Paper, &[Put(24, 47, " 999999.999998")], &[]),
+    (Paper, &[Put(24, 47, "0999999.123456")], &[]),
+    (
+        Paper,
+        &[Put(24, 47, " 999999.       18 99 07 219 EP  MP")],
+        &[(24, row!(" 18 99  7 219 EP  MP"))],
+    ),
+    (Motion, &[Put(29, 47, " 999999.      ")], &[]),
+    (Motion, &[Whole(29, "VG02      0.000000      0.000000      0.000000 999999.")], &[]),
+    (Motion, &[Put(29, 47, " 999999.000000")], &[]),
+    (Motion, &[Put(29, 47, " 999999.999998")], &[]),
+    (Motion, &[Put(29, 47, "0999999.123456")], &[]),
+    (
+        Motion,
+        &[Put(26, 47, " 999999.       14 09    191")],
+        &[(26, "VG01  20298.880364 -18462.044804   1381.387685 999999.999999 14  9    191")],
+    ),
+    // Clocks that are present near them; six nines of x are a place.
+    (Paper, &[Put(24, 47, " 999998.999999")], &[(24, clocked!(" 999998.999999"))]),
+    (Paper, &[Put(24, 47, "-999999.000000")], &[(24, clocked!("-999999.000000"))]),
+    (Paper, &[Put(24, 47, "-999999.999999")], &[(24, clocked!("-999999.999999"))]),
+    (Paper, &[Put(24, 47, "0999998.000000")], &[(24, clocked!(" 999998.000000"))]),
+    (
+        Paper,
+        &[Put(24, 5, " 999999.000000")],
+        &[(24, "PG07 999999.000000     -0.500000      0.000000 999999.999999")],
+    ),
+    (
+        Motion,
+        &[Put(26, 47, " 999998.999999"), Put(29, 47, "-999999.999999")],
+        &[
+            (26, "VG01  20298.880364 -18462.044804   1381.387685 999998.999999 14 14 14 191"),
+            (29, "VG02      0.000000      0.000000      0.000000-999999.999999"),
+        ],
+    ),
+    (
+        Motion,
+        &[Put(26, 5, " 999999.000000"), Put(26, 47, "-999999.000000")],
+        &[(26, "VG01 999999.000000 -18462.044804   1381.387685-999999.000000 14 14 14 191")],
     ),
     // Texts of line 1 that are blank, at the end or all.
     (
@@ -1090,7 +1153,7 @@ const NIGHT_NOTES: Lines = &[
     (29, "EP     7         8"),
     (30, "PR24      0.000000      0.000000      0.000001 999999.999999 99 99 99 999"),
     (31, "*  2013  1  1  0 15  0.00000000"),
-    (32, "PG07     -0.500000      0.000000      0.000000 999999.000000"),
+    (32, "PG07     -0.500000      0.000000      0.000000 999999.999999"),
     (33, "PR24 999999.999999-999999.999999 999999.999999-999999.999999  0     9   7     M"),
     (34, "EOF"),
 ];
@@ -1265,6 +1328,23 @@ const DATED: &[(Base, &[Change], Lines)] = &[
     (Night, &[Length(0, 30), Length(1, 20), Length(2, 400), Length(3, 200)], &[]),
     (Motion, &[Length(0, 3), Length(1, 2), Length(2, 385), Length(3, 100)], &[]),
     (Many(86), &[Length(0, 87), Length(1, 87), Length(3, 1979)], &[]),
+    // Clocks at both ends of their bounds, and absent.
+    (Paper, &[RowNumber(CLOCK, 999_998_999_999)], &[(24, clocked!(" 999998.999999"))]),
+    (Paper, &[RowNumber(CLOCK, -999_999_999_999)], &[(24, clocked!("-999999.999999"))]),
+    (Paper, &[RowNumber(CLOCK, 999_999_999_999)], &[]),
+    (
+        Motion,
+        &[RowNumber(at(3, CLOCK), 999_998_999_999)],
+        &[(29, "VG02      0.000000      0.000000      0.000000 999998.999999")],
+    ),
+    (
+        Motion,
+        &[RowNumber(at(3, CLOCK), -999_999_999_999), RowNumber(at(1, CLOCK), 999_999_999_999)],
+        &[
+            (26, "VG01  20298.880364 -18462.044804   1381.387685 999999.999999 14 14 14 191"),
+            (29, "VG02      0.000000      0.000000      0.000000-999999.999999"),
+        ],
+    ),
     // Numbers of a note.
     (Paper, &[RowNumber(MARK, 1)], noted!("EP")),
     (Paper, &[RowNumber(MARK, 1), RowNumber(13, 1000)], noted!("EP  1000")),
@@ -1296,9 +1376,42 @@ const REFUSED: &[(Base, &[Edit], &str)] = &[
     (Paper, &[Drop(22)], "read 4 22 0"),
     (Paper, &[Put(24, 5, "  5000.0000001")], "read 6 24 5"),
     (Paper, &[Put(24, 47, "1000000.000000")], "read 7 24 47"),
+    (Paper, &[Put(24, 47, "-999999.      ")], "read 6 24 47"),
+    (Paper, &[Put(24, 47, " 999999.00000 ")], "read 6 24 47"),
+    (Paper, &[Put(24, 47, " 999999.     0")], "read 6 24 47"),
+    (Paper, &[Put(24, 47, " 999998.      ")], "read 6 24 47"),
+    (Paper, &[Put(24, 47, "1000000.      ")], "read 6 24 47"),
+    (Paper, &[Put(24, 47, " 999999       ")], "read 6 24 47"),
+    (Paper, &[Put(24, 47, "              ")], "read 6 24 47"),
+    (Paper, &[Put(24, 47, "999999.       ")], "read 6 24 47"),
+    (Paper, &[Put(24, 47, " 999999.      0")], "read 5 24 61"),
+    (Paper, &[Put(24, 5, " 999999.      ")], "read 6 24 5"),
+    (Motion, &[Put(26, 47, "1000000.000000")], "read 7 26 47"),
+    (Motion, &[Put(26, 47, "-999999.      ")], "read 6 26 47"),
+    (Motion, &[Put(26, 47, " 999999.00000 ")], "read 6 26 47"),
+    (Motion, &[Put(26, 47, " 999999.     0")], "read 6 26 47"),
+    (Motion, &[Put(26, 47, " 999998.      ")], "read 6 26 47"),
+    (Motion, &[Put(26, 47, "1000000.      ")], "read 6 26 47"),
+    (Motion, &[Put(26, 47, " 999999       ")], "read 6 26 47"),
+    (Motion, &[Put(26, 47, "              ")], "read 6 26 47"),
+    (Motion, &[Put(26, 47, "999999.       ")], "read 6 26 47"),
+    (Motion, &[Put(26, 47, " 999999.      0")], "read 5 26 61"),
+    (Motion, &[Put(26, 5, " 999999.      ")], "read 6 26 5"),
     (Paper, &[Put(24, 2, "G08")], "read 10 24 0"),
     (Paper, &[After(b"\n")], "read 11 26 0"),
     (Talkative(104), &[], "read 12 0 0"),
+];
+
+/// Files whose form is longer than they are, the room for it, and the number of
+/// its writing. Of one row that is cut after the point the form has 1,215 bytes
+/// and the file 1,209; of `Clocks` 1,486 and 1,480.
+const LONGER: &[(Base, &[Edit], usize, u8)] = &[
+    (Paper, &[Whole(24, CUT_ROW)], 1209, 12),
+    (Paper, &[Whole(24, CUT_ROW)], 1214, 12),
+    (Paper, &[Whole(24, CUT_ROW)], 1215, 0),
+    (Base::Clocks, &[], 1480, 12),
+    (Base::Clocks, &[], 1485, 12),
+    (Base::Clocks, &[], 1486, 0),
 ];
 
 /// The canonical form of a base, by hand.
@@ -1306,8 +1419,10 @@ fn base_form(base: Base) -> Vec<String> {
     let bytes = files::base_file(base).bytes();
     let mut form: Vec<String> = files::show_text(&bytes).lines().map(str::to_string).collect();
     match base {
-        // Minus zero is zero.
-        Night => form[29] = form[29].replace("     -0.000000", "      0.000000"),
+        // Minus zero is zero, an absent clock twelve nines.
+        Night => {
+            form[29] = "PG07     -0.500000      0.000000      0.000000 999999.999999".to_string();
+        }
         Notes | MovingNotes => form.iter_mut().for_each(|line| *line = plain_note(line)),
         _ => {}
     }
@@ -1535,8 +1650,19 @@ fn judged_satellites() -> Vec<Judged> {
 }
 
 const AMOUNTS: (&[i64], &[i64]) = (
-    &[999_999_999_999, -999_999_999_999, 0, -1, 999_999, -1_000_000],
+    &[999_999_999_999, -999_999_999_999, 999_999_000_000, 999_999_999_998, 0, -1, -1_000_000],
     &[1_000_000_000_000, -1_000_000_000_000, i64::MIN, i64::MAX],
+);
+/// A clock or rate: those that only an absent one could be spelt as are none.
+const CLOCK_AMOUNTS: (&[i64], &[i64]) = (
+    &[
+        999_999_999_999, 999_998_999_999, 999_998_000_000, -999_999_999_999, -999_999_000_000, 0,
+        -1, 999_999,
+    ],
+    &[
+        999_999_000_000, 999_999_000_001, 999_999_500_000, 999_999_999_998, 1_000_000_000_000,
+        -1_000_000_000_000, i64::MIN, i64::MAX,
+    ],
 );
 const EXPONENTS: (&[i64], &[i64]) = (&[0, 9, 99, 1000], &[-1, 100, 999, 1001, -1000, i64::MIN]);
 const CLOCK_EXPONENTS: (&[i64], &[i64]) =
@@ -1566,9 +1692,9 @@ const CORRELATED_ENDS: (&[i64], &[i64]) =
 fn judged_rows() -> Vec<Judged> {
     let mut all: Vec<Judged> = Vec::new();
     for (base, row, flags) in [(Paper, 0, FLAGS), (Motion, 3, NO_FLAGS)] {
-        for place in 0..ROW {
+        for place in (0..ROW).filter(|&place| place != CLOCK) {
             let (right, wrong) = match place {
-                0..=3 => AMOUNTS,
+                0..=2 => AMOUNTS,
                 4..=6 => EXPONENTS,
                 7 => CLOCK_EXPONENTS,
                 MARK => MARKS,
@@ -1584,6 +1710,19 @@ fn judged_rows() -> Vec<Judged> {
     all.push((Motion, vec![RowNumber(at(3, 8), 1)], 0, 13));
     all.push((Motion, vec![RowNumber(at(2, 8), 1)], 0, 0));
     all.push((Night, vec![Length(3, 7 * ROW), RowNumber(at(6, 0), i64::MAX)], 0, 0));
+    all
+}
+
+/// The clock of a P row, then of a V row; of the P row of mode V, of the last row,
+/// and of one that isn't of the table.
+fn judged_clocks() -> Vec<Judged> {
+    let (right, wrong) = CLOCK_AMOUNTS;
+    let mut all = judged_number(Paper, CLOCK, &[], right, wrong);
+    all.extend(judged_number(Motion, at(3, CLOCK), &[], right, wrong));
+    all.push((Motion, vec![RowNumber(at(2, CLOCK), 999_999_000_000)], 0, 13));
+    all.push((Motion, vec![RowNumber(at(2, CLOCK), 999_998_999_999)], 0, 0));
+    all.push((Night, vec![RowNumber(at(5, CLOCK), 999_999_999_998)], 0, 13));
+    all.push((Night, vec![Length(3, 7 * ROW), RowNumber(at(6, CLOCK), 999_999_000_000)], 0, 0));
     all
 }
 
@@ -1668,13 +1807,14 @@ const ROOMS: &[(Base, &[Change], isize, u8)] = &[
     (Night, &[], -1, 12),
     (Motion, &[], 0, 0),
     (Motion, &[], -1, 12),
-    (Many(86), &[], 0, 0),
-    (Many(86), &[], -1, 12),
+    (Many(18), &[], 0, 0),
+    (Many(18), &[], -1, 12),
     (Talkative(103), &[], -1, 12),
     (Paper, &[RowNumber(4, 7), RowNumber(11, 1)], 0, 0),
     (Paper, &[RowNumber(4, 7), RowNumber(11, 1)], -1, 12),
     (Paper, &[Name(0, 7100)], -1215, 13),
     (Paper, &[RowNumber(11, 2)], -1215, 13),
+    (Paper, &[RowNumber(CLOCK, 999_999_000_000)], -1, 13),
     (Paper, &[Length(3, 22)], -1215, 13),
     (Paper, &[Field(TYPE, 0)], -1215, 13),
     (Paper, &[CommentByte(307, 7)], -1, 13),
@@ -1708,6 +1848,9 @@ const LARGE: &[u64] = &[
     1_000_000_000,
     99_999_999_999,
     100_000_000_000,
+    999_998_999_999,
+    999_999_000_000,
+    999_999_999_998,
     999_999_999_999,
     1_000_000_000_000,
     9_999_999_999_999,
@@ -1803,6 +1946,25 @@ fn spoil_comment(given: &mut Given, random: &mut Random) {
         if files::once_in(random, 2) { 30 + random.below(99) as u8 } else { random.next() as u8 };
 }
 
+/// A clock on one side or the other of each of its bounds.
+fn choose_clock_number(random: &mut Random) -> i64 {
+    let nearby = *random.pick(&[
+        999_998_999_999,
+        999_999_000_000,
+        999_999_999_998,
+        999_999_999_999,
+        1_000_000_000_000,
+        -999_999_000_000,
+        -999_999_999_999,
+        -1_000_000_000_000,
+    ]);
+    match random.below(4) {
+        0 => files::choose_clock(random),
+        1 => nearby + random.below(1000) as i64 - 500,
+        _ => nearby,
+    }
+}
+
 fn choose_row_number(random: &mut Random, place: usize) -> i64 {
     if files::once_in(random, 6) {
         let number = choose_any(random) as i64;
@@ -1810,7 +1972,7 @@ fn choose_row_number(random: &mut Random, place: usize) -> i64 {
     }
     match place {
         0..=2 => files::choose_value(random),
-        3 => files::choose_clock(random),
+        CLOCK => choose_clock_number(random),
         4..=6 => *random.pick(&[0, 1, 9, 10, 98, 99, 99, 1000, 1000, 100]),
         7 => *random.pick(&[0, 1, 9, 10, 99, 100, 998, 999, 1000, 1000, 1001]),
         8..=MARK => *random.pick(&[0, 1, 0, 1, 0, 1, 0, 1, 0, 1, 2]),
@@ -1838,6 +2000,14 @@ fn spoil_row(given: &mut Given, random: &mut Random) {
     }
     let place = random.below(rows);
     given.lists.rows[place] = choose_row_number(random, place % ROW);
+}
+
+/// The clock of a row.
+fn spoil_clock(given: &mut Given, random: &mut Random) {
+    let rows = given.lists.rows.len() / ROW;
+    if rows > 0 {
+        given.lists.rows[at(random.below(rows), CLOCK)] = choose_clock_number(random);
+    }
 }
 
 /// A number of a note, or its mark.
@@ -1872,6 +2042,7 @@ const SPOILS: &[Spoil] = &[
     spoil_comment,
     spoil_row,
     spoil_row,
+    spoil_clock,
     spoil_note,
     spoil_note,
     spoil_length,
@@ -1997,12 +2168,16 @@ fn with_room(body: Body, more: isize) -> Case {
     Case { room: needed.saturating_add_signed(more), body }
 }
 
-/// Those worked out by hand, the longer of the judged tables in part, and small
-/// generated ones.
 fn refused_case(base: Base, edits: &[Edit]) -> Case {
     Case { room: 1300, body: Body::File(files::hand_made(base, edits)) }
 }
 
+fn longer_case(base: Base, edits: &[Edit], room: usize) -> Case {
+    Case { room, body: Body::File(files::hand_made(base, edits)) }
+}
+
+/// Those worked out by hand, the longer of the judged tables in part, and small
+/// generated ones.
 fn stored_cases() -> Vec<Case> {
     let mut cases: Vec<Case> = Vec::new();
     for &(base, edits, _) in WRITTEN {
@@ -2025,13 +2200,17 @@ fn stored_cases() -> Vec<Case> {
             cases.push(with_room(Body::File(file), more));
         }
     }
+    for (base, changes, ..) in judged_clocks() {
+        cases.push(with_room(Body::Table(changed(base, &changes)), 1));
+    }
     for (place, (base, changes, ..)) in judged_by_hand().into_iter().enumerate() {
         let case = with_room(Body::Table(changed(base, &changes)), 1);
-        if case.bytes().len() < 700 || place % 3 == 0 {
+        if case.bytes().len() < 700 || place % 6 == 0 {
             cases.push(case);
         }
     }
     cases.extend(REFUSED.iter().map(|&(base, edits, _)| refused_case(base, edits)));
+    cases.extend(LONGER.iter().map(|&(base, edits, room, _)| longer_case(base, edits, room)));
     files::filled_up(cases, generate_case, |case| case.bytes().len() < 3000)
 }
 
@@ -2069,7 +2248,7 @@ fn numbers_of(given: &Given, room: usize) -> (u8, u8) {
 }
 
 fn test_judged(tally: &mut Tally) {
-    for (base, changes, new, written) in judged_by_hand() {
+    for (base, changes, new, written) in [judged_by_hand(), judged_clocks()].concat() {
         let found = numbers_of(&changed(base, &changes), usize::MAX);
         tally.holds(found == (new, written), || {
             format!("{base:?} {changes:?}: wanted {new} {written}, found {found:?}")
@@ -2089,6 +2268,34 @@ fn test_refused(tally: &mut Tally) {
         let wanted = format!("file 1300 {}\n{read}\n", case.bytes().len());
         let found = case.answer();
         tally.holds(found == wanted, || format!("{base:?} {edits:?}: {found}"));
+    }
+}
+
+/// A form that is longer than its file needs room of its own length.
+fn test_longer(tally: &mut Tally) {
+    for &(base, edits, room, number) in LONGER {
+        let found = longer_case(base, edits, room).answer();
+        let wanted = if number == 0 { format!("write 0 {room}\n") } else { "write 12 0\n".into() };
+        tally.holds(found.contains(&wanted), || format!("{base:?} {edits:?} {room}: {found}"));
+    }
+}
+
+/// Files that differ in the fractions of six nines are written alike.
+fn test_alike(tally: &mut Tally) {
+    for (base, line) in [(Paper, 24), (Night, 28), (Motion, 29)] {
+        for &(clock, shown) in lines::CLOCKS {
+            let mut draft = files::base_file(base);
+            draft.put(line, 47, clock.as_bytes());
+            let written = given_of(&draft.bytes()).map(|given| given.write(usize::MAX));
+            if let Ok(shown) = shown {
+                draft = files::base_file(base);
+                draft.put(line, 47, shown.as_bytes());
+                let plain = given_of(&draft.bytes()).map(|given| given.write(usize::MAX));
+                tally.holds(written.is_some() && written == plain, || {
+                    format!("{base:?} clock {clock:?} isn't written as {shown:?}")
+                });
+            }
+        }
     }
 }
 
@@ -2148,7 +2355,7 @@ fn test_files(tally: &mut Tally) {
         let Some(given) = given_of(&file) else {
             continue;
         };
-        let written = given.write(file.len()).unwrap_or_default();
+        let written = given.write(usize::MAX).unwrap_or_default();
         let held = given.head().is_ok_and(|head| has_table(&written, &head, &given.lists));
         tally.holds(held, || format!("case {number}: its table isn't that of its form"));
     }
@@ -2159,6 +2366,8 @@ fn self_test() {
     test_forms(&mut tally);
     test_judged(&mut tally);
     test_refused(&mut tally);
+    test_longer(&mut tally);
+    test_alike(&mut tally);
     let by_hand = tally.made;
     test_validity(&mut tally);
     test_files(&mut tally);

@@ -28,7 +28,7 @@
 //! any other record does: `0 0 EP    55               222`, and `0 0 EP` where
 //! all of them are unknown.
 //!
-//! "The paper" is 01-scope.md as requests 1 and 2 of 02-change-requests.md
+//! "The paper" is 01-scope.md as requests 1 to 3 of 02-change-requests.md
 //! changed it, "000" is the SP3-d document; the words beside the columns below
 //! are those of its column-by-column description.
 
@@ -151,6 +151,17 @@ fn read_decimal(field: &[u8], places: usize, minus_allowed: bool) -> Option<i64>
 
 pub(crate) fn power_of_ten(places: usize) -> i64 {
     (0..places).fold(1, |power, _| 10 * power)
+}
+
+/// Request 3: "So a clock or rate without a minus whose whole part has the value
+/// 999999 is absent; after the point all six columns are digits or all six are
+/// blank." Of the fourteen columns the whole part has seven, the point one.
+fn is_absent_clock(field: &[u8]) -> bool {
+    let (whole, rest) = field.split_at(7);
+    let (point, fraction) = rest.split_at(1);
+    read_integer(whole) == Some(999_999)
+        && point == b"."
+        && (is_blank(fraction) || read_digits(fraction).is_some())
 }
 
 /// "a blank exponent is unknown (in P and V, not in `++`)"
@@ -306,8 +317,18 @@ impl Reader {
     /// "Only x, y, z and clock fields allow the minus."
     fn coordinate(&mut self, first: usize, last: usize) -> i64 {
         let field = self.take(first, last, Role::Field);
-        let largest = 999_999_999_999;
-        self.bounded(read_decimal(&field, 6, true), first, -largest..=largest)
+        let bounds = -MOST_MAGNITUDE..=MOST_MAGNITUDE;
+        self.bounded(read_decimal(&field, 6, true), first, bounds)
+    }
+
+    /// A clock or rate: absent by its six nines, or a decimal that may have a
+    /// minus. "A blank fraction elsewhere stays 6."
+    fn clock(&mut self, first: usize, last: usize) -> i64 {
+        let field = self.take(first, last, Role::Field);
+        if is_absent_clock(&field) {
+            return ABSENT_CLOCK;
+        }
+        self.bounded(read_decimal(&field, 6, true), first, -MOST_MAGNITUDE..=MOST_CLOCK)
     }
 
     fn exponent(&mut self, first: usize, last: usize) -> Exponent {
@@ -497,6 +518,13 @@ enum Record {
 pub(crate) const SLOTS: usize = 17;
 pub(crate) const MOST_SATELLITES: i64 = 255;
 pub(crate) const MOST_EPOCHS: i64 = 100_000;
+/// Of x, y and z, and of a clock or rate below zero: "with magnitude at most
+/// 999,999,999,999".
+pub(crate) const MOST_MAGNITUDE: i64 = 999_999_999_999;
+/// Request 3: "The largest valid clock is now 999,998,999,999."
+pub(crate) const MOST_CLOCK: i64 = 999_998_999_999;
+/// "An absent clock or rate is held as its twelve nines", whatever its fraction.
+pub(crate) const ABSENT_CLOCK: i64 = 999_999_999_999;
 /// In 10^-7: "a correlation coefficient between -0.9999999 and +0.9999999".
 pub(crate) const MOST_CORRELATION: i64 = 9_999_999;
 
@@ -747,7 +775,7 @@ fn read_row(r: &mut Reader) -> Row {
     let x = r.coordinate(5, 18); //         Columns 5-18   x-coordinate, x-velocity     F14.6
     let y = r.coordinate(19, 32); //        Columns 19-32  y-coordinate, y-velocity     F14.6
     let z = r.coordinate(33, 46); //        Columns 33-46  z-coordinate, z-velocity     F14.6
-    let clock = r.coordinate(47, 60); //    Columns 47-60  clock, clock rate-chg        F14.6
+    let clock = r.clock(47, 60); //         Columns 47-60  clock, clock rate-chg        F14.6
     r.unused(61, 61); //                    Column 61      Unused
     let x_sdev = r.exponent(62, 63); //     Columns 62-63  x-sdev                       I2
     r.unused(64, 64); //                    Column 64      Unused
@@ -1352,7 +1380,10 @@ const SPOILED: &[(u8, usize, &str, u8, usize)] = &[
     (b'm', 5, "1000000.000000", 7, 5),
     (b'm', 19, "       .500000", 6, 19),
     (b'm', 33, "            1.", 6, 33),
+    (b'm', 5, " 999999.      ", 6, 5),
     (b'm', 47, "9999999.999999", 7, 47),
+    (b'm', 47, "-999999.      ", 6, 47),
+    (b'm', 47, "1000000.000000", 7, 47),
     (b'm', 61, "1", 5, 61),
     (b'm', 62, "1 ", 6, 62),
     (b'm', 71, " -1", 6, 71),
@@ -1365,7 +1396,9 @@ const SPOILED: &[(u8, usize, &str, u8, usize)] = &[
     (b'n', 2, "V00", 7, 2),
     (b'n', 5, "   - 1.000000 ", 6, 5),
     (b'n', 19, "9999999.999999", 7, 19),
+    (b'n', 33, " 999999.      ", 6, 33),
     (b'n', 47, "    +4.534317 ", 6, 47),
+    (b'n', 47, " 999999.     0", 6, 47),
     (b'n', 64, "1", 5, 64),
     (b'n', 68, ".1", 6, 68),
     (b'n', 74, " E", 5, 75),
@@ -1422,6 +1455,139 @@ pub(crate) fn spoilers_of(letter: u8) -> Vec<&'static Spoiler> {
 
 pub(crate) fn overlap(one: &Spoiler, other: &Spoiler) -> bool {
     one.1 < other.1 + other.2.len() && other.1 < one.1 + one.2.len()
+}
+
+// ---------------------------------------------------------------------------
+// Clocks and rates (request 3) with their answers worked out by hand
+// ---------------------------------------------------------------------------
+
+/// An absent clock, however it was spelt, in the canonical form.
+const TWELVE_NINES: &str = " 999999.999999";
+/// A clock that has only the six nines that 000 requires.
+const BARE_CLOCK: &str = " 999999.      ";
+
+/// What columns 47 to 60 of a P or V hold; how the canonical form shows it there,
+/// or the number that it earns at column 47.
+pub(crate) const CLOCKS: &[(&str, Result<&str, u8>)] = &[
+    // Absent: the fraction blank or any six digits, a leading zero.
+    (BARE_CLOCK, Ok(TWELVE_NINES)),
+    ("0999999.      ", Ok(TWELVE_NINES)),
+    (" 999999.000000", Ok(TWELVE_NINES)),
+    (" 999999.000001", Ok(TWELVE_NINES)),
+    (" 999999.999998", Ok(TWELVE_NINES)),
+    (TWELVE_NINES, Ok(TWELVE_NINES)),
+    ("0999999.000000", Ok(TWELVE_NINES)),
+    ("0999999.123456", Ok(TWELVE_NINES)),
+    ("0999999.999999", Ok(TWELVE_NINES)),
+    // Present: a whole part of another value, or a minus.
+    (" 999998.999999", Ok(" 999998.999999")),
+    ("0999998.000000", Ok(" 999998.000000")),
+    ("-999999.000000", Ok("-999999.000000")),
+    ("-999999.999999", Ok("-999999.999999")),
+    ("-999998.999999", Ok("-999998.999999")),
+    ("  99999.999999", Ok("  99999.999999")),
+    ("0099999.000000", Ok("  99999.000000")),
+    ("  99999.900000", Ok("  99999.900000")),
+    ("      0.999999", Ok("      0.999999")),
+    // A blank fraction after anything else.
+    ("-999999.      ", Err(6)),
+    (" 999998.      ", Err(6)),
+    ("0999998.      ", Err(6)),
+    ("1000000.      ", Err(6)),
+    ("9999999.      ", Err(6)),
+    ("  99999.      ", Err(6)),
+    ("      0.      ", Err(6)),
+    ("       .      ", Err(6)),
+    ("- 99999.      ", Err(6)),
+    // A fraction of digits and blanks, or of something else.
+    (" 999999.00000 ", Err(6)),
+    (" 999999.     0", Err(6)),
+    (" 999999. 00000", Err(6)),
+    (" 999999.9     ", Err(6)),
+    (" 999999.99 999", Err(6)),
+    (" 999999.-00000", Err(6)),
+    (" 999999.     .", Err(6)),
+    // The point not in column 54, or none; no digits, or others between them.
+    (" 999999       ", Err(6)),
+    ("999999.       ", Err(6)),
+    ("999999.0000000", Err(6)),
+    ("  999999.     ", Err(6)),
+    ("  999999.00000", Err(6)),
+    (" 999999,      ", Err(6)),
+    ("              ", Err(6)),
+    ("+999999.      ", Err(6)),
+    ("+999999.999999", Err(6)),
+    ("9 99999.      ", Err(6)),
+    ("99999 9.      ", Err(6)),
+    ("99999-9.000000", Err(6)),
+    // Well formed and too large.
+    ("1000000.000000", Err(7)),
+    ("1999999.999999", Err(7)),
+    ("9999990.000000", Err(7)),
+];
+
+/// The same columns of x, y and z: no six nines make them absent.
+const COORDINATES: &[(&str, Result<&str, u8>)] = &[
+    (BARE_CLOCK, Err(6)),
+    ("0999999.      ", Err(6)),
+    ("-999999.      ", Err(6)),
+    (" 999999.00000 ", Err(6)),
+    (" 999999.000000", Ok(" 999999.000000")),
+    (" 999999.999998", Ok(" 999999.999998")),
+    ("0999999.123456", Ok(" 999999.123456")),
+    ("-999999.000000", Ok("-999999.000000")),
+    ("1000000.000000", Err(7)),
+];
+
+/// A P or V with a text in one of its four numbers, and the answer to it.
+fn number_case(
+    base: &Case,
+    column: usize,
+    given: &str,
+    wanted: Result<&str, u8>,
+) -> (Case, String) {
+    let answer = match wanted {
+        Ok(shown) => format!("0 0 {}", edited(base, column, shown).line),
+        Err(number) => format!("{number} {column}"),
+    };
+    (edited(base, column, given), answer)
+}
+
+/// Clocks in every good P and V, coordinates in the first of each.
+fn number_cases() -> Vec<(Case, String)> {
+    let mut cases = Vec::new();
+    for base in good_cases().iter().filter(|case| b"mn".contains(&case.letter)) {
+        cases.extend(CLOCKS.iter().map(|&(given, wanted)| number_case(base, 47, given, wanted)));
+    }
+    for base in [good(b'm'), good(b'n')] {
+        for column in [5, 19, 33] {
+            let put = |&(given, wanted)| number_case(&base, column, given, wanted);
+            cases.extend(COORDINATES.iter().map(put));
+        }
+    }
+    cases
+}
+
+/// Any clock near six nines: the fraction blank, six digits or neither, and
+/// perhaps another character in some column.
+pub(crate) fn clock_near_nines(random: &mut Random) -> String {
+    let whole = *random.pick(&[
+        " 999999", " 999999", " 999999", "0999999", "-999999", " 999998", "0999998", "1000000",
+        "  99999", "9999999",
+    ]);
+    let digits = (random.next() % 1_000_000) as i64;
+    let fraction = match random.below(5) {
+        0 | 1 => " ".repeat(6),
+        2 => format!("{digits:06}"),
+        3 => random.pick(&["000000", "999999", "999998", "000001"]).to_string(),
+        _ => random.pick(&["00000 ", "     0", "9     ", " 99999", "00 000"]).to_string(),
+    };
+    let mut text = format!("{whole}.{fraction}").into_bytes();
+    if random.below(4) == 0 {
+        let place = random.below(text.len());
+        text[place] = *random.pick(b"0189 -.x");
+    }
+    String::from_utf8_lossy(&text).into_owned()
 }
 
 // ---------------------------------------------------------------------------
@@ -1654,7 +1820,8 @@ pub(crate) const SPELLINGS: &[(&str, &[usize], &[&str])] = &[
             "    - 1.000000", "     +1.000000", "    --1.000000", "  00000.500000",
             "      0.000001", "-1      .00000", "      1,000000", "     1.0000000",
             "              ", "1.000000      ", "      1.00000 ", "      1. 00000",
-            " 999999.      ", "-",
+            " 999999.      ", "-", " 999999.000000", "0999999.123456", "-999999.000000",
+            "-999999.      ", "1000000.      ",
         ],
     ),
     // Exponents of rows: blank is unknown.
@@ -1868,6 +2035,49 @@ fn add_spellings(cases: &mut Cases) {
     for &(letter, column, given, _) in SHOWN {
         cases.add(edited(&good(letter), column, given));
     }
+}
+
+/// Clocks and coordinates by hand; each column of a bare clock, and of one with
+/// its fraction, by turns another; both cut short from its last column to its
+/// first.
+fn add_clocks(cases: &mut Cases) {
+    for (case, _) in number_cases() {
+        cases.add(case);
+    }
+    let short = "G07   5000.000001     -0.500000      0.000000";
+    for (letter, symbol, clock) in [(b'm', "P", BARE_CLOCK), (b'n', "V", " 999999.000000")] {
+        let base = Case { letter, argument: 0, line: format!("{symbol}{short}{clock}") };
+        for place in 0..clock.len() {
+            for text in ["x", " ", "0", "9", "-", "."] {
+                cases.add(edited(&base, 47 + place, text));
+            }
+        }
+    }
+    for (letter, symbol) in [(b'm', "P"), (b'n', "V")] {
+        for clock in [BARE_CLOCK, " 999999.000000", "-999999.000000"] {
+            let base = Case { letter, argument: 0, line: format!("{symbol}{short}{clock}") };
+            for length in 46..60 {
+                cases.add(cut(&base, length));
+            }
+        }
+    }
+    add_clock_faults(cases);
+}
+
+/// A bare clock, a wrong one and one too large, each beside every other fault
+/// of its line.
+fn add_clock_faults(cases: &mut Cases) {
+    for (letter, clock) in [(b'm', BARE_CLOCK), (b'n', BARE_CLOCK), (b'n', "1000000.000000")] {
+        for spoiler in spoilers_of(letter).into_iter().filter(|spoiler| beside_clock(spoiler)) {
+            let base = edited(&good(letter), 47, clock);
+            cases.add(edited(&base, spoiler.1, spoiler.2));
+        }
+    }
+}
+
+/// Whether a fault leaves the clock as it is.
+fn beside_clock(spoiler: &Spoiler) -> bool {
+    spoiler.1 + spoiler.2.len() <= 47 || spoiler.1 > 60
 }
 
 /// Several spellings of a kind in one line, whether right or wrong.
@@ -2090,12 +2300,35 @@ fn add_random(cases: &mut Cases, random: &mut Random, number: usize) {
     }
 }
 
+/// Clocks near six nines in good rows, some of them cut, some with another
+/// spelling beside them.
+fn add_random_clocks(cases: &mut Cases, random: &mut Random, number: usize) {
+    let mut rows = good_cases();
+    rows.retain(|case| b"mn".contains(&case.letter));
+    let goal = cases.list.len() + number;
+    while cases.list.len() < goal {
+        let clock = clock_near_nines(random);
+        let mut case = edited(random.pick(&rows), 47, &clock);
+        match random.below(4) {
+            0 => case = cut(&case, 52 + random.below(9)),
+            1 => {
+                let spoilers = spoilers_of(case.letter);
+                let spoiler = *random.pick(&spoilers);
+                case = edited(&case, spoiler.1, spoiler.2);
+            }
+            _ => {}
+        }
+        cases.add(case);
+    }
+}
+
 fn all_cases() -> Vec<Case> {
     let mut cases = Cases::default();
     let mut random = Random(20_160_221);
     add_good_lines(&mut cases);
     add_single_columns(&mut cases);
     add_spellings(&mut cases);
+    add_clocks(&mut cases);
     add_mixed_spellings(&mut cases, &mut random);
     add_dates(&mut cases);
     add_slots(&mut cases);
@@ -2103,7 +2336,8 @@ fn all_cases() -> Vec<Case> {
     add_outside(&mut cases);
     add_lengths(&mut cases);
     add_kinds(&mut cases);
-    add_random(&mut cases, &mut random, 1300);
+    add_random_clocks(&mut cases, &mut random, 150);
+    add_random(&mut cases, &mut random, 620);
     cases.list
 }
 
@@ -2160,6 +2394,62 @@ const BY_HAND: &[(&str, &str)] = &[
     // 6 at the left and 5 at the right.
     ("m000PG07       .500000      0.500000      0.000000      0.000000x", "5 61"),
     ("m000PG07      0.000000      0.000000      0.000000", "6 47"),
+    // Request 3. A line that ends with the point, before it, after it.
+    (
+        "m000PG07   5000.000001     -0.500000      0.000000 999999.",
+        "0 0 PG07   5000.000001     -0.500000      0.000000 999999.999999",
+    ),
+    (
+        "n000VG07   5000.000001     -0.500000      0.000000 999999.",
+        "0 0 VG07   5000.000001     -0.500000      0.000000 999999.999999",
+    ),
+    (
+        "m000PG07   5000.000001     -0.500000      0.0000000999999.   ",
+        "0 0 PG07   5000.000001     -0.500000      0.000000 999999.999999",
+    ),
+    ("m000PG07   5000.000001     -0.500000      0.000000 999999", "6 47"),
+    ("n000VG07   5000.000001     -0.500000      0.000000 999999", "6 47"),
+    ("m000PG07   5000.000001     -0.500000      0.000000 99999", "6 47"),
+    ("m000PG07   5000.000001     -0.500000      0.000000 999999.9", "6 47"),
+    ("n000VG07   5000.000001     -0.500000      0.000000 999999.99999", "6 47"),
+    ("m000PG07   5000.000001     -0.500000      0.000000 999998.", "6 47"),
+    ("m000PG07   5000.000001     -0.500000      0.000000-999999.", "6 47"),
+    ("n000VG07   5000.000001     -0.500000      0.0000001000000.", "6 47"),
+    // A bare clock, then exponents and flags, or the place absent too.
+    (
+        "m000PG07   5000.000001     -0.500000      0.000000 999999.       18 99 07 219 EP  MP",
+        "0 0 PG07   5000.000001     -0.500000      0.000000 999999.999999 18 99  7 219 EP  MP",
+    ),
+    (
+        "m000PG07     -0.000000      0.000000      0.000000 999999.                    E    P",
+        "0 0 PG07      0.000000      0.000000      0.000000 999999.999999              E    P",
+    ),
+    (
+        "n000VG07   5000.000001     -0.500000      0.000000 999999.       18 99 07 219",
+        "0 0 VG07   5000.000001     -0.500000      0.000000 999999.999999 18 99  7 219",
+    ),
+    ("m000PG07   5000.000001     -0.500000      0.000000 999999.      0", "5 61"),
+    ("n000VG07   5000.000001     -0.500000      0.000000 999999.      018", "5 61"),
+    ("n000VG07   5000.000001     -0.500000      0.000000 999999.       18 99 07 219 E", "5 75"),
+    // Beside other faults: the lowest number, then the leftmost column.
+    ("m000PG07   5000.000001     -0.500000      0.000000 999999.     00", "5 61"),
+    ("m000PG07   5000.000001     -0.500000      0.000000-999999.      0", "5 61"),
+    ("m000PG07 999999.           -0.500000      0.000000 999999.", "6 5"),
+    ("m000PG07   5000.000001 999999.            0.000000 999999.     0", "6 19"),
+    ("n000VG07   5000.000001     -0.500000 999999.      -999999.", "6 33"),
+    ("m000PG071000000.000000     -0.500000      0.000000 999999.", "7 5"),
+    ("m000PG071000000.000000     -0.500000      0.000000 999998.", "6 47"),
+    ("m000PG00   5000.000001     -0.500000      0.000000 999999.", "7 2"),
+    ("m000PG00   5000.000001     -0.500000      0.0000001000000.000000", "7 2"),
+    ("m000Pg07   5000.000001     -0.500000      0.000000-999999.", "6 2"),
+    ("m000PG07   5000.000001     -0.500000      0.0000001000000.000000  x", "6 62"),
+    ("m000PG07   5000.000001     -0.500000      0.000000-999999.        x", "6 47"),
+    ("m000PG07   5000.000001     -0.500000      0.000000 999999.        x", "6 62"),
+    // x of six nines is a place.
+    (
+        "m000PG07 999999.000000 999999.999999-999999.000000 999999.000000",
+        "0 0 PG07 999999.000000 999999.999999-999999.000000 999999.999999",
+    ),
     ("m000P", "6 2"),
     ("m000", "4 0"),
     ("m000VG07      0.000000      0.000000      0.000000      0.000000", "4 0"),
@@ -2375,6 +2665,20 @@ fn test_by_hand(tally: &mut Tally) {
         let wanted = wanted.trim_end_matches(' ');
         tally.expect(&edited(&good(letter), column, given), &format!("0 0 {wanted}"));
     }
+    for (case, wanted) in number_cases() {
+        tally.expect(&case, &wanted);
+    }
+}
+
+/// A bare clock changes no other fault of its line.
+fn test_beside_bare_clocks(tally: &mut Tally) {
+    for spoiler in SPOILED.iter().filter(|spoiler| b"mn".contains(&spoiler.0)) {
+        if beside_clock(spoiler) {
+            let &(letter, column, text, number, at) = spoiler;
+            let base = edited(&good(letter), 47, BARE_CLOCK);
+            tally.expect(&edited(&base, column, text), &format!("{number} {at}"));
+        }
+    }
 }
 
 /// Good lines are canonical, and every column is judged exactly once.
@@ -2417,6 +2721,7 @@ fn self_test() {
     test_by_hand(&mut tally);
     let by_hand = tally.made;
     test_good_lines(&mut tally);
+    test_beside_bare_clocks(&mut tally);
     test_pairs(&mut tally);
     test_canonical_again(&mut tally);
     tally.tell(by_hand);

@@ -1,5 +1,5 @@
 // Reads a field from each line of standard input, and prints its answer and its text written again, in its own columns and in one less.
-// A line is a kind (W whole, S signed, E exponent, U decimal without a minus, D decimal with one), two digits for the places, the field.
+// A line is a kind (W whole, S signed, E exponent, U decimal without a minus, D decimal with one, C clock), two digits for the places, the field.
 ghost use Prim.Native.Nat.{_≤_};
 ghost use lib.ListN.{length};
 use crate::print;
@@ -120,21 +120,29 @@ fn exponent(s: &[u8]) {
     written_exponent(narrower(s.len()), answer);
 }
 
-fn decimal(s: &[u8], places: usize, signed: bool) {
-    let answer = field::read::decimal(s, places, signed);
+// The answer of a decimal or a clock that stood in so many columns, its text written again, and its signed number.
+fn decimal_answer(answer: Amount, width: usize, places: usize) {
     print::amount(answer);
     match answer {
         Amount::Value {
             negative,
             magnitude,
         } => {
-            written_decimal(s.len(), places, negative, magnitude);
-            written_decimal(narrower(s.len()), places, negative, magnitude);
+            written_decimal(width, places, negative, magnitude);
+            written_decimal(narrower(width), places, negative, magnitude);
             print::text(b" ");
             print::signed(field::sign::number(negative, magnitude));
         }
         Amount::Malformed => {}
     }
+}
+
+fn decimal(s: &[u8], places: usize, signed: bool) {
+    decimal_answer(field::read::decimal(s, places, signed), s.len(), places);
+}
+
+fn clock(s: &[u8], places: usize) {
+    decimal_answer(field::read::clock(s, places), s.len(), places);
 }
 
 // The number of the places, of two digits.
@@ -150,6 +158,7 @@ fn field_of(kind: u8, places: usize, s: &[u8]) {
         b'E' => exponent(s),
         b'U' => decimal(s, places, false),
         b'D' => decimal(s, places, true),
+        b'C' => clock(s, places),
         _ => print::text(b"?"),
     }
 }
