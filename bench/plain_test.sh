@@ -1,6 +1,7 @@
 #!/usr/bin/env bash
 # Compares the plain C of reader.c and writer.c with tests/files.rs (reading), tests/forms.rs (tables written) and tests/divide.rs (dividing), on
-# their stored cases and on generated ones: plain_test.sh [SEED [COUNT]]. The column of a refusal is left out: plain C has none. Needs gcc and rustc.
+# their stored cases and on generated ones: plain_test.sh [SEED [COUNT]]. The column of a refusal is left out: plain C has none. Clocks are compared
+# with what was worked out by hand as well. Needs gcc and rustc.
 set -euo pipefail
 bench=$(cd "$(dirname "$0")" && pwd -P)
 work=$(mktemp -d)
@@ -10,6 +11,7 @@ seed=${1:-1} count=${2:-2000}
 
 for side in reader writer; do
     gcc -std=c11 -O2 -g -Wall -Wextra -Werror -fsanitize=address,undefined -o "$side" "$bench/${side}_test.c"
+    "./$side" clocks <"$bench/../samples/paper.sp3"
 done
 
 # same ORACLE OURS..: the answers of OURS to both batches are those of the oracle, of which `kept` prints the lines that OURS gives too

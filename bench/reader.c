@@ -12,6 +12,9 @@ enum { NUMBERS = 23, NOTE = 12, NOTED = NUMBERS - NOTE, UNNOTED = 100000000, MOS
 
 static const uint64_t SECOND = 100000000, DAY = 86400 * 100000000ull;
 
+// the least clock that is absent, and how an absent clock is held
+static const int64_t SIX_NINES = 999999000000, ABSENT = 999999999999;
+
 // the numbers of the paper's table, and one that is higher than all
 enum { NO_LF = 1, BYTE, TOO_LONG, KIND, UNUSED, MALFORMED, BOUNDS, DISAGREES, INSTANT, SATELLITE, AFTER, ROOM, NO_FAULT };
 
@@ -395,18 +398,37 @@ static bool epoch_line(struct file *f, const struct header *h, size_t k) {
     return f->fault == NO_FAULT;
 }
 
+static void bounded(struct file *f, uint64_t value) {
+    if (value > 999999999999) fault(f, BOUNDS);
+}
+
 static void coordinate_at(struct file *f, size_t first) {
     uint64_t value;
-    if (!decimal(f->line + first - 1, 14, 6, true, &value))
+    if (decimal(f->line + first - 1, 14, 6, true, &value))
+        bounded(f, value);
+    else
         fault(f, MALFORMED);
-    else if (value > 999999999999)
-        fault(f, BOUNDS);
 }
 
 static bool is_blank(const uint8_t *s, size_t width) {
     for (size_t i = 0; i < width; i++)
         if (s[i] != ' ') return false;
     return true;
+}
+
+// six nines without a minus, the point, and blanks after it: an absent clock of which no fraction is told
+static bool is_bare_clock(const uint8_t *s) {
+    uint64_t whole;
+    return integer(s, 7, &whole) && whole == 999999 && s[7] == '.' && is_blank(s + 8, 6);
+}
+
+// the clock or its rate: a number as x, y and z are, or a bare one
+static void clock_at(struct file *f, size_t first) {
+    uint64_t value;
+    if (decimal(f->line + first - 1, 14, 6, true, &value))
+        bounded(f, value);
+    else if (!is_bare_clock(f->line + first - 1))
+        fault(f, MALFORMED);
 }
 
 // an integer, or blank for unknown
@@ -435,7 +457,7 @@ static bool row_line(struct file *f, const struct header *h, size_t k, uint8_t l
         return false;
     }
     if (identifier_at(f, 2) != h->identifiers[k]) fault(f, SATELLITE);
-    coordinate_at(f, 5), coordinate_at(f, 19), coordinate_at(f, 33), coordinate_at(f, 47);
+    coordinate_at(f, 5), coordinate_at(f, 19), coordinate_at(f, 33), clock_at(f, 47);
     unused(f, 61, 61), unused(f, 64, 64), unused(f, 67, 67), unused(f, 70, 70);
     known_at(f, 62, 2), known_at(f, 65, 2), known_at(f, 68, 2), known_at(f, 71, 3);
     if (letter == 'P') {
@@ -528,12 +550,19 @@ static int64_t number(const uint8_t *s, size_t width) {
     return minus ? -v : v;
 }
 
+// the clock or its rate: six nines without a minus are absent, whatever comes after the point; only a bare clock ends with a blank
+static int64_t clock_of(const uint8_t *s) {
+    int64_t v = s[13] == ' ' ? ABSENT : number(s, 14);
+    return v >= SIX_NINES ? ABSENT : v;
+}
+
 static int64_t known(const uint8_t *s, size_t width, int64_t unknown) { return is_blank(s, width) ? unknown : number(s, width); }
 
 // a row that no correlation record stands after
 static void fill_row(const uint8_t *s, int64_t *row) {
     static const int64_t none[NOTED] = {0, UNNOTED, UNNOTED, UNNOTED, UNNOTED, UNNOTED, UNNOTED, UNNOTED, UNNOTED, UNNOTED, UNNOTED};
-    for (size_t i = 0; i < 4; i++) row[i] = number(s + 4 + 14 * i, 14);
+    for (size_t i = 0; i < 3; i++) row[i] = number(s + 4 + 14 * i, 14);
+    row[3] = clock_of(s + 46);
     for (size_t i = 0; i < 3; i++) row[4 + i] = known(s + 61 + 3 * i, 2, UNKNOWN);
     row[7] = known(s + 70, 3, UNKNOWN);
     row[8] = s[74] == 'E', row[9] = s[75] == 'P', row[10] = s[78] == 'M', row[11] = s[79] == 'P';

@@ -1,6 +1,7 @@
 // Answers a batch from standard input with the reader and divider of reader.c, as far as it asks for them:
 //   BIN files < batch        a batch of tests/files.rs: the lines case, front, whole, read, sums and those of the header, of each case
 //   BIN divide < batch       a batch of tests/divide.rs: the lines case, divide, length and the first kept, of each case
+//   BIN clocks < paper.sp3   compares clocks and rates in the paper's file with what was worked out by hand, and ends with 1 where one differs
 #include <inttypes.h>
 #include <stdio.h>
 #include <stdlib.h>
@@ -89,7 +90,84 @@ static bool stretch_case(void) {
     return true;
 }
 
+// What stands from column 47 of a row on, the refusal that it earns, and where there is none the clock that is held.
+static const struct {
+    const char *columns;
+    size_t refusal;
+    int64_t held;
+} clocks[] = {
+    {" 999999.999999", 0, 999999999999},
+    {" 999999.000000", 0, 999999999999},
+    {" 999999.999998", 0, 999999999999},
+    {"0999999.123456", 0, 999999999999},
+    {" 999999.      ", 0, 999999999999},
+    {"0999999.      ", 0, 999999999999},
+    {" 999999.", 0, 999999999999},
+    {"0999999.", 0, 999999999999},
+    {" 999999.       18 18 18 219", 0, 999999999999},
+    {"      0.999999", 0, 999999},
+    {" 999998.999999", 0, 999998999999},
+    {"0999998.000000", 0, 999998000000},
+    {"-999999.000000", 0, -999999000000},
+    {"-999999.999999", 0, -999999999999},
+    {"-999999.      ", 6, 0},
+    {" 999999.00000 ", 6, 0},
+    {" 999999.     0", 6, 0},
+    {" 999999.0     ", 6, 0},
+    {" 999999.  0   ", 6, 0},
+    {" 999998.      ", 6, 0},
+    {"1000000.      ", 6, 0},
+    {"      9.      ", 6, 0},
+    {"       .      ", 6, 0},
+    {" 999999       ", 6, 0},
+    {" 999999", 6, 0},
+    {"999999.       ", 6, 0},
+    {" 99 999.      ", 6, 0},
+    {"              ", 6, 0},
+    {"", 6, 0},
+    {"1000000.000000", 7, 0},
+    {"1999999.000000", 7, 0},
+    {" 999999.      x", 5, 0},
+};
+
+enum { PAPER = 1215, ROW = PAPER - 65, CLOCK = 46, CLOCKS = sizeof clocks / sizeof *clocks };
+
+// The paper's file with these columns in its row; in mode V in a V row after that.
+static size_t with_clock(const uint8_t *paper, const char *columns, bool velocity, uint8_t *made) {
+    size_t row = velocity ? ROW + 61 : ROW, wide = strlen(columns);
+    memcpy(made, paper, ROW + 61);
+    memcpy(made + row, paper + ROW, CLOCK);
+    if (velocity) made[2] = made[row] = 'V';
+    memcpy(made + row + CLOCK, columns, wide);
+    memcpy(made + row + CLOCK + wide, "\nEOF\n", 5);
+    return row + CLOCK + wide + 5;
+}
+
+static bool clock_right(const uint8_t *paper, size_t k, bool velocity) {
+    uint8_t made[2 * PAPER], comments[4 * TEXT];
+    uint64_t identifier, exponent;
+    int64_t rows[2 * NUMBERS];
+    size_t length = with_clock(paper, clocks[k].columns, velocity, made);
+    sp3_reading_t r = PLAIN(read)(made, length, &identifier, 1, &exponent, 1, comments, sizeof comments, rows, 2 * NUMBERS);
+    if (clocks[k].refusal != 0) return r.refusal == clocks[k].refusal && r.line == (velocity ? 25 : 24);
+    return r.refusal == 0 && rows[velocity ? NUMBERS + 3 : 3] == clocks[k].held;
+}
+
+static int compare_clocks(void) {
+    uint8_t paper[PAPER];
+    int wrong = 0;
+    if (fread(paper, 1, PAPER, stdin) != PAPER) return 2;
+    for (size_t k = 0; k < 2 * CLOCKS; k++) {
+        if (clock_right(paper, k / 2, k % 2)) continue;
+        printf("|%s| in %c is not read as it must be\n", clocks[k / 2].columns, k % 2 ? 'V' : 'P');
+        wrong = 1;
+    }
+    if (!wrong) printf("reader: %zu clocks and rates, as worked out by hand\n", (size_t)2 * CLOCKS);
+    return wrong;
+}
+
 int main(int count, char **words) {
+    if (count == 2 && strcmp(words[1], "clocks") == 0) return compare_clocks();
     bool (*answer)(void) = count == 2 && strcmp(words[1], "divide") == 0 ? stretch_case : file_case;
     while (answer()) {}
     return 0;

@@ -206,7 +206,8 @@ static size_t altered_bytes(size_t count) {
 // One number of the rows altered at a time, and the room in every fourth turn: both sides write the same, or nothing both of them.
 static size_t altered_numbers(size_t count) {
     static const int64_t values[] = {0, 1, -1, 2, 99, 100, 999, 1000, 1001, -500000, 999999999999, -999999999999, 1000000000000, INT64_MIN,
-                                     9999, 10000, 9999999, 10000000, -9999999, -10000000, SP3_UNNOTED, -SP3_UNNOTED};
+                                     999998999999, 999999000000, 999999999998, 9999, 10000, 9999999, 10000000, -9999999, -10000000, SP3_UNNOTED,
+                                     -SP3_UNNOTED};
     size_t different = differ(read_file, write_table), needed = answers->written.length;
     for (size_t i = 0; i < count; i++) {
         size_t cell = random_below(SP3_ROW_WIDTH * answers->read.header.epochs * answers->read.header.satellites);

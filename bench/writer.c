@@ -10,7 +10,7 @@ enum { COLUMNS = 80, SLOTS = 17, TEXT = 77, UNKNOWN = 1000 };
 enum { NUMBERS = 23, NOTE = 12, NOTED = NUMBERS - NOTE, UNNOTED = 100000000, MOST_CORRELATION = 9999999 };
 
 static const uint64_t SECOND = 100000000, DAY = 86400 * 100000000ull, FIRST_DAY = 44244, LAST_DAY = 88068;
-static const int64_t LARGEST = 999999999999;
+static const int64_t LARGEST = 999999999999, LARGEST_CLOCK = 999998999999, ABSENT_CLOCK = 999999999999;
 
 // the lists of a table and their lengths
 struct lists {
@@ -80,9 +80,12 @@ static bool exponents_valid(const sp3_header_t *h, const uint64_t *exponents) {
 
 static bool exponent_valid(int64_t v, int64_t most) { return (v >= 0 && v <= most) || v == UNKNOWN; }
 
+static bool clock_valid(int64_t v) { return (v >= -LARGEST && v <= LARGEST_CLOCK) || v == ABSENT_CLOCK; }
+
 static bool row_valid(const int64_t *row, int64_t most_flag) {
-    for (size_t i = 0; i < 4; i++)
+    for (size_t i = 0; i < 3; i++)
         if (row[i] < -LARGEST || row[i] > LARGEST) return false;
+    if (!clock_valid(row[3])) return false;
     for (size_t i = 4; i < 7; i++)
         if (!exponent_valid(row[i], 99)) return false;
     if (!exponent_valid(row[7], 999)) return false;

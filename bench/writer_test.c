@@ -1,4 +1,5 @@
-// Answers the tables of a batch of tests/forms.rs from standard input with the writer of writer.c; its files are left out.
+// Answers the tables of a batch of tests/forms.rs from standard input with the writer of writer.c; its files are left out. `BIN clocks` compares
+// tables with clocks on both sides of their bounds with what was worked out by hand, and ends with 1 where one differs.
 #include <inttypes.h>
 #include <stdio.h>
 #include <stdlib.h>
@@ -90,8 +91,67 @@ static void table_case(size_t size) {
     free(identifiers), free(exponents), free(comments), free(rows);
 }
 
-int main(void) {
+// A clock or rate of a table, and how it is written; nothing where the table is not valid.
+static const struct {
+    int64_t held;
+    const char *columns;
+} clocks[] = {
+    {999999999999, " 999999.999999"},
+    {999998999999, " 999998.999999"},
+    {999998000000, " 999998.000000"},
+    {0, "      0.000000"},
+    {-1, "     -0.000001"},
+    {-999999000000, "-999999.000000"},
+    {-999999999999, "-999999.999999"},
+    {999999000000, NULL},
+    {999999000001, NULL},
+    {999999500000, NULL},
+    {999999999998, NULL},
+    {1000000000000, NULL},
+    {-1000000000000, NULL},
+    {INT64_MAX, NULL},
+    {INT64_MIN, NULL},
+};
+
+enum { CLOCKS = sizeof clocks / sizeof *clocks, ROOM = 2000, ROW = 61, CLOCK = 46, WIDTH = 14 };
+
+// A row with this clock; x and y are within their bounds and past those of a clock, and nothing else is known.
+static void fill_row(int64_t *row, int64_t clock) {
+    const int64_t numbers[] = {999999000000, 999999999998, -999999999999, clock, UNKNOWN, UNKNOWN, UNKNOWN, UNKNOWN, 0, 0, 0, 0, 0};
+    memcpy(row, numbers, sizeof numbers);
+    for (size_t i = NOTE + 1; i < NUMBERS; i++) row[i] = UNNOTED;
+}
+
+// The clock stands in the last row of one satellite and one epoch.
+static bool clock_right(size_t k, bool velocity) {
+    sp3_header_t h = {.velocity = velocity, .start8 = 56385 * DAY, .epochs = 1, .interval8 = 900 * SECOND, .satellites = 1, .comments = 4,
+                      .file_type = 'G', .time_system = {'G', 'P', 'S'}};
+    uint64_t identifier = 7107, exponent = 0;
+    int64_t rows[2 * NUMBERS];
+    uint8_t comments[4 * TEXT], out[ROOM];
+    memset(&h.texts, ' ', sizeof h.texts);
+    memset(comments, ' ', sizeof comments);
+    fill_row(rows, 0);
+    fill_row(velocity ? rows + NUMBERS : rows, clocks[k].held);
+    sp3_measured_t w = PLAIN(write)(h, &identifier, 1, &exponent, 1, comments, sizeof comments, rows, 2 * NUMBERS, out, ROOM);
+    if (!clocks[k].columns) return w.refusal == 13;
+    return w.refusal == 0 && memcmp(out + w.length - 4 - ROW + CLOCK, clocks[k].columns, WIDTH) == 0;
+}
+
+static int compare_clocks(void) {
+    int wrong = 0;
+    for (size_t k = 0; k < 2 * CLOCKS; k++) {
+        if (clock_right(k / 2, k % 2)) continue;
+        printf("%" PRId64 " in %c is not written as it must be\n", clocks[k / 2].held, k % 2 ? 'V' : 'P');
+        wrong = 1;
+    }
+    if (!wrong) printf("writer: %zu clocks and rates, as worked out by hand\n", (size_t)2 * CLOCKS);
+    return wrong;
+}
+
+int main(int count, char **words) {
     size_t kind, size, length;
+    if (count == 2 && strcmp(words[1], "clocks") == 0) return compare_clocks();
     while (scanf("%zu %zu %zu", &kind, &size, &length) == 3) {
         if (getchar() != '\n') return 2;
         if (kind == 1) {

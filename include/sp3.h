@@ -32,7 +32,9 @@
  *   13  the table to be written is not valid, or what is asked by number is not there (line 0; before 12)
  *
  * ABSENCE has a mark of its own (`absent`, `place_absent`, `clock_absent`). The number that stands beside a set mark is no coordinate: NaN for a
- * double, INT64_MIN for a whole number, which no file can hold. A place of which one or two coordinates are 0 is not absent.
+ * double, INT64_MIN for a whole number, which no file can hold. A place of which one or two coordinates are 0 is not absent. A clock or rate is
+ * absent exactly where columns 47 to 53 hold 999999 without a minus; leading zeros may stand, and the six columns after the point are any digits or
+ * all blank. `-999999.000000` is a clock.
  *
  * Epochs, satellites of the header, comments and rows are counted from 0. `...8` is a time in 10^-8 s. */
 #ifndef SP3_H
@@ -52,8 +54,9 @@ extern "C" {
  * SP3_UNKNOWN; four flags, 0 or 1; then what an EP record directly after a P row, or an EV record directly after a V row, says of it: 1 where it
  * stands there and 0 where not; the standard deviations of x, y, z and clock, 0 to 9999 (0 to 9999999 for the clock); the correlations xy, xz, xc,
  * yz, yc and zc, -9999999 to 9999999. Each of these ten is SP3_UNNOTED where it is unknown, and all ten are where no such record stands. A place that
- * is absent is stored as three zeros, an absent clock as SP3_NO_CLOCK: nobody should take these numbers for a place, so ask sp3_place_of,
- * sp3_clock_of and sp3_note_of instead of counting. No number is above 999,999,999,999 or below minus that. */
+ * is absent is stored as three zeros, an absent clock as SP3_NO_CLOCK, however it was spelt: nobody should take these numbers for a place, so ask
+ * sp3_place_of, sp3_clock_of and sp3_note_of instead of counting. No number is above 999,999,999,999 or below minus that, and no clock but
+ * SP3_NO_CLOCK is above 999,998,999,999. */
 enum { SP3_ROW_WIDTH = 23, SP3_COMMENT_WIDTH = 77, SP3_UNKNOWN = 1000, SP3_UNNOTED = 100000000 };
 #define SP3_NO_CLOCK INT64_C(999999999999)
 
@@ -116,9 +119,10 @@ typedef struct {
     size_t refusal, length;
 } sp3_measured_t;
 
-/* Writes the canonical form of a table into the first bytes of `out`. Places of the lists past the header's counts are not looked at.
- * Refused: 13 where the table is not valid (1000 among the exponents of the header, a flag of 2, a deviation beside a row without its record, a list
- * shorter than its count); then 12 where `out` is one byte too short. */
+/* Writes the canonical form of a table into the first bytes of `out`, an absent clock as ` 999999.999999`. Places of the lists past the header's
+ * counts are not looked at.
+ * Refused: 13 where the table is not valid (1000 among the exponents of the header, a flag of 2, a clock above 999,998,999,999 that is not
+ * SP3_NO_CLOCK, a deviation beside a row without its record, a list shorter than its count); then 12 where `out` is one byte too short. */
 sp3_measured_t sp3_write(sp3_header_t header, const uint64_t *identifiers, size_t identifier_count, const uint64_t *exponents,
                          size_t exponent_count, const uint8_t *comments, size_t comment_bytes, const int64_t *rows, size_t row_numbers,
                          uint8_t *out, size_t out_room);
@@ -155,7 +159,8 @@ typedef struct {
     int64_t x, y, z;
 } sp3_stored_place_t;
 
-/* A clock in ps, or a rate in 10^-16 s/s. Absent exactly at 999999.999999, whatever the place. */
+/* A clock in ps, or a rate in 10^-16 s/s. Absent exactly where columns 47 to 53 of the file hold 999999 without a minus, whatever the place; that is
+ * where the row holds SP3_NO_CLOCK. */
 typedef struct {
     size_t refusal;
     bool absent;
@@ -252,7 +257,7 @@ typedef struct {
 /* The number in the header of the satellite with this identifier. Refused: 13 where the header has none such. */
 sp3_satellite_answer_t sp3_satellite_of(const uint8_t *file, size_t length, uint64_t identifier);
 
-/* Coordinates in mm and the clock in ps, each exactly the whole number of the file. */
+/* Coordinates in mm and the clock in ps, each exactly the whole number of the file, or absent. */
 typedef struct {
     double x, y, z, clock;
     bool place_absent, clock_absent;

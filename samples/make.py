@@ -6,7 +6,8 @@
 
 paper.sp3 is the file that 01 prints, and late.sp3 the same with its epoch a quarter of an hour late, which is refused with 9 at line 23. The others
 are made up: circles of 26,560 km at 55 degrees around a turning Earth, in Earth-fixed coordinates. velocity.sp3 and correlations.sp3 have EP and EV
-records, the second of every kind.
+records, the second of every kind. six-nines.sp3 has absent clocks and rates in every spelling, beside clocks at their ends. It and the second file
+of season.sp3 are no canonical forms.
 `tests/desk/run.py` takes the numbers of the files from here, to know what the desk tool must print.
 """
 import datetime
@@ -172,6 +173,31 @@ def correlated_rows(epoch, k):
     return [Row(None if withdrawn else place, time, (18, 18, 18, 219), note=first), Row(None if withdrawn else speed, rate, note=second)]
 
 
+# the clocks and rates of six-nines.sp3 in file order, that is P and V of each satellite in turn: how each is spelt from column 47 on, and its number,
+# None for an absent one; ` 999999.` ends its line
+SPELT = [
+    [((" 999999.000000", None), (" 999999.000000", None)), ((" 999999.      ", None), (" 999999.      ", None)),
+     ((" 999999.", None), (" 999999.", None)), (("0999999.123456", None), ("0999999.123456", None))],
+    [(("-999999.000000", -999_999_000_000), ("     -0.100000", -100_000)), ((" 999998.999999", 999_998_999_999), (" 999999.999999", None)),
+     (("    512.345678", 512_345_678), ("-999999.999999", -999_999_999_999)), ((" 999999.      ", None), ("0999998.000000", 999_998_000_000))],
+]
+
+
+def six_nines():
+    """Two epochs in mode V of a centre that writes six nines where it has no clock; the last P row has exponents and flags after them."""
+    rows = [[six_nines_rows(epoch, k) for k in range(4)] for epoch in range(2)]
+    comments = ["MADE UP: CIRCLES WITH VELOCITIES, BY A CENTRE THAT WRITES SIX NINES", "FIRST EPOCH: NO CLOCK AND NO RATE, SPELT IN FOUR WAYS",
+                "SECOND EPOCH: -999999.000000 OF G01 AND 999998.999999 OF G02 ARE CLOCKS", ""]
+    return Model("V", datetime.datetime(2024, 6, 30, 23, 45), 900, ["G01", "G02", "E11", "E12"], [5, 5, 6, 0], comments, rows)
+
+
+def six_nines_rows(epoch, k):
+    place, speed = circle(k, 900 * epoch)
+    (_, time), (_, rate) = SPELT[epoch][k]
+    last = (epoch, k) == (1, 3)
+    return [Row(place, time, (18, 18, 18, None) if last else (None,) * 4, " P P" if last else "    "), Row(speed, rate)]
+
+
 def season():
     """Three small files for one stretch; the second has its lines filled up with blanks."""
     starts = [datetime.datetime(2024, 3, 31, 23, 59, 30), datetime.datetime(2024, 6, 30), datetime.datetime(2024, 9, 30, 12)]
@@ -268,6 +294,17 @@ def season_files():
     return [joined([line.ljust(80) for line in file_lines(model)] if k == 1 else file_lines(model)) for k, model in enumerate(season())]
 
 
+def respelt(line, clock):
+    """A row with its clock as it is spelt; where nothing comes after the clock the line ends as the spelling does."""
+    return line[:46] + clock + line[60:]
+
+
+def six_nines_lines():
+    """The file as the centre sent it."""
+    clocks = iter([clock for epoch in SPELT for rows in epoch for clock, _ in rows])
+    return [respelt(line, next(clocks)) if line[0] in "PV" else line for line in file_lines(six_nines())]
+
+
 def late_lines():
     """The paper's file whose only epoch does not stand at the start."""
     return [line.replace(" 0  0  0.0", " 0 15  0.0") if line.startswith("* ") else line for line in paper_lines()]
@@ -276,7 +313,7 @@ def late_lines():
 def samples():
     return {"paper.sp3": joined(paper_lines()), "late.sp3": joined(late_lines()), "day.sp3": joined(file_lines(day())),
             "velocity.sp3": joined(file_lines(velocity())), "correlations.sp3": joined(file_lines(correlations())),
-            "season.sp3": b"".join(season_files())}
+            "six-nines.sp3": joined(six_nines_lines()), "season.sp3": b"".join(season_files())}
 
 
 def main(words):

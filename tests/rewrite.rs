@@ -16,7 +16,7 @@
 //!
 //! 13 is no answer of `rewrite`: what was read from a file is a valid table.
 //!
-//! "The paper" is 01-scope.md as requests 1 and 2 of 02-change-requests.md changed
+//! "The paper" is 01-scope.md as requests 1 to 3 of 02-change-requests.md changed
 //! it.
 
 #[allow(dead_code)]
@@ -100,7 +100,13 @@ const ONE_SECOND: [Edit; 3] =
     [Put(1, 21, " 1.00000000"), Put(2, 9, "259201.00000000"), Put(23, 21, " 1.00000000")];
 
 /// Numbers of the night file that are not written as they stand there.
-const NIGHT_FORM: Edit = Put(30, 19, "      0.000000");
+const NIGHT_FORM: Edit = Put(30, 19, "      0.000000      0.000000 999999.999999");
+
+/// The paper's row cut after the point of its clock, and one with a zero before it.
+const CUT: Edit = Whole(24, "PG07   5000.000001     -0.500000      0.000000 999999.");
+const CUT_ZERO: Edit = Whole(24, "PG07   5000.000001     -0.500000      0.0000000999999.");
+/// The last V row of the motion file, whose rate is absent, cut likewise.
+const CUT_RATE: Edit = Whole(29, "VG02      0.000000      0.000000      0.000000 999999.");
 
 /// Files that are accepted: how they are made, and how their forms are.
 const WRITTEN: &[(&str, Base, Edits, Edits)] = &[
@@ -213,6 +219,73 @@ const WRITTEN: &[(&str, Base, Edits, Edits)] = &[
         &[ONE_SECOND[0], ONE_SECOND[1], ONE_SECOND[2], Put(2, 46, "0.0000115740741")],
     ),
     ("00-80-characters", Paper, &[Put(24, 80, " ")], &[]),
+    // Six nines are enough for an absent clock: "The canonical form still writes twelve nines".
+    ("00-clock-six-nines", Paper, &[Put(24, 47, " 999999.000000")], &[]),
+    ("00-clock-nearly-twelve-nines", Paper, &[Put(24, 47, " 999999.999998")], &[]),
+    ("00-clock-zero-and-six-nines", Paper, &[Put(24, 47, "0999999.123456")], &[]),
+    ("00-clock-bare", Paper, &[Put(24, 47, " 999999.      ")], &[]),
+    ("00-clock-bare-with-a-zero", Paper, &[Put(24, 47, "0999999.      ")], &[]),
+    ("00-clock-cut", Paper, &[CUT], &[]),
+    ("00-clock-cut-with-a-zero", Paper, &[CUT_ZERO], &[]),
+    ("00-clock-cut-and-one-blank", Paper, &[CUT, Put(24, 55, " ")], &[]),
+    ("00-clock-cut-before-ep", Paper, &[CUT, NOTE], &[NOTE]),
+    (
+        "00-clock-bare-exponents-and-flags",
+        Paper,
+        &[Put(24, 47, " 999999.       18 18 18 219 EP  MP")],
+        &[Put(24, 61, " 18 18 18 219 EP  MP")],
+    ),
+    ("00-clock-cut-flag-at-80", Paper, &[CUT, Put(24, 80, "P")], &[Put(24, 80, "P")]),
+    (
+        "00-clock-bare-place-absent",
+        Paper,
+        &[Put(24, 5, "      0.000000      0.000000      0.000000 999999.      ")],
+        &[Put(24, 5, "      0.000000      0.000000      0.000000 999999.999999")],
+    ),
+    ("00-rate-six-nines", Motion, &[Put(29, 47, " 999999.000000")], &[]),
+    ("00-rate-nearly-twelve-nines", Motion, &[Put(29, 47, " 999999.999998")], &[]),
+    ("00-rate-zero-and-six-nines", Motion, &[Put(29, 47, "0999999.123456")], &[]),
+    ("00-rate-bare", Motion, &[Put(29, 47, " 999999.      ")], &[]),
+    ("00-rate-cut", Motion, &[CUT_RATE], &[]),
+    (
+        "00-clock-and-rate-bare",
+        Motion,
+        &[Put(24, 47, " 999999.      "), Put(26, 47, "0999999.      ")],
+        &[Put(24, 47, " 999999.999999"), Put(26, 47, " 999999.999999")],
+    ),
+    // Clocks that are told.
+    ("00-clock-largest", Paper, &[Put(24, 47, " 999998.999999")], &[Put(24, 47, " 999998.999999")]),
+    (
+        "00-clock-zero-and-999998",
+        Paper,
+        &[Put(24, 47, "0999998.000000")],
+        &[Put(24, 47, " 999998.000000")],
+    ),
+    (
+        "00-clock-minus-six-nines",
+        Paper,
+        &[Put(24, 47, "-999999.000000")],
+        &[Put(24, 47, "-999999.000000")],
+    ),
+    (
+        "00-clock-minus-twelve-nines",
+        Paper,
+        &[Put(24, 47, "-999999.999999")],
+        &[Put(24, 47, "-999999.999999")],
+    ),
+    ("00-rate-largest", Motion, &[Put(29, 47, " 999998.999999")], &[Put(29, 47, " 999998.999999")]),
+    (
+        "00-rate-minus-six-nines",
+        Motion,
+        &[Put(29, 47, "-999999.000000")],
+        &[Put(29, 47, "-999999.000000")],
+    ),
+    (
+        "00-six-nines-in-x-y-z",
+        Paper,
+        &[Put(24, 5, " 999999.0000000999999.123456-999999.000000")],
+        &[Put(24, 5, " 999999.000000 999999.123456-999999.000000")],
+    ),
 ];
 
 /// Files that are refused: how they are made, the number, the line and the column.
@@ -252,6 +325,7 @@ const REFUSED: &[(&str, Base, Edits, u8, usize, usize)] = &[
     ("05-placeholder-of-letters", Paper, &[Put(14, 4, "G ")], 5, 14, 4),
     ("05-placeholder-at-56", Paper, &[Put(14, 58, "x")], 5, 14, 56),
     ("05-leftmost", Paper, &[Put(24, 70, "x"), Put(24, 61, "x")], 5, 24, 61),
+    ("05-column-61-after-a-bare-clock", Paper, &[Put(24, 47, " 999999.      x")], 5, 24, 61),
     ("05-column-63", Paper, &[Put(3, 63, "x")], 5, 3, 63),
     ("05-column-8-of-a-date", Paper, &[Put(1, 4, "201x"), Put(1, 8, "x")], 5, 1, 8),
     ("05-placeholder-blank", Paper, &[Put(18, 52, "         ")], 5, 18, 52),
@@ -265,6 +339,35 @@ const REFUSED: &[(&str, Base, Edits, u8, usize, usize)] = &[
     ("06-small-v", Paper, &[Put(1, 3, "v")], 6, 1, 3),
     ("06-no-digit-before-point", Paper, &[Put(24, 5, "       .500000")], 6, 24, 5),
     ("06-blank-clock", Paper, &[Put(24, 47, "              ")], 6, 24, 47),
+    // "A blank fraction elsewhere stays 6."
+    ("06-clock-minus-bare", Paper, &[Put(24, 47, "-999999.      ")], 6, 24, 47),
+    ("06-clock-five-digits-after", Paper, &[Put(24, 47, " 999999.00000 ")], 6, 24, 47),
+    ("06-clock-last-digit-alone", Paper, &[Put(24, 47, " 999999.     0")], 6, 24, 47),
+    ("06-clock-first-digit-alone", Paper, &[CUT, Put(24, 55, "0")], 6, 24, 47),
+    ("06-clock-999998-bare", Paper, &[Put(24, 47, " 999998.      ")], 6, 24, 47),
+    ("06-clock-million-bare", Paper, &[Put(24, 47, "1000000.      ")], 6, 24, 47),
+    ("06-clock-seven-nines-bare", Paper, &[Put(24, 47, "9999999.      ")], 6, 24, 47),
+    ("06-clock-nine-bare", Paper, &[Put(24, 47, "      9.      ")], 6, 24, 47),
+    ("06-clock-no-digit", Paper, &[Put(24, 47, "       .      ")], 6, 24, 47),
+    ("06-clock-no-point", Paper, &[Put(24, 47, " 999999       ")], 6, 24, 47),
+    ("06-clock-point-in-53", Paper, &[Put(24, 47, "999999.       ")], 6, 24, 47),
+    ("06-clock-blank-within", Paper, &[Put(24, 47, "9 99999.      ")], 6, 24, 47),
+    (
+        "06-clock-cut-before-the-point",
+        Paper,
+        &[Whole(24, "PG07   5000.000001     -0.500000      0.000000 999999")],
+        6,
+        24,
+        47,
+    ),
+    ("06-rate-minus-bare", Motion, &[Put(29, 47, "-999999.      ")], 6, 29, 47),
+    ("06-rate-last-digit-alone", Motion, &[Put(29, 47, " 999999.     0")], 6, 29, 47),
+    ("06-rate-999998-bare", Motion, &[Put(29, 47, " 999998.      ")], 6, 29, 47),
+    ("06-x-bare", Paper, &[Put(24, 5, " 999999.      ")], 6, 24, 5),
+    ("06-y-bare", Paper, &[Put(24, 19, " 999999.      ")], 6, 24, 19),
+    ("06-z-bare", Paper, &[Put(24, 33, " 999999.      ")], 6, 24, 33),
+    ("06-x-bare-and-clock-bare", Paper, &[CUT, Put(24, 5, " 999999.      ")], 6, 24, 5),
+    ("06-velocity-bare", Motion, &[Put(29, 33, " 999999.      ")], 6, 29, 33),
     ("06-seven-places", Paper, &[Put(24, 5, "  5000.0000001")], 6, 24, 5),
     ("06-row-of-a-name", Paper, &[Whole(24, "PG07")], 6, 24, 5),
     ("06-row-of-nothing", Paper, &[Whole(24, "P")], 6, 24, 2),
@@ -302,6 +405,9 @@ const REFUSED: &[(&str, Base, Edits, u8, usize, usize)] = &[
         24,
         5,
     ),
+    ("07-clock", Paper, &[Put(24, 47, "1000000.000000")], 7, 24, 47),
+    ("07-clock-1999999", Paper, &[Put(24, 47, "1999999.000000")], 7, 24, 47),
+    ("07-rate", Motion, &[Put(29, 47, "1000000.000000")], 7, 29, 47),
     ("07-identifier-00", Paper, &[Put(24, 2, "G00")], 7, 24, 2),
     ("08-week", Paper, &[Put(2, 4, "1735")], 8, 2, 0),
     (
@@ -365,31 +471,149 @@ fn filled_to(bytes: usize, mut draft: Draft) -> Vec<u8> {
     draft.bytes()
 }
 
-/// The most rows that a file of at most 65,536 bytes has: line 1 has at least 40
-/// bytes, other lines before the comments 61, a comment 3, an epoch line 32, a
-/// row 61 and EOF 4.
-fn most_rows() -> Option<usize> {
+/// The most rows that a file of at most 65,536 bytes has whose rows have so many:
+/// line 1 has at least 40 bytes, other lines before the comments 61, a comment 3,
+/// an epoch line 32 and EOF 4.
+fn most_rows(row: usize) -> Option<usize> {
     let rows = |n: usize, modes: usize| {
         let others = 40 + 61 * (2 * files::satellite_lines(n) + 7) + 4 * 3 + 4;
-        n * modes * ((MOST_BYTES - others) / (32 + 61 * n * modes))
+        n * modes * ((MOST_BYTES - others) / (32 + row * n * modes))
     };
     (1..=255).flat_map(|n| [rows(n, 1), rows(n, 2)]).max()
 }
 
-/// Mode V with 75 satellites and seven epochs: 1,050 rows, the most there are.
-fn many_rows() -> Draft {
-    let mut draft = files::base_file(Many(75));
-    draft.0[0] = b"#dV2013  4  3  0  0  0.00000000       7\n".to_vec();
-    let rows: Vec<Vec<u8>> = draft.0.iter().filter(|line| line[0] == b'P').cloned().collect();
-    draft.0.truncate(first_epoch(&draft));
-    for time in [" 0  0", " 0 15", " 0 30", " 0 45", " 1  0", " 1 15", " 1 30"] {
-        draft.0.push(format!("*  2013  4  3 {time}  0.00000000\n").into_bytes());
-        for row in &rows {
-            draft.0.extend([row.clone(), [b"V", &row[1..]].concat()]);
+/// The one epoch of a draft so many times, a minute apart on the paper's day; in
+/// mode V each P has the V of its columns after it.
+fn repeated(draft: &Draft, mode: u8, epochs: usize) -> Draft {
+    let mut lines = draft.0[..first_epoch(draft)].to_vec();
+    lines[0].splice(2..3, [mode]);
+    lines[0].splice(32..39, format!("{epochs:7}").into_bytes());
+    lines[1].splice(24..38, *b"   60.00000000");
+    for epoch in 0..epochs {
+        let (hour, minute) = (epoch / 60, epoch % 60);
+        lines.push(format!("*  2013  4  3 {hour:2} {minute:2}  0.00000000\n").into_bytes());
+        for row in draft.0.iter().filter(|line| line[0] == b'P') {
+            lines.push(row.clone());
+            if mode == b'V' {
+                lines.push([b"V", &row[1..]].concat());
+            }
         }
     }
-    draft.0.push(b"EOF\n".to_vec());
+    lines.push(b"EOF\n".to_vec());
+    Draft(lines)
+}
+
+/// Without the texts of line 1, which then has 40 bytes.
+fn without_texts(mut draft: Draft) -> Draft {
+    draft.0[0].splice(39.., *b"\n");
     draft
+}
+
+/// So many satellites in mode V, of which no clock and no rate is known.
+fn many_rows(satellites: usize, epochs: usize) -> Draft {
+    let mut draft = without_texts(repeated(&files::base_file(Many(satellites)), b'V', epochs));
+    for row in draft.0.iter_mut().filter(|line| is_row(line)) {
+        row.splice(46.., *b" 999999.999999\n");
+    }
+    draft
+}
+
+fn is_row(line: &[u8]) -> bool {
+    matches!(line[0], b'P' | b'V')
+}
+
+/// A form in which every clock is absent, with its rows cut after the point of the
+/// clock: 55 bytes and not 61.
+fn cut_rows(form: &[u8]) -> Vec<u8> {
+    let line = |line: &str| match is_row(line.as_bytes()) {
+        true => format!("{}\n", &line[..54]),
+        false => format!("{line}\n"),
+    };
+    files::show_text(form).lines().map(line).collect::<String>().into_bytes()
+}
+
+/// Files in which every clock is bare and every row ends in column 54: the epochs
+/// of the paper's satellite, a comment of so many bytes more, the bytes of the
+/// file and those of its form.
+///
+/// Beside its epoch the paper's file has 1,215 - 32 - 61 = 1,122 bytes. An epoch
+/// has 32 + 55 = 87 bytes, in the form 32 + 61 = 93; in mode V 32 + 110 = 142, in
+/// the form 32 + 122 = 154. So 692 epochs have 1,122 + 692 * 87 = 61,326 bytes and
+/// 1,122 + 692 * 93 = 65,478, and 58 are left; 418 in mode V have 1,122 + 418 *
+/// 142 = 60,478 and 1,122 + 418 * 154 = 65,494, and 42 are left. Texts and comments
+/// that say nothing would save 21 + 8 bytes, too few for one epoch more.
+const BARE_CLOCKS: &[(&str, u8, usize, usize, usize, usize)] = &[
+    ("692-epochs-of-bare-clocks", b'P', 692, 0, 61_326, 65_478),
+    ("692-epochs-of-bare-clocks-one-left", b'P', 692, 57, 61_383, 65_535),
+    ("692-epochs-of-bare-clocks-all", b'P', 692, 58, 61_384, 65_536),
+    ("692-epochs-of-bare-clocks-too-many", b'P', 692, 59, 61_385, 65_537),
+    ("693-epochs-of-bare-clocks", b'P', 693, 0, 61_413, 65_571),
+    ("418-epochs-of-bare-rates", b'V', 418, 0, 60_478, 65_494),
+    ("418-epochs-of-bare-rates-one-left", b'V', 418, 41, 60_519, 65_535),
+    ("418-epochs-of-bare-rates-all", b'V', 418, 42, 60_520, 65_536),
+    ("418-epochs-of-bare-rates-too-many", b'V', 418, 43, 60_521, 65_537),
+    ("419-epochs-of-bare-rates", b'V', 419, 0, 60_620, 65_648),
+];
+
+/// The form of such a file.
+fn bare_form(mode: u8, epochs: usize, comment: usize) -> Vec<u8> {
+    let draft = repeated(&files::base_file(Paper), mode, epochs);
+    let length = draft.bytes().len() + comment;
+    filled_to(length, draft)
+}
+
+fn bare_cases() -> Vec<Case> {
+    let case = |&(name, mode, epochs, comment, _, length): &(_, _, _, _, _, usize)| {
+        let form = bare_form(mode, epochs, comment);
+        let file = cut_rows(&form);
+        Case::new(name, file, if length <= MOST_BYTES { form } else { refused(12, 0, 0) })
+    };
+    BARE_CLOCKS.iter().map(case).collect()
+}
+
+/// 693 epochs of bare clocks, 22 + 2 * 693 + 1 = 1,409 lines: what is wrong in the
+/// file comes before the room for its form.
+fn bare_faults() -> Vec<Case> {
+    let file = cut_rows(&bare_form(b'P', 693, 0));
+    let mut clock = file.clone();
+    // before the last LF: `EOF`, a LF, and the clock's `9.`
+    let nine = clock.len() - "9.\nEOF\n".len();
+    clock[nine] = b'8';
+    vec![
+        Case::new("693-epochs-no-last-lf", cut(file.clone()), refused(1, 1409, 0)),
+        Case::new("693-epochs-last-clock-999998", clock, refused(6, 1408, 47)),
+        Case::new("693-epochs-and-a-byte-after", [&file[..], b"x"].concat(), refused(11, 1410, 0)),
+    ]
+}
+
+/// Files of 65,536 bytes and near it: one bare clock makes the form 6 bytes longer,
+/// and blanks after the row make the file longer than its form.
+fn bare_at_the_bound() -> Vec<Case> {
+    let form = |bytes| filled_to(bytes, files::base_file(Paper));
+    let bare = |bytes| cut_rows(&form(bytes));
+    // 1,122 + 570 * (32 + 81) = 65,532 bytes, and 1,122 + 570 * 93 in the form
+    let long = bare_form(b'P', 570, 0);
+    vec![
+        Case::new("65530-bytes-with-a-bare-clock", bare(MOST_BYTES), form(MOST_BYTES)),
+        Case::new("65531-bytes-with-a-bare-clock", bare(MOST_BYTES + 1), refused(12, 0, 0)),
+        Case::new("65536-bytes-with-a-bare-clock", bare(MOST_BYTES + 6), refused(12, 0, 0)),
+        Case::new("65537-bytes-with-a-bare-clock", bare(MOST_BYTES + 7), too_long()),
+        Case::new("65532-bytes-with-blanks-after", padded(&cut_rows(&long), "P"), long),
+    ]
+}
+
+/// As many rows as 65,536 bytes hold, 97 satellites in mode V and six epochs, whose
+/// form would have 1,164 * 6 bytes more; and as many as a form holds, 1,050.
+fn bare_rows() -> Vec<Case> {
+    let bytes = MOST_BYTES + 1_164 * 6;
+    let most = cut_rows(&filled_to(bytes, many_rows(97, 6)));
+    let longer = cut_rows(&filled_to(bytes + 1, many_rows(97, 6)));
+    let form = filled_to(MOST_BYTES, many_rows(75, 7));
+    vec![
+        Case::new("65536-bytes-of-1164-rows", most, refused(12, 0, 0)),
+        Case::new("65537-bytes-of-1164-rows", longer, too_long()),
+        Case::new("59236-bytes-of-1050-rows", cut_rows(&form), form),
+    ]
 }
 
 /// Every P row of a draft with this EP after it.
@@ -437,12 +661,12 @@ fn large() -> Vec<Case> {
         file.push(byte);
         file
     };
-    let rows = filled_to(MOST_BYTES, many_rows());
+    let rows = filled_to(MOST_BYTES, many_rows(75, 7));
     let mut many_comments = files::base_file(Paper);
     let place = first_epoch(&many_comments);
     many_comments.0.splice(place..place, vec![comment_of(3); 21_440]);
     let lines_of_80 = [b"x".repeat(80), b"\n".to_vec()].concat().repeat(810);
-    vec![
+    let others = vec![
         same_form("800-comments", talk(800)),
         Case::new("801-comments", talk(801), refused(12, 0, 0)),
         Case::new("801-comments-and-a-byte-after", after(b'x', talk(801)), refused(11, 823, 0)),
@@ -473,7 +697,11 @@ fn large() -> Vec<Case> {
         Case::new("65537-bytes-x", b"x".repeat(MOST_BYTES + 1), too_long()),
         Case::new("65537-lf", b"\n".repeat(MOST_BYTES + 1), too_long()),
         Case::new("1000000-bytes-zero", vec![0; 1_000_000], too_long()),
-    ]
+    ];
+    [others, bare_cases(), bare_faults(), bare_at_the_bound(), bare_rows()]
+        .into_iter()
+        .flatten()
+        .collect()
 }
 
 /// One line of so many bytes of which the last before its LF is wrong.
@@ -559,6 +787,21 @@ fn number_in(text: &[u8]) -> Option<u8> {
     }
 }
 
+/// The sizes that were worked out: of the files with bare clocks and of their forms,
+/// and of the most rows that a file and a form have.
+fn test_sizes(tally: &mut Tally) {
+    for &(name, mode, epochs, comment, file, form) in BARE_CLOCKS {
+        let made = bare_form(mode, epochs, comment);
+        let sizes = (cut_rows(&made).len(), made.len());
+        tally.holds(sizes == (file, form), || format!("{name}: {sizes:?} bytes"));
+    }
+    for (row, satellites, epochs, wanted) in [(61, 75, 7, 1050), (55, 97, 6, 1164)] {
+        let file = many_rows(satellites, epochs).bytes();
+        let rows = files::judge(&file).map_or(0, |(table, _)| table.rows.len());
+        tally.holds(most_rows(row) == Some(wanted) && rows == wanted, || format!("{rows} rows"));
+    }
+}
+
 fn self_test() {
     let mut tally = Tally::default();
     let cases: Vec<Case> = stored().into_iter().chain(large()).collect();
@@ -573,8 +816,7 @@ fn self_test() {
             format!("{}: {} bytes", case.name, case.input.len())
         });
     }
-    let rows = files::judge(&many_rows().bytes()).map_or(0, |(table, _)| table.rows.len());
-    tally.holds(most_rows() == Some(1050) && rows == 1050, || format!("{rows} rows"));
+    test_sizes(&mut tally);
     for number in 0..=12 {
         let occurs = cases.iter().any(|case| number_in(&case.wanted) == Some(number));
         tally.holds(occurs, || format!("{number} does not occur"));

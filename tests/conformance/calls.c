@@ -9,13 +9,15 @@
 #include <string.h>
 
 /* What the paper's file needs; room for more than its bytes; how far its row stands before its end (61 bytes with its LF, `EOF` 4); where its first
- * `+ ` line begins (two lines of 61 bytes stand before it), and more lines than it has. Where a row has the mark of its record, the first deviation,
- * that of the clock, and the first correlation; the bytes of a record of which nothing is known. */
+ * `+ ` line begins (two lines of 61 bytes stand before it), and more lines than it has. Where a row has its clock, the mark of its record, the first
+ * deviation, that of the clock, and the first correlation; the bytes of a record of which nothing is known. */
 enum { IDENTIFIERS = 1, COMMENTS = 4, TEXT = COMMENTS * SP3_COMMENT_WIDTH, NUMBERS = SP3_ROW_WIDTH, LENGTH = 1215, ROOM = 2 * LENGTH,
-       ROW_FROM_END = 65, IDENTIFIERS_LINE = 122, ALL_LINES = 99, MARK = 12, DEVIATION = 13, CLOCK_DEVIATION = 16, CORRELATION = 17, BARE_NOTE = 3 };
+       ROW_FROM_END = 65, IDENTIFIERS_LINE = 122, ALL_LINES = 99, CLOCK = 3, MARK = 12, DEVIATION = 13, CLOCK_DEVIATION = 16, CORRELATION = 17,
+       BARE_NOTE = 3 };
 
 /* What is changed in the paper's table before it is written. */
-enum { AS_READ, EXPONENT_1000, IDENTIFIER_00, THREE_COMMENTS, CLOCK_LARGE, FLAG_2, PAST_2099, MARK_1, MARK_2, NO_RECORD_5, NO_RECORD_0,
+enum { AS_READ, EXPONENT_1000, IDENTIFIER_00, THREE_COMMENTS, CLOCK_LARGE, CLOCK_LARGEST, CLOCK_SIX_NINES, CLOCK_BELOW, CLOCK_LEAST,
+       CLOCK_MINUS_LARGE, RATE_LARGEST, RATE_SIX_NINES, RATE_BELOW, PLACE_SIX_NINES, FLAG_2, PAST_2099, MARK_1, MARK_2, NO_RECORD_5, NO_RECORD_0,
        DEVIATION_9999, DEVIATION_10000, DEVIATION_MINUS, CLOCK_DEVIATION_LARGE, CORRELATION_LARGE, CORRELATION_MINUS_LARGE,
        CORRELATION_MINUS_UNKNOWN };
 
@@ -149,6 +151,13 @@ static answer_t begin_into(stretch_t file, const size_t *with)
     return at_place(r.refusal, r.line, r.column);
 }
 
+/* The table of mode V, of which the V row has this rate. */
+static void rate(table_t *t, int64_t value)
+{
+    t->header.velocity = true;
+    t->rows[NUMBERS + CLOCK] = value;
+}
+
 /* The row has a record of which one number is known. */
 static void note(table_t *t, size_t place, int64_t value)
 {
@@ -163,7 +172,16 @@ static void change(table_t *t, size_t which)
     case EXPONENT_1000: t->exponents[0] = 1000; break;
     case IDENTIFIER_00: t->identifiers[0] = 'G' * 100; break;
     case THREE_COMMENTS: t->header.comments = COMMENTS - 1; break;
-    case CLOCK_LARGE: t->rows[3] = 1000000000000; break;
+    case CLOCK_LARGE: t->rows[CLOCK] = 1000000000000; break;
+    case CLOCK_LARGEST: t->rows[CLOCK] = 999998999999; break;
+    case CLOCK_SIX_NINES: t->rows[CLOCK] = 999999000000; break;
+    case CLOCK_BELOW: t->rows[CLOCK] = 999999999998; break;
+    case CLOCK_LEAST: t->rows[CLOCK] = -999999999999; break;
+    case CLOCK_MINUS_LARGE: t->rows[CLOCK] = -1000000000000; break;
+    case RATE_LARGEST: rate(t, 999998999999); break;
+    case RATE_SIX_NINES: rate(t, 999999000000); break;
+    case RATE_BELOW: rate(t, 999999999998); break;
+    case PLACE_SIX_NINES: t->rows[0] = 999999000000; break;
     case FLAG_2: t->rows[8] = 2; break;
     case PAST_2099:
         /* 2099-12-31 is MJD 88068 */
@@ -191,7 +209,7 @@ static answer_t write_into(stretch_t file, const size_t *with)
     static uint8_t out[ROOM];
     table_t t = table_of(file);
     change(&t, with[0]);
-    size_t numbers = t.header.epochs * NUMBERS - with[3];
+    size_t numbers = t.header.epochs * (t.header.velocity ? 2 : 1) * NUMBERS - with[3];
     return alone(sp3_write(t.header, t.identifiers, with[1], t.exponents, IDENTIFIERS, t.comments, TEXT, t.rows, numbers, out, with[2]).refusal);
 }
 
@@ -351,6 +369,15 @@ static const struct {
     {"write-three-comments", itself, write_into, {THREE_COMMENTS, IDENTIFIERS, ROOM}},
     {"write-list-short", itself, write_into, {AS_READ, IDENTIFIERS - 1, ROOM}},
     {"write-clock-large", itself, write_into, {CLOCK_LARGE, IDENTIFIERS, ROOM}},
+    {"write-clock-largest", itself, write_into, {CLOCK_LARGEST, IDENTIFIERS, ROOM}},
+    {"write-clock-six-nines", itself, write_into, {CLOCK_SIX_NINES, IDENTIFIERS, ROOM}},
+    {"write-clock-below", itself, write_into, {CLOCK_BELOW, IDENTIFIERS, ROOM}},
+    {"write-clock-least", itself, write_into, {CLOCK_LEAST, IDENTIFIERS, ROOM}},
+    {"write-clock-minus-large", itself, write_into, {CLOCK_MINUS_LARGE, IDENTIFIERS, ROOM}},
+    {"write-rate-largest", itself, write_into, {RATE_LARGEST, IDENTIFIERS, ROOM}},
+    {"write-rate-six-nines", itself, write_into, {RATE_SIX_NINES, IDENTIFIERS, ROOM}},
+    {"write-rate-below", itself, write_into, {RATE_BELOW, IDENTIFIERS, ROOM}},
+    {"write-place-six-nines", itself, write_into, {PLACE_SIX_NINES, IDENTIFIERS, ROOM}},
     {"write-flag-2", itself, write_into, {FLAG_2, IDENTIFIERS, ROOM}},
     {"write-past-2099", itself, write_into, {PAST_2099, IDENTIFIERS, ROOM}},
     {"write-rows-short", itself, write_into, {AS_READ, IDENTIFIERS, ROOM, 1}},

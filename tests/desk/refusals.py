@@ -1,4 +1,5 @@
-"""Files that are refused, each with what the desk tool says of it: worked out by hand from 01 and from ask 2 of 02, which tells the column."""
+"""Files that are refused, each with what the desk tool says of it: worked out by hand from 01 and from asks 2 and 3 of 02, which tell the column and
+how an absent clock may be spelt."""
 import gzip
 import importlib.util
 
@@ -35,6 +36,11 @@ def changed(line, first, text):
 def with_line(line, text):
     """The paper's lines with another in place of one."""
     return PAPER[: line - 1] + [text] + PAPER[line:]
+
+
+def with_clock(lines, line, clock):
+    """Lines with another clock in a row; the line ends as its spelling does where nothing comes after."""
+    return lines[: line - 1] + [make.respelt(lines[line - 1], clock)] + lines[line:]
 
 
 def after_row(*lines):
@@ -100,6 +106,21 @@ def columned():
             (with_line(24, "P"), 6, 24, 2), (with_line(1, "#d"), 6, 1, 3), (with_line(1, "#dP"), 6, 1, 4), (with_line(3, "+"), 6, 3, 4),
             (with_line(13, "%c"), 5, 13, 7), (with_line(23, "*"), 6, 23, 4), (changed(25, 80, "x"), 5, 25, 80),
             (after_row("EPx"), 5, 25, 3), (after_row("EP  55"), 6, 25, 5), (after_row("EP".ljust(27) + "99999999"), 7, 25, 28)]
+
+
+def clocked():
+    """Clocks that are neither a number nor absent, in a P row, line 24, and in a V row, line 30: a blank fraction after a minus or after another
+    number than six nines; a fraction of digits and blanks; no point, or one in another column; nothing. From a million on a clock is outside its
+    bounds. A blank fraction of x, y or z is malformed; an unused column is told before a malformed clock."""
+    malformed = ("-999999.      ", "-999999.", " 999998.      ", "0999998.", "1000000.      ", "9999999.      ", "      0.      ", "  99999.      ",
+                 " 999999.00000 ", " 999999.00000", " 999999.     0", " 999999.9     ", " 999999. 99999", " 999999       ", " 999999",
+                 "999999.       ", "  999999.00000", "999999 .      ", " 99 999.      ", "+999999.      ", "       .      ", "              ", "")
+    rows = ((PAPER, 24), (moving(), 30))
+    cases = [(with_clock(lines, line, clock), 6, line, 47) for lines, line in rows for clock in malformed]
+    cases += [(with_clock(lines, line, "1000000.000000"), 7, line, 47) for lines, line in rows]
+    cases += [(changed(24, first, " 999999.      "), 6, 24, first) for first in (5, 19, 33)]
+    cases += [(with_clock(PAPER, 24, clock), 5, 24, 61) for clock in (" 999999.      x", " 999999.     0x")]
+    return cases + [(with_clock(PAPER, 24, " 999999.       1"), 6, 24, 62), (with_clock(changed(24, 2, "G08"), 24, " 999999."), 10, 24, 0)]
 
 
 # ---- What a refusal comes from ----
@@ -186,6 +207,8 @@ def pictured():
     xs, row = "x" * 300, "     -0.500000      0.000000 999999.999999"
     cases = [(changed(24, 5, "  5000.0000001"), 6, [f"PG07  5000.0000001{row}", "    ^"]), (with_line(24, "PG07"), 6, ["PG07", "    ^"]),
              (with_line(24, "P"), 6, ["P", " ^"]), (changed(24, 2, "G00"), 7, [f"PG00   5000.000001{row}", " ^"]),
+             (with_clock(PAPER, 24, " 999999.     0"), 6, [f"PG07   5000.000001{row[:28]} 999999.     0", " " * 46 + "^"]),
+             (with_clock(PAPER, 24, "-999999."), 6, [f"PG07   5000.000001{row[:28]}-999999.", " " * 46 + "^"]),
              (changed(19, 4, "\t"), 2, ["/* ?NE ROW", "   ^"]), (WHOLE.replace(b"ONE", b"\x1b[31m\xc3\x89\0"), 2, ["/* ?[31m??? ROW", "   ^"]),
              (WHOLE.replace(b"\n", b"\r\n"), 2, [PAPER[0] + "?", " " * 60 + "^"]),
              (changed(24, 61, "x        x"), 5, [f"PG07   5000.000001{row}x        x", " " * 60 + "^"]),

@@ -20,7 +20,7 @@ import threading
 import expected
 import refusals
 from expected import ROOT, of_model, refused
-from refusals import PAPER, after_row, as_content, changed, make
+from refusals import PAPER, after_row, as_content, changed, make, moving, with_clock
 
 SEED = 20130403
 GENERATED = 80
@@ -51,6 +51,7 @@ row  epoch date       time              sat              x              y       
 P        0 2013-04-03 00:00:00.00000000 G07     5000000001        -500000              0         absent  -  -  -   - ....
 rows known 1 absent 0, clocks known 0 absent 1
 """
+PAPER_ROW = "epoch 0 2013-04-03 00:00:00.00000000\nsatellite 0 G07\nplace 5000000001 -500000 0 mm\nclock absent\n"
 PAPER_TALLY = "rows known 1 absent 0, clocks known 0 absent 1"
 NOTE_UNITS = """\
 EP notes      of the P row before: x-sdev y-sdev z-sdev in mm, clock-sdev in ps
@@ -142,10 +143,8 @@ def test_paper(desk):
     odd = desk.file("odd.sp3", [line.replace("     -0.500000", "    -00.500000") for line in PAPER])
     desk.expect(["rewrite", odd], 0, make.joined(PAPER))
     desk.expect(["table", odd], 0, PAPER_TABLE)
-    row = "epoch 0 2013-04-03 00:00:00.00000000\nsatellite 0 G07\nplace 5000000001 -500000 0 mm\nclock absent\n"
-    desk.expect(["row", name, "0", "G07"], 0, row)
-    desk.expect(["row", name, "0", "0"], 0, row)
-    desk.expect(["row", name, "000", "00"], 0, row)
+    for words in (("0", "G07"), ("0", "0"), ("000", "00")):
+        desk.expect(["row", name, *words], 0, PAPER_ROW)
     for k, text in enumerate(["ONE ROW", "", "", ""]):
         desk.expect(["comment", name, str(k)], 0, text + "\n")
     desk.expect(["divide", name], 0, "file 0 first byte 0 length 1215\nnothing is left: files 1, bytes 1215\n")
@@ -173,7 +172,7 @@ def about(name):
 
 
 def test_damaged(desk):
-    """Each of the refusals 1 to 11, by each command; then the columns."""
+    """Each of the refusals 1 to 11, by each command; then the columns, and clocks that are none."""
     assert {number for _, number, _, _ in refusals.damaged()} == set(range(1, 12))
     for content, *refusal in refusals.damaged():
         content = as_content(content)
@@ -181,7 +180,7 @@ def test_damaged(desk):
         for words in [*about(name), ["row", name, "9", "0"]]:
             desk.expect_refused(words, refused(name, *refusal, content))
         expect_refusal(desk, content, refusal)
-    for content, *refusal in refusals.columned():
+    for content, *refusal in [*refusals.columned(), *refusals.clocked()]:
         expect_refusal(desk, as_content(content), refusal)
 
 
@@ -231,6 +230,65 @@ def test_edges(desk):
         desk.expect(["row", name, "0", satellite], 1, "", refused(f"{name}: satellite {satellite}", 13))
     for k in ("4", "18446744073709551615"):
         desk.expect(["comment", name, k], 1, "", refused(f"{name}: comment {k}", 13))
+
+
+def clocks():
+    """Clocks as they are spelt from column 47 on, each with its number; None is absent. The short ones end their lines."""
+    absent = (" 999999.999999", " 999999.000000", " 999999.999998", " 999999.123456", "0999999.123456", "0999999.000000", " 999999.      ",
+              "0999999.      ", " 999999.", "0999999.", " 999999.   ")
+    known = ((" 999998.999999", 999_998_999_999), ("0999998.000000", 999_998_000_000), ("-999999.000000", -999_999_000_000),
+             ("-999999.999999", -999_999_999_999), ("-999999.123456", -999_999_123_456), (" 099999.000000", 99_999_000_000), ("     -0.000000", 0))
+    return [*((spelt, None) for spelt in absent), *known]
+
+
+def with_number(text, number):
+    """What is told of the paper's file, with this number for its absent clock."""
+    return text if number is None else text.replace("         absent", f"{number:15}").replace("clocks known 0 absent 1", "clocks known 1 absent 0")
+
+
+def test_clocks(desk):
+    """An absent clock is told and written as the paper's own, however it is spelt; a clock beside the nines is told as its number."""
+    for spelt, number in clocks():
+        content, table = make.joined(with_clock(PAPER, 24, spelt)), with_number(PAPER_TABLE, number)
+        name, shown = desk.file("clock.sp3", content), "absent" if number is None else f"{number} ps"
+        assert expected.table(desk.oracles.judged(content)[1]) == table, spelt
+        desk.expect(["check", name], 0, with_number(paper_checked(name, "EP 0 EV 0"), number))
+        desk.expect(["table", name], 0, table)
+        desk.expect(["row", name, "0", "G07"], 0, PAPER_ROW.replace("clock absent", f"clock {shown}"))
+        desk.expect(["rewrite", name], 0, make.joined(PAPER if number is None else with_clock(PAPER, 24, make.fixed(number, 6, 14))))
+        desk.expect(["divide", "-"], 0, expected.divide([len(content), 1215]), stdin=content + make.joined(PAPER))
+
+
+def test_clocks_before_exponents(desk):
+    """The same where exponents and flags stand after the clock."""
+    after, shown = " 18 99    219 EP  MP", "18  >  - 219 EPMP"
+    for spelt, number in clocks():
+        name = desk.file("clock.sp3", with_clock(PAPER, 24, spelt.ljust(14) + after))
+        form = with_clock(PAPER, 24, make.fixed(make.ABSENT_CLOCK if number is None else number, 6, 14) + after)
+        desk.expect(["table", name], 0, with_number(PAPER_TABLE, number).replace(" -  -  -   - ....", shown))
+        desk.expect(["rewrite", name], 0, make.joined(form))
+
+
+def test_rates(desk):
+    """The same of the rate in a V row, line 30 of samples/velocity.sp3; `check` counts the clocks of P rows alone."""
+    for spelt, number in clocks():
+        model = make.velocity()
+        model.rows[0][1][1].clock = number
+        content, held = make.joined(with_clock(moving(), 30, spelt)), of_model(model)
+        name = desk.file("rate.sp3", content)
+        assert expected.table(desk.oracles.judged(content)[1]) == expected.table(held), spelt
+        desk.expect(["check", name], 0, expected.check(name, of_model(make.velocity())))
+        desk.expect(["table", name], 0, expected.table(held))
+        desk.expect(["rewrite", name], 0, make.joined(make.file_lines(model)))
+
+
+def test_nines_in_places(desk):
+    """Six nines in x, y or z are a coordinate."""
+    for first, place in ((5, "999999000000 -500000 0"), (19, "5000000001 999999000000 0"), (33, "5000000001 -500000 999999000000")):
+        lines = changed(24, first, " 999999.000000")
+        name = desk.file("nines.sp3", lines)
+        desk.expect(["row", name, "0", "0"], 0, PAPER_ROW.replace("5000000001 -500000 0", place))
+        desk.expect(["rewrite", name], 0, make.joined(lines))
 
 
 def ep_line(*fields):
@@ -300,12 +358,14 @@ def test_moving_notes(desk):
 
 
 def test_samples(desk):
-    """The stored samples, by the numbers that they were made from; one that is refused, which README.md shows."""
+    """The stored samples, by the numbers that they were made from; one that is refused, which README.md shows; one with every spelling of an absent
+    clock, which the canonical form writes in one way."""
     late = str(ROOT / "samples/late.sp3")
     desk.expect(["check", late], 1, refused(late, 9, 23, 0, make.samples()["late.sp3"]))
     models, files = {"day.sp3": make.day(), "velocity.sp3": make.velocity(), "correlations.sp3": make.correlations()}, make.season_files()
+    models["six-nines.sp3"] = make.six_nines()
     for sample, model in models.items():
-        name, held, form = str(ROOT / "samples" / sample), of_model(model), make.samples()[sample]
+        name, held, form = str(ROOT / "samples" / sample), of_model(model), make.joined(make.file_lines(model))
         desk.expect(["check", name], 0, expected.check(name, held))
         desk.expect(["table", name], 0, expected.table(held))
         desk.expect(["rewrite", name], 0, form)
@@ -574,8 +634,9 @@ def expect_without_memory(desk, words, out, content, tool):
 
 def main():
     desk = Desk(pathlib.Path(sys.argv[1]).resolve())
-    for test in (test_paper, test_dates, test_damaged, test_causes, test_pictures, test_edges, test_notes, test_moving_notes, test_samples,
-                 test_generated, test_usage, test_numbers, test_inputs, test_pipes, test_many, test_outputs, test_failing, test_large):
+    for test in (test_paper, test_dates, test_damaged, test_causes, test_pictures, test_edges, test_clocks, test_clocks_before_exponents,
+                 test_rates, test_nines_in_places, test_notes, test_moving_notes, test_samples, test_generated, test_usage, test_numbers,
+                 test_inputs, test_pipes, test_many, test_outputs, test_failing, test_large):
         test(desk)
     print(f"desk: {desk.passed} tests passed")
 

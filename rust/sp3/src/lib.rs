@@ -21,8 +21,9 @@
 //! - Conveniences that lend the room themselves: [`Table`], [`divide_all`], [`rows`].
 //!
 //! **Absence.** A satellite that was withdrawn is written as a place of three zeros. Here that is `None`, never a coordinate; a place of which
-//! one or two coordinates are 0 is not absent. Place and clock are absent apart from each other. Every satellite of the header stays in every
-//! epoch.
+//! one or two coordinates are 0 is not absent. A clock or rate is absent exactly where columns 47 to 53 hold 999999 without a minus; leading zeros
+//! may stand, and the six columns after the point are any digits or all blank. Place and clock are absent apart from each other. Every satellite of
+//! the header stays in every epoch.
 //!
 //! **Correlation records.** What an EP line says of the P row before it, and an EV line of the V row before it, is the row's [`Note`]: `None`
 //! where no such line stands, and in it `None` for what is unknown; neither is 0.

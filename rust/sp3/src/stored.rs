@@ -57,8 +57,8 @@ pub fn place_of(rows: &[i64], k: usize) -> Result<Option<[i64; 3]>, Refusal> {
     Ok((!answer.absent).then_some([answer.x, answer.y, answer.z]))
 }
 
-/// The clock or rate of the k-th stored row, columns 47 to 60: in ps, or in 10^-16 s/s in a V row. `None` is absent: `999999.999999` in the
-/// file, whatever the place.
+/// The clock or rate of the k-th stored row, columns 47 to 60: in ps, or in 10^-16 s/s in a V row. `None` is absent: columns 47 to 53 of the file
+/// hold 999999 without a minus, whatever the place. The row then holds twelve nines, however the file spells them.
 ///
 /// Refused: 13 where there is no k-th row (k = 1 of 45 numbers).
 ///
@@ -68,6 +68,10 @@ pub fn place_of(rows: &[i64], k: usize) -> Result<Option<[i64; 3]>, Refusal> {
 /// rows[3] = 999_999_999_999;
 /// assert_eq!(sp3::clock_of(&rows, 0)?, None);
 /// assert_eq!(sp3::clock_of(&rows, 1), Err(sp3::Refusal { number: 13, line: 0, column: 0 }));
+///
+/// let table = sp3::Table::read(include_bytes!("../../../samples/six-nines.sp3"))?;
+/// assert_eq!(sp3::clock_of(&table.rows, 0)?, None, "999999.000000");
+/// assert_eq!(sp3::clock_of(&table.rows, 8)?, Some(-999_999_000_000), "-999999.000000");
 /// # Ok::<(), sp3::Refusal>(())
 /// ```
 pub fn clock_of(rows: &[i64], k: usize) -> Result<Option<i64>, Refusal> {
@@ -120,7 +124,7 @@ pub fn flag_of(rows: &[i64], k: usize, which: usize) -> Result<bool, Refusal> {
 pub struct StoredRow {
     /// x, y, z in mm, or in 10^-4 mm/s in a V row; `None` is absent.
     pub place: Option<[i64; 3]>,
-    /// The clock in ps, or the rate in 10^-16 s/s in a V row; `None` is absent.
+    /// The clock in ps, or the rate in 10^-16 s/s in a V row, at most 999,998,999,999; `None` is absent.
     pub clock: Option<i64>,
     /// The exponents of x, y, z and clock.
     pub exponents: [Exponent; 4],
@@ -157,7 +161,7 @@ pub fn stored_row(rows: &[i64], k: usize) -> Result<StoredRow, Refusal> {
     })
 }
 
-/// How an absent clock or rate is held; an absent place or velocity is held as three zeros.
+/// How an absent clock or rate is held, however a file spells it; an absent place or velocity is held as three zeros.
 const ABSENT_CLOCK: i64 = 999_999_999_999;
 
 /// How an unknown exponent is held.
@@ -187,8 +191,9 @@ impl Flags {
 impl StoredRow {
     /// The row as the numbers that [`write`](crate::write) takes, such that [`stored_row`] gives it back.
     ///
-    /// Refused: 13 where it would be another row: `Some([0, 0, 0])` would be absent, an exponent `Value(99)` too large, a correlation
-    /// `Some(100_000_000)` unknown.
+    /// Refused: 13 where it would be another row: `Some([0, 0, 0])` and a clock `Some(999_999_999_999)` would be absent, an exponent `Value(99)`
+    /// too large, a correlation `Some(100_000_000)` unknown. What no file can hold, such as a clock `Some(999_999_000_000)`, is left to
+    /// [`write`](crate::write), which refuses it.
     ///
     /// ```
     /// use sp3::{Deviation, Exponent, Flags, Note, StoredRow};

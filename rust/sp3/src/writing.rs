@@ -101,10 +101,10 @@ pub fn form_length(
 /// output itself.
 ///
 /// The lists are as [`read`](crate::read) leaves them; places past the header's counts are not looked at, bytes of `out` past those written
-/// stay as they were.
+/// stay as they were. An absent clock is written as ` 999999.999999`.
 ///
-/// Refused, with line 0: 13 where the table is not valid (1000 among the header's exponents, a deviation beside a row without its record, a list
-/// shorter than its count), then 12 where `out` is one byte too short; `out` is then as it was.
+/// Refused, with line 0: 13 where the table is not valid (1000 among the header's exponents, a clock from 999,999,000,000 to 999,999,999,998, a
+/// deviation beside a row without its record, a list shorter than its count), then 12 where `out` is one byte too short; `out` is then as it was.
 ///
 /// ```
 /// let file = include_bytes!("../../../samples/paper.sp3");

@@ -2,7 +2,7 @@
 
 mod common;
 
-use common::{motion, night, paper, stored_again, CORRELATIONS};
+use common::{motion, night, paper, stored_again, CORRELATIONS, SIX_NINES};
 use sp3::{judge_front, Refusal, Table};
 
 /// Numbers that look random and are the same in each run (splitmix64).
@@ -120,9 +120,10 @@ fn divided(stretch: &[u8]) {
 fn damaged_files() {
     let mut random = Random(1);
     let mut counts = [0; 12];
-    let bases = [paper().bytes(), night().bytes(), motion().bytes(), CORRELATIONS.to_vec()];
-    for case in 0..6000 {
-        let mut file = bases[case % 4].clone();
+    let [correlations, nines] = [CORRELATIONS, SIX_NINES].map(<[u8]>::to_vec);
+    let bases = [paper().bytes(), night().bytes(), motion().bytes(), correlations, nines];
+    for case in 0..7500 {
+        let mut file = bases[case % bases.len()].clone();
         for _ in 0..random.below(3) {
             damage(&mut file, &mut random);
         }
@@ -135,7 +136,7 @@ fn damaged_files() {
             Ok(_) => agree(&file),
             Err(refusal) => column_by_number(&file, refusal),
         }
-        divided(&[&bases[(case + 1) % 4], &file[..], &bases[0]].concat());
+        divided(&[&bases[(case + 1) % bases.len()], &file[..], &bases[0]].concat());
     }
     assert!(counts.iter().all(|&count| count > 0), "numbers 0 to 11 all occur: {counts:?}");
 }

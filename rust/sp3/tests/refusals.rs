@@ -64,6 +64,7 @@ fn refused_files() -> Vec<(u8, u64, usize, Vec<u8>)> {
         of(5, 3, 63, paper().put(3, 63, "0")),
         of(5, 24, 61, paper().put(24, 70, "x").put(24, 61, "x")),
         of(5, 26, 75, motion().put(26, 75, "E")),
+        of(5, 24, 61, paper().end(24, 47, " 999999.     0x")),
         of(5, 14, 4, paper().put(14, 4, "xx")),
         of(5, 14, 56, paper().put(14, 60, "C")),
         of(5, 25, 3, paper().with(25, "EPx")),
@@ -78,6 +79,10 @@ fn refused_files() -> Vec<(u8, u64, usize, Vec<u8>)> {
         of(6, 24, 2, paper().put(24, 3, " ")),
         of(6, 24, 5, row("PG07")),
         of(6, 24, 5, paper().put(24, 5, "  5000.0000001")),
+        of(6, 24, 5, paper().put(24, 5, " 999999.      ")),
+        of(6, 24, 47, paper().put(24, 47, " 999999.     0")),
+        of(6, 24, 47, paper().end(24, 47, "-999999.")),
+        of(6, 29, 47, motion().end(29, 47, " 999998.")),
         of(6, 24, 75, paper().put(24, 75, "e")),
         of(6, 25, 5, paper().with(25, "EP    -1")),
         of(6, 27, 73, motion().put(27, 80, "x")),
@@ -87,6 +92,7 @@ fn refused_files() -> Vec<(u8, u64, usize, Vec<u8>)> {
         of(7, 23, 21, paper().put(23, 21, "60.00000000")),
         of(7, 24, 2, paper().put(24, 2, "G00")),
         of(7, 24, 5, paper().put(24, 5, "1000000.000000").put(24, 47, "1000000.000000")),
+        of(7, 29, 47, motion().put(29, 47, "1000000.000000")),
         of(7, 25, 28, paper().with(25, "EP").put(25, 28, "10000000")),
         of(8, 2, 0, paper().put(2, 4, "1735")),
         of(8, 3, 0, paper().put(3, 6, "2").put(3, 13, "G07")),
@@ -94,6 +100,7 @@ fn refused_files() -> Vec<(u8, u64, usize, Vec<u8>)> {
         of(8, 13, 0, paper().put(13, 4, "R")),
         of(9, 23, 0, paper().put(23, 18, " 1")),
         of(10, 24, 0, paper().put(24, 4, "8")),
+        of(10, 24, 0, paper().put(24, 4, "8").end(24, 47, " 999999.")),
         (11, 26, 0, [SAMPLE, b" "].concat()),
         (11, 26, 0, SAMPLE.repeat(2)),
     ]
@@ -202,7 +209,7 @@ fn note(table: &mut Table, place: usize, number: i64) {
 
 /// Tables that no accepted file has, each made from the paper's by one alteration.
 fn invalid_tables() -> Vec<Table> {
-    let alterations: [fn(&mut Table); 22] = [
+    let alterations: [fn(&mut Table); 25] = [
         |table| table.exponents[0] = 1000,
         |table| table.identifiers.clear(),
         |table| table.exponents.clear(),
@@ -211,6 +218,9 @@ fn invalid_tables() -> Vec<Table> {
         |table| table.identifiers[0] = 7100,
         |table| table.comments[0] = b'\n',
         |table| table.rows[0] = 1_000_000_000_000,
+        |table| table.rows[3] = 999_999_000_000,
+        |table| table.rows[3] = 999_999_999_998,
+        |table| table.rows[3] = -1_000_000_000_000,
         |table| table.rows[12] = 2,
         |table| table.rows[13] = 5,
         |table| table.rows[22] = 0,

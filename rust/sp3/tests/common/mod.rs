@@ -9,6 +9,9 @@ pub const SAMPLE: &[u8] = include_bytes!("../../../../samples/paper.sp3");
 /// The sample with correlation records of every kind, in mode V.
 pub const CORRELATIONS: &[u8] = include_bytes!("../../../../samples/correlations.sp3");
 
+/// The sample with absent clocks and rates in every spelling, in mode V.
+pub const SIX_NINES: &[u8] = include_bytes!("../../../../samples/six-nines.sp3");
+
 const NO_SATELLITES: &str = "+          0  0  0  0  0  0  0  0  0  0  0  0  0  0  0  0  0";
 const NO_EXPONENTS: &str = "++         0  0  0  0  0  0  0  0  0  0  0  0  0  0  0  0  0";
 
@@ -51,6 +54,12 @@ impl Draft {
         text.resize(text.len().max(end), b' ');
         text[column - 1..end].copy_from_slice(bytes);
         self
+    }
+
+    /// A line that ends with these bytes, which begin in a column.
+    pub fn end(mut self, line: usize, column: usize, bytes: impl AsRef<[u8]>) -> Draft {
+        self.0[line - 1].truncate(column - 1);
+        self.put(line, column, bytes)
     }
 
     /// The file without a line.
