@@ -136,8 +136,8 @@ def spellings():
 
 
 def clock_spellings():
-    """Clocks: those by hand (as a decimal too), and what stands around six nines in every width, with other places, damaged and odd."""
-    lines = [kind + "06" + text for text, _ in CLOCKS for kind in "CD"]
+    """Clocks: those by hand (as decimals too), and what stands around six nines in every width, with other places, damaged and odd."""
+    lines = [kind + "06" + text for text, _ in CLOCKS for kind in "CDU"]
     for text in map("".join, itertools.product(" -.9", repeat=3)):
         lines += ["C00" + text, "C01" + text] + ["C02" + front + "999999" + text for front in ("", "0", "-")]
     for text in (" 999999.000000", " 999999.      "):

@@ -3411,21 +3411,30 @@ fn clocks_cut() -> Vec<Case> {
     rows.flat_map(|row| (45..=75).map(move |length| cut(row, length))).collect()
 }
 
-/// Whole parts on both sides of 999999, in seven columns, with every fraction of
-/// digits and blanks.
-fn clocks_spelt() -> Vec<Case> {
-    let wholes = [
-        " 999999", "0999999", "-999999", "+999999", " 999998", "1000000", "1999999", "9999999",
-        "  99999", "9 99999", "999999 ",
-    ];
-    let fraction = |blanks: usize| -> String {
-        (0..6).map(|place| if blanks >> place & 1 == 1 { ' ' } else { '0' }).collect()
-    };
+/// Whole parts on both sides of 999999, in the seven columns that they have.
+const WHOLES: &[&str] = &[
+    " 999999", "0999999", "-999999", "+999999", " 999998", "1000000", "1999999", "9999999",
+    "  99999", "9 99999", "999999 ",
+];
+
+/// Every fraction of this digit and blanks.
+fn fractions(digit: char) -> Vec<String> {
+    let is_blank = |blanks: usize, place: usize| blanks >> place & 1 == 1;
+    let fraction =
+        |blanks| (0..6).map(|place| if is_blank(blanks, place) { ' ' } else { digit }).collect();
+    (0..64).map(fraction).collect()
+}
+
+/// All of them in a clock and in a rate, those of six nines in x, y and z too.
+fn numbers_spelt() -> Vec<Case> {
     let mut cases = Vec::new();
-    for (whole, blanks) in wholes.iter().flat_map(|whole| (0..64).map(move |b| (whole, b))) {
-        let clock = format!("{whole}.{}", fraction(blanks));
-        for (base, line) in [(Clocks, 24), (MovingClocks, 27)] {
-            cases.push(ask_for_row(base, line, |draft| draft.put(line, 47, clock.as_bytes())));
+    for (base, line, digit) in [(Clocks, 24, '0'), (MovingClocks, 27, '9')] {
+        let mut put = |column, text: String| {
+            cases.push(ask_for_row(base, line, |draft| draft.put(line, column, text.as_bytes())));
+        };
+        for fraction in fractions(digit) {
+            WHOLES.iter().for_each(|whole| put(47, format!("{whole}.{fraction}")));
+            [5, 19, 33].into_iter().for_each(|column| put(column, format!(" 999999.{fraction}")));
         }
     }
     cases
@@ -3440,7 +3449,7 @@ fn altered_lines() -> Vec<Case> {
         pairs_of_bytes(Clocks, 24, CLOCK_COLUMNS, &[]),
         pairs_of_bytes(MovingClocks, 27, CLOCK_COLUMNS, &[]),
     ];
-    let clocks = [clocks_cut(), clocks_spelt()].concat();
+    let clocks = [clocks_cut(), numbers_spelt()].concat();
     let mut cases =
         [single_bytes(), pairs.concat(), clocks, names_alike(), lines_doubled()].concat();
     let mut files = HashSet::new();

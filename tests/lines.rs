@@ -2064,8 +2064,7 @@ fn add_clocks(cases: &mut Cases) {
     add_clock_faults(cases);
 }
 
-/// A bare clock, a wrong one and one too large, each beside every other fault
-/// of its line.
+/// A bare clock, and one that is too large, beside every other fault of its line.
 fn add_clock_faults(cases: &mut Cases) {
     for (letter, clock) in [(b'm', BARE_CLOCK), (b'n', BARE_CLOCK), (b'n', "1000000.000000")] {
         for spoiler in spoilers_of(letter).into_iter().filter(|spoiler| beside_clock(spoiler)) {
