@@ -1,6 +1,6 @@
 -- A number of a lent row as the machine reads it: its magnitude and its sign are the number's.
 -- Assumes nothing.
-use mathlib.Core.Bool.{Bool, true, false, cond, not, _&&_, false≢true}
+use mathlib.Core.Bool.{Bool, true, false, cond, not, _&&_, _||_, or-false, false≢true}
 use mathlib.Core.List.{List}
 use mathlib.Core.Path.{_≡_, refl, sym, ap, _∙_}
 use Prim.Native.Nat.{ℕ, suc, _-_, _^_, _<_}
@@ -15,7 +15,12 @@ use mir.ValLaws.{toZ-ofZ}
 use Rattle.laws.proofs.Bools.{and-true}
 use Rattle.field.specs.Sign.{isNegative}
 use Rattle.field.proofs.Signs.{negative-test, plain-fits}
-use Rattle.canon.specs.Valid.{entry, amountValid, flagValid}
+use Rattle.canon.specs.Valid.{entry, amountValid, clockValid, flagValid}
+
+-- a magnitude below zero is within the bound of its number
+one-more : (n : ℕ) (t : Bool) → leb n 999999999998 ≡ t → t ≡ leb (suc n) 999999999999
+one-more n true e = sym (le-leb (suc n) 999999999999 (omega (arith, leb-true n 999999999998 e)))
+one-more n false e = sym (lt-leb (suc n) 999999999999 (omega (arith, leb-false n 999999999998 e)))
 
 module _ (row : List ℤ) (i : ℕ) (fits : mag (entry row i) < 2 ^ hbits w64) where
   kept : toZ w64 (ofZ w64 (entry row i)) ≡ entry row i
@@ -44,11 +49,15 @@ module _ (row : List ℤ) (i : ℕ) (fits : mag (entry row i) < 2 ^ hbits w64) w
     where
       go : (v : ℤ) → (leZ v (pos 999999999999) && leZ (negsuc 999999999998) v) ≡ amountValid v
       go (pos n) = and-true (leb n 999999999999)
-      go (negsuc n) = one-more (leb n 999999999998) refl
-        where
-          one-more : (t : Bool) → leb n 999999999998 ≡ t → t ≡ leb (suc n) 999999999999
-          one-more true e = sym (le-leb (suc n) 999999999999 (omega (arith, leb-true n 999999999998 e)))
-          one-more false e = sym (lt-leb (suc n) 999999999999 (omega (arith, leb-false n 999999999998 e)))
+      go (negsuc n) = one-more n (leb n 999999999998) refl
+
+  -- a clock from its least to its largest, or twelve nines
+  pub clock-read : (leZ (toZ w64 (ofZ w64 (entry row i))) (pos 999998999999) && leZ (negsuc 999999999998) (toZ w64 (ofZ w64 (entry row i))) || eqb (ofZ w64 (entry row i)) 999999999999) ≡ clockValid (entry row i)
+  clock-read = rw kept (go (entry row i) fits)
+    where
+      go : (v : ℤ) → mag v < 2 ^ hbits w64 → (leZ v (pos 999998999999) && leZ (negsuc 999999999998) v || eqb (ofZ w64 v) 999999999999) ≡ clockValid v
+      go (pos n) f = ap (λ (t : Bool). t || eqb n 999999999999) (and-true (leb n 999998999999))
+      go (negsuc n) f = rw (ne-eqb (2 ^ 64 - suc n) 999999999999 (λ e. omega arith)) (or-false (leb n 999999999998) ∙ one-more n (leb n 999999999998) refl)
 
   pub mark-read : not (eqb (ofZ w64 (entry row i)) 0) ≡ cond (eqb (natAbs (entry row i)) 0) false true
   mark-read = go (entry row i) fits

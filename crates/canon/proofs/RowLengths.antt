@@ -5,12 +5,12 @@ use mathlib.Core.List.{List, [], _∷_, _++_}
 use mathlib.Core.Path.{_≡_, refl, ap, _∙_}
 use Prim.Native.Nat.{ℕ, zero, suc, _+_, _-_, _^_, _≤_, _<_}
 use native.Mathlib.Omega.{arith}
-use borrow.Author.Tests.{leb-true, eq-eqb, ne-eqb}
+use borrow.Author.Tests.{leb-true, eqb-true, eq-eqb, ne-eqb}
 use lib.Dec.{eqb, leb}
 use lib.IntN.{ℤ, natAbs}
 use lib.ListN.{length, take, drop}
 use Rattle.laws.specs.Texts.{blanks}
-use Rattle.field.specs.Sign.{largest, isNegative}
+use Rattle.field.specs.Sign.{largest, largestClock, isNegative}
 use Rattle.field.specs.Show.{putWhole, putDecimal}
 use Rattle.layout.specs.Kind.{unknown}
 use Rattle.layout.specs.Kind.Kind.{unused}
@@ -18,7 +18,7 @@ use Rattle.layout.specs.Kind.Held.{one, amount}
 use Rattle.layout.specs.Layout.{Item, Values, columns}
 use Rattle.layout.specs.Line.{trimmed}
 use Rattle.record.specs.Rows.{bodyItems, flagItems, rowItems, rowValues, flagValues, rowLine}
-use Rattle.canon.specs.Valid.{entry, amountValid, exponentValid, mostFlag, flagValid, fourValid, rowValid}
+use Rattle.canon.specs.Valid.{entry, amountValid, clockValid, exponentValid, mostFlag, flagValid, fourValid, rowValid}
 use Rattle.canon.specs.Canonical.{flagShown, rowShown}
 use Rattle.canon.specs.Measured.{textEnd, exponentsEnd, rowLength}
 use Rattle.laws.proofs.Bools.{and-left, and-right, both-true}
@@ -70,13 +70,22 @@ four p q r s e =
     let back = both-true r s (and-right (p && q) (r && s) e) in
     (front .0, front .1, back .0, back .1)
 
+-- a valid clock is within the bound of every number
+pub clock-bounded : (v : ℤ) → clockValid v ≡ true → natAbs v ≤ largest
+clock-bounded v e = go (isNegative v) (leb (natAbs v) largestClock) refl e
+  where
+    go : (n t : Bool) → leb (natAbs v) largestClock ≡ t → cond n (leb (natAbs v) largest) (t || eqb (natAbs v) largest) ≡ true → natAbs v ≤ largest
+    go true t q h = leb-true (natAbs v) largest h
+    go false true q h = omega (arith, leb-true (natAbs v) largestClock q)
+    go false false q h = omega (arith, eqb-true (natAbs v) largest h)
+
 fine : (velocity : Bool) (row : List ℤ) → rowValid velocity row ≡ true → Fine velocity row
 unfolding rowValid
 fine velocity row e =
-    let amounts = fourValid amountValid amountValid 0 row in
+    let amounts = fourValid amountValid clockValid 0 row in
     let exponents = fourValid (exponentValid false) (exponentValid true) 4 row in
     let flags = fourValid (flagValid velocity) (flagValid velocity) 8 row in
-    let a = four (amountValid (entry row 0)) (amountValid (entry row 1)) (amountValid (entry row 2)) (amountValid (entry row 3)) (and-left amounts (exponents && flags) e) in
+    let a = four (amountValid (entry row 0)) (amountValid (entry row 1)) (amountValid (entry row 2)) (clockValid (entry row 3)) (and-left amounts (exponents && flags) e) in
     let rest = and-right amounts (exponents && flags) e in
     let x =
     four (exponentValid false (entry row 4)) (exponentValid false (entry row 5)) (exponentValid false (entry row 6)) (exponentValid true (entry row 7))
@@ -85,7 +94,7 @@ fine velocity row e =
     four (flagValid velocity (entry row 8)) (flagValid velocity (entry row 9)) (flagValid velocity (entry row 10)) (flagValid velocity (entry row 11))
     (and-right exponents flags rest) in
     record {
-      clock = leb-true (natAbs (entry row 3)) largest (a .3);
+      clock = clock-bounded (entry row 3) (a .3);
       x-exponent = and-right (not (isNegative (entry row 4))) _ (x .0);
       y-exponent = and-right (not (isNegative (entry row 5))) _ (x .1);
       z-exponent = and-right (not (isNegative (entry row 6))) _ (x .2);

@@ -10,7 +10,7 @@ use Rattle.laws.specs.Tests.{within}
 use Rattle.laws.specs.Texts.{every}
 use Rattle.calendar.specs.Gregorian.{firstMjd, lastMjd}
 use Rattle.calendar.specs.Clock.{dayUnits}
-use Rattle.field.specs.Sign.{largest, isNegative}
+use Rattle.field.specs.Sign.{largest, largestClock, isNegative}
 use Rattle.layout.specs.Kind.{isOneOf, isListed, isIdentifier, printable, unknown, unnoted}
 use Rattle.layout.specs.Line.{trimmed}
 use Rattle.header.specs.Rules.{maxEpochs}
@@ -91,9 +91,13 @@ commentsValid rules (suc k) bytes = commentValid rules (take commentWidth bytes)
 abbrev pub entry : List ℤ → ℕ → ℤ
 entry row i = getD row i (pos 0)
 
--- x, y, z and clock: "magnitude at most 999,999,999,999"
+-- x, y, z: "magnitude at most 999,999,999,999"
 abbrev pub amountValid : ℤ → Bool
 amountValid v = leb (natAbs v) largest
+
+-- a clock or rate: from −999,999,999,999 to the largest clock, or absent, which is twelve nines
+abbrev pub clockValid : ℤ → Bool
+clockValid v = cond (isNegative v) (leb (natAbs v) largest) (leb (natAbs v) largestClock || eqb (natAbs v) largest)
 
 -- an exponent: 0 to 99, of the clock to 999, or unknown
 abbrev pub exponentValid : Bool → ℤ → Bool
@@ -115,7 +119,7 @@ fourValid test last at row =
 -- the numbers of a P line, or of a V line
 unfoldable pub rowValid : Bool → List ℤ → Bool
 rowValid velocity row =
-    fourValid amountValid amountValid 0 row
+    fourValid amountValid clockValid 0 row
     && (fourValid (exponentValid false) (exponentValid true) 4 row && fourValid (flagValid velocity) (flagValid velocity) 8 row)
 
 -- of a note: a deviation is 0 to 9999, of the clock to 9999999, or unknown

@@ -8,30 +8,41 @@ ghost use lib.ListN.{length};
 ghost use Rattle.field.specs.Sign.{isNegative};
 ghost use Rattle.record.specs.Rows.{rowWidth};
 ghost use Rattle.canon.specs.Table.{cellWidth};
-ghost use Rattle.canon.specs.Valid.{entry, amountValid, exponentValid, mostFlag, flagValid, fourValid, rowValid, notedValid, cellValid, rowsValid};
+ghost use Rattle.canon.specs.Valid.{entry, amountValid, clockValid, exponentValid, mostFlag, flagValid, fourValid, rowValid, notedValid, cellValid, rowsValid};
 ghost use Rattle.canon.specs.Measured.{exponentsEnd, rowLength, notedLength, cellLength, rowsLength};
 use crate::bounds;
 use crate::lists;
 use crate::notes;
 use crate::types::Spent;
 use field::sign::LARGEST;
+use field::sign::LARGEST_CLOCK;
 use field::sign::magnitude_of;
 use record::rows::BARE_WIDTH;
 use record::rows::BOTH_WIDTH;
 use record::rows::ROW_WIDTH;
 use record::rows::UNKNOWN;
 
-// The bounds of x, y, z and clock.
+// The bounds of x, y and z, and the largest clock that is not absent.
 const MOST: i64 = LARGEST as i64;
+
+const MOST_CLOCK: i64 = LARGEST_CLOCK as i64;
 
 const LEAST: i64 = -(LARGEST as i64);
 
-// Whether a number is one of x, y, z or clock.
+// Whether a number is one of x, y and z.
 fn amount_valid(row: &[i64], i: usize) -> bool
     requires { ⌜ i + 1 ≤ length (now row) ⌝ }
     ensures { λ r. ⌜ r ≡ amountValid (entry (now (row .entry)) i) ⌝ }
 {
     (row[i] <= MOST) & (LEAST <= row[i])
+}
+
+// Whether a number is a clock, or twelve nines for one that is absent.
+fn clock_valid(row: &[i64], i: usize) -> bool
+    requires { ⌜ i + 1 ≤ length (now row) ⌝ }
+    ensures { λ r. ⌜ r ≡ clockValid (entry (now (row .entry)) i) ⌝ }
+{
+    ((row[i] <= MOST_CLOCK) & (LEAST <= row[i])) | (row[i] == MOST)
 }
 
 // Whether a number is a count of at most so much.
@@ -76,9 +87,9 @@ fn most_flag(velocity: bool) -> u64
 // Whether the first four numbers of a row are x, y, z and clock.
 fn amounts_valid(row: &[i64]) -> bool
     requires { ⌜ length (now row) ≡ rowWidth ⌝ }
-    ensures { λ r. ⌜ r ≡ fourValid amountValid amountValid 0 (now (row .entry)) ⌝ }
+    ensures { λ r. ⌜ r ≡ fourValid amountValid clockValid 0 (now (row .entry)) ⌝ }
 {
-    (amount_valid(row, 0) & amount_valid(row, 1)) & (amount_valid(row, 2) & amount_valid(row, 3))
+    (amount_valid(row, 0) & amount_valid(row, 1)) & (amount_valid(row, 2) & clock_valid(row, 3))
 }
 
 // Whether the next four are their exponents.

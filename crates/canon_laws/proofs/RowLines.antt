@@ -2,18 +2,19 @@
 -- the row.
 -- Assumes nothing.
 use mathlib.Core.Path.{_≡_, refl, ap, _∙_}
-use mathlib.Core.Bool.{Bool, true, false, cond, not, _&&_, _||_, false≢true}
+use mathlib.Core.Bool.{Bool, true, false, cond, not, _&&_, _||_, or-true, false≢true}
 use mathlib.Core.List.{List, [], _∷_, _++_, append-nil}
-use Prim.Native.Nat.{ℕ, zero, suc, _+_, _≤_}
+use Prim.Native.Nat.{ℕ, zero, suc, _+_, _/_, _^_, _≤_}
 use native.Mathlib.Omega.{arith}
-use borrow.Author.Tests.{eq-eqb, eqb-true, eqb-false, lt-ltb, leb-true}
+use borrow.Author.Tests.{eq-eqb, ne-eqb, eqb-true, eqb-false, lt-ltb, le-leb, leb-true}
 use lib.Dec.{leb, eqb, ltb}
 use lib.IntN.{ℤ, pos, negsuc, natAbs}
 use lib.ListN.{length, take, drop}
 use lib.Seq.{drop-cons}
 use Rattle.field.specs.Show.{fitsWhole, fitsDecimal}
-use Rattle.field.specs.Sign.{largest, isNegative, signedInt}
-use Rattle.layout.specs.Kind.{unknown, isIdentifier, canAmount, identifierCode}
+use Rattle.field.specs.Clock.{sixNines, allNines, isNines, clockKept}
+use Rattle.field.specs.Sign.{largest, largestClock, isNegative, signedInt}
+use Rattle.layout.specs.Kind.{unknown, isIdentifier, canAmount, canClock, identifierCode}
 use Rattle.layout.specs.Fault.{clean}
 use Rattle.layout.specs.Kind.Kind.{unused}
 use Rattle.layout.specs.Layout.{Item, Values, columns, canShow, showLine}
@@ -25,7 +26,7 @@ use Rattle.header.specs.declared.types.Rules.{Rules}
 use Rattle.record.specs.declared.types.Row.{Row}
 use Rattle.file.specs.Plain.{rowKind, isRecord, isRowLine}
 use Rattle.file.specs.Table.{rowIn, storedInt, storedCount, markNumber, storedMark, rowNumbers}
-use Rattle.canon.specs.Valid.{entry, amountValid, exponentValid, mostFlag, flagValid, fourValid, rowValid}
+use Rattle.canon.specs.Valid.{entry, amountValid, clockValid, exponentValid, mostFlag, flagValid, fourValid, rowValid}
 use Rattle.canon.specs.Canonical.{flagShown, rowShown}
 use Rattle.laws.proofs.Bools.{and-left, and-right, and-both}
 use Rattle.field.proofs.Fitting.{fits-true}
@@ -34,6 +35,7 @@ use Rattle.record.proofs.RoundTrips.{flagless, row-back}
 use Rattle.file.proofs.Exact.{stored-exact}
 use Rattle.file_laws.proofs.Exact.{count-exact, mark-exact, row-in}
 use Rattle.canon.proofs.Inked as inked
+use Rattle.canon.proofs.RowLengths.{clock-bounded}
 use Rattle.canon_laws.proofs.Bare.{EndsLine, bare-ended, bare-record}
 
 -- no number is minus zero
@@ -46,6 +48,24 @@ pub amount-fits : (v : ℤ) → amountValid v ≡ true → canAmount 14 6 (isNeg
 amount-fits v e =
     and-both (leb (natAbs v) largest) _ e
     (and-both (fitsDecimal 14 6 (isNegative v) (natAbs v)) _ (inked.amount-fits (isNegative v) (natAbs v) (leb-true (natAbs v) largest e)) (no-minus-zero v))
+
+-- a clock, of which six nines are all nines
+module _ (v : ℤ) (e : clockValid v ≡ true) where
+  clock-keeps : clockKept 6 (isNegative v) (natAbs v) ≡ true
+  unfolding clockKept
+  clock-keeps = go (isNegative v) (leb (natAbs v) largestClock) refl e
+    where
+      go : (n t : Bool) → leb (natAbs v) largestClock ≡ t → cond n (leb (natAbs v) largest) (t || eqb (natAbs v) largest) ≡ true
+          → (not (isNines 6 n (natAbs v)) || eqb (natAbs v) (allNines 6)) ≡ true
+      go true t q h = refl
+      go false true q h = rw (ne-eqb (natAbs v / 10 ^ 6) sixNines (λ nines. omega (arith, nines, leb-true (natAbs v) largestClock q)))
+      go false false q h = rw h (or-true (not (eqb (natAbs v / 10 ^ 6) sixNines)))
+
+  pub clock-fits : canClock 14 6 (isNegative v) (natAbs v) ≡ true
+  clock-fits =
+      and-both (canAmount 14 6 (isNegative v) (natAbs v)) _
+      (amount-fits v (le-leb (natAbs v) largest (clock-bounded v e)))
+      clock-keeps
 
 pub within-stored : (v : ℤ) → natAbs v ≤ largest → storedInt (isNegative v) (natAbs v) ≡ v
 unfolding signedInt
@@ -156,13 +176,13 @@ rowText velocity identifier row = lineOf (rowLine velocity (rowShown identifier 
 
 -- A valid row of a satellite.
 module _ (velocity : Bool) (identifier : ℕ) (row : List ℤ) (valid : rowValid velocity row ≡ true) where
-  amounts : Four amountValid amountValid 0 row
+  amounts : Four amountValid clockValid 0 row
   unfolding rowValid
-  amounts = four amountValid amountValid 0 row (and-left (fourValid amountValid amountValid 0 row) _ valid)
+  amounts = four amountValid clockValid 0 row (and-left (fourValid amountValid clockValid 0 row) _ valid)
 
   rest : (fourValid (exponentValid false) (exponentValid true) 4 row && fourValid (flagValid velocity) (flagValid velocity) 8 row) ≡ true
   unfolding rowValid
-  rest = and-right (fourValid amountValid amountValid 0 row) _ valid
+  rest = and-right (fourValid amountValid clockValid 0 row) _ valid
 
   exponents : Four (exponentValid false) (exponentValid true) 4 row
   exponents = four (exponentValid false) (exponentValid true) 4 row (and-left (fourValid (exponentValid false) (exponentValid true) 4 row) _ rest)
@@ -181,7 +201,7 @@ module _ (velocity : Bool) (identifier : ℕ) (row : List ℤ) (valid : rowValid
         amount-fits (entry row 0) (a .first),
         amount-fits (entry row 1) (a .second),
         amount-fits (entry row 2) (a .third),
-        amount-fits (entry row 3) (a .fourth),
+        clock-fits (entry row 3) (a .fourth),
         exponent-fits false (entry row 4) (x .first),
         exponent-fits false (entry row 5) (x .second),
         exponent-fits false (entry row 6) (x .third),
@@ -218,7 +238,7 @@ module _ (velocity : Bool) (identifier : ℕ) (row : List ℤ) (valid : rowValid
         amount-stored (entry row 0) (a .first),
         amount-stored (entry row 1) (a .second),
         amount-stored (entry row 2) (a .third),
-        amount-stored (entry row 3) (a .fourth),
+        within-stored (entry row 3) (clock-bounded (entry row 3) (a .fourth)),
         exponent-stored false (entry row 4) (x .first),
         exponent-stored false (entry row 5) (x .second),
         exponent-stored false (entry row 6) (x .third),

@@ -2,12 +2,12 @@
 -- table one after another, a P row for each satellite and epoch, with velocities a V row after it.
 -- Assumes nothing.
 use mathlib.Core.Path.{_≡_, refl, sym, ap, ap₂, subst, _∙_}
-use mathlib.Core.Bool.{Bool, true, false, cond, not, _&&_, _||_, false≢true}
+use mathlib.Core.Bool.{Bool, true, false, cond, not, _&&_, _||_, or-true, false≢true}
 use mathlib.Core.List.{List, _++_}
 use Prim.Native.Nat.{ℕ, zero, suc, _+_, _-_, _*_, _/_, _%_, _^_, _≤_, _<_}
 use native.Mathlib.Nat.{zero-mul, suc-mul, mod-lt, div-add-mod', div-lt-iff-lt-mul, mul-comm}
 use native.Mathlib.Omega.{arith}
-use borrow.Author.Tests.{le-leb, ltb-true, eq-eqb}
+use borrow.Author.Tests.{le-leb, leb-false, ltb-true, eq-eqb}
 use lib.Dec.{leb, ltb, eqb}
 use lib.IntN.{ℤ, pos}
 use lib.ListN.{length, getD, take, drop, length-append, length-drop}
@@ -15,7 +15,8 @@ use lib.Seq.{length-take-le, drop-drop, take-add, take-at, drop-at}
 use Rattle.laws.specs.Texts.{every}
 use Rattle.field.specs.Read.{exponentOf, signedWholeOf}
 use Rattle.field.specs.Show.{fitsInteger}
-use Rattle.field.specs.Sign.{largest, signedInt}
+use Rattle.field.specs.Clock.{sixNines, clockKept}
+use Rattle.field.specs.Sign.{largest, largestClock, signedInt}
 use Rattle.layout.specs.Fault.{clean}
 use Rattle.layout.specs.Kind.{unknown, unnoted, isBlank, maybeHeld, heldAmount, negativeIn, magnitudeIn, amountFault, faultIn}
 use Rattle.layout.specs.Kind.Held.{amount}
@@ -33,7 +34,7 @@ use Rattle.file.specs.Kinds.{kindIn, isRow, isNote}
 use Rattle.file.specs.Plain.{rowKind, noteKind, isRowLine, Plain}
 use Rattle.file.specs.Table.{markNumber, rowIn, rowNumbers, noteNumbers, noNote, noteAfter, rowsIn}
 use Rattle.canon.specs.Table.{cellWidth}
-use Rattle.canon.specs.Valid.{amountValid, flagValid, correlationValid, rowValid, noteValid, notedValid, cellValid, rowsValid}
+use Rattle.canon.specs.Valid.{amountValid, clockValid, flagValid, correlationValid, rowValid, noteValid, notedValid, cellValid, rowsValid}
 use Rattle.laws.proofs.Bools.{and-right, and-both}
 use Rattle.field.proofs.Signs.{magnitude-back}
 use Rattle.field.proofs.Again.{exponent-again}
@@ -46,13 +47,26 @@ use Rattle.file_laws.proofs.Clean.{record-clean, amount-bounds}
 use Rattle.file_laws.proofs.Sorting.{row-kind, epoch-kind, comment-kind}
 use Rattle.file_laws.proofs.Walk.{isOther, other-apart, Covers, every-line}
 use Rattle.lines.proofs.Noted.{note-holds}
-use Rattle.file_laws.proofs.Exact.{row-bounded, field-clean, note-exact, none-exact}
+use Rattle.file_laws.proofs.Exact.{row-bounded, clock-kept, field-clean, note-exact, none-exact}
 use Rattle.file.specs.Exact.{exactSigned, exactNumbers, exactNote, exactNone}
 use Rattle.file_laws.proofs.Stored.{noteAt, placeLine, motionLine, place-stored, place-stored-both, motion-stored}
 
 -- a sign and a magnitude within the bound
 amount-valid : (negative : Bool) (m : ℕ) → m ≤ largest → amountValid (signedInt negative m) ≡ true
 amount-valid negative m h = rw (magnitude-back negative m) (le-leb m largest h)
+
+-- a clock that is held as it is
+clock-valid : (negative : Bool) (m : ℕ) → m ≤ largest → clockKept 6 negative m ≡ true → clockValid (signedInt negative m) ≡ true
+unfolding clockKept signedInt
+clock-valid true zero h kept = refl
+clock-valid true (suc m) h kept = le-leb (suc m) largest h
+clock-valid false m h kept = go (leb m largestClock) refl
+  where
+    go : (t : Bool) → leb m largestClock ≡ t → (t || eqb m largest) ≡ true
+    go true q = refl
+    go false q =
+        let nines : m / 10 ^ 6 ≡ sixNines = omega (arith, leb-false m largestClock q) in
+        rw (eq-eqb (m / 10 ^ 6) sixNines nines) at kept
 
 -- a number that may be unknown, in as many columns as its largest has digits
 known-valid : (most none first last : ℕ) (l : List ℕ) → 1 ≤ first → last ≤ 80 → 10 ^ (last - (first - 1) - 0) ≡ suc most
@@ -75,11 +89,7 @@ known-valid most none first last l starts ends digits = go (exponentOf bytes) re
         let fewer : ltb n (10 ^ (length bytes - 0)) ≡ true = and-right (ltb 0 (length bytes)) _ (and-right (leb (length bytes) 18) _ fits) in
         let below : n < 10 ^ (last - (first - 1) - 0) = subst (λ (w : ℕ). n < 10 ^ (w - 0)) wide (ltb-true n (10 ^ (length bytes - 0)) fewer) in
         rw (le-leb n most (omega arith))
-    go exponents.Unknown e = rw (eq-eqb none none refl) (any (leb none most))
-      where
-        any : (t : Bool) → (t || true) ≡ true
-        any true = refl
-        any false = refl
+    go exponents.Unknown e = rw (eq-eqb none none refl) (or-true (leb none most))
     go exponents.Malformed e = rw (le-leb 0 most (omega arith))
 
 -- a flag; V has none
@@ -99,7 +109,7 @@ module _ (rules : Rules) (v : Bool) (identifier : ℕ) (l : List ℕ) (is : isRo
         amount-valid (r .x .negative) (r .x .magnitude) (b .x),
         amount-valid (r .y .negative) (r .y .magnitude) (b .y),
         amount-valid (r .z .negative) (r .z .magnitude) (b .z),
-        amount-valid (r .clock .negative) (r .clock .magnitude) (b .clock),
+        clock-valid (r .clock .negative) (r .clock .magnitude) (b .clock) (clock-kept rules v identifier l is),
         known-valid 99 unknown 62 63 l (omega arith) (omega arith) refl,
         known-valid 99 unknown 65 66 l (omega arith) (omega arith) refl,
         known-valid 99 unknown 68 69 l (omega arith) (omega arith) refl,

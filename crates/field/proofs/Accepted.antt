@@ -2,7 +2,7 @@
 -- Assumes nothing.
 use mathlib.Core.Path.{_≡_, refl, sym, _∙_, ap}
 use mathlib.Core.List.{List, []}
-use mathlib.Core.Bool.{Bool, true, false, cond, _&&_}
+use mathlib.Core.Bool.{Bool, true, false, cond, not, _&&_, _||_}
 use Prim.Native.Nat.{ℕ, _+_, _<_, _≤_}
 use native.Mathlib.Omega.{arith}
 use borrow.Author.Tests.{leb-true, ltb-true, eqb-true, eqb-false}
@@ -111,6 +111,11 @@ carried-taken signed before after n m = go (integerOf signed before) refl
         let sign : (k && ltb 0 (valueFrom high after)) ≡ n = cc in
         record { minus = k; high = high; integer = q; digits = t .0; value = value; sign = rw (sym value) sign }
     go amount.Malformed q e = absurd (no-amount n m e)
+
+-- a sign that was read is none of zero
+pub settled-sign : (k n : Bool) (m : ℕ) → (k && ltb 0 m) ≡ n → (not n || ltb 0 m) ≡ true
+settled-sign k true m e = and-right k (ltb 0 m) e
+settled-sign k false m e = refl
 
 -- what the reader of digits found decides how an integer is carried on
 module _ (negative : Bool) (high : ℕ) (s : List ℕ) where

@@ -7,8 +7,10 @@ use Rattle.field.proofs.read.whole.Reads as whole
 use Rattle.field.proofs.read.signed_whole.Reads as signed
 use Rattle.field.proofs.read.exponent.Reads as exponent
 use Rattle.field.proofs.read.decimal.Reads as decimal
+use Rattle.field.proofs.read.clock.Reads as clock
 use Rattle.field.proofs.known.magnitude.Reads as known-magnitude
 use Rattle.field.proofs.known.is_negative.Reads as known-negative
+use Rattle.field.proofs.known.clock_held.Reads as clock-held
 use Rattle.field.proofs.write.put_whole.Reads as put-whole
 use Rattle.field.proofs.write.put_signed_whole.Reads as put-signed
 use Rattle.field.proofs.write.put_exponent.Reads as put-exponent
@@ -29,11 +31,17 @@ exponent-determined κs a r r′ s s′ p q = toldExponent-one r r′ (p ∙ sym
 pub decimal-determined : (κs : _) (a : _) (r r′ : _) (s s′ : _) → decimal.Post κs a r s → decimal.Post κs a r′ s′ → r ≡ r′
 decimal-determined κs a r r′ s s′ p q = toldAmount-one r r′ (p ∙ sym q)
 
+pub clock-determined : (κs : _) (a : _) (r r′ : _) (s s′ : _) → clock.Post κs a r s → clock.Post κs a r′ s′ → r ≡ r′
+clock-determined κs a r r′ s s′ p q = toldAmount-one r r′ (p ∙ sym q)
+
 pub magnitude-determined : (κs : _) (a : _) (r r′ : _) (s s′ : _) → known-magnitude.Post κs a r s → known-magnitude.Post κs a r′ s′ → r ≡ r′
 magnitude-determined κs a r r′ s s′ p q = p ∙ sym q
 
 pub known-is-negative-determined : (κs : _) (a : _) (r r′ : _) (s s′ : _) → known-negative.Post κs a r s → known-negative.Post κs a r′ s′ → r ≡ r′
 known-is-negative-determined κs a r r′ s s′ p q = p ∙ sym q
+
+pub clock-held-determined : (κs : _) (a : _) (r r′ : _) (s s′ : _) → clock-held.Post κs a r s → clock-held.Post κs a r′ s′ → r ≡ r′
+clock-held-determined κs a r r′ s s′ p q = p ∙ sym q
 
 pub put-whole-determined : (κs : _) (a : _) (r r′ : _) (s s′ : _) → put-whole.Post κs a r s → put-whole.Post κs a r′ s′ → (r ≡ r′) × (now (s .0) ≡ now (s′ .0))
 put-whole-determined κs a r r′ s s′ p q = (p .0 ∙ sym (q .0), p .1 ∙ sym (q .1))

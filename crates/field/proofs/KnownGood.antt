@@ -4,20 +4,23 @@ use mathlib.Core.Path.{_≡_, refl, sym, _∙_, ap}
 use mathlib.Core.List.{List, [], _∷_}
 use mathlib.Core.Bool.{Bool, true, false, cond, _||_, or-assoc, or-false}
 use Prim.Native.Nat.{ℕ, suc, _+_, _-_, _*_, _^_, _<_, _≤_}
+use native.Mathlib.Nat.{mul-assoc, mul-comm}
 use native.Mathlib.Omega.{arith}
 use borrow.Author.Tests.{eqb-true, ne-eqb, le-leb, lt-leb}
 use lib.Dec.{eqb}
 use lib.ListN.{length, getD, take, drop, length-drop}
-use Rattle.field.specs.Digits.{blanksOf, trim, isDigit, allDigits, valueFrom, pointOf}
-use Rattle.field.specs.Read.{minusFirst, integerOf, decimalOf}
+use Rattle.laws.specs.Texts.{every}
+use Rattle.field.specs.Digits.{isBlank, blanksOf, trim, isDigit, allDigits, valueFrom, pointOf}
+use Rattle.field.specs.Read.{wholeOf, minusFirst, integerOf, decimalOf}
 use Rattle.field.specs.Known.{knownMagnitude, hasMinus, knownNegative}
 use Rattle.field.specs.Show.{signWidth}
+use Rattle.field.specs.declared.Whole.the-variants as whole
 use Rattle.field.specs.declared.Amount.the-variants as amount
-use Rattle.laws.proofs.Bools.{and-right}
+use Rattle.laws.proofs.Bools.{and-left, and-right}
 use Rattle.laws.proofs.Lists.{rest-step, rest-none}
 use Rattle.field.proofs.Powers.{ten-more, ten-mono}
 use Rattle.field.proofs.Texts.{first-digit}
-use Rattle.field.proofs.Accepted.{digits-taken, number-taken, signed-taken, decimal-taken}
+use Rattle.field.proofs.Accepted.{digits-taken, number-taken, whole-taken, signed-taken, decimal-taken}
 
 -- any byte counts for 207 at most, which is 9 * 23, so i columns of any bytes make 23 * 10 ^ i - 23 at most
 pub figure-more : (v k i d : ℕ) → v + 23 ≤ 23 * 10 ^ (k + i) → d ≤ 207 → v * 10 + d + 23 ≤ 23 * 10 ^ (k + (i + 1))
@@ -91,6 +94,27 @@ integer-known signed s n v e =
     let b = blanks-count-nothing s in
     let p = minus-counts-nothing signed (trim s) n (t .0) (d .0) in
     (b .0 ∙ p .0 ∙ d .1, b .1 ∙ p .1)
+
+-- an integer field that was read is its bytes folded, and no minus stands in it
+pub whole-known : (s : List ℕ) (v : ℕ) → wholeOf s ≡ whole.Value v → (valueFrom 0 s ≡ v) × (hasMinus s ≡ false)
+whole-known s v e =
+    let t = whole-taken s v e in
+    let d = digits-taken (trim s) v 0 (number-taken (trim s) v (t .1) .1) in
+    let b = blanks-count-nothing s in
+    (b .0 ∙ d .1, b .1 ∙ digits-no-minus (trim s) (d .0))
+
+-- blanks carry a number on by zeros
+pub blanks-carry : (s : List ℕ) (a : ℕ) → every isBlank s ≡ true → valueFrom a s ≡ a * 10 ^ length s
+blanks-carry [] a e = omega arith
+blanks-carry (b ∷ s) a e =
+    let blank : b ≡ 32 = eqb-true b 32 (and-left (eqb b 32) _ e) in
+    let more = blanks-carry s (a * 10 + (b - 48)) (and-right (eqb b 32) _ e) in
+    let nothing : a * 10 + (b - 48) ≡ a * 10 = omega arith in
+    let one : suc (length s) ≡ length s + 1 = omega arith in
+    more
+    ∙ ap (λ (n : ℕ). n * 10 ^ length s) nothing
+    ∙ mul-assoc a 10 (10 ^ length s)
+    ∙ ap (λ (n : ℕ). a * n) (sym (ap (λ (k : ℕ). 10 ^ k) one ∙ ten-more (length s) ∙ mul-comm (10 ^ length s) 10))
 
 -- the magnitude of a decimal field that was read
 pub known-magnitude : (s : List ℕ) (places : ℕ) (signed n : Bool) (m : ℕ) → length s ≤ 17 → decimalOf s places signed ≡ amount.Value n m → knownMagnitude s places ≡ m

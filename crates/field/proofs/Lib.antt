@@ -14,5 +14,7 @@ pub mod Back
 pub mod Shown
 pub mod Fits
 pub mod Again
+pub mod Clocks
+pub mod ClockBack
 pub mod Told
 pub mod Determined

@@ -12,6 +12,10 @@ use Rattle.laws.specs.Texts.{every}
 abbrev pub widest : ℕ
 widest = 18
 
+-- a blank
+abbrev pub isBlank : ℕ → Bool
+isBlank b = eqb b 32
+
 -- how many blanks stand before anything else
 abbrev pub blanksOf : List ℕ → ℕ
 blanksOf [] = 0

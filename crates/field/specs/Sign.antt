@@ -12,6 +12,10 @@ use Rattle.field.specs.declared.Number.the-variants as number
 abbrev pub largest : ℕ
 largest = 999_999_999_999
 
+-- the largest clock; what is above it is absent. 02, Ask 3: "The largest valid clock is now 999,998,999,999."
+abbrev pub largestClock : ℕ
+largestClock = 999_998_999_999
+
 -- below zero: the library writes -1, -2, .. as negsuc 0, negsuc 1, ..
 abbrev pub isNegative : ℤ → Bool
 isNegative (pos n) = false

@@ -6,6 +6,8 @@ ghost use lib.ListN.{length, take};
 ghost use lib.Dec.{ltb};
 ghost use Rattle.field.specs.Digits.{valueFrom, pointOf};
 ghost use Rattle.field.specs.Known.{knownWidest, knownMagnitude, hasMinus};
+ghost use Rattle.field.specs.Clock.{sixNines, clockHeld};
+use crate::scale;
 
 // Such a field is at most this wide, so that any bytes at all make a number of 64 bits.
 pub const KNOWN_WIDEST: usize = 17;
@@ -80,4 +82,37 @@ pub fn is_negative(s: &[u8], places: usize, magnitude: u64) -> bool
     let point = point_of(places, s.len());
     let minus = has_minus(&s[..point]);
     minus & (0 < magnitude)
+}
+
+// The whole part of a clock that is absent.
+pub const SIX_NINES: u64 = 999_999;
+
+// The most places with which six nines are a number of 64 bits.
+const MOST_PLACES: usize = 13;
+
+// Six nines and nines in every place, where the last place is one of so many of a whole.
+pub(crate) fn all_nines(unit: u64) -> u64
+    requires { ⌜ (1 ≤ unit) × (unit ≤ 10 ^ 13) ⌝ }
+    ensures { λ r. ⌜ r ≡ (sixNines + 1) * unit - 1 ⌝ }
+{
+    (SIX_NINES + 1) * unit - 1
+}
+
+// What is held of a clock field whose sign and magnitude are at hand: six nines before the point and no minus are absent, and are all nines. With six
+// places 999,999,000,000 is held as 999,999,999,999; 999,998,999,999 and -999,999,000,000 are held as they are.
+pub fn clock_held(negative: bool, magnitude: u64, places: usize) -> u64
+    ensures result { λ r. ⌜ r ≡ clockHeld places negative magnitude ⌝ }
+{
+    if negative {
+        return magnitude;
+    }
+    if places > MOST_PLACES {
+        return magnitude;
+    }
+    let unit = scale::ten_to(places);
+    let nines = all_nines(unit);
+    if (nines - unit < magnitude) & (magnitude <= nines) {
+        return nines;
+    }
+    magnitude
 }

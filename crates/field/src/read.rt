@@ -4,10 +4,13 @@ ghost use Prim.Native.Nat.{_-_, _^_, _≤_, _<_};
 ghost use lib.ListN.{length};
 ghost use Rattle.field.specs.Digits.{widest, blanksOf};
 ghost use Rattle.field.specs.Read.{digitsFrom, numberOf, minusFirst, withSign, signedOf, integerOf, settled, toldWhole, wholeAnswer, toldExponent, exponentAnswer, toldAmount, signedAnswer, decimalAnswer};
+ghost use Rattle.field.specs.Clock.{bareClock, clockAnswer};
 use crate::Amount;
 use crate::Exponent;
 use crate::WIDEST;
 use crate::Whole;
+use crate::known;
+use crate::scale;
 
 // How many blanks stand before anything else.
 fn blanks(s: &[u8]) -> usize
@@ -193,4 +196,51 @@ pub fn decimal(s: &[u8], places: usize, signed: bool) -> Amount
         return Amount::Malformed;
     };
     settle(negative, magnitude)
+}
+
+// Six nines, the point and blanks, which are an absent clock; anything else is malformed.
+fn bare_clock(s: &[u8], places: usize) -> Amount
+    ensures { λ r. ⌜ r ≡ bareClock (now (s .entry)) places ⌝ }
+{
+    if s.len() > WIDEST {
+        return Amount::Malformed;
+    }
+    if places >= s.len() {
+        return Amount::Malformed;
+    }
+    let point = s.len() - places - 1;
+    if s[point] != b'.' {
+        return Amount::Malformed;
+    }
+    let Whole::Value(high) = whole(&s[..point]) else {
+        return Amount::Malformed;
+    };
+    if high != known::SIX_NINES {
+        return Amount::Malformed;
+    }
+    if blanks(&s[point + 1..]) < places {
+        return Amount::Malformed;
+    }
+    Amount::Value {
+        negative: false,
+        magnitude: known::all_nines(scale::ten_to(places)),
+    }
+}
+
+// A clock field: a decimal field that may have a minus, or absent, which is held as all nines. It is absent where six nines without a minus stand before
+// the point and digits or blanks in all places after it: with six places ` 999999.      `, ` 999999.000000` and `0999999.123456` are 999,999,999,999,
+// `-999999.000000` is -999,999,000,000; `-999999.      ` and ` 999999.00000 ` are malformed.
+pub fn clock(s: &[u8], places: usize) -> Amount
+    ensures result { λ r. ⌜ toldAmount r ≡ clockAnswer (now (s .entry)) places ⌝ }
+{
+    match decimal(s, places, true) {
+        Amount::Value {
+            negative,
+            magnitude,
+        } => Amount::Value {
+            negative,
+            magnitude: known::clock_held(negative, magnitude, places),
+        },
+        Amount::Malformed => bare_clock(s, places),
+    }
 }

@@ -7,6 +7,9 @@ use crate::Number;
 // The largest magnitude that a number of the table has.
 pub const LARGEST: u64 = 999_999_999_999;
 
+// The largest clock or rate that is not absent.
+pub const LARGEST_CLOCK: u64 = 999_998_999_999;
+
 // The number with its sign; out of bounds (7) where its magnitude is above the largest, as 1,000,000,000,000 is. Minus zero is zero.
 pub fn number(negative: bool, magnitude: u64) -> Number
     ensures result { λ r. ⌜ toldNumber r ≡ numberAnswer negative magnitude ⌝ }

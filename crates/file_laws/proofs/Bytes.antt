@@ -1,4 +1,4 @@
--- How many bytes an accepted file has at least: a P or V line reaches column 60, an epoch line column 31 and a comment column 2, each with its
+-- How many bytes an accepted file has at least: a P or V line reaches column 54, the point of its clock, an epoch line column 31 and a comment column 2, each with its
 -- LF. So whatever is counted of a file is less than its bytes.
 -- Assumes nothing.
 use mathlib.Core.Path.{_≡_, refl, sym, ap, subst}
@@ -9,16 +9,15 @@ use native.Mathlib.Omega.{arith}
 use borrow.Author.Tests.{eqb-true}
 use lib.Dec.{eqb}
 use lib.ListN.{length}
-use Rattle.field.specs.Sign.{largest}
 use Rattle.layout.specs.Fault.{clean}
 use Rattle.layout.specs.Kind.Kind.{clock, decimal}
-use Rattle.layout.specs.Layout.{columns, faultAt, faultOf}
+use Rattle.layout.specs.Layout.{columns, faultOf}
 use Rattle.layout.specs.Line.{padded}
 use Rattle.lines.specs.Lines.{bytesIn, select}
 use Rattle.record.specs.LineKinds.{commentKind, epochKind, toldKind}
 use Rattle.record.specs.Opening.{epochItems, epochOf}
 use Rattle.record.specs.Plain.{commentItems}
-use Rattle.record.specs.Rows.{rowItems, rowFault}
+use Rattle.record.specs.Rows.{shortestRow}
 use Rattle.record.specs.Times.{dateFault}
 use Rattle.header.specs.declared.types.Rules.{Rules}
 use Rattle.record.specs.declared.types.LineKind.the-variants as kind
@@ -28,23 +27,19 @@ use Rattle.file.specs.Table.{rowLines}
 use Rattle.layout.proofs.Again.{lower-clean}
 use Rattle.lines.proofs.Each.{Each}
 use Rattle.lines.proofs.Split.{bytes-in}
-use Rattle.file_laws.proofs.Sorting.{row-record, row-kind, epoch-record, epoch-kind, comment-kind, note-kind}
+use Rattle.file_laws.proofs.Sorting.{row-kind, epoch-record, epoch-kind, comment-kind, note-kind}
 use Rattle.file_laws.proofs.Selected.{kind-comments, epochs}
 use Rattle.file_laws.proofs.Rule.{epochs-many}
 use Rattle.file_laws.proofs.Clean.{record-clean, item-at}
-use Rattle.file_laws.proofs.Reach.{decimal-reaches, symbol-reaches}
+use Rattle.file_laws.proofs.Reach.{reaches, decimal-reaches, symbol-reaches}
+use Rattle.file_laws.proofs.Exact.{clock-point}
 use Rattle.file_laws.proofs.Walk.{isOther, other-apart, Covers, every-line}
 
--- a P or V line has at least 60 characters
-pub row-long : (rules : Rules) (v : Bool) (identifier : ℕ) (l : List ℕ) → isRowLine rules v identifier l ≡ true → 60 ≤ length l
+-- a P or V line has with its LF at least so many bytes: the point of its clock is no blank
+pub row-long : (rules : Rules) (v : Bool) (identifier : ℕ) (l : List ℕ) → isRowLine rules v identifier l ≡ true → shortestRow ≤ suc (length l)
 row-long rules v identifier l e =
-    let fault = rowFault v (padded l) in
-    let sound : fault ≡ clean = record-clean rules (rowKind v) fault l (row-record rules v identifier l e) in
-    decimal-reaches l 47 60 (omega arith) (omega arith) (omega arith) 6 true 47 0 largest (omega arith) (go v sound)
-  where
-    go : (t : Bool) → rowFault t (padded l) ≡ clean → faultAt (columns 47 60 (clock 6)) (padded l) ≡ clean
-    go true f = item-at (rowItems true) 5 (columns 47 60 (clock 6)) (padded l) clean (omega arith) f
-    go false f = item-at (rowItems false) 5 (columns 47 60 (clock 6)) (padded l) clean (omega arith) f
+    let point = clock-point rules v identifier l e in
+    omega (arith, reaches l 53 (omega arith) (λ blank. omega (arith, point, blank)))
 
 -- an epoch line at least 31
 pub epoch-long : (rules : Rules) (at8 : ℕ) (l : List ℕ) → isEpochLine rules at8 l ≡ true → 31 ≤ length l
@@ -65,7 +60,7 @@ comment-long rules l e =
 
 -- the bytes that a line of a kind has at least, where it is counted
 abbrev pub weight : ℕ → ℕ
-weight k = cond (eqb k 10 || eqb k 11) 61 (cond (eqb k 9) 32 (cond (eqb k 8) 3 0))
+weight k = cond (eqb k 10 || eqb k 11) shortestRow (cond (eqb k 9) 32 (cond (eqb k 8) 3 0))
 
 module _ (rules : Rules) where
   abbrev pub Long : List ℕ → Type 0
@@ -88,7 +83,7 @@ module _ (rules : Rules) where
       note-weight true = refl
       note-weight false = refl
 
-      row-weight : (v : Bool) → weight (toldKind (rowKind v)) ≡ 61
+      row-weight : (v : Bool) → weight (toldKind (rowKind v)) ≡ shortestRow
       row-weight true = refl
       row-weight false = refl
 
@@ -98,7 +93,7 @@ module _ (rules : Rules) where
 
   -- what is counted of such lines is at most their bytes
   pub counted : (ls : List (List ℕ)) → Each Long ls
-      → 61 * length (rowLines rules ls) + 32 * length (ofKind rules epochKind ls) + 3 * length (ofKind rules commentKind ls) ≤ bytesIn ls
+      → shortestRow * length (rowLines rules ls) + 32 * length (ofKind rules epochKind ls) + 3 * length (ofKind rules commentKind ls) ≤ bytesIn ls
   unfolding select bytesIn
   counted [] p = omega arith
   counted (l ∷ ls) p =
@@ -111,10 +106,10 @@ module _ (rules : Rules) where
       (counted ls (p .1))
     where
       Rest′ : Type 0
-      Rest′ = 61 * length (rowLines rules ls) + 32 * length (ofKind rules epochKind ls) + 3 * length (ofKind rules commentKind ls) ≤ bytesIn ls
+      Rest′ = shortestRow * length (rowLines rules ls) + 32 * length (ofKind rules epochKind ls) + 3 * length (ofKind rules commentKind ls) ≤ bytesIn ls
 
-      go : (r e c : Bool) → (e ≡ true → r ≡ false) → (c ≡ true → r ≡ false) → (c ≡ true → e ≡ false) → cond r 61 (cond e 32 (cond c 3 0)) ≤ suc (length l) → Rest′
-          → 61 * length (cond r (l ∷ rowLines rules ls) (rowLines rules ls))
+      go : (r e c : Bool) → (e ≡ true → r ≡ false) → (c ≡ true → r ≡ false) → (c ≡ true → e ≡ false) → cond r shortestRow (cond e 32 (cond c 3 0)) ≤ suc (length l) → Rest′
+          → shortestRow * length (cond r (l ∷ rowLines rules ls) (rowLines rules ls))
           + 32 * length (cond e (l ∷ ofKind rules epochKind ls) (ofKind rules epochKind ls))
           + 3 * length (cond c (l ∷ ofKind rules commentKind ls) (ofKind rules commentKind ls))
           ≤ suc (length l) + bytesIn ls
@@ -127,12 +122,12 @@ module _ (rules : Rules) where
       go false false false x y z h more = omega arith
 
 module _ {rules : Rules} {lines : List (List ℕ)} (p : Plain rules lines) where
-  -- 61 bytes for each row, 32 for each epoch and 3 for each comment are in the file
-  pub bytes-enough : 61 * length (rowLines rules lines) + 32 * epochs p + 3 * length (p .comments) ≤ bytesIn lines
+  -- 55 bytes for each row, 32 for each epoch and 3 for each comment are in the file
+  pub bytes-enough : shortestRow * length (rowLines rules lines) + 32 * epochs p + 3 * length (p .comments) ≤ bytesIn lines
   bytes-enough =
       omega (arith, counted rules lines (every-line rules (Long rules) (lengths rules) lines p), epochs-many p, ap length (kind-comments p))
 
 -- the same of the bytes of an accepted file
 pub file-bytes : {rules : Rules} {bytes : List ℕ} (a : Accepted rules bytes)
-    → 61 * length (rowLines rules (a .0)) + 32 * epochs (a .2) + 3 * length (a .2 .comments) ≤ length bytes
+    → shortestRow * length (rowLines rules (a .0)) + 32 * epochs (a .2) + 3 * length (a .2 .comments) ≤ length bytes
 file-bytes a = omega (arith, bytes-enough (a .2), bytes-in (a .0), ap length (a .1))

@@ -13,6 +13,7 @@ use lib.ListN.{length, getD, drop, replicate, length-drop}
 use lib.Seq.{length-take-le}
 use Rattle.laws.specs.Texts.{every}
 use Rattle.field.specs.Read.{decimalOf, exponentOf, signedWholeOf}
+use Rattle.field.specs.Clock.{clockOf, clockKept}
 use Rattle.field.specs.Show.{fitsInteger}
 use Rattle.field.specs.Sign.{largest, signedInt}
 use Rattle.layout.specs.Fault.{clean, lower}
@@ -22,7 +23,7 @@ use Rattle.layout.specs.Kind.Held.{amount}
 use Rattle.layout.specs.Layout.{Item, columns, column, partAt, valuesOf, faultAt}
 use Rattle.layout.specs.Line.{padded}
 use Rattle.record.specs.LineKinds.{velocityKind, toldKind}
-use Rattle.record.specs.Rows.{rowItems, rowFrom, rowFault, rowTaken, rowOf, cut}
+use Rattle.record.specs.Rows.{rowItems, rowFrom, rowFault, rowTaken, rowOf, cut, sixNinesIn}
 use Rattle.record.specs.Notes.{correlation, largestCorrelation, correlationSymbol, deviationItems, pairItems, correlationIn, noteTaken, noteOf, noteFault}
 use Rattle.header.specs.declared.types.Rules.{Rules}
 use Rattle.field.specs.declared.Exponent.{Exponent}
@@ -37,7 +38,8 @@ use Rattle.file.specs.Table.{rowIn, storedCount, markNumber, storedMark, rowNum
 use Rattle.laws.proofs.Bools.{and-right}
 use Rattle.field.proofs.Again.{exponent-again}
 use Rattle.layout.proofs.Lines.{padded-length}
-use Rattle.record.proofs.Taking.{row-taken}
+use Rattle.record.specs.Absence.{clockAbsent}
+use Rattle.record.proofs.Taking.{ClockSays, row-clock-says, row-taken}
 use Rattle.file_laws.proofs.Sorting.{row-record, row-kind}
 use Rattle.file_laws.proofs.Clean.{record-clean, item-at, amount-bounds}
 use Rattle.file.specs.Exact.{exactNumbers, exactNote, exactNone}
@@ -89,13 +91,13 @@ held-bounded true line f = record {
   x = amount-bounds 5 0 largest (decimalOf (cut 5 18 line) 6 true) (item-at (rowItems true) 2 (columns 5 18 (signed 6)) line clean (omega arith) f) .1;
   y = amount-bounds 19 0 largest (decimalOf (cut 19 32 line) 6 true) (item-at (rowItems true) 3 (columns 5 18 (signed 6)) line clean (omega arith) f) .1;
   z = amount-bounds 33 0 largest (decimalOf (cut 33 46 line) 6 true) (item-at (rowItems true) 4 (columns 5 18 (signed 6)) line clean (omega arith) f) .1;
-  clock = amount-bounds 47 0 largest (decimalOf (cut 47 60 line) 6 true) (item-at (rowItems true) 5 (columns 5 18 (signed 6)) line clean (omega arith) f) .1;
+  clock = amount-bounds 47 0 largest (clockOf (cut 47 60 line) 6) (item-at (rowItems true) 5 (columns 5 18 (signed 6)) line clean (omega arith) f) .1;
 }
 held-bounded false line f = record {
   x = amount-bounds 5 0 largest (decimalOf (cut 5 18 line) 6 true) (item-at (rowItems false) 2 (columns 5 18 (signed 6)) line clean (omega arith) f) .1;
   y = amount-bounds 19 0 largest (decimalOf (cut 19 32 line) 6 true) (item-at (rowItems false) 3 (columns 5 18 (signed 6)) line clean (omega arith) f) .1;
   z = amount-bounds 33 0 largest (decimalOf (cut 33 46 line) 6 true) (item-at (rowItems false) 4 (columns 5 18 (signed 6)) line clean (omega arith) f) .1;
-  clock = amount-bounds 47 0 largest (decimalOf (cut 47 60 line) 6 true) (item-at (rowItems false) 5 (columns 5 18 (signed 6)) line clean (omega arith) f) .1;
+  clock = amount-bounds 47 0 largest (clockOf (cut 47 60 line) 6) (item-at (rowItems false) 5 (columns 5 18 (signed 6)) line clean (omega arith) f) .1;
 }
 
 module _ (rules : Rules) (v : Bool) (identifier : ℕ) (l : List ℕ) (is : isRowLine rules v identifier l ≡ true) where
@@ -108,6 +110,22 @@ module _ (rules : Rules) (v : Bool) (identifier : ℕ) (l : List ℕ) (is : isRo
 
   pub row-bounded : Bounded (rowOf v l)
   row-bounded = subst Bounded (sym row-held) (held-bounded v (padded l) sound)
+
+  -- its clock is absent exactly where columns 47 to 53 hold six nines without a minus, and is held as it is
+  says : ClockSays (padded l)
+  says = row-clock-says v (padded l) (padded-length l) sound
+
+  pub clock-line : clockAbsent (rowOf v l .clock .negative) (rowOf v l .clock .magnitude) ≡ sixNinesIn l
+  unfolding rowTaken
+  clock-line = says .absent
+
+  pub clock-kept : clockKept 6 (rowOf v l .clock .negative) (rowOf v l .clock .magnitude) ≡ true
+  unfolding rowTaken
+  clock-kept = says .kept
+
+  -- the point of its clock stands in column 54
+  pub clock-point : getD (padded l) 53 0 ≡ 46
+  clock-point = says .point
 
   -- the table takes it as the kind of row that it is
   pub row-in : rowIn rules l ≡ rowOf v l

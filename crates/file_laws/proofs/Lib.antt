@@ -8,6 +8,7 @@ pub mod Instants
 pub mod Rule
 pub mod Different
 pub mod Clean
+pub mod Exact
 pub mod Counts
 pub mod Walk
 pub mod Reach
@@ -15,5 +16,4 @@ pub mod Bytes
 pub mod Notes
 pub mod Skipped
 pub mod Following
-pub mod Exact
 pub mod Stored

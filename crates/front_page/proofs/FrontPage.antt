@@ -97,6 +97,22 @@ module _ (k : LineKind) (rules : Rules) (s : State) (line : List ℕ) (item : It
       → faultAt item line ≡ keyed (fieldNumber item line) (fieldColumn k item (fieldNumber item line))
   field-blames u some = told-columns.field-blames k rules s line item listed u some
 
+-- AFTER THE POINT of x, y and z stand six digits: a blank or mixed fraction is 6 at the first column of its field.
+pub place-fraction : (line : List ℕ) → length line ≡ 80
+    → (allDigits (cut 13 18 line) ≡ false → faultAt (columns 5 18 (signed 6)) line ≡ keyed 6 5)
+    × (allDigits (cut 27 32 line) ≡ false → faultAt (columns 19 32 (signed 6)) line ≡ keyed 6 19)
+    × (allDigits (cut 41 46 line) ≡ false → faultAt (columns 33 46 (signed 6)) line ≡ keyed 6 33)
+place-fraction line wide = clocks.place-fraction line wide
+
+-- A clock passes with six nines, the point, and digits or blanks after it; any other fraction that is not all digits is 6 at column 47.
+pub nines-pass : (line : List ℕ) → length line ≡ 80 → isSixNines (wholeOf (cut 47 53 line)) ≡ true → getD line 53 0 ≡ 46
+    → (allDigits (cut 55 60 line) || every isBlank (cut 55 60 line)) ≡ true → faultAt (columns 47 60 (clockKind 6)) line ≡ clean
+nines-pass line wide nines point rest = clocks.nines-pass line wide nines point rest
+
+pub clock-fraction : (line : List ℕ) → length line ≡ 80 → allDigits (cut 55 60 line) ≡ false
+    → (isSixNines (wholeOf (cut 47 53 line)) && every isBlank (cut 55 60 line)) ≡ false → faultAt (columns 47 60 (clockKind 6)) line ≡ keyed 6 47
+clock-fraction line wide inked other = clocks.clock-fraction line wide inked other
+
 -- 11 comes exactly when an accepted file is followed by more, with the line after its last.
 pub eleven-exactly : (bytes : List ℕ) (line : ℕ) → (judged d bytes (fileOf d bytes) ≡ refusedWith 11 line 0)
     ↔ ((a : List ℕ) × (b : List ℕ) × (bytes ≡ a ++ b) × IsFile d a × (0 < length b) × (line ≡ length (linesOf a) + 1))
@@ -182,9 +198,16 @@ module _ (bytes : List ℕ) (accepted : IsFile d bytes) (identifiers exponents c
       (place.At (exactSigned (row .x)) (exactSigned (row .y)) (exactSigned (row .z)))
   row-place = lent.lent-place bytes accepted identifiers exponents comments old read k j there v mode
 
-  -- the clock at +999,999,999,999, whatever the place,
-  pub row-clock : clockIn rows r ≡ cond (clockAbsent (row .clock .negative) (row .clock .magnitude)) clock.Absent (clock.At (exactSigned (row .clock)))
+  -- the clock (in a V row the rate) where columns 47 to 53 of the line hold 999999 without a minus, whatever the place, and the door for C marks it so;
+  pub row-clock : clockIn rows r ≡ cond (sixNinesIn (lineAsked v bytes k j)) clock.Absent (clock.At (exactSigned (row .clock)))
   row-clock = lent.lent-clock bytes accepted identifiers exponents comments old read k j there v mode
+
+  pub door-clock : clockDoor (clockIn rows r) .absent ≡ sixNinesIn (lineAsked v bytes k j)
+  door-clock = clock-mark (clockIn rows r) (sixNinesIn (lineAsked v bytes k j)) (exactSigned (row .clock)) row-clock
+
+  -- such a clock is stored as twelve nines,
+  pub row-nines : sixNinesIn (lineAsked v bytes k j) ≡ true → numberAt rows r 3 ≡ pos 999_999_999_999
+  row-nines nines = lent.lent-nines bytes accepted identifiers exponents comments old read k j there v mode nines
 
   -- the exponents of x, y, z and clock are a value, unknown, or too large,
   pub row-exponents : (exponentReadIn rows r 0 ≡ exponentReadOf 0 (row .«x_exponent»)) × (exponentReadIn rows r 1 ≡ exponentReadOf 1 (row .«y_exponent»))
@@ -273,8 +296,8 @@ module _ (bytes : List ℕ) (accepted : IsFile d bytes) where
   pub the-motion : (k j : ℕ) → There bytes k j → header bytes .velocity ≡ true → RowOf true bytes k j
   the-motion k j there both = reading.the-motion bytes accepted k j there both
 
-  -- A file has at least 61 bytes for each row, 32 for each epoch and 3 for each comment.
-  pub file-bytes : 61 * length (rowLines d (linesOf bytes)) + 32 * header bytes .epochs + 3 * header bytes .comments ≤ length bytes
+  -- A file has at least 55 bytes for each row (a line may end with the point of its clock, in column 54), 32 for each epoch and 3 for each comment.
+  pub file-bytes : shortestRow * length (rowLines d (linesOf bytes)) + 32 * header bytes .epochs + 3 * header bytes .comments ≤ length bytes
   file-bytes = reading.file-bytes bytes accepted
 
   -- The row question answers for each of them,
@@ -288,7 +311,11 @@ module _ (bytes : List ℕ) (accepted : IsFile d bytes) where
       × (exactSigned (held false bytes k j .z) ≡ pos 0))
   absent-exactly k j there = floats.asked-no-place bytes accepted k j there
 
-  -- and a clock exactly at +999,999,999,999, whatever the place;
+  -- a clock exactly when columns 47 to 53 of its line hold 999999 without a minus, whatever the place,
+  pub six-nines-exactly : (k j : ℕ) (there : There bytes k j) → asked bytes k j .row .«clock_absent» ≡ sixNinesIn (lineAsked false bytes k j)
+  six-nines-exactly k j there = floats.asked-six-nines bytes accepted k j there
+
+  -- which is when the number held is +999,999,999,999;
   pub no-clock-exactly : (k j : ℕ) (there : There bytes k j)
       → (asked bytes k j .row .«clock_absent» ≡ true) ↔ (exactSigned (held false bytes k j .clock) ≡ pos 999_999_999_999)
   no-clock-exactly k j there = floats.asked-no-clock bytes accepted k j there
@@ -457,6 +484,14 @@ module _ (bytes : List ℕ) (t : Tally) (accepted : fileOf d bytes ≡ front.Fil
       → (next : RowWalk) × (walkStep bytes identifiers (rowAt bytes k j) ≡ step.At k j (asked bytes k j .row) next)
   walk-at k j there present = walked.walk-at bytes t accepted identifiers identified k j there present
 
+  -- its clock marked absent exactly when columns 47 to 53 of its line hold 999999 without a minus, by the door for C too,
+  pub walk-clock : (k j : ℕ) → There bytes k j → rowOfStep (walkStep bytes identifiers (rowAt bytes k j)) .«clock_absent» ≡ sixNinesIn (lineAsked false bytes k j)
+  walk-clock k j there = walked.walk-clock bytes t accepted identifiers identified k j there
+
+  pub door-walk-clock : (from : RowWalk) (k j : ℕ) → There bytes k j
+      → rowDoor from (walkStep bytes identifiers (rowAt bytes k j)) .row .«clock_absent» ≡ sixNinesIn (lineAsked false bytes k j)
+  door-walk-clock from k j there = row-clock-mark from (walkStep bytes identifiers (rowAt bytes k j)) (sixNinesIn (lineAsked false bytes k j)) (walk-clock k j there)
+
   -- and after all of them the end.
   pub walk-ends : walkStep bytes identifiers (header bytes .satellites * header bytes .epochs) ≡ step.End
   walk-ends = walked.walk-ends bytes t accepted identifiers identified
@@ -516,9 +551,18 @@ pub written-note : (t : Table) (out : List ℕ) (success : measured d t (length 
     → (noteIn (rowsOf t) (tableRow v bytes k j) ≡ noteMark.Stands) ↔ ((line : List ℕ) × HasNote v bytes k j line)
 written-note t out success k j there v mode = written-notes.note-written t out success k j there v mode
 
--- also where nothing is known of it: it is then `EP` (`EV`) alone.
+-- also where nothing is known of it: it is then `EP` (`EV`) alone. A clock that is absent is written as twelve nines in columns 47 to 60.
 pub written-bare : (v : Bool) (mark : ℤ) → noteLine v (noteShown (mark ∷ replicate 10 (pos unnoted))) ≡ ended (correlationSymbol v)
 written-bare v mark = written-notes.bare-note v mark
+
+pub written-nines : (v : Bool) (p : Row) → p .clock ≡ record { negative = false; magnitude = 999_999_999_999 }
+    → cut 47 60 (showLine (rowItems v) (rowValues v p)) ≡ twelveNines
+written-nines v p absent = clocks.nines-written v p absent
+
+-- A table with a clock above 999,998,999,999 that is not twelve nines is 13, whatever the room.
+pub clock-thirteen : (t : Table) (out : List ℕ) (r n : ℕ) → isThere (rowsOf t) r ≡ true → numberAt (rowsOf t) r 3 ≡ pos n
+    → 999_998_999_999 < n → (n ≡ 999_999_999_999 → ⊥) → measured d t (length out) .refusal ≡ 13
+clock-thirteen t out r n there is more other = clocks.clock-thirteen t out r n there is more other
 
 module _ (bytes : List ℕ) (accepted : IsFile d bytes) (identifiers exponents comments : List ℕ) (rows : List ℤ)
     (read : readAnswer d bytes (fileOf d bytes) identifiers exponents comments rows .refusal ≡ 0) where
@@ -531,19 +575,31 @@ module _ (bytes : List ℕ) (accepted : IsFile d bytes) (identifiers exponents c
     rewritten.lent-written bytes accepted identifiers exponents comments rows read out enough,
   )
 
+  -- by 12 exactly where the output is shorter than the form,
+  pub read-written-twelve : (out : List ℕ)
+      → (measured d (lentTable true bytes identifiers exponents comments rows) (length out) .refusal ≡ 12) ↔ (length out < length (formOf d bytes))
+  read-written-twelve out = rewritten.lent-twelve bytes accepted identifiers exponents comments rows read out
+
   -- and canonical bytes, read and written, come back: 0, their length, and those bytes.
   pub canonical-again : (t : Table) → valid d t ≡ true → bytes ≡ canonical d t → (out : List ℕ) → length bytes ≤ length out
       → (measured d (lentTable true bytes identifiers exponents comments rows) (length out) ≡ record { refusal = 0; length = length bytes })
       × (outAfter d (lentTable true bytes identifiers exponents comments rows) out ≡ over bytes out)
   canonical-again t ok is out enough = rewritten.canonical-again bytes accepted identifiers exponents comments rows read t ok is out enough
 
--- The program `rewrite` lends room for 255 satellites, 800 comments and 1,074 rows. Rows are never short in a file of at most 65,536 bytes, and reading it
--- answers 12 exactly where it has more than 800 comments.
+-- The program `rewrite` lends room for 255 satellites, 800 comments and 1,191 rows, and 65,536 bytes of output. Rows are never short in a file of at most
+-- 65,536 bytes; reading it answers 12 exactly where it has more than 800 comments, and writing what was read exactly where the form has more than 65,536
+-- bytes, which it may have: a row of 55 bytes is written in 61.
 pub rewrite-rows : (bytes : List ℕ) → IsFile d bytes → length bytes ≤ mostBytes → rowsNeeded (header bytes) ≤ mostRows * rowWidth
 rewrite-rows bytes accepted short = rewriteRoom.rows-fit bytes accepted short
 
 pub rewrite-12 : (bytes : List ℕ) → IsFile d bytes → length bytes ≤ mostBytes → (rewriteRoom.rewriteReading bytes .refusal ≡ 12) ↔ (mostComments < header bytes .comments)
 rewrite-12 bytes accepted short = rewriteRoom.twelve-exactly bytes accepted short
+
+pub rewrite-output-12 : (bytes : List ℕ) (accepted : IsFile d bytes) (identifiers exponents comments : List ℕ) (rows : List ℤ)
+    → readAnswer d bytes (fileOf d bytes) identifiers exponents comments rows .refusal ≡ 0 → (out : List ℕ) → length out ≡ mostBytes
+    → (measured d (lentTable true bytes identifiers exponents comments rows) (length out) .refusal ≡ 12) ↔ (mostBytes < length (formOf d bytes))
+rewrite-output-12 bytes accepted identifiers exponents comments rows read out room =
+    rewriteRoom.output-twelve bytes accepted identifiers exponents comments rows read out room
 
 -- DEMAND 3. No accepted file is the beginning of a longer accepted file, so a stretch divides into files in at most one way; that division is given
 -- exactly when there is one, else the accepted files at the front and the refusal after them.

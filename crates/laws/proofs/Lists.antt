@@ -1,13 +1,13 @@
 -- Lists from a place on, one element more at the end, and tests of every byte.
 -- Assumes nothing.
-use mathlib.Core.Path.{_≡_, refl, ap, _∙_}
+use mathlib.Core.Path.{_≡_, refl, sym, ap, _∙_}
 use mathlib.Core.List.{List, [], _∷_, _++_}
 use mathlib.Core.Bool.{Bool, true}
 use Prim.Native.Nat.{ℕ, zero, suc, _+_, _-_, _<_, _≤_}
 use native.Mathlib.Omega.{arith}
 use native.Mathlib.Numerals.{add-one}
 use lib.ListN.{length, getD, take, drop, replicate, length-append, length-drop, drop-of-length-le}
-use lib.Seq.{drop-cons, take-all}
+use lib.Seq.{drop-cons, take-all, take-nil}
 use Rattle.laws.specs.Texts.{every}
 use Rattle.laws.proofs.Bools.{and-left, and-right, and-both}
 
@@ -25,6 +25,19 @@ rest-none s i h = drop-of-length-le s h
 -- the part `&s[i..]` is the rest from i on
 pub rest-part : (s : List ℕ) (i : ℕ) → take (length s - i) (drop i s) ≡ drop i s
 rest-part s i = take-all (length s - i) (drop i s) (omega (arith, length-drop i s))
+
+-- what a front has past its first elements
+pub front-rest : {A : Type 0} (w n : ℕ) (l : List A) → drop w (take n l) ≡ take (n - w) (drop w l)
+front-rest zero n l =
+    let same : n - 0 ≡ n = omega arith in
+    rw same
+front-rest (suc w) zero l =
+    let none : 0 - suc w ≡ 0 = omega arith in
+    rw none
+front-rest (suc w) (suc n) [] = sym (take-nil (suc n - suc w))
+front-rest (suc w) (suc n) (x ∷ l) =
+    let same : suc n - suc w ≡ n - w = omega arith in
+    rw same (front-rest w n l)
 
 -- one byte more
 pub snoc-length : (s : List ℕ) (b : ℕ) → length (s ++ (b ∷ [])) ≡ suc (length s)

@@ -1,7 +1,7 @@
 -- A line without fault can be shown again: each of its fields can hold what it holds. One law over every kind, then over every layout.
 -- Assumes nothing.
 use mathlib.Core.Path.{_≡_, refl, sym, ap, _∙_}
-use mathlib.Core.Bool.{Bool, true, false, cond, not, _&&_, _||_}
+use mathlib.Core.Bool.{Bool, true, false, cond, _&&_, _||_}
 use mathlib.Core.List.{List, [], _∷_}
 use Prim.Native.Nat.{ℕ, zero, suc, _-_, min, _<_, _≤_}
 use native.Mathlib.Omega.{arith}
@@ -13,9 +13,10 @@ use Rattle.laws.specs.Tests.{within}
 use Rattle.laws.specs.Texts.{every, isPrintable}
 use Rattle.field.specs.Read.{wholeOf, exponentOf, decimalOf, minusFirst, signedWholeOf}
 use Rattle.field.specs.Show.{fitsWhole, fitsDecimal, fitsSigned}
+use Rattle.field.specs.Clock.{clockOf}
 use Rattle.field.specs.Sign.{largest}
 use Rattle.layout.specs.Fault.{clean, keyed, lower, lowerOf, lowerUnless}
-use Rattle.layout.specs.Kind.{Kind, silent, sameBytes, isOneOf, isListed, isBlank, isLettered, isIdentifier, named, identifierCode, identifierNumber, canAmount, unless, boundFault, wholeFault, amountFault, exponentFault, faultIn, heldIn, wholeHeld, amountHeld, signHeld, fitsIn, holdsIn, printable, canSigned, amountWith, heldAmount, maybeHeld}
+use Rattle.layout.specs.Kind.{Kind, silent, sameBytes, isOneOf, isListed, isBlank, isLettered, isIdentifier, named, identifierCode, identifierNumber, canAmount, canClock, unless, boundFault, wholeFault, amountFault, exponentFault, faultIn, heldIn, wholeHeld, amountHeld, signHeld, fitsIn, holdsIn, printable, canSigned, amountWith, heldAmount, maybeHeld}
 use Rattle.layout.specs.Kind.Kind.{unused, fixed, whole, decimal, signed, clock, flag, letter, listed, identifier, filler, zeroWhole, zeroDecimal, text, maybe, maybeSigned}
 use Rattle.layout.specs.Kind.Held.{nothing, amount}
 use Rattle.layout.specs.Layout.{hasOwn, ownOf, othersOf, Item, Values, widthOf, partOf, faultAt, tiledFrom, tiled, faultFrom, faultOf, valuesOf, canShow, entered}
@@ -26,7 +27,8 @@ use Rattle.field.specs.declared.Exponent.the-variants as exponents
 use Rattle.field.specs.declared.Amount.{Amount}
 use Rattle.field.specs.declared.Amount.the-variants as amounts
 use Rattle.laws.proofs.Bools.{and-left, and-right, and-both}
-use Rattle.field.proofs.Accepted.{decimal-taken, integer-minus, signed-whole-taken}
+use Rattle.field.proofs.Accepted.{settled-sign, decimal-taken, integer-minus, signed-whole-taken}
+use Rattle.field.proofs.ClockBack.{clock-again}
 use Rattle.field.proofs.Again.{whole-again, exponent-again, decimal-again, signed-again}
 use Rattle.layout.proofs.Identifiers.{identifier-again}
 use Rattle.layout.proofs.Fields.{not-false-true, same-one}
@@ -63,11 +65,6 @@ holds-decimal places low high column bs (amounts.Value n m) e f =
     (ap (λ (t : Bool). fitsDecimal (length bs) places t m) (sym (plain-sign bs places n m e)) ∙ decimal-again bs places false n m e)
 holds-decimal places low high column bs amounts.Malformed e f = absurd (no-key 6 column (omega arith) f)
 
--- a sign that was read is none of zero
-settled-sign : (k n : Bool) (m : ℕ) → (k && ltb 0 m) ≡ n → (not n || ltb 0 m) ≡ true
-settled-sign k true m e = and-right k (ltb 0 m) e
-settled-sign k false m e = refl
-
 holds-signed : (places column : ℕ) (bs : List ℕ) (a : Amount) → decimalOf bs places true ≡ a → amountFault column 0 largest a ≡ clean
     → canAmount (length bs) places (signHeld a) (amountHeld a) ≡ true
 holds-signed places column bs (amounts.Value n m) e f =
@@ -75,6 +72,17 @@ holds-signed places column bs (amounts.Value n m) e f =
     and-both (leb m largest) _ (and-right (leb 0 m) (leb m largest) (bound-passed column 0 largest m f))
     (and-both (fitsDecimal (length bs) places n m) _ (decimal-again bs places true n m e) (settled-sign (c .minus) n m (c .sign)))
 holds-signed places column bs amounts.Malformed e f = absurd (no-key 6 column (omega arith) f)
+
+-- a clock that was read, an absent one too
+holds-clock : (places column : ℕ) (bs : List ℕ) (a : Amount) → clockOf bs places ≡ a → amountFault column 0 largest a ≡ clean
+    → canClock (length bs) places (signHeld a) (amountHeld a) ≡ true
+holds-clock places column bs (amounts.Value n m) e f =
+    let c = clock-again bs places n m e in
+    and-both (canAmount (length bs) places n m) _
+    (and-both (leb m largest) _ (and-right (leb 0 m) (leb m largest) (bound-passed column 0 largest m f))
+    (and-both (fitsDecimal (length bs) places n m) _ (c .fits) (c .sign)))
+    (c .kept)
+holds-clock places column bs amounts.Malformed e f = absurd (no-key 6 column (omega arith) f)
 
 -- a number that may be unknown, with a minus or none
 holds-noted : (none high column : ℕ) (bs : List ℕ) → high < none → (t : Bool) → every isBlank bs ≡ t → (a : Amount) → signedWholeOf bs ≡ a
@@ -116,7 +124,7 @@ holds-again (fixed number these) column bs w p f =
 holds-again (whole low high) column bs w p f = holds-whole low high column bs (wholeOf bs) refl f
 holds-again (decimal places low high) column bs w p f = holds-decimal places low high column bs (decimalOf bs places false) refl f
 holds-again (signed places) column bs w p f = holds-signed places column bs (decimalOf bs places true) refl f
-holds-again (clock places) column bs w p f = holds-signed places column bs (decimalOf bs places true) refl f
+holds-again (clock places) column bs w p f = holds-clock places column bs (clockOf bs places) refl f
 holds-again (maybe none) column bs w p f = holds-maybe none column bs (exponentOf bs) refl f
 holds-again (maybeSigned none high) column bs w p f =
     holds-noted none high column bs (ltb-true high none (and-right (leb (length bs) 18) (ltb high none) w)) (every isBlank bs) refl (signedWholeOf bs) refl f

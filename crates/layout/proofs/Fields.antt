@@ -10,15 +10,20 @@ use lib.Dec.{leb, ltb, eqb}
 use lib.ListN.{length, take}
 use Rattle.laws.specs.Tests.{within}
 use Rattle.laws.specs.Texts.{isPrintable, blanks}
-use Rattle.field.specs.Show.{fitsWhole, putWhole, fitsDecimal, shownNegative, fitsSigned, putSigned}
+use Rattle.field.specs.Read.{decimalOf}
+use Rattle.field.specs.Show.{fitsWhole, putWhole, showDecimal, fitsDecimal, putDecimal, shownNegative, fitsSigned, putSigned}
+use Rattle.field.specs.Clock.{clockOf, clockKept}
 use Rattle.field.specs.Sign.{largest}
 use Rattle.layout.specs.Fault.{clean}
-use Rattle.layout.specs.Kind.{Kind, Held, numberIn, negativeIn, magnitudeIn, wordsIn, sameBytes, isOneOf, isListed, isIdentifier, canAmount, faultIn, heldIn, shownIn, fitsIn, wordsFit, holdsIn, printable, isNothing, numberWith, amountWith, isMark, wordsWith, canSigned}
+use Rattle.layout.specs.Kind.{Kind, Held, numberIn, negativeIn, magnitudeIn, wordsIn, sameBytes, isOneOf, isListed, isIdentifier, canAmount, canClock, amountFault, heldAmount, faultIn, heldIn, shownIn, fitsIn, wordsFit, holdsIn, printable, isNothing, numberWith, amountWith, isMark, wordsWith, canSigned}
 use Rattle.layout.specs.Kind.Kind.{unused, fixed, whole, decimal, signed, clock, flag, letter, listed, identifier, filler, zeroWhole, zeroDecimal, text, maybe, maybeSigned}
 use Rattle.layout.specs.Kind.Held.{nothing, one, amount, mark, words}
 use Rattle.field.specs.declared.Exponent.the-variants as exponents
+use Rattle.field.specs.declared.Amount.{Amount}
+use Rattle.field.specs.declared.Amount.the-variants as amounts
 use Rattle.laws.proofs.Bools.{and-left, and-right}
 use Rattle.field.proofs.Back.{whole-back, exponent-back, decimal-back, signed-back}
+use Rattle.field.proofs.ClockBack.{clock-back}
 use Rattle.field.proofs.Shown.{integer-printable, decimal-printable}
 use Rattle.layout.proofs.Lines.{blanks-length}
 use Rattle.layout.proofs.Shown.{whole-put, whole-wide, places-put, places-wide, printable-byte, blanks-clean, blanks-printable, blanks-blank, text-wide, text-whole, signed-put, signed-wide, signed-inked}
@@ -143,21 +148,33 @@ module _ (places w : ℕ) (negative : Bool) (m : ℕ) (h : canAmount w places ne
   rest-holds : (fitsDecimal w places negative m && (not negative || ltb 0 m)) ≡ true
   rest-holds = and-right (leb m largest) (fitsDecimal w places negative m && (not negative || ltb 0 m)) h
 
+  fits : fitsDecimal w places negative m ≡ true
+  fits = and-left (fitsDecimal w places negative m) (not negative || ltb 0 m) rest-holds
+
+  sign : shownNegative negative m ≡ negative
+  sign = sign-shown negative m (and-right (fitsDecimal w places negative m) (not negative || ltb 0 m) rest-holds)
+
+  -- what is shown is kept, whoever reads it back: a reader of decimals, a reader of clocks
+  keeps-by : (of : List ℕ → Amount) → of (showDecimal w places negative m) ≡ amounts.Value negative m
+      → ((column : ℕ) → amountFault column 0 largest (of (putDecimal places negative m (blanks w))) ≡ clean)
+      × (heldAmount (of (putDecimal places negative m (blanks w))) ≡ amount negative m)
+  keeps-by of read =
+      let put = places-put w places negative m fits in
+      let bound = and-left (leb m largest) (fitsDecimal w places negative m && (not negative || ltb 0 m)) h in
+      (λ column. rw (put, read, le-leb 0 m (omega arith), bound), rw (put, read))
+
+  plain-shown : printable (putDecimal places negative m (blanks w)) ≡ true
+  plain-shown = rw (places-put w places negative m fits) (decimal-printable w places negative m)
+
   keeps-signed : Keeps (signed places) w (amount negative m)
   keeps-signed =
-      let bound = and-left (leb m largest) (fitsDecimal w places negative m && (not negative || ltb 0 m)) h in
-      let fits = and-left (fitsDecimal w places negative m) (not negative || ltb 0 m) rest-holds in
-      let sign = sign-shown negative m (and-right (fitsDecimal w places negative m) (not negative || ltb 0 m) rest-holds) in
-      let put = places-put w places negative m fits in
-      let read = decimal-back w places negative m fits true (λ q. refl) in
-      record {
-        plain = rw put (decimal-printable w places negative m);
-        sound = λ column. rw (put, read, le-leb 0 m (omega arith), bound);
-        back = rw (put, read, sign);
-      }
+      let kept = keeps-by (λ bs. decimalOf bs places true) (decimal-back w places negative m fits true (λ q. refl) ∙ ap (λ (n : Bool). amounts.Value n m) sign) in
+      record { plain = plain-shown; sound = kept .0; back = kept .1 }
 
-  keeps-clock : Keeps (clock places) w (amount negative m)
-  keeps-clock = record { plain = keeps-signed .plain; sound = keeps-signed .sound; back = keeps-signed .back }
+  keeps-clock : clockKept places negative m ≡ true → Keeps (clock places) w (amount negative m)
+  keeps-clock held =
+      let kept = keeps-by (λ bs. clockOf bs places) (clock-back w places negative m fits sign held) in
+      record { plain = plain-shown; sound = kept .0; back = kept .1 }
 
 -- unknown, or a number, with a minus or none
 keeps-noted : (w none high : ℕ) (negative : Bool) (m : ℕ) → canSigned w none high negative m ≡ true
@@ -287,8 +304,9 @@ keeps (signed places) w v f h =
     let it = an-amount (canAmount w places) v h in
     rw (it .2) (keeps-signed places w (it .0) (it .1) (it .3))
 keeps (clock places) w v f h =
-    let it = an-amount (canAmount w places) v h in
-    rw (it .2) (keeps-clock places w (it .0) (it .1) (it .3))
+    let it = an-amount (canClock w places) v h in
+    let can = canAmount w places (it .0) (it .1) in
+    rw (it .2) (keeps-clock places w (it .0) (it .1) (and-left can _ (it .3)) (and-right can _ (it .3)))
 keeps (maybe none) w v f h =
     let one = a-number (λ n. eqb n none || fitsWhole w n) v h in
     rw (one .1) (keeps-maybe none w (one .0) (leb-true w 18 (and-left (leb w 18) (leb (10 ^ w) none) f)) (one .2))

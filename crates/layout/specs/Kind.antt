@@ -11,7 +11,9 @@ use lib.Dec.{leb, ltb, eqb}
 use Rattle.laws.specs.Tests.{within}
 use Rattle.laws.specs.Texts.{every, isPrintable, blanks}
 use Rattle.field.specs.Digits.{isDigit}
+pub use Rattle.field.specs.Digits.{isBlank}
 use Rattle.field.specs.Read.{wholeOf, exponentOf, signedWholeOf, decimalOf}
+use Rattle.field.specs.Clock.{clockOf, clockKept}
 use Rattle.field.specs.Show.{fitsWhole, putWhole, fitsSigned, putSigned, fitsDecimal, putDecimal}
 use Rattle.field.specs.Sign.{largest}
 use Rattle.layout.specs.Fault.{clean, keyed}
@@ -34,7 +36,7 @@ pub data Kind : Type 0 where
   decimal : (places low high : ℕ) → Kind
   -- a decimal that may have a minus, of a magnitude up to twelve nines: x, y, z
   signed : (places : ℕ) → Kind
-  -- the clock and its rate: such a decimal too
+  -- the clock and its rate: such a decimal, or absent, which is held as twelve nines
   clock : (places : ℕ) → Kind
   -- a whole number, or blank for unknown, which is held as this number
   maybe : (none : ℕ) → Kind
@@ -152,10 +154,6 @@ abbrev pub isListed : List ℕ → List (List ℕ) → Bool
 isListed bs [] = false
 isListed bs (word ∷ these) = sameBytes bs word || isListed bs these
 
--- a blank
-abbrev pub isBlank : ℕ → Bool
-isBlank b = eqb b 32
-
 -- one of these letters, and blanks after it
 abbrev pub isLettered : List ℕ → List ℕ → Bool
 isLettered bs these = isOneOf (getD bs 0 0) these && every isBlank (drop 1 bs)
@@ -216,7 +214,7 @@ faultIn (fixed number these) column bs = unless (sameBytes bs these) number colu
 faultIn (whole low high) column bs = wholeFault column low high (wholeOf bs)
 faultIn (decimal places low high) column bs = amountFault column low high (decimalOf bs places false)
 faultIn (signed places) column bs = amountFault column 0 largest (decimalOf bs places true)
-faultIn (clock places) column bs = amountFault column 0 largest (decimalOf bs places true)
+faultIn (clock places) column bs = amountFault column 0 largest (clockOf bs places)
 faultIn (maybe none) column bs = exponentFault column (exponentOf bs)
 faultIn (maybeSigned none high) column bs = cond (every isBlank bs) clean (amountFault column 0 high (signedWholeOf bs))
 faultIn (flag sign) column bs = unless (eqb (getD bs 0 0) sign || eqb (getD bs 0 0) 32) 6 column
@@ -261,7 +259,7 @@ heldIn (fixed number these) bs = nothing
 heldIn (whole low high) bs = one (wholeHeld (wholeOf bs))
 heldIn (decimal places low high) bs = one (amountHeld (decimalOf bs places false))
 heldIn (signed places) bs = heldAmount (decimalOf bs places true)
-heldIn (clock places) bs = heldAmount (decimalOf bs places true)
+heldIn (clock places) bs = heldAmount (clockOf bs places)
 heldIn (maybe none) bs = one (maybeHeld none (exponentOf bs))
 heldIn (maybeSigned none high) bs = cond (every isBlank bs) (amount false none) (heldAmount (signedWholeOf bs))
 heldIn (flag sign) bs = mark (eqb (getD bs 0 0) sign)
@@ -366,6 +364,10 @@ isIdentifier code = within 65 90 (code / 10 / 10) && ltb 0 (code / 10 % 10 * 10 
 abbrev pub canAmount : ℕ → ℕ → Bool → ℕ → Bool
 canAmount w places negative m = leb m largest && (fitsDecimal w places negative m && (not negative || ltb 0 m))
 
+-- the same of a clock, of which six nines with no minus are all nines
+abbrev pub canClock : ℕ → ℕ → Bool → ℕ → Bool
+canClock w places negative m = canAmount w places negative m && clockKept places negative m
+
 -- unknown, or a magnitude within its bound that fits its columns, and no minus zero
 abbrev pub canSigned : ℕ → ℕ → ℕ → Bool → ℕ → Bool
 canSigned w none high negative m = cond (eqb m none) (not negative) (leb m high && (fitsSigned w negative m && (not negative || ltb 0 m)))
@@ -377,7 +379,7 @@ holdsIn (fixed number these) w v = isNothing v && printable these
 holdsIn (whole low high) w v = numberWith (λ n. within low high n && fitsWhole w n) v
 holdsIn (decimal places low high) w v = numberWith (λ m. within low high m && fitsDecimal w places false m) v
 holdsIn (signed places) w v = amountWith (canAmount w places) v
-holdsIn (clock places) w v = amountWith (canAmount w places) v
+holdsIn (clock places) w v = amountWith (canClock w places) v
 holdsIn (maybe none) w v = numberWith (λ n. eqb n none || fitsWhole w n) v
 holdsIn (maybeSigned none high) w v = amountWith (canSigned w none high) v
 holdsIn (flag sign) w v = isMark v

@@ -43,7 +43,8 @@ decimal-fits : (column p q0 q1 q2 q3 q4 q5 q6 q7 q8 q9 q10 q11 q12 q13 : ℕ)
     → fitsColumn 48 57 48 48 q10 q11 ≡ true
     → fitsColumn 48 57 48 48 q11 q12 ≡ true
     → fitsColumn 48 57 48 48 q12 q13 ≡ true
-    → faultIn (signed 6) column (q0 ∷ q1 ∷ q2 ∷ q3 ∷ q4 ∷ q5 ∷ q6 ∷ q7 ∷ q8 ∷ q9 ∷ q10 ∷ q11 ∷ q12 ∷ q13 ∷ []) ≡ clean
+    → (faultIn (signed 6) column (q0 ∷ q1 ∷ q2 ∷ q3 ∷ q4 ∷ q5 ∷ q6 ∷ q7 ∷ q8 ∷ q9 ∷ q10 ∷ q11 ∷ q12 ∷ q13 ∷ []) ≡ clean)
+    × (faultIn (clock 6) column (q0 ∷ q1 ∷ q2 ∷ q3 ∷ q4 ∷ q5 ∷ q6 ∷ q7 ∷ q8 ∷ q9 ∷ q10 ∷ q11 ∷ q12 ∷ q13 ∷ []) ≡ clean)
 decimal-fits column p q0 q1 q2 q3 q4 q5 q6 q7 q8 q9 q10 q11 q12 q13 h0 h1 h2 h3 h4 h5 h6 h7 h8 h9 h10 h11 h12 h13 =
     let blank = only 32 p q0 h0 in
     let point = only 46 q6 q7 h7 in
@@ -81,16 +82,16 @@ module _ (line : List ℕ) (wide : length line ≡ 80) (symbol : eqb (getD line 
   c2 = rw (take-cells line 1 3 (omega arith)) (identifier-usual 2 (getD line 1 0) (getD line 2 0) (getD line 3 0) (ranged 65 90 65 65 (getD line 0 0) (getD line 1 0) refl refl (f 0 (omega arith))) (digit (getD line 1 0) (getD line 2 0) (f 1 (omega arith))) (digit (getD line 2 0) (getD line 3 0) (f 2 (omega arith))) some)
 
   c5 : faultAt (columns 5 18 (signed 6)) line ≡ clean
-  c5 = rw (take-cells line 4 14 (omega arith)) (decimal-fits 5 (getD line 3 0) (getD line 4 0) (getD line 5 0) (getD line 6 0) (getD line 7 0) (getD line 8 0) (getD line 9 0) (getD line 10 0) (getD line 11 0) (getD line 12 0) (getD line 13 0) (getD line 14 0) (getD line 15 0) (getD line 16 0) (getD line 17 0) (f 3 (omega arith)) (f 4 (omega arith)) (f 5 (omega arith)) (f 6 (omega arith)) (f 7 (omega arith)) (f 8 (omega arith)) (f 9 (omega arith)) (f 10 (omega arith)) (f 11 (omega arith)) (f 12 (omega arith)) (f 13 (omega arith)) (f 14 (omega arith)) (f 15 (omega arith)) (f 16 (omega arith)))
+  c5 = rw (take-cells line 4 14 (omega arith)) ((decimal-fits 5 (getD line 3 0) (getD line 4 0) (getD line 5 0) (getD line 6 0) (getD line 7 0) (getD line 8 0) (getD line 9 0) (getD line 10 0) (getD line 11 0) (getD line 12 0) (getD line 13 0) (getD line 14 0) (getD line 15 0) (getD line 16 0) (getD line 17 0) (f 3 (omega arith)) (f 4 (omega arith)) (f 5 (omega arith)) (f 6 (omega arith)) (f 7 (omega arith)) (f 8 (omega arith)) (f 9 (omega arith)) (f 10 (omega arith)) (f 11 (omega arith)) (f 12 (omega arith)) (f 13 (omega arith)) (f 14 (omega arith)) (f 15 (omega arith)) (f 16 (omega arith))) .0)
 
   c19 : faultAt (columns 19 32 (signed 6)) line ≡ clean
-  c19 = rw (take-cells line 18 14 (omega arith)) (decimal-fits 19 (getD line 17 0) (getD line 18 0) (getD line 19 0) (getD line 20 0) (getD line 21 0) (getD line 22 0) (getD line 23 0) (getD line 24 0) (getD line 25 0) (getD line 26 0) (getD line 27 0) (getD line 28 0) (getD line 29 0) (getD line 30 0) (getD line 31 0) (f 17 (omega arith)) (f 18 (omega arith)) (f 19 (omega arith)) (f 20 (omega arith)) (f 21 (omega arith)) (f 22 (omega arith)) (f 23 (omega arith)) (f 24 (omega arith)) (f 25 (omega arith)) (f 26 (omega arith)) (f 27 (omega arith)) (f 28 (omega arith)) (f 29 (omega arith)) (f 30 (omega arith)))
+  c19 = rw (take-cells line 18 14 (omega arith)) ((decimal-fits 19 (getD line 17 0) (getD line 18 0) (getD line 19 0) (getD line 20 0) (getD line 21 0) (getD line 22 0) (getD line 23 0) (getD line 24 0) (getD line 25 0) (getD line 26 0) (getD line 27 0) (getD line 28 0) (getD line 29 0) (getD line 30 0) (getD line 31 0) (f 17 (omega arith)) (f 18 (omega arith)) (f 19 (omega arith)) (f 20 (omega arith)) (f 21 (omega arith)) (f 22 (omega arith)) (f 23 (omega arith)) (f 24 (omega arith)) (f 25 (omega arith)) (f 26 (omega arith)) (f 27 (omega arith)) (f 28 (omega arith)) (f 29 (omega arith)) (f 30 (omega arith))) .0)
 
   c33 : faultAt (columns 33 46 (signed 6)) line ≡ clean
-  c33 = rw (take-cells line 32 14 (omega arith)) (decimal-fits 33 (getD line 31 0) (getD line 32 0) (getD line 33 0) (getD line 34 0) (getD line 35 0) (getD line 36 0) (getD line 37 0) (getD line 38 0) (getD line 39 0) (getD line 40 0) (getD line 41 0) (getD line 42 0) (getD line 43 0) (getD line 44 0) (getD line 45 0) (f 31 (omega arith)) (f 32 (omega arith)) (f 33 (omega arith)) (f 34 (omega arith)) (f 35 (omega arith)) (f 36 (omega arith)) (f 37 (omega arith)) (f 38 (omega arith)) (f 39 (omega arith)) (f 40 (omega arith)) (f 41 (omega arith)) (f 42 (omega arith)) (f 43 (omega arith)) (f 44 (omega arith)))
+  c33 = rw (take-cells line 32 14 (omega arith)) ((decimal-fits 33 (getD line 31 0) (getD line 32 0) (getD line 33 0) (getD line 34 0) (getD line 35 0) (getD line 36 0) (getD line 37 0) (getD line 38 0) (getD line 39 0) (getD line 40 0) (getD line 41 0) (getD line 42 0) (getD line 43 0) (getD line 44 0) (getD line 45 0) (f 31 (omega arith)) (f 32 (omega arith)) (f 33 (omega arith)) (f 34 (omega arith)) (f 35 (omega arith)) (f 36 (omega arith)) (f 37 (omega arith)) (f 38 (omega arith)) (f 39 (omega arith)) (f 40 (omega arith)) (f 41 (omega arith)) (f 42 (omega arith)) (f 43 (omega arith)) (f 44 (omega arith))) .0)
 
   c47 : faultAt (columns 47 60 (clock 6)) line ≡ clean
-  c47 = rw (take-cells line 46 14 (omega arith)) (decimal-fits 47 (getD line 45 0) (getD line 46 0) (getD line 47 0) (getD line 48 0) (getD line 49 0) (getD line 50 0) (getD line 51 0) (getD line 52 0) (getD line 53 0) (getD line 54 0) (getD line 55 0) (getD line 56 0) (getD line 57 0) (getD line 58 0) (getD line 59 0) (f 45 (omega arith)) (f 46 (omega arith)) (f 47 (omega arith)) (f 48 (omega arith)) (f 49 (omega arith)) (f 50 (omega arith)) (f 51 (omega arith)) (f 52 (omega arith)) (f 53 (omega arith)) (f 54 (omega arith)) (f 55 (omega arith)) (f 56 (omega arith)) (f 57 (omega arith)) (f 58 (omega arith)))
+  c47 = rw (take-cells line 46 14 (omega arith)) ((decimal-fits 47 (getD line 45 0) (getD line 46 0) (getD line 47 0) (getD line 48 0) (getD line 49 0) (getD line 50 0) (getD line 51 0) (getD line 52 0) (getD line 53 0) (getD line 54 0) (getD line 55 0) (getD line 56 0) (getD line 57 0) (getD line 58 0) (getD line 59 0) (f 45 (omega arith)) (f 46 (omega arith)) (f 47 (omega arith)) (f 48 (omega arith)) (f 49 (omega arith)) (f 50 (omega arith)) (f 51 (omega arith)) (f 52 (omega arith)) (f 53 (omega arith)) (f 54 (omega arith)) (f 55 (omega arith)) (f 56 (omega arith)) (f 57 (omega arith)) (f 58 (omega arith))) .1)
 
   c61 : faultAt (column 61 unused) line ≡ clean
   c61 = rw (take-cells line 60 1 (omega arith)) (blank-one 61 (getD line 59 0) (getD line 60 0) (f 59 (omega arith)))

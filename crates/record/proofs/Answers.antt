@@ -1,13 +1,13 @@
 -- What a field's reader told, as the definition's own case: the enum by its told numbers.
 -- Assumes nothing.
-use mathlib.Core.Path.{_≡_, refl, sym, _∙_}
+use mathlib.Core.Path.{_≡_, refl, sym, _∙_, ap}
 use mathlib.Core.List.{List, [], _∷_}
 use mathlib.Core.Bool.{Bool, true, false}
 use Prim.Native.Nat.{ℕ}
 use denote.Enum.Declared.{tagOf}
 use types.Run.{OneOf, miss}
-use Rattle.layout.specs.Fault.{clean}
-use Rattle.layout.specs.Kind.{exponentFault}
+use Rattle.layout.specs.Fault.{clean, lower}
+use Rattle.layout.specs.Kind.{amountFault, exponentFault}
 use Rattle.field.specs.Read.{wholeOf, wholeAnswer, toldWhole, decimalOf, decimalAnswer, signedWholeOf, signedAnswer, toldAmount, exponentOf, exponentAnswer, toldExponent}
 use Rattle.calendar.specs.Gregorian.{dateAnswer, toldDate, isDate}
 use Rattle.field.specs.declared.Exponent.the-variants as exponents
@@ -28,6 +28,11 @@ decimal-case bs places signed r a e h = sym (toldAmount-one r (decimalOf bs plac
 
 pub signed-case : (bs : List ℕ) (r a : Amount) → toldAmount r ≡ signedAnswer bs → r ≡ a → signedWholeOf bs ≡ a
 signed-case bs r a e h = sym (toldAmount-one r (signedWholeOf bs) e) ∙ h
+
+-- the fault of a number that was told is that of the number itself
+pub amount-judged : (lowest column most : ℕ) (r a : Amount) {fault : ℕ} → toldAmount r ≡ toldAmount a → fault ≡ lower lowest (amountFault column 0 most r)
+    → fault ≡ lower lowest (amountFault column 0 most a)
+amount-judged lowest column most r a e h = h ∙ ap (λ (x : Amount). lower lowest (amountFault column 0 most x)) (toldAmount-one r a e)
 
 pub exponent-case : (bs : List ℕ) (r a : Exponent) → toldExponent r ≡ exponentAnswer bs → r ≡ a → exponentOf bs ≡ a
 exponent-case bs r a e h = sym (toldExponent-one r (exponentOf bs) e) ∙ h

@@ -6,8 +6,9 @@ use mathlib.Core.List.{List, [], _∷_, _++_}
 use Prim.Native.Nat.{ℕ, _+_, _-_, _*_}
 use lib.Dec.{eqb}
 use lib.ListN.{getD, take, drop}
-use Rattle.field.specs.Read.{exponentOf}
+use Rattle.field.specs.Read.{wholeOf, exponentOf}
 use Rattle.field.specs.Known.{knownMagnitude, knownNegative}
+use Rattle.field.specs.Clock.{isSixNines, clockHeld}
 use Rattle.layout.specs.Kind.{identifierCode, exponentHeld, exponent}
 use Rattle.layout.specs.Kind.Kind.{unused, fixed, signed, clock, flag, identifier}
 use Rattle.layout.specs.Kind.Held.{one, amount, mark}
@@ -112,6 +113,10 @@ cut first last line = take (last - (first - 1)) (drop (first - 1) line)
 abbrev pub signedIn : List ℕ → Signed
 signedIn bytes = record { negative = knownNegative bytes 6; magnitude = knownMagnitude bytes 6 }
 
+-- a clock or rate: such a field, and six nines with no minus are absent, which is held as twelve nines
+abbrev pub clockFieldIn : List ℕ → Signed
+clockFieldIn bytes = record { negative = knownNegative bytes 6; magnitude = clockHeld 6 (knownNegative bytes 6) (knownMagnitude bytes 6) }
+
 -- an exponent, or the number that stands for unknown
 abbrev pub exponentIn : List ℕ → ℕ
 exponentIn bytes = exponentHeld (exponentOf bytes)
@@ -127,7 +132,7 @@ rowTaken velocity line = record {
   x = signedIn (cut 5 18 line);
   y = signedIn (cut 19 32 line);
   z = signedIn (cut 33 46 line);
-  clock = signedIn (cut 47 60 line);
+  clock = clockFieldIn (cut 47 60 line);
   «x_exponent» = exponentIn (cut 62 63 line);
   «y_exponent» = exponentIn (cut 65 66 line);
   «z_exponent» = exponentIn (cut 68 69 line);
@@ -141,6 +146,14 @@ rowTaken velocity line = record {
 -- the row of a line as it stands, a short one being padded
 abbrev pub rowOf : Bool → List ℕ → Row
 rowOf velocity line = rowTaken velocity (padded line)
+
+-- columns 47 to 53 of a line hold 999999 without a minus
+abbrev pub sixNinesIn : List ℕ → Bool
+sixNinesIn line = isSixNines (wholeOf (cut 47 53 (padded line)))
+
+-- the bytes of the shortest P or V line with its LF: it ends with the point of a clock that is absent, in column 54
+abbrev pub shortestRow : ℕ
+shortestRow = 55
 
 -- the numbers of a stored row: those of its line alone (x, y, z, clock, their exponents, and four flags) and those of its note; and those of a P row
 -- with its V row

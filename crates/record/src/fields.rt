@@ -9,7 +9,7 @@ ghost use Rattle.field.specs.Digits.{isDigit};
 ghost use Rattle.laws.specs.Tests.{within};
 ghost use Rattle.laws.specs.Texts.{every};
 ghost use Rattle.layout.specs.Fault.{clean, lower, keyed};
-ghost use Rattle.layout.specs.Kind.{unless, unusedFault, sameBytes, isBlank, identifierCode, exponent};
+ghost use Rattle.layout.specs.Kind.{unless, unusedFault, amountFault, sameBytes, isBlank, identifierCode, exponent};
 ghost use Rattle.layout.specs.Kind.Kind.{unused, fixed, whole, decimal, signed, clock, flag, letter, listed, identifier, zeroWhole, zeroDecimal, text};
 ghost use Rattle.layout.specs.Layout.{columns, column, partAt, partOf, faultAt};
 ghost use Rattle.header.specs.Letters.{modes, fileTypes, timeSystems};
@@ -363,6 +363,22 @@ pub(crate) fn identifier_of(bytes: &[u8]) -> u64
     identifier_code(bytes[0], number)
 }
 
+// A number that was read, of a magnitude up to so much.
+fn amount_fault(lowest: usize, answer: Amount, most: u64, at: usize) -> usize
+    requires { ⌜ at ≤ 80 ⌝ }
+    ensures { λ r. ⌜ r ≡ lower lowest (amountFault at 0 most answer) ⌝ }
+{
+    let Amount::Value {
+        negative: _,
+        magnitude,
+    } = answer
+    else {
+        return fault_at(lowest, 6, at);
+    };
+    let bounded = laws::within(0, most, magnitude);
+    fault_unless(lowest, bounded, 7, at)
+}
+
 // A coordinate or velocity of 14 columns, judged and not kept: rows are read when they have been judged.
 pub(crate) fn signed_in(lowest: usize, line: &[u8; 80], first: usize, last: usize) -> usize
     requires { ⌜ (1 ≤ first) × (first ≤ last) × (last ≤ 80) ⌝ }
@@ -370,23 +386,19 @@ pub(crate) fn signed_in(lowest: usize, line: &[u8; 80], first: usize, last: usiz
 {
     let s = &line[..];
     let from = first - 1;
-    let Amount::Value {
-        negative: _,
-        magnitude,
-    } = field::read::decimal(&s[from..last], 6, true)
-    else {
-        return fault_at(lowest, 6, first);
-    };
-    let bounded = laws::within(0, field::sign::LARGEST, magnitude);
-    fault_unless(lowest, bounded, 7, first)
+    let answer = field::read::decimal(&s[from..last], 6, true);
+    amount_fault(lowest, answer, field::sign::LARGEST, first)
 }
 
-// A clock or its rate: such a field too.
+// A clock or its rate: absent, or such a number.
 pub(crate) fn clock_in(lowest: usize, line: &[u8; 80], first: usize, last: usize) -> usize
     requires { ⌜ (1 ≤ first) × (first ≤ last) × (last ≤ 80) ⌝ }
     ensures { λ r. ⌜ r ≡ lower lowest (faultAt (columns first last (clock 6)) (now (line .entry))) ⌝ }
 {
-    signed_in(lowest, line, first, last)
+    let s = &line[..];
+    let from = first - 1;
+    let answer = field::read::clock(&s[from..last], 6);
+    amount_fault(lowest, answer, field::sign::LARGEST, first)
 }
 
 // An exponent: a whole number or blank.
@@ -426,15 +438,7 @@ pub(crate) fn correlation_in(lowest: usize, line: &[u8; 80], first: usize, last:
     if is_blank(bytes) {
         return lowest;
     }
-    let Amount::Value {
-        negative: _,
-        magnitude,
-    } = field::read::signed_whole(bytes)
-    else {
-        return fault_at(lowest, 6, first);
-    };
-    let bounded = laws::within(0, LARGEST_CORRELATION, magnitude);
-    fault_unless(lowest, bounded, 7, first)
+    amount_fault(lowest, field::read::signed_whole(bytes), LARGEST_CORRELATION, first)
 }
 
 // A flag: its letter or blank.

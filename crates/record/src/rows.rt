@@ -5,7 +5,7 @@ ghost use Prim.Native.Nat.{_≤_};
 ghost use Rattle.field.specs.Read.{exponentOf};
 ghost use Rattle.layout.specs.Kind.{identifierCode, maybeHeld, unnoted};
 ghost use Rattle.layout.specs.Layout.{faultFrom};
-ghost use Rattle.record.specs.Rows.{bodyItems, flagItems, rowFault, cut, signedIn, flagIn, rowTaken, rowOf, bareWidth, noteWidth, rowWidth, bothWidth};
+ghost use Rattle.record.specs.Rows.{bodyItems, flagItems, rowFault, cut, signedIn, clockFieldIn, flagIn, rowTaken, rowOf, bareWidth, noteWidth, rowWidth, bothWidth};
 ghost use Rattle.record.specs.Plain.{commentWidth};
 ghost use Rattle.record.specs.Notes.{largestCorrelation};
 use crate::fields;
@@ -104,6 +104,17 @@ fn signed_of(line: &[u8; 80], first: usize, last: usize) -> Signed
     }
 }
 
+// The clock or rate of such a line, columns 47 to 60; an absent one is held as twelve nines.
+fn clock_of(line: &[u8; 80]) -> Signed
+    ensures { λ r. ⌜ r ≡ clockFieldIn (cut 47 60 (now (line .entry))) ⌝ }
+{
+    let read = signed_of(line, 47, 60);
+    Signed {
+        negative: read.negative,
+        magnitude: field::known::clock_held(read.negative, read.magnitude, 6),
+    }
+}
+
 // A whole number that may be blank: what stands for unknown, then.
 fn known_or(bytes: &[u8], unknown: u64) -> u64
     ensures { λ r. ⌜ r ≡ maybeHeld unknown (exponentOf (now (bytes .entry))) ⌝ }
@@ -154,7 +165,7 @@ fn row_taken(line: &[u8; 80], velocity: bool) -> Row
     let x = signed_of(line, 5, 18);
     let y = signed_of(line, 19, 32);
     let z = signed_of(line, 33, 46);
-    let clock = signed_of(line, 47, 60);
+    let clock = clock_of(line);
     Row {
         satellite: satellite_in(line),
         x,

@@ -11,7 +11,7 @@ use Rattle.record.specs.Rows.{rowOf}
 use Rattle.record.specs.LineKinds.{positionKind}
 use Rattle.file.specs.Kinds.{isKind}
 use Rattle.machine.specs.Step.{stepOf, lineKnown}
-use Rattle.float_row.specs.Floats.{floatRow, lineFrom}
+use Rattle.float_row.specs.Floats.{floatRow, absentRow, lineFrom}
 use Rattle.line_walk.specs.Spots.{firstSpot, goneTo}
 use Rattle.header.specs.declared.types.Rules.{Rules}
 use Rattle.machine.specs.declared.types.State.{State}
@@ -85,3 +85,10 @@ stepFrom rules file identifiers passed p = stepAt file p passed (lineKnown rules
 
 abbrev pub rowStep : Rules → List ℕ → List ℕ → RowWalk → RowStep
 rowStep rules file identifiers w = stepFrom rules file identifiers (w .passed) (rowAhead rules file identifiers (w .spot))
+
+-- the row that a step gives; one that gives none has it absent in both parts
+abbrev pub rowOfStep : RowStep → FloatRow
+rowOfStep (step.At epoch satellite row next) = row
+rowOfStep (step.Absent epoch satellite row next) = row
+rowOfStep step.End = absentRow
+rowOfStep (step.Refused number line column) = absentRow

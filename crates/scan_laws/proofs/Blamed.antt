@@ -15,6 +15,7 @@ use Rattle.laws.specs.Texts.{every}
 use Rattle.laws.proofs.Bools.{and-left, and-right, and-both}
 use Rattle.laws.proofs.Bounds.{within-true}
 use Rattle.field.specs.Read.{wholeOf, exponentOf, signedWholeOf, decimalOf}
+use Rattle.field.specs.Clock.{clockOf}
 use Rattle.field.specs.Sign.{largest}
 use Rattle.field.specs.declared.Whole.{Whole}
 use Rattle.field.specs.declared.Whole.the-variants as wholes
@@ -119,7 +120,7 @@ field-tells (fixed number these) bs u e = let range = within-true 4 8 number e i
 field-tells (whole low high) bs u e = tells-whole low high (wholeOf bs)
 field-tells (decimal places low high) bs u e = tells-amount low high (decimalOf bs places false)
 field-tells (signed places) bs u e = tells-amount 0 largest (decimalOf bs places true)
-field-tells (clock places) bs u e = tells-amount 0 largest (decimalOf bs places true)
+field-tells (clock places) bs u e = tells-amount 0 largest (clockOf bs places)
 field-tells (maybe none) bs u e = tells-exponent (exponentOf bs)
 field-tells (maybeSigned none high) bs u e = tells-maybe (every isBlank bs) high (signedWholeOf bs)
 field-tells (flag sign) bs u e = six (eqb (getD bs 0 0) sign || eqb (getD bs 0 0) 32)

@@ -1,8 +1,8 @@
 -- Absence over the doors: a place, clock or correlation with no mark is there, with its own numbers; one with a mark has no number that a file can
 -- hold beside it; a row beside a refusal, and at the end, is absent in both parts.
 -- Assumes nothing.
-use mathlib.Core.Path.{_≡_, refl, sym, ap}
-use mathlib.Core.Bool.{true, false, false≢true}
+use mathlib.Core.Path.{_≡_, refl, sym, ap, _∙_}
+use mathlib.Core.Bool.{Bool, true, false, cond, false≢true}
 use mathlib.Core.Logic.{_⊎_, inl, inr}
 use Prim.Native.Nat.{ℕ, _≤_}
 use native.Mathlib.Omega.{arith}
@@ -16,6 +16,7 @@ use Rattle.stored_row.specs.declared.types.NoteDeviation.{NoteDeviation}
 use Rattle.stored_row.specs.declared.types.NoteDeviation.the-variants as noteDeviation
 use Rattle.stored_row.specs.declared.types.NoteCorrelation.{NoteCorrelation}
 use Rattle.stored_row.specs.declared.types.NoteCorrelation.the-variants as noteCorrelation
+use Rattle.row_walk.specs.Rows.{rowOfStep}
 use Rattle.row_walk.specs.declared.types.RowWalk.{RowWalk}
 use Rattle.row_walk.specs.declared.types.RowStep.{RowStep}
 use Rattle.row_walk.specs.declared.types.RowStep.the-variants as step
@@ -127,3 +128,19 @@ pub refused-row : (from : RowWalk) (number line column : ℕ)
     → let answer = rowDoor from (step.Refused number line column) in (answer .refusal ≡ number) × (answer .line ≡ line) × (answer .column ≡ column)
 unfolding rowDoor
 refused-row from number line column = (refl, refl, refl)
+
+-- a stored clock is marked as it is, and so is the clock of a row that a step gives
+pub clock-mark : (c : ClockRead) (absent : Bool) (v : ℤ) → c ≡ cond absent clock.Absent (clock.At v) → clockDoor c .absent ≡ absent
+unfolding clockDoor
+clock-mark c absent v e = ap (λ (k : ClockRead). clockDoor k .absent) e ∙ go absent
+  where
+    go : (t : Bool) → clockDoor (cond t clock.Absent (clock.At v)) .absent ≡ t
+    go true = refl
+    go false = refl
+
+pub row-clock-mark : (from : RowWalk) (s : RowStep) (absent : Bool) → rowOfStep s .«clock_absent» ≡ absent → rowDoor from s .row .«clock_absent» ≡ absent
+unfolding rowDoor
+row-clock-mark from (step.At epoch satellite row next) absent e = e
+row-clock-mark from (step.Absent epoch satellite row next) absent e = e
+row-clock-mark from step.End absent e = e
+row-clock-mark from (step.Refused number line column) absent e = e

@@ -11,7 +11,7 @@ use lib.Dec.{eqb, ltb}
 use lib.IntN.{pos}
 use Rattle.header.specs.Rules.{d}
 use Rattle.lines.specs.Lines.{nth}
-use Rattle.record.specs.Rows.{rowOf}
+use Rattle.record.specs.Rows.{rowOf, sixNinesIn}
 use Rattle.file.specs.Kinds.{isKind}
 use Rattle.file.specs.Plain.{isRowLine}
 use Rattle.file.specs.Table.{headerIn}
@@ -23,7 +23,7 @@ use Rattle.float_row.specs.Floats.{floatRow}
 use Rattle.scan_laws.proofs.Files.{whole-taken}
 use Rattle.float_row.specs.Floats.{Exactly}
 use Rattle.float_row.proofs.Theorems.{place-float, clock-float, place-absent-exactly, clock-absent-exactly}
-use Rattle.file_laws.proofs.Exact.{Bounded, row-bounded, row-in}
+use Rattle.file_laws.proofs.Exact.{Bounded, row-bounded, row-in, clock-line}
 use Rattle.file_laws.proofs.Rule.{absentIn}
 use Rattle.record.specs.Absence.{placeAbsent}
 use Rattle.file.specs.Exact.{exactSigned}
@@ -107,6 +107,11 @@ module _ (bytes : List ℕ) (accepted : IsFile d bytes) (k j : ℕ) (there : The
       ↔ ((exactSigned (held false bytes k j .x) ≡ pos 0) × (exactSigned (held false bytes k j .y) ≡ pos 0) × (exactSigned (held false bytes k j .z) ≡ pos 0))
   asked-no-place = rw (row-asked bytes accepted k j there) (place-absent-exactly (held false bytes k j))
 
-  -- Its clock is marked absent exactly at +999,999,999,999, whatever the place.
+  -- Its clock is marked absent exactly where the number held is +999,999,999,999, whatever the place,
   pub asked-no-clock : (asked bytes k j .row .«clock_absent» ≡ true) ↔ (exactSigned (held false bytes k j .clock) ≡ pos 999_999_999_999)
   asked-no-clock = rw (row-asked bytes accepted k j there) (clock-absent-exactly (held false bytes k j))
+
+  -- and that is exactly where columns 47 to 53 of its line hold 999999 without a minus.
+  pub asked-six-nines : asked bytes k j .row .«clock_absent» ≡ sixNinesIn (lineAsked false bytes k j)
+  unfolding floatRow
+  asked-six-nines = rw (row-asked bytes accepted k j there) (clock-line d false (identifier bytes j) (lineAsked false bytes k j) named)

@@ -1,29 +1,31 @@
 -- What the lent rows hold after a reading that answers 0: each row of the file, found by epoch and satellite.
 -- Assumes nothing.
-use mathlib.Core.Path.{_≡_, refl, sym, ap, _∙_, subst}
+use mathlib.Core.Path.{_≡_, refl, sym, ap, ap₂, _∙_, subst}
 use mathlib.Core.Bool.{Bool, true, false, cond}
 use mathlib.Core.List.{List, _++_, append-assoc}
 use Prim.Native.Nat.{ℕ, _+_, _*_, _≤_}
 use native.Mathlib.Nat.{mul-comm}
 use native.Mathlib.Omega.{arith}
-use lib.IntN.{ℤ}
-use lib.ListN.{length, take, drop, length-append, length-take, length-drop, take-append-drop}
-use lib.Seq.{length-take-le, take-append-le, drop-append-le}
+use lib.IntN.{ℤ, pos}
+use lib.ListN.{length, getD, take, drop, length-append, length-take, length-drop, take-append-drop}
+use lib.Seq.{length-take-le, take-append-le, drop-append-le, getD-take, getD-drop}
+use Rattle.field.specs.Sign.{largest, signedInt}
 use Rattle.header.specs.Rules.{d}
 use Rattle.lines.specs.Lent.{over}
 use Rattle.lines.specs.Lines.{linesOf, nth}
 use Rattle.record.specs.Absence.{placeAbsent, clockAbsent}
 use Rattle.layout.specs.Layout.{valuesOf}
 use Rattle.layout.specs.Line.{padded}
-use Rattle.record.specs.Rows.{rowFrom, rowItems, noteWidth, rowWidth}
+use Rattle.record.specs.Rows.{rowFrom, rowItems, sixNinesIn, noteWidth, rowWidth}
+use Rattle.record.proofs.Absent.{clock-absent}
 use Rattle.file.specs.Plain.{isRowLine}
 use Rattle.file.specs.Table.{rowNumbers, noteAfter, rowsIn}
 use Rattle.file.proofs.Wide.{after-wide}
 use Rattle.file_laws.proofs.Stored.{noteAt}
 use Rattle.scan.specs.Run.{IsFile}
-use Rattle.stored_row.specs.Stored.{placeIn, clockIn, exponentReadOf, exponentReadIn, flagIn}
+use Rattle.stored_row.specs.Stored.{numberAt, placeIn, clockIn, exponentReadOf, exponentReadIn, flagIn}
 use Rattle.reader.specs.Reading.{fileOf, readAnswer, rowsAfter}
-use Rattle.file_laws.proofs.Exact.{Bounded, row-bounded, row-held, row-in, row-exact, exponents-bounded}
+use Rattle.file_laws.proofs.Exact.{Bounded, row-bounded, row-held, row-in, row-exact, clock-line, exponents-bounded}
 use Rattle.file.specs.Exact.{exactSigned, exactNumbers}
 use Rattle.stored_row.proofs.Theorems.{place-back, clock-back, exponents-back, flags-back}
 use Rattle.stored_row.specs.declared.types.Flag.the-variants as flag
@@ -171,11 +173,28 @@ module _ (bytes : List ℕ) (accepted : IsFile d bytes) (identifiers exponents c
         (place.At (exactSigned (held v bytes k j .x)) (exactSigned (held v bytes k j .y)) (exactSigned (held v bytes k j .z)))
     lent-place = stored-place lent (tableRow v bytes k j) (held v bytes k j) bounded behindRow behind-wide as-stored
 
-    -- Its clock or rate is absent where the field is +999,999,999,999, else it is that field, whatever the place.
-    pub lent-clock : clockIn lent (tableRow v bytes k j)
-        ≡ cond (clockAbsent (held v bytes k j .clock .negative) (held v bytes k j .clock .magnitude)) clock.Absent
-        (clock.At (exactSigned (held v bytes k j .clock)))
-    lent-clock = stored-clock lent (tableRow v bytes k j) (held v bytes k j) bounded behindRow behind-wide as-stored
+    -- Its clock or rate is absent where columns 47 to 53 of the line hold 999999 without a minus, else it is that field, whatever the place.
+    nines : clockAbsent (held v bytes k j .clock .negative) (held v bytes k j .clock .magnitude) ≡ sixNinesIn (lineAsked v bytes k j)
+    nines = clock-line d v (identifier bytes j) (lineAsked v bytes k j) named
+
+    pub lent-clock : clockIn lent (tableRow v bytes k j) ≡ cond (sixNinesIn (lineAsked v bytes k j)) clock.Absent (clock.At (exactSigned (held v bytes k j .clock)))
+    lent-clock =
+        stored-clock lent (tableRow v bytes k j) (held v bytes k j) bounded behindRow behind-wide as-stored
+        ∙ ap (λ (t : Bool). cond t clock.Absent (clock.At (exactSigned (held v bytes k j .clock)))) nines
+
+    -- What is absent is stored as twelve nines.
+    pub lent-nines : sixNinesIn (lineAsked v bytes k j) ≡ true → numberAt lent (tableRow v bytes k j) 3 ≡ pos largest
+    unfolding exactNumbers signedInt
+    lent-nines is =
+        let r = tableRow v bytes k j in
+        let row = held v bytes k j in
+        let absent = clock-absent (row .clock .negative) (row .clock .magnitude) (nines ∙ is) in
+        let place : r * rowWidth + 3 ≡ rowWidth * r + 3 = omega (arith, mul-comm r rowWidth) in
+        ap (λ (i : ℕ). getD lent i (pos 0)) place
+        ∙ sym (getD-drop (rowWidth * r) lent 3 (pos 0))
+        ∙ sym (getD-take rowWidth (drop (rowWidth * r) lent) 3 (pos 0) (omega arith))
+        ∙ ap (λ (s : List ℤ). getD s 3 (pos 0)) lent-row
+        ∙ ap₂ (λ (n : Bool) (m : ℕ). signedInt n m) (absent .0) (absent .1)
 
     -- Its exponents are those of its columns: a value, unknown where they are blank, too large at 99, for the clock at 999.
     pub lent-exponents : let row = held v bytes k j in let r = tableRow v bytes k j in

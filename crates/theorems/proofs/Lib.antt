@@ -5,14 +5,15 @@ pub mod Judging
 pub mod Columns
 pub mod Correlations
 pub mod Room
-pub mod RewriteRoom
 pub mod Filled
 pub mod Floats
 pub mod Lent
 pub mod NoteFields
 pub mod LentNotes
 pub mod Writing
+pub mod Clocks
 pub mod Rewritten
+pub mod RewriteRoom
 pub mod WrittenNotes
 pub mod Known
 pub mod LineRoom

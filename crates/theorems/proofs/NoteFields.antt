@@ -6,7 +6,7 @@ use mathlib.Core.List.{List, [], _∷_}
 use mathlib.Core.Logic.{_↔_, _⊎_, inl, inr}
 use Prim.Native.Nat.{ℕ, zero, suc, _-_, _^_, _<_, _≤_}
 use native.Mathlib.Omega.{arith}
-use borrow.Author.Tests.{eq-eqb, ne-eqb, eqb-true, eqb-false, ltb-true}
+use borrow.Author.Tests.{eq-eqb, eqb-true, eqb-false, ltb-true}
 use lib.Dec.{eqb, leb, ltb}
 use lib.ListN.{length, drop, length-drop}
 use lib.Seq.{length-take-le}
@@ -26,6 +26,7 @@ use Rattle.field.specs.declared.Exponent.the-variants as exponents
 use Rattle.field.specs.declared.Amount.{Amount}
 use Rattle.field.specs.declared.Amount.the-variants as amounts
 use Rattle.laws.proofs.Bools.{and-right}
+use Rattle.field.proofs.Blanks.{blank-all}
 use Rattle.field.proofs.Again.{exponent-again}
 use Rattle.field.proofs.Reading.{exponent-blank, exponent-read}
 use Rattle.layout.proofs.Lines.{padded-length}
@@ -48,19 +49,6 @@ known-within most bs n (inr h) some = h .0
 pub known-few : (most : ℕ) (bs : List ℕ) (n : ℕ) → most < unnoted → Known most bs n → n ≤ unnoted
 known-few most bs n low (inl h) = omega (arith, h .0)
 known-few most bs n low (inr h) = omega (arith, h .0)
-
--- as many blanks in front as there are columns
-blank-all : (bs : List ℕ) → eqb (blanksOf bs) (length bs) ≡ every isBlank bs
-blank-all [] = refl
-blank-all (b ∷ bs) = go (eqb b 32) (blank-all bs)
-  where
-    next : (t : Bool) → eqb (blanksOf bs) (length bs) ≡ t → eqb (suc (blanksOf bs)) (suc (length bs)) ≡ t
-    next true e = eq-eqb (suc (blanksOf bs)) (suc (length bs)) (ap suc (eqb-true (blanksOf bs) (length bs) e))
-    next false e = ne-eqb (suc (blanksOf bs)) (suc (length bs)) (λ q. eqb-false (blanksOf bs) (length bs) e (omega (arith, q)))
-
-    go : (t : Bool) → eqb (blanksOf bs) (length bs) ≡ every isBlank bs → eqb (cond t (suc (blanksOf bs)) 0) (suc (length bs)) ≡ (t && every isBlank bs)
-    go true h = next (every isBlank bs) h
-    go false h = ne-eqb 0 (suc (length bs)) (λ q. omega (arith, q))
 
 -- a deviation of so many columns
 module _ (bs : List ℕ) (w : ℕ) (wide : length bs ≡ w) (some : 1 ≤ w) (fits : w ≤ 18) (most : ℕ) (bound : 10 ^ (w - 0) ≡ suc most) where

@@ -10,7 +10,7 @@ use native.Mathlib.Omega.{arith}
 use lib.ListN.{length, take, drop}
 use Rattle.header.specs.Rules.{d}
 use Rattle.lines.specs.Lines.{linesOf, select, nth}
-use Rattle.record.specs.Rows.{rowOf, rowWidth}
+use Rattle.record.specs.Rows.{rowOf, shortestRow, rowWidth}
 use Rattle.file.specs.Plain.{Plain}
 use Rattle.file.specs.Table.{rowLines, rowsIn}
 use Rattle.scan.specs.Run.{IsFile}
@@ -54,8 +54,8 @@ module _ (bytes : List ℕ) (accepted : IsFile d bytes) where
       ≡ header bytes .satellites * header bytes .epochs
   with-and-without = rw (says-satellites p, says-epochs p) (places-known-and-absent p)
 
-  -- A file has at least 61 bytes for each row, 32 for each epoch and 3 for each comment.
-  pub file-bytes : 61 * length (rowLines d (linesOf bytes)) + 32 * header bytes .epochs + 3 * header bytes .comments ≤ length bytes
+  -- A file has at least 55 bytes for each row, 32 for each epoch and 3 for each comment.
+  pub file-bytes : shortestRow * length (rowLines d (linesOf bytes)) + 32 * header bytes .epochs + 3 * header bytes .comments ≤ length bytes
   file-bytes = rw (says-epochs p, says-comments p) (le-trans (bytes-enough p) (lines-within bytes))
 
   module _ (k j : ℕ) (there : There bytes k j) where

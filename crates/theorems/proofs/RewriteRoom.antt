@@ -1,6 +1,7 @@
 -- The room of the program `rewrite`, which takes files of at most 65,536 bytes. 01, "One file whole": "It has room for 800 comments .., and for all
--- rows". A row has at least 61 bytes, so such a file has at most 1,074 of them: 24,702 numbers are room for all rows, and with 255 identifiers
--- and exponents, and 61,600 bytes for comments, a reading answers 12 exactly where there are more than 800 comments.
+-- rows". A row has at least 55 bytes, so such a file has at most 1,191 of them: 27,393 numbers are room for all rows, and with 255 identifiers
+-- and exponents, and 61,600 bytes for comments, a reading answers 12 exactly where there are more than 800 comments. What was read is written with 12
+-- exactly where its form is longer than the output.
 -- Assumes nothing.
 use mathlib.Core.Path.{_≡_, refl, sym, ap, subst}
 use mathlib.Core.Bool.{Bool, true, false}
@@ -10,12 +11,17 @@ use Prim.Native.Nat.{ℕ, _*_, _≤_, _<_}
 use native.Mathlib.Omega.{arith}
 use borrow.Author.Tests.{leb-true, leb-false}
 use lib.Dec.{leb}
+use lib.IntN.{ℤ}
 use lib.ListN.{length}
 use Rattle.header.specs.Rules.{d}
 use Rattle.lines.specs.Lines.{linesOf}
 use Rattle.file.specs.Table.{rowLines}
 use Rattle.scan.specs.Run.{IsFile}
-use Rattle.reader.specs.Reading.{refusedWith, acceptedAs}
+use Rattle.reader.specs.Reading.{fileOf, readAnswer, refusedWith, acceptedAs}
+use Rattle.canon.specs.Measured.{measured}
+use Rattle.canon_laws.specs.Held.{rewritten}
+use Rattle.theorems.specs.Again.{lentTable}
+use Rattle.theorems.proofs.Rewritten.{lent-twelve}
 use Rattle.scan_laws.proofs.Files.{file-plain, whole-taken}
 use Rattle.file_laws.proofs.Counts.{satellites-bounds}
 use Rattle.theorems.proofs.Accepting.{says-satellites}
@@ -38,17 +44,25 @@ RewriteRoom h = Room h maxSatellites maxSatellites (mostComments * commentWidth)
 abbrev pub rewriteReading : List ℕ → Reading
 rewriteReading bytes = answer true bytes maxSatellites maxSatellites (mostComments * commentWidth) (mostRows * rowWidth)
 
+-- WRITING WHAT WAS READ into 65,536 bytes answers 12 exactly where the form of the file has more.
+pub output-twelve : (bytes : List ℕ) (accepted : IsFile d bytes) (identifiers exponents comments : List ℕ) (rows : List ℤ)
+    → readAnswer d bytes (fileOf d bytes) identifiers exponents comments rows .refusal ≡ 0 → (out : List ℕ) → length out ≡ mostBytes
+    → (measured d (lentTable true bytes identifiers exponents comments rows) (length out) .refusal ≡ 12) ↔ (mostBytes < length (rewritten d bytes))
+output-twelve bytes accepted identifiers exponents comments rows read out room =
+    subst (λ (n : ℕ). (measured d (lentTable true bytes identifiers exponents comments rows) (length out) .refusal ≡ 12) ↔ (n < length (rewritten d bytes))) room
+    (lent-twelve bytes accepted identifiers exponents comments rows read out)
+
 module _ (bytes : List ℕ) (accepted : IsFile d bytes) where
   -- An accepted file names at most 255 satellites.
   pub few-satellites : header bytes .satellites ≤ maxSatellites
   few-satellites = let p = file-plain bytes accepted in omega (arith, says-satellites p, satellites-bounds p .1)
 
   module _ (short : length bytes ≤ mostBytes) where
-    -- One of at most 65,536 bytes has at most 1,074 rows,
-    pub few-rows : length (rowLines d (linesOf bytes)) ≤ 1_074
+    -- One of at most 65,536 bytes has at most 1,191 rows,
+    pub few-rows : length (rowLines d (linesOf bytes)) ≤ mostRows
     few-rows = omega (arith, file-bytes bytes accepted)
 
-    -- so ROWS ARE NEVER SHORT: it needs at most 24,702 numbers for them.
+    -- so ROWS ARE NEVER SHORT: it needs at most 27,393 numbers for them.
     pub rows-fit : rowsNeeded (header bytes) ≤ mostRows * rowWidth
     rows-fit = go (header bytes .velocity) refl
       where
@@ -76,7 +90,7 @@ module _ (bytes : List ℕ) (accepted : IsFile d bytes) where
         (subst (λ (s : List ℕ). Short (header s) maxSatellites maxSatellites (mostComments * commentWidth) (mostRows * rowWidth)) (sym (whole-taken bytes (accepted .0) (accepted .1)))
         (inr (inr (inl (omega arith)))))
 
-    -- 12 IS FOR COMMENTS ALONE: it is answered exactly where there are more than 800.
+    -- A READING IS SHORT OF COMMENTS ALONE: 12 is answered exactly where there are more than 800.
     pub twelve-exactly : (rewriteReading bytes .refusal ≡ 12) ↔ (mostComments < header bytes .comments)
     twelve-exactly = (
       λ twelve. go (leb (header bytes .comments) 800) refl twelve,

@@ -5,7 +5,7 @@ use mathlib.Core.Path.{_≡_, sym, ap, ap₂, _∙_, subst}
 use mathlib.Core.Bool.{true, false}
 use mathlib.Core.List.{List, [], _++_}
 use mathlib.Core.Logic.{_↔_}
-use Prim.Native.Nat.{ℕ, _*_, _≤_}
+use Prim.Native.Nat.{ℕ, _*_, _≤_, _<_}
 use native.Mathlib.Omega.{arith}
 use lib.IntN.{ℤ}
 use lib.ListN.{length, take, drop, length-take}
@@ -39,7 +39,7 @@ use Rattle.canon_laws.proofs.Rewriting as rewriting
 use Rattle.theorems.proofs.Filled.{length-told, identifiers-filled, exponents-filled, comments-filled, rows-filled, header-told}
 use Rattle.theorems.proofs.Room.{room-accepted}
 use Rattle.theorems.specs.Room.{Room}
-use Rattle.theorems.proofs.Writing.{written-0, valid-table, out-is, written-form, written-length}
+use Rattle.theorems.proofs.Writing.{written-0, twelve-exactly, valid-table, out-is, written-form, written-length}
 use Rattle.header.specs.declared.types.Header.{Header}
 use Rattle.reader.specs.declared.types.Reading.{Reading}
 use Rattle.canon.specs.declared.types.Measured.{Measured}
@@ -168,7 +168,14 @@ module _ (bytes : List ℕ) (accepted : IsFile d bytes) (identifiers exponents c
     lent-written =
         out-is lent out (ap (λ (m : Measured). m .refusal) lent-answer) ∙ ap (λ (s : List ℕ). over s out) lent-form
 
-  -- which is accepted, has the same table, and written again stays as it is;
+  -- and by 12 exactly where there is none;
+  pub lent-twelve : (out : List ℕ) → (measured d lent (length out) .refusal ≡ 12) ↔ (length out < length (rewritten d bytes))
+  lent-twelve out = (
+    λ twelve. subst (λ (s : List ℕ). length out < length s) lent-form (twelve-exactly lent out .0 twelve .1),
+    λ few. twelve-exactly lent out .1 (lent-valid, subst (λ (s : List ℕ). length out < length s) (sym lent-form) few),
+  )
+
+  -- the form is accepted, has the same table, and written again stays as it is;
   pub form-file : IsFile d (rewritten d bytes)
   form-file = d-exactly (rewritten d bytes) .1 (rewriting.rewritten-accepted d d-proper bytes (d-exactly bytes .0 accepted))
 

@@ -16,7 +16,7 @@ use Rattle.layout.specs.Line.{padded}
 use Rattle.header.specs.Rules.{d}
 use Rattle.lines.specs.Lines.{linesOf, select, nth}
 use Rattle.record.specs.LineKinds.{positionKind, toldKind, kindOf, longest}
-use Rattle.record.specs.Rows.{rowOf}
+use Rattle.record.specs.Rows.{rowOf, sixNinesIn}
 use Rattle.file.specs.Kinds.{isKind, ofKind}
 use Rattle.machine.specs.Faults.{standingFault}
 use Rattle.machine.specs.Next.{nextOf}
@@ -35,12 +35,12 @@ use Rattle.scan_laws.proofs.Used.{frontLines, accepted-front}
 use Rattle.theorems.specs.Faults.{after}
 use Rattle.theorems.proofs.Known.{Knows, known-steps}
 use Rattle.theorems.proofs.Reading.{rows-number}
-use Rattle.theorems.specs.Files.{header, rowLinesOf, rowAt, There}
-use Rattle.theorems.proofs.Floats.{row-asked}
+use Rattle.theorems.specs.Files.{header, rowLinesOf, rowAt, There, lineAsked}
+use Rattle.theorems.proofs.Floats.{row-asked, asked-six-nines}
 use Rattle.theorems.specs.Asked.{asked}
 use Rattle.theorems.specs.Walked.{spotOf}
 use Rattle.line_walk.specs.Spots.{firstSpot}
-use Rattle.row_walk.specs.Rows.{firstWalk, toRow, lineNumber, epochOf, satelliteOf, shown, stepAt, stepFrom, rowStep}
+use Rattle.row_walk.specs.Rows.{firstWalk, toRow, lineNumber, epochOf, satelliteOf, shown, stepAt, stepFrom, rowStep, rowOfStep}
 use Rattle.row_walk.proofs.Going.{passed}
 use Rattle.divide.proofs.Ending.{ends-or-on}
 use Rattle.record.specs.declared.types.LineKind.{LineKind}
@@ -88,6 +88,15 @@ unfolding shown
 row-leads epoch satellite row next more = go (row .«place_absent»)
   where
     go : (b : Bool) → onRow (cond b (step.Absent epoch satellite row next) (step.At epoch satellite row next)) more ≡ more next
+    go true = refl
+    go false = refl
+
+-- a row that is shown is the one that is given
+row-shown : (epoch satellite : ℕ) (row : FloatRow) (next : RowWalk) → rowOfStep (shown epoch satellite row next) .«clock_absent» ≡ row .«clock_absent»
+unfolding shown
+row-shown epoch satellite row next = go (row .«place_absent»)
+  where
+    go : (b : Bool) → rowOfStep (cond b (step.Absent epoch satellite row next) (step.At epoch satellite row next)) .«clock_absent» ≡ row .«clock_absent»
     go true = refl
     go false = refl
 
@@ -361,6 +370,12 @@ module _ (bytes : List ℕ) (t : Tally) (accepted : fileOf d bytes ≡ front.Fil
         → (next : RowWalk) × (walkStep bytes identifiers (rowAt bytes k j) ≡ step.At k j (asked bytes k j .row) next)
     unfolding shown
     walk-at e = let x = walk-gives k j there in (x .0, x .1 ∙ rw e)
+
+    -- THE CLOCK of the row that comes is marked absent exactly where columns 47 to 53 of its line hold 999999 without a minus.
+    pub walk-clock : rowOfStep (walkStep bytes identifiers (rowAt bytes k j)) .«clock_absent» ≡ sixNinesIn (lineAsked false bytes k j)
+    walk-clock =
+        let x = walk-gives k j there in
+        ap (λ (s : RowStep). rowOfStep s .«clock_absent») (x .1) ∙ row-shown k j (asked bytes k j .row) (x .0) ∙ asked-six-nines bytes (t, accepted) k j there
 
 -- A LINE ON THE WAY THAT IS REFUSED is the walk's refusal, with its number, its line and its column; where no line is left it is 1.
 module _ (bytes identifiers : List ℕ) (w : RowWalk) where

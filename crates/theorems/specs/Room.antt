@@ -48,4 +48,4 @@ abbrev pub mostComments : ℕ
 mostComments = 800
 
 abbrev pub mostRows : ℕ
-mostRows = 1_074
+mostRows = 1_191

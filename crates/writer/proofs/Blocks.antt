@@ -3,14 +3,14 @@
 use mathlib.Core.Path.{_≡_, refl, sym, ap, ap₂, _∙_}
 use mathlib.Core.Bool.{Bool, true, false}
 use mathlib.Core.List.{List, [], _∷_, _++_}
-use Prim.Native.Nat.{ℕ, zero, suc, _+_, _-_, _*_, _≤_, _<_, min}
+use Prim.Native.Nat.{ℕ, suc, _+_, _-_, _*_, _≤_, _<_, min}
 use native.Mathlib.Nat.{suc-mul}
 use native.Mathlib.Decide.{decLe}
 use native.Mathlib.Omega.{arith}
 use lib.IntN.{ℤ}
 use lib.ListN.{length, take, drop, getD, length-drop, length-take, drop-of-length-le}
-use lib.Seq.{drop-drop, take-all, take-nil, take-take}
-use Rattle.laws.proofs.Lists.{rest-step}
+use lib.Seq.{drop-drop, take-all, take-take}
+use Rattle.laws.proofs.Lists.{rest-step, front-rest}
 use Rattle.lines.specs.Lent.{flat}
 use Rattle.record.specs.Opening.{epochLine}
 use Rattle.record.specs.Plain.{commentLine, commentWidth}
@@ -151,19 +151,6 @@ module _ (velocity : Bool) (cell : List ℤ) (size : length cell ≡ cellWidth v
       go : (v : Bool) → velocity ≡ v → length (flat (notedLines false identifier (take rowWidth cell))) ≤ length out
       go true e = first-room (notedLines false identifier (take rowWidth cell)) (notedLines true identifier (take rowWidth (drop rowWidth cell))) out (rw (cell-moved identifier e) at h)
       go false e = rw (cell-placed identifier e) at h
-
--- what a front has past its first elements
-front-rest : {A : Type 0} (w n : ℕ) (l : List A) → drop w (take n l) ≡ take (n - w) (drop w l)
-front-rest zero n l =
-    let same : n - 0 ≡ n = omega arith in
-    rw same
-front-rest (suc w) zero l =
-    let none : 0 - suc w ≡ 0 = omega arith in
-    rw none
-front-rest (suc w) (suc n) [] = sym (take-nil (suc n - suc w))
-front-rest (suc w) (suc n) (x ∷ l) =
-    let same : suc n - suc w ≡ n - w = omega arith in
-    rw same (front-rest w n l)
 
 -- the satellites of one epoch have no rows past its own
 pub cells-front : (velocity : Bool) (identifiers : List ℕ) (rows : List ℤ) (n : ℕ) → length identifiers * cellWidth velocity ≤ n

@@ -1,6 +1,6 @@
 -- The words of the front page: where each is defined. The definitions in reading order are in docs/READING.md.
 pub use mathlib.Core.Path.{_≡_, _∙_}
-pub use mathlib.Core.Bool.{Bool, true, false, not, _&&_, cond}
+pub use mathlib.Core.Bool.{Bool, true, false, not, _&&_, _||_, cond}
 pub use mathlib.Core.Logic.{_↔_, _⊎_}
 pub use mathlib.Core.List.{List, [], _∷_, _++_, map}
 pub use Prim.Native.Nat.{ℕ, _+_, _-_, _*_, _≤_, _<_}
@@ -55,9 +55,10 @@ pub use Rattle.questions.proofs.Theorems.{CommentPost}
 pub use Rattle.theorems.proofs.Judging as judging
 pub use Rattle.theorems.specs.Faults.{FirstFault, after, AllGoOn, Outside, refusedLine, InColumns}
 pub use Rattle.scan_laws.specs.Earned.{Among, itemsAt, byteAt, fieldNumber, fieldColumn}
-pub use Rattle.layout.specs.Fault.{keyed}
+pub use Rattle.layout.specs.Fault.{clean, keyed}
 pub use Rattle.layout.specs.Kind.{isUnused}
-pub use Rattle.layout.specs.Layout.{Item, faultAt}
+pub use Rattle.layout.specs.Layout.{Item, columns, faultAt, showLine}
+pub use Rattle.layout.specs.Kind.Kind.{signed, clock as clockKind}
 pub use Rattle.header.specs.declared.types.Rules.{Rules}
 pub use Rattle.record.specs.declared.types.LineKind.{LineKind}
 pub use Rattle.theorems.proofs.Columns as told-columns
@@ -69,6 +70,8 @@ pub use Rattle.theorems.proofs.Room as room
 pub use Rattle.theorems.specs.Room.{foundIn, Room, Short, rowsNeeded, answer, fills, mostBytes, mostComments, mostRows}
 pub use Rattle.theorems.proofs.RewriteRoom as rewriteRoom
 pub use Rattle.theorems.proofs.Writing as writing
+pub use Rattle.theorems.proofs.Clocks as clocks
+pub use Rattle.theorems.proofs.Clocks.{twelveNines}
 pub use Rattle.theorems.proofs.Rewritten as rewritten
 pub use Rattle.theorems.specs.Again.{writtenBytes, lentTable}
 pub use Rattle.theorems.proofs.Correlations as correlations
@@ -94,16 +97,21 @@ pub use Rattle.scan.specs.declared.Front.the-variants as front
 pub use Rattle.divide.specs.declared.Division.{Division}
 pub use Rattle.line_walk.specs.declared.Walker.{Walker}
 pub use Rattle.row_walk.specs.declared.types.RowWalk.{RowWalk}
-pub use Rattle.row_walk.specs.Rows.{lineNumber, rowStep}
+pub use Rattle.row_walk.specs.Rows.{lineNumber, rowStep, rowOfStep}
+pub use Rattle.sp3.specs.Doors.{clockDoor, rowDoor}
+pub use Rattle.sp3.proofs.Marks.{clock-mark, row-clock-mark}
 pub use Rattle.row_walk.specs.declared.types.RowStep.the-variants as step
 pub use Rattle.layout.specs.Layout.{valuesOf}
 pub use Rattle.layout.specs.Kind.{unnoted, isBlank}
 pub use Rattle.layout.specs.Line.{padded, ended}
-pub use Rattle.record.specs.Rows.{rowItems, rowFrom, bareWidth, rowWidth}
+pub use Rattle.record.specs.Rows.{cut, rowItems, rowValues, rowFrom, sixNinesIn, shortestRow, bareWidth, rowWidth}
+pub use Rattle.field.specs.Digits.{allDigits}
+pub use Rattle.field.specs.Read.{wholeOf}
+pub use Rattle.field.specs.Clock.{isSixNines}
 pub use Rattle.record.specs.Notes.{correlationItems, correlationSymbol, largestDeviation, largestCorrelation, noteFrom, noteOf, noteLine, deviationAt, correlationAt}
-pub use Rattle.record.specs.Absence.{placeAbsent, clockAbsent}
+pub use Rattle.record.specs.Absence.{placeAbsent}
 pub use Rattle.reader.specs.Reading as read-as
-pub use Rattle.stored_row.specs.Stored.{isThere, placeIn, clockIn, exponentReadOf, exponentReadIn, flagIn, noteIn, noteDeviationOf, noteDeviationIn, noteCorrelationIn}
+pub use Rattle.stored_row.specs.Stored.{isThere, numberAt, placeIn, clockIn, exponentReadOf, exponentReadIn, flagIn, noteIn, noteDeviationOf, noteDeviationIn, noteCorrelationIn}
 pub use Rattle.stored_row.specs.declared.types.Place.the-variants as place
 pub use Rattle.stored_row.specs.declared.types.ClockRead.the-variants as clock
 pub use Rattle.stored_row.specs.declared.types.ExponentRead.the-variants as exponentRead

@@ -1,22 +1,18 @@
 -- `record::fields::signed_in` meets its contract.
 -- Assumes nothing.
 use mathlib.Core.Bool.{true}
-use Prim.Native.Nat.{_-_}
 use borrow.Author.Needs.{needs}
-use lib.ListN.{take, drop}
-use Rattle.record.proofs.Answers.{decimal-case}
+use Rattle.field.specs.Read.{decimalOf}
+use Rattle.field.specs.Sign.{largest}
+use Rattle.record.specs.Rows.{cut}
+use Rattle.record.proofs.Answers.{amount-judged}
 use Rattle.record.proofs.fields.signed_in.Statement.{statement}
 use Rattle.record.proofs.fields.signed_in.Tie as tie
 
 returns : tie.Need-returns
 returns c =
-    let a = c .before .before .before .before .before .before .args in
-    rw (decimal-case (take (a .last - (a .first - 1)) (drop (a .first - 1) (a .line .now))) 6 true _ _ (c .before .before .before .decimal .ensures) (c .before .enum-told .given .1), c .fault-at .ensures)
-
-returns-2 : tie.Need-returns-2
-returns-2 c =
-    let a = c .before .before .before .before .before .before .before .before .args in
-    rw (decimal-case (take (a .last - (a .first - 1)) (drop (a .first - 1) (a .line .now))) 6 true _ _ (c .before .before .before .before .before .decimal .ensures) (c .before .before .before .magnitude .given .1), c .fault-unless .ensures, c .before .within .ensures)
+    let a = c .before .before .before .before .args in
+    amount-judged (a .lowest) (a .first) largest (c .before .decimal .result) (decimalOf (cut (a .first) (a .last) (a .line .now)) 6 true) (c .before .decimal .ensures) (c .amount-fault .ensures)
 
 pub signed-in-spec : {M : Type 1} → statement M
 signed-in-spec =
@@ -27,10 +23,5 @@ signed-in-spec =
     (λ c. search needs)
     (λ c. search needs)
     (λ c κs. search needs)
-    (λ c. search needs)
-    (λ c. search needs)
     (λ c κs. search needs)
-    returns
-    (λ c κs. search needs)
-    (λ c κs. search needs)
-    returns-2)
+    returns)
