@@ -27,6 +27,23 @@ static size_t decimal(const uint8_t *s, size_t column, bool *negative, uint64_t 
     return v > 999999999999u ? fault(7, column) : 0;
 }
 
+// six nines without a minus, the point and blanks
+static bool bare(const uint8_t *s) {
+    size_t i = 0;
+    uint64_t v = 0;
+    while (i < 7 && s[i] == ' ') i++;
+    for (; i < 7 && s[i] >= '0' && s[i] <= '9'; i++) v = v * 10 + (s[i] - '0');
+    return i == 7 && v == 999999 && memcmp(s + 7, ".      ", 7) == 0;
+}
+
+// such a decimal, of which six nines without a minus are absent, or bare ones
+static size_t clock_at(const uint8_t *s, size_t column, bool *negative, uint64_t *value) {
+    size_t found = decimal(s, column, negative, value);
+    bool absent = found ? bare(s) : !*negative && *value >= 999999000000u;
+    if (absent) *value = 999999999999u;
+    return absent ? 0 : found;
+}
+
 // blank, or blanks and at least one digit
 static size_t exponent(const uint8_t *s, size_t n, size_t column, uint64_t *value) {
     size_t i = 0;
@@ -53,7 +70,8 @@ static size_t read_row(const uint8_t *s, struct row *r) {
     uint64_t number = (s[2] - '0') * 10 + (s[3] - '0');
     low = lower(low, !named ? fault(6, 2) : number == 0 ? fault(7, 2) : 0);
     r->satellite = s[1] * 100 + number;
-    for (int k = 0; k < 4; k++) low = lower(low, decimal(s + 4 + 14 * k, 5 + 14 * k, &r->negative[k], &r->number[k]));
+    for (int k = 0; k < 3; k++) low = lower(low, decimal(s + 4 + 14 * k, 5 + 14 * k, &r->negative[k], &r->number[k]));
+    low = lower(low, clock_at(s + 46, 47, &r->negative[3], &r->number[3]));
     for (int k = 0; k < 4; k++) {
         low = lower(low, blank(s, unused[k]));
         low = lower(low, exponent(s + at[k] - 1, wide[k], at[k], &r->spread[k]));
@@ -102,6 +120,17 @@ static const char *const bad[LINES] = {
     "PC33  20123.456789 -20123.456789   -123.000001     -0.000001 .0  1  9   0    xM ",
 };
 
+// clocks near six nines: compared and not counted
+static const char *const clocks[] = {
+    "PR24 -12345.678901  25000.000001      0.000000 999999.                          ",
+    "PR24 -12345.678901  25000.000001      0.0000000999999.123456                    ",
+    "PR24 -12345.678901  25000.000001      0.000000-999999.000000                    ",
+    "PR24 -12345.678901  25000.000001      0.000000 999998.999999                    ",
+    "PR24 -12345.678901  25000.000001      0.000000 999999.     0                    ",
+    "PR24 -12345.678901  25000.000001      0.000000-999999.                          ",
+    "PR24 -12345.678901  25000.000001      0.0000001000000.000000                    ",
+};
+
 static const char *const *lines;
 static uint64_t sum;
 static __typeof__(our_judge) *judge;
@@ -120,6 +149,10 @@ static int differences(void) {
     for (int k = 0; k < LINES; k++) {
         const uint8_t *s = (const uint8_t *)good[k], *t = (const uint8_t *)bad[k];
         wrong += our_judge(s) != 0 || c_judge(s) != 0 || our_judge(t) != c_judge(t) || our_judge(t) == 0 || our_take(s, WIDTH) != c_take(s, WIDTH);
+    }
+    for (size_t k = 0; k < sizeof clocks / sizeof *clocks; k++) {
+        const uint8_t *s = (const uint8_t *)clocks[k];
+        wrong += our_judge(s) != c_judge(s) || (our_judge(s) == 0 && our_take(s, WIDTH) != c_take(s, WIDTH));
     }
     return wrong;
 }

@@ -15,7 +15,7 @@
 #   tests/compare.sh columns
 #   tests/compare.sh case columns NUMBER
 #
-# compares the doors on some 30,000 files that differ from an accepted one in one line: in a row, an EP or an EV every class of bytes in each of its
+# compares the doors on some 37,000 files that differ from an accepted one in one line: in a row, an EP or an EV every class of bytes in each of its
 # columns, and pairs of bytes side by side; some bytes in each column of the other lines; identifiers that make the same number; a line once more.
 # They are always the same. A difference is shown at once; the second shows any.
 #

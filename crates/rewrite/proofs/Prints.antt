@@ -6,7 +6,9 @@ use mathlib.Core.List.{List}
 use Prim.Native.Nat.{ℕ, _≤_, _<_}
 use native.Mathlib.Omega.{arith}
 use borrow.Author.Tests.{le-leb, lt-leb}
+use lib.Dec.{leb}
 use lib.ListN.{length}
+use Rattle.laws.proofs.Bools.{and-false}
 use Rattle.header.specs.Rules.{d}
 use Rattle.scan.specs.Run.{IsFile}
 use Rattle.reader.specs.Reading.{fileOf}
@@ -37,7 +39,15 @@ module _ (bytes : List ℕ) (short : length bytes ≤ mostBytes) where
     prints-12 many =
         sym (printed-short bytes short) ∙ ap (answered bytes) (accepted .1) ∙ rw (lt-leb (header bytes .comments) mostComments many)
 
-    -- and any other, whose form has at most 65,536 bytes, by that form.
+    -- as is one whose form has more than 65,536 bytes,
+    pub prints-12-long : mostBytes < length (rewritten d bytes) → printed bytes ≡ refusedText 12 0 0
+    unfolding answered
+    prints-12-long long =
+        sym (printed-short bytes short)
+        ∙ ap (answered bytes) (accepted .1)
+        ∙ rw (lt-leb (length (rewritten d bytes)) mostBytes long, and-false (leb (header bytes .comments) mostComments))
+
+    -- and any other by its form.
     pub prints-form : header bytes .comments ≤ mostComments → length (rewritten d bytes) ≤ mostBytes → printed bytes ≡ rewritten d bytes
     unfolding answered
     prints-form few fits =

@@ -2,10 +2,10 @@
 -- stays 6. The canonical form still writes twelve nines. The largest valid clock is now 999,998,999,999."
 -- Assumes nothing.
 use mathlib.Core.Path.{_≡_, refl, sym, ap, _∙_}
-use mathlib.Core.Bool.{Bool, true, false, cond, _&&_, _||_, or-false, false≢true}
+use mathlib.Core.Bool.{Bool, true, false, cond, _&&_, _||_, false≢true}
 use mathlib.Core.List.{List, [], _∷_, _++_, append-assoc}
-use Prim.Native.Nat.{ℕ, zero, suc, _+_, _-_, _*_, _/_, _<_, _≤_}
-use native.Mathlib.Nat.{le-of-suc-le-suc, not-suc-le-zero, suc-mul, div-lt-iff-lt-mul}
+use Prim.Native.Nat.{ℕ, zero, suc, _+_, _*_, _/_, _<_, _≤_}
+use native.Mathlib.Nat.{le-of-suc-le-suc, not-suc-le-zero}
 use native.Mathlib.Omega.{arith}
 use borrow.Author.Tests.{le-leb, lt-leb, lt-ltb, ltb-true, eq-eqb, ne-eqb}
 use lib.Dec.{leb, ltb, eqb}
@@ -15,7 +15,7 @@ use lib.Seq.{take-take, length-take-le, getD-take, getD-drop, drop-drop}
 use Rattle.laws.specs.Texts.{every}
 use Rattle.field.specs.Digits.{isBlank, allDigits, pointOf}
 use Rattle.field.specs.Read.{wholeOf, decimalOf, integerOf, carried}
-use Rattle.field.specs.Show.{digitsIn, showInteger, fitsInteger, showDecimal, fitsDecimal}
+use Rattle.field.specs.Show.{showInteger, fitsInteger, showDecimal, fitsDecimal}
 use Rattle.field.specs.Clock.{isSixNines, ninesBefore, hasPoint, clockMissing, clockOf}
 use Rattle.field.specs.Sign.{largest, largestClock}
 use Rattle.field.specs.declared.Amount.{Amount}
@@ -23,18 +23,16 @@ use Rattle.field.specs.declared.Amount.the-variants as amounts
 use Rattle.layout.specs.Fault.{clean, keyed}
 use Rattle.layout.specs.Kind.{amountFault}
 use Rattle.layout.specs.Kind.Kind.{signed, clock}
-use Rattle.layout.specs.Kind.Held.{amount}
-use Rattle.layout.specs.Layout.{Item, Values, columns, partOf, faultAt, tiledFrom, tiled, bytesOf, leftOf, showLine}
+use Rattle.layout.specs.Layout.{Item, Values, columns, partOf, faultAt, tiledFrom, bytesOf, leftOf, showLine}
 use Rattle.layout.proofs.Layouts.{further, part-shown}
 use Rattle.record.specs.Rows.{cut, rowItems, rowValues, bareWidth, rowWidth, bothWidth}
 use Rattle.record.specs.declared.types.Row.{Row}
-use Rattle.record.specs.declared.types.Signed.{Signed}
 use Rattle.record.proofs.Tiled.{rows-tiled}
 use Rattle.laws.proofs.Bools.{and-left, and-right}
 use Rattle.laws.proofs.Lists.{front-rest}
 use Rattle.header.specs.Rules.{d}
 use Rattle.canon.specs.Table.{Table, cellWidth, cellsIn, rowsOf}
-use Rattle.canon.specs.Valid.{entry, amountValid, clockValid, exponentValid, flagValid, fourValid, rowValid, noteValid, notedValid, cellValid, rowsValid, valid}
+use Rattle.canon.specs.Valid.{entry, amountValid, clockValid, fourValid, rowValid, noteValid, notedValid, cellValid, rowsValid, valid}
 use Rattle.canon.specs.Measured.{measured}
 use Rattle.canon.proofs.Parts.{parts}
 use Rattle.stored_row.specs.Stored.{isThere, numberAt}
