@@ -105,7 +105,7 @@ fn signed_of(line: &[u8; 80], first: usize, last: usize) -> Signed
 }
 
 // The clock or rate of such a line, columns 47 to 60; an absent one is held as twelve nines.
-fn clock_of(line: &[u8; 80]) -> Signed
+fn clock_taken(line: &[u8; 80]) -> Signed
     ensures { λ r. ⌜ r ≡ clockFieldIn (cut 47 60 (now (line .entry))) ⌝ }
 {
     let read = signed_of(line, 47, 60);
@@ -165,7 +165,7 @@ fn row_taken(line: &[u8; 80], velocity: bool) -> Row
     let x = signed_of(line, 5, 18);
     let y = signed_of(line, 19, 32);
     let z = signed_of(line, 33, 46);
-    let clock = clock_of(line);
+    let clock = clock_taken(line);
     Row {
         satellite: satellite_in(line),
         x,

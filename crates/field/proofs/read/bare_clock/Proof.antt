@@ -10,7 +10,6 @@ use lib.Seq.{length-take-le}
 use Rattle.field.specs.Digits.{blanksOf, pointOf}
 use Rattle.field.specs.Read.{wholeOf}
 use Rattle.field.specs.Clock.{sixNines}
-use Rattle.field.specs.declared.Whole.the-variants as whole
 use Rattle.field.specs.declared.Amount.the-variants as amount
 use Rattle.laws.proofs.Lists.{rest-part}
 use Rattle.field.proofs.Told.{toldWhole-one}
