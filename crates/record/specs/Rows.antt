@@ -9,13 +9,18 @@ use lib.ListN.{getD, take, drop}
 use Rattle.field.specs.Read.{wholeOf, exponentOf}
 use Rattle.field.specs.Known.{knownMagnitude, knownNegative}
 use Rattle.field.specs.Clock.{isSixNines, clockHeld}
-use Rattle.layout.specs.Kind.{identifierCode, exponentHeld, exponent}
+use Rattle.layout.specs.Kind.{Kind, identifierCode, exponentHeld, exponent}
 use Rattle.layout.specs.Kind.Kind.{unused, fixed, signed, clock, flag, identifier}
 use Rattle.layout.specs.Kind.Held.{one, amount, mark}
 use Rattle.layout.specs.Layout.{Item, Values, columns, column, partAt, numberAt, negativeAt, magnitudeAt, markAt, faultOf, showLine}
 use Rattle.layout.specs.Line.{padded, ended}
 use Rattle.record.specs.declared.types.Signed.{Signed}
 use Rattle.record.specs.declared.types.Row.{Row}
+
+-- x, y, z (false) and the clock (true): F14.6
+abbrev pub amountKind : Bool → Kind
+amountKind true = clock 6
+amountKind false = signed 6
 
 -- columns 2 to 73, the same in both: 2-4 Vehicle Id. A1,I2.2, 5-18, 19-32, 33-46 x, y, z F14.6, 47-60 clock F14.6, 62-63, 65-66, 68-69
 -- sdev I2, 71-73 sdev I3; 61, 64, 67, 70 Unused

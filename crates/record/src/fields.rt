@@ -10,10 +10,11 @@ ghost use Rattle.laws.specs.Tests.{within};
 ghost use Rattle.laws.specs.Texts.{every};
 ghost use Rattle.layout.specs.Fault.{clean, lower, keyed};
 ghost use Rattle.layout.specs.Kind.{unless, unusedFault, amountFault, sameBytes, isBlank, identifierCode, exponent};
-ghost use Rattle.layout.specs.Kind.Kind.{unused, fixed, whole, decimal, signed, clock, flag, letter, listed, identifier, zeroWhole, zeroDecimal, text};
+ghost use Rattle.layout.specs.Kind.Kind.{unused, fixed, whole, decimal, flag, letter, listed, identifier, zeroWhole, zeroDecimal, text};
 ghost use Rattle.layout.specs.Layout.{columns, column, partAt, partOf, faultAt};
 ghost use Rattle.header.specs.Letters.{modes, fileTypes, timeSystems};
 ghost use Rattle.record.specs.Times.{dateFault};
+ghost use Rattle.record.specs.Rows.{amountKind};
 ghost use Rattle.record.specs.Notes.{correlation};
 ghost use Rattle.record.specs.Steps.{judgedBy, judgedAt, letteredAt};
 use crate::notes::LARGEST_CORRELATION;
@@ -379,26 +380,34 @@ fn amount_fault(lowest: usize, answer: Amount, most: u64, at: usize) -> usize
     fault_unless(lowest, bounded, 7, at)
 }
 
-// A coordinate or velocity of 14 columns, judged and not kept: rows are read when they have been judged.
-pub(crate) fn signed_in(lowest: usize, line: &[u8; 80], first: usize, last: usize) -> usize
+// A coordinate or velocity of 14 columns, or where `clock` says so a clock or its rate, judged and not kept: rows are read when they have been judged.
+pub(crate) fn amount_in(
+    lowest: usize,
+    line: &[u8; 80],
+    clock: bool,
+    first: usize,
+    last: usize,
+) -> usize
     requires { ⌜ (1 ≤ first) × (first ≤ last) × (last ≤ 80) ⌝ }
-    ensures { λ r. ⌜ r ≡ lower lowest (faultAt (columns first last (signed 6)) (now (line .entry))) ⌝ }
+    ensures { λ r. ⌜ r ≡ lower lowest (faultAt (columns first last (amountKind clock)) (now (line .entry))) ⌝ }
 {
     let s = &line[..];
     let from = first - 1;
-    let answer = field::read::decimal(&s[from..last], 6, true);
-    amount_fault(lowest, answer, field::sign::LARGEST, first)
-}
-
-// A clock or its rate: absent, or such a number.
-pub(crate) fn clock_in(lowest: usize, line: &[u8; 80], first: usize, last: usize) -> usize
-    requires { ⌜ (1 ≤ first) × (first ≤ last) × (last ≤ 80) ⌝ }
-    ensures { λ r. ⌜ r ≡ lower lowest (faultAt (columns first last (clock 6)) (now (line .entry))) ⌝ }
-{
-    let s = &line[..];
-    let from = first - 1;
-    let answer = field::read::clock(&s[from..last], 6);
-    amount_fault(lowest, answer, field::sign::LARGEST, first)
+    let bytes = &s[from..last];
+    if clock {
+        return amount_fault(
+            lowest,
+            field::read::clock(bytes, 6),
+            field::sign::LARGEST,
+            first,
+        );
+    }
+    amount_fault(
+        lowest,
+        field::read::decimal(bytes, 6, true),
+        field::sign::LARGEST,
+        first,
+    )
 }
 
 // An exponent: a whole number or blank.

@@ -48,10 +48,10 @@ fn body_fault(lowest: usize, line: &[u8; 80]) -> usize
     ensures { λ r. ⌜ r ≡ faultFrom lowest bodyItems (now (line .entry)) ⌝ }
 {
     let identifier = fields::identifier_in(lowest, line, 2, 4);
-    let a = fields::signed_in(identifier.fault, line, 5, 18);
-    let b = fields::signed_in(a, line, 19, 32);
-    let c = fields::signed_in(b, line, 33, 46);
-    let d = fields::clock_in(c, line, 47, 60);
+    let a = fields::amount_in(identifier.fault, line, false, 5, 18);
+    let b = fields::amount_in(a, line, false, 19, 32);
+    let c = fields::amount_in(b, line, false, 33, 46);
+    let d = fields::amount_in(c, line, true, 47, 60);
     let e = fields::unused_in(d, line, 61, 61);
     let f = fields::exponent_in(e, line, 62, 63);
     let g = fields::unused_in(f, line, 64, 64);
