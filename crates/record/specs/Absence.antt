@@ -1,5 +1,6 @@
 -- What is absent, unknown or too large. 01, "Records in order": "A place or velocity is absent exactly when all three are zero. A clock or
 -- rate is absent exactly at +999,999,999,999. An exponent of 99 (or 999 for the clock) means too large; unknown is apart from 0."
+-- So of the numbers that a row holds; which clocks of a line are held so is 02, Ask 3 (`Rows.clockFieldIn`, `sixNinesIn`).
 use mathlib.Core.Bool.{Bool, true, false, not, _&&_}
 use Prim.Native.Nat.{ℕ}
 use lib.Dec.{eqb}
