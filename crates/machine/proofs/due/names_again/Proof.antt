@@ -55,7 +55,7 @@ number-told (verdict.Next s) place number column e = let z : _≡_ {A = ℕ} 0 1
 number-told verdict.Finished place number column e = let z : _≡_ {A = ℕ} 0 1 = cc in absurd (omega arith)
 
 -- a `+ ` line is due, there is a line, and this is what the line reader finds there
-record There (rules : Rules) (s : State) (identifiers bytes : List ℕ) (at : ℕ) (r : LineRead) : Type 0 where
+record LineAt (rules : Rules) (s : State) (identifiers bytes : List ℕ) (at : ℕ) (r : LineRead) : Type 0 where
   line : List ℕ
   after : List (List ℕ)
   first : linesOf (drop at bytes) ≡ line ∷ after
@@ -63,7 +63,7 @@ record There (rules : Rules) (s : State) (identifiers bytes : List ℕ) (at : �
   told : toldRead r ≡ toldRead (lineKnown rules bytes at s identifiers)
 
 -- whether it is refused with 8, and then what its slots say
-module _ (rules : Rules) (s : State) (identifiers bytes : List ℕ) (at : ℕ) (r : LineRead) (g : There rules s identifiers bytes at r) where
+module _ (rules : Rules) (s : State) (identifiers bytes : List ℕ) (at : ℕ) (r : LineRead) (g : LineAt rules s identifiers bytes at r) where
   abbrev does : Verdict
   does = stepOf rules s identifiers (g .line)
 
@@ -99,7 +99,7 @@ returns-2 c =
 -- where the line has been read
 read : (c : tie.After-line-known)
     → let a = c .before .before .before .before .before .before .before .args in
-    There (a .rules) (a .state) (a .identifiers .now) (a .bytes .now) (a .at) (c .line-known .result)
+    LineAt (a .rules) (a .state) (a .identifiers .now) (a .bytes .now) (a .at) (c .line-known .result)
 read c =
     let ended = c .before .before in
     let a = ended .before .before .before .before .before .args in
