@@ -394,20 +394,12 @@ pub(crate) fn amount_in(
     let s = &line[..];
     let from = first - 1;
     let bytes = &s[from..last];
-    if clock {
-        return amount_fault(
-            lowest,
-            field::read::clock(bytes, 6),
-            field::sign::LARGEST,
-            first,
-        );
-    }
-    amount_fault(
-        lowest,
-        field::read::decimal(bytes, 6, true),
-        field::sign::LARGEST,
-        first,
-    )
+    let answer = if clock {
+        field::read::clock(bytes, 6)
+    } else {
+        field::read::decimal(bytes, 6, true)
+    };
+    amount_fault(lowest, answer, field::sign::LARGEST, first)
 }
 
 // An exponent: a whole number or blank.

@@ -1,8 +1,10 @@
 -- `record::fields::amount_in` meets its contract.
 -- Assumes nothing.
+use mathlib.Core.Path.{ap, _∙_}
 use mathlib.Core.Bool.{true}
+use mathlib.Core.Logic.{⊎-elim}
 use borrow.Author.Needs.{needs}
-use Rattle.field.specs.Read.{decimalOf}
+use Rattle.field.specs.Read.{decimalOf, toldAmount}
 use Rattle.field.specs.Clock.{clockOf}
 use Rattle.field.specs.Sign.{largest}
 use Rattle.record.specs.Rows.{cut}
@@ -12,17 +14,17 @@ use Rattle.record.proofs.fields.amount_in.Tie as tie
 
 returns : tie.Need-returns
 returns c =
-    let read = c .before in
-    let a = read .before .before .before .before .args in
-    rw (read .before .if1 .taken)
-    (amount-judged (a .lowest) (a .first) largest (read .clock .result) (clockOf (cut (a .first) (a .last) (a .line .now)) 6) (read .clock .ensures) (c .amount-fault .ensures))
-
-returns-2 : tie.Need-returns-2
-returns-2 c =
-    let read = c .before in
-    let a = read .before .before .before .before .args in
-    rw (read .before .if1 .left)
-    (amount-judged (a .lowest) (a .first) largest (read .decimal .result) (decimalOf (cut (a .first) (a .last) (a .line .now)) 6 true) (read .decimal .ensures) (c .amount-fault2 .ensures))
+    let joined = c .before in
+    let a = joined .before .before .before .args in
+    let bytes = cut (a .first) (a .last) (a .line .now) in
+    ⊎-elim
+    (λ w.
+    rw (w .0 .taken)
+    (amount-judged (a .lowest) (a .first) largest (joined .if1 .answer) (clockOf bytes 6) (ap toldAmount (w .2) ∙ w .1 .ensures) (c .amount-fault .ensures)))
+    (λ w.
+    rw (w .0 .left)
+    (amount-judged (a .lowest) (a .first) largest (joined .if1 .answer) (decimalOf bytes 6 true) (ap toldAmount (w .2) ∙ w .1 .ensures) (c .amount-fault .ensures)))
+    (joined .if1 .came)
 
 pub amount-in-spec : {M : Type 1} → statement M
 amount-in-spec =
@@ -34,7 +36,5 @@ amount-in-spec =
     (λ c. search needs)
     (λ c κs. search needs)
     (λ c κs. search needs)
-    returns
     (λ c κs. search needs)
-    (λ c κs. search needs)
-    returns-2)
+    returns)
