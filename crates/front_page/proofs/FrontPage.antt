@@ -586,7 +586,7 @@ module _ (bytes : List ℕ) (accepted : IsFile d bytes) (identifiers exponents c
       × (outAfter d (lentTable true bytes identifiers exponents comments rows) out ≡ over bytes out)
   canonical-again t ok is out enough = rewritten.canonical-again bytes accepted identifiers exponents comments rows read t ok is out enough
 
--- The program `rewrite` lends room for 255 satellites, 800 comments and 1,191 rows, and 65,536 bytes of output. Rows are never short in a file of at most
+-- The program `rewrite` lends room for 999 satellites, 800 comments and 1,191 rows, and 65,536 bytes of output. Rows are never short in a file of at most
 -- 65,536 bytes; reading it answers 12 exactly where it has more than 800 comments, and writing what was read exactly where the form has more than 65,536
 -- bytes, which it may have: a row of 55 bytes is written in 61.
 pub rewrite-rows : (bytes : List ℕ) → IsFile d bytes → length bytes ≤ mostBytes → rowsNeeded (header bytes) ≤ mostRows * rowWidth

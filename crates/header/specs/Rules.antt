@@ -1,12 +1,12 @@
 -- The rules of a version as one record, which what is defined over a version takes as an argument. The base has one value, `d`.
--- 01, "Bounds: at most 255 satellites, at most 100,000 epochs, at least one of each"; "Records in order": "Four or more comments"; "Lines":
+-- 01, "Bounds: .. at most 100,000 epochs, at least one of each"; 02, request 6: "Take 999, as document 000 does"; "Records in order": "Four or more comments"; "Lines":
 -- "It has at most 80 characters".
 use Prim.Native.Nat.{ℕ, _+_, _/_, max}
 use Rattle.header.specs.declared.types.Rules.{Rules}
 
 -- the bounds of a header: satellites, epochs, comments
 abbrev pub maxSatellites : ℕ
-maxSatellites = 255
+maxSatellites = 999
 
 abbrev pub maxEpochs : ℕ
 maxEpochs = 100_000

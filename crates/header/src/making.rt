@@ -86,7 +86,7 @@ fn refuse(number: u64) -> HeaderAnswer
 
 impl Header {
     // The bounds: satellites, epochs, comments.
-    pub const MAX_SATELLITES: u64 = 255;
+    pub const MAX_SATELLITES: u64 = 999;
 
     pub const MAX_EPOCHS: u64 = 100_000;
 
@@ -155,7 +155,7 @@ impl Header {
         Header::of(b' ', 0, 0, 0, texts, 0, 0, b' ', [b' '; 3], bases)
     }
 
-    // A header of these letters, numbers and texts, or the lowest refusal: 6 for mode Q, 7 for 256 satellites, 6 for both.
+    // A header of these letters, numbers and texts, or the lowest refusal: 6 for mode Q, 7 for 1000 satellites, 6 for both.
     pub fn new(
         mode: u8,
         start: Moment,

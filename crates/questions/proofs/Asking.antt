@@ -82,7 +82,7 @@ pub epochs-are : {rules : Rules} {lines : List (List ℕ)} (p : Plain rules line
 unfolding nth
 epochs-are p = rw (kind-first p)
 
--- an accepted file has at most 100,000 epochs and 255 satellites
+-- an accepted file has at most so many epochs and satellites as the bounds say
 module _ (bytes : List ℕ) (t : Tally) (e : wholeFront (length bytes) (scanOf d bytes) ≡ front.File t) where
   pub whole-plain : Plain d (linesTo (t .end) bytes)
   whole-plain = front-plain bytes t (whole-ends d bytes t e .0)

@@ -45,7 +45,7 @@ fn slots_in(lowest: usize, line: &[u8; 80], accuracies: bool, left: u64) -> Slot
     Slots { fault, values }
 }
 
-// The first `+ ` line: the number of satellites that it says decides its slots. 256 of them are 7 at column 4.
+// The first `+ ` line: the number of satellites that it says decides its slots. `  0` is 7 at column 4.
 pub fn read_satellites(rules: Rules, line: &[u8; 80]) -> Satellites
     ensures result { λ r. ⌜ r ≡ satellitesOf rules (now (line .entry)) ⌝ }
 {

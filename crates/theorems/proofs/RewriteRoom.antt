@@ -1,7 +1,7 @@
 -- The room of the program `rewrite`, which takes files of at most 65,536 bytes. 01, "One file whole": "It has room for 800 comments .., and for all
--- rows". A row has at least 55 bytes, so such a file has at most 1,191 of them: 27,393 numbers are room for all rows, and with 255 identifiers
--- and exponents, and 61,600 bytes for comments, a reading answers 12 exactly where there are more than 800 comments. What was read is written with 12
--- exactly where its form is longer than the output.
+-- rows". A row has at least 55 bytes, so such a file has at most 1,191 of them: 27,393 numbers are room for all rows, and with as many identifiers and
+-- exponents as a file may name, and 61,600 bytes for comments, a reading answers 12 exactly where there are more than 800 comments. What was read is
+-- written with 12 exactly where its form is longer than the output.
 -- Assumes nothing.
 use mathlib.Core.Path.{_≡_, refl, sym, ap, subst}
 use mathlib.Core.Bool.{Bool, true, false}
@@ -53,7 +53,7 @@ output-twelve bytes accepted identifiers exponents comments rows read out room =
     (lent-twelve bytes accepted identifiers exponents comments rows read out)
 
 module _ (bytes : List ℕ) (accepted : IsFile d bytes) where
-  -- An accepted file names at most 255 satellites.
+  -- An accepted file names at most so many satellites as there is room for.
   pub few-satellites : header bytes .satellites ≤ maxSatellites
   few-satellites = let p = file-plain bytes accepted in omega (arith, says-satellites p, satellites-bounds p .1)
 

@@ -13,7 +13,7 @@ use lib.Dec.{eqb, leb}
 use lib.ListN.{length, drop, drop-of-length-le}
 use Rattle.laws.specs.Texts.{every, isPrintable}
 use Rattle.layout.specs.Line.{padded}
-use Rattle.header.specs.Rules.{d}
+use Rattle.header.specs.Rules.{d, maxSatellites, maxEpochs}
 use Rattle.lines.specs.Lines.{linesOf, select, nth}
 use Rattle.record.specs.LineKinds.{positionKind, toldKind, kindOf, longest}
 use Rattle.record.specs.Rows.{rowOf, sixNinesIn}
@@ -318,13 +318,13 @@ module _ (bytes : List ℕ) (t : Tally) (accepted : fileOf d bytes ≡ front.Fil
   rows-many : length (rowLinesOf false bytes) ≡ header bytes .satellites * header bytes .epochs
   rows-many = rows-number bytes (t, accepted)
 
-  few : length (rowLinesOf false bytes) ≤ 25500000
+  few : length (rowLinesOf false bytes) ≤ maxSatellites * maxEpochs
   unfolding headerIn
   few =
       let bounds = bounded bytes t accepted in
-      let satellites-few : header bytes .satellites ≤ 255 = rw lines-all at (bounds .1) in
-      let epochs-few : header bytes .epochs ≤ 100000 = rw lines-all at (bounds .0) in
-      let product : header bytes .satellites * header bytes .epochs ≤ 255 * 100000 = mul-le-mul satellites-few epochs-few in
+      let satellites-few : header bytes .satellites ≤ maxSatellites = rw lines-all at (bounds .1) in
+      let epochs-few : header bytes .epochs ≤ maxEpochs = rw lines-all at (bounds .0) in
+      let product : header bytes .satellites * header bytes .epochs ≤ maxSatellites * maxEpochs = mul-le-mul satellites-few epochs-few in
       omega (arith, rows-many)
 
   given : (i : ℕ) → Gives bytes identifiers n firstWalk 0 i (rowLinesOf false bytes)

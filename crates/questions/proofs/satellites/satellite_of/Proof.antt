@@ -1,4 +1,4 @@
--- `questions::satellites::satellite_of` meets its contract: an accepted file has as many identifiers as it says, and at most 255.
+-- `questions::satellites::satellite_of` meets its contract: an accepted file has as many identifiers as it says, and no more than the bound.
 -- Assumes nothing.
 use mathlib.Core.Path.{_≡_}
 use native.Mathlib.Omega.{arith}
