@@ -38,7 +38,7 @@ fn are_identifiers(identifiers: &[u64]) -> bool
 pub(crate) fn identifiers_valid(file_type: u8, identifiers: &[u64]) -> bool
     ensures { λ r. ⌜ r ≡ identifiersValid «file_type» (now (identifiers .entry)) ⌝ }
 {
-    let different = !machine::repeats_identifier(&identifiers[0..0], identifiers);
+    let different = !marks::repeats_identifier(&identifiers[0..0], identifiers);
     are_identifiers(identifiers) & (different & machine::type_agrees(file_type, identifiers))
 }
 

@@ -57,41 +57,13 @@ module _ (s : List ℕ) (i : ℕ) where
   unfolding firstUnprintable
   unprintable-end h = rw (rest-none s i h) (omega arith)
 
--- one identifier more of those among which one is looked for, or of which each must begin with a letter
-pub among-step : (identifier : ℕ) (identifiers : List ℕ) (i : ℕ) → i < length identifiers
-    → isOneOf identifier (drop i identifiers) ≡ (eqb identifier (getD identifiers i 0) || isOneOf identifier (drop (i + 1) identifiers))
-among-step identifier identifiers i h = rw (rest-step identifiers i h)
-
-pub among-end : (identifier : ℕ) (identifiers : List ℕ) (i : ℕ) → length identifiers ≤ i → isOneOf identifier (drop i identifiers) ≡ false
-among-end identifier identifiers i h = rw (rest-none identifiers i h)
-
+-- one identifier more of those of which each must begin with a letter
 pub every-step : (test : ℕ → Bool) (s : List ℕ) (i : ℕ) → i < length s
     → every test (drop i s) ≡ (test (getD s i 0) && every test (drop (i + 1) s))
 every-step test s i h = rw (rest-step s i h)
 
 pub every-end : (test : ℕ → Bool) (s : List ℕ) (i : ℕ) → length s ≤ i → every test (drop i s) ≡ true
 every-end test s i h = rw (rest-none s i h)
-
--- among the identifiers of two lists: among those of one
-pub among-append : (identifier : ℕ) (s t : List ℕ) → isOneOf identifier (s ++ t) ≡ (isOneOf identifier s || isOneOf identifier t)
-among-append identifier [] t = refl
-among-append identifier (n ∷ s) t =
-    ap (λ (b : Bool). eqb identifier n || b) (among-append identifier s t) ∙ sym (or-assoc (eqb identifier n) (isOneOf identifier s) (isOneOf identifier t))
-
--- the identifiers of a line one after the other, those before the place known too; `take (i - 0)` is the part `[0..i]`
-pub repeats-start : (known new : List ℕ) → repeats (known ++ take 0 new) (drop 0 new) ≡ repeats known new
-repeats-start known new = ap (λ (k : List ℕ). repeats k new) (append-nil known)
-
-pub repeats-step : (known new : List ℕ) (i : ℕ) → i < length new
-    → repeats (known ++ take i new) (drop i new)
-    ≡ ((isOneOf (getD new i 0) known || isOneOf (getD new i 0) (take (i - 0) new)) || repeats (known ++ take (i + 1) new) (drop (i + 1) new))
-unfolding repeats
-repeats-step known new i h =
-    rw (rest-step new i h, among-append (getD new i 0) known (take i new), append-assoc known (take i new), sub-zero i, add-one i, take-suc new i 0 h)
-
-pub repeats-end : (known new : List ℕ) (i : ℕ) → length new ≤ i → repeats (known ++ take i new) (drop i new) ≡ false
-unfolding repeats
-repeats-end known new i h = rw (rest-none new i h)
 
 -- an instant as much later as a gap says
 pub later : (gap from at : ℕ) → gap ≤ at → eqb (at - gap) from ≡ eqb at (from + gap)

@@ -4,21 +4,19 @@ use mathlib.Core.Path.{_≡_, sym, _∙_}
 use denote.Ref.{now}
 use Rattle.machine.proofs.Told.{toldVerdict-one, toldRead-one}
 use Rattle.machine.proofs.checks.instant_in.Reads as instant-in
-use Rattle.machine.proofs.checks.repeats_identifier.Reads as repeats-identifier
 use Rattle.machine.proofs.checks.type_agrees.Reads as type-agrees
 use Rattle.machine.proofs.due.due_at.Reads as due-at
 use Rattle.machine.proofs.faults.kind_number.Reads as kind-number
 use Rattle.machine.proofs.step.start.Reads as start
 use Rattle.machine.proofs.step.step_line.Reads as step-line
 use Rattle.machine.proofs.step.keep_identifiers.Reads as keep-identifiers
+use Rattle.machine.proofs.step.mark_brought.Reads as mark-brought
+use Rattle.machine.proofs.step.mark_known.Reads as mark-known
 use Rattle.machine.proofs.step.line_known.Reads as line-known
 use Rattle.machine.proofs.step.read_line.Reads as read-line
 
 pub instant-in-determined : (κs : _) (a : _) (r r′ : _) (s s′ : _) → instant-in.Post κs a r s → instant-in.Post κs a r′ s′ → r ≡ r′
 instant-in-determined κs a r r′ s s′ p q = p ∙ sym q
-
-pub repeats-identifier-determined : (κs : _) (a : _) (r r′ : _) (s s′ : _) → repeats-identifier.Post κs a r s → repeats-identifier.Post κs a r′ s′ → r ≡ r′
-repeats-identifier-determined κs a r r′ s s′ p q = p ∙ sym q
 
 pub type-agrees-determined : (κs : _) (a : _) (r r′ : _) (s s′ : _) → type-agrees.Post κs a r s → type-agrees.Post κs a r′ s′ → r ≡ r′
 type-agrees-determined κs a r r′ s s′ p q = p ∙ sym q
@@ -38,6 +36,14 @@ step-line-determined κs a r r′ s s′ p q = toldVerdict-one r r′ (p ∙ sym
 pub keep-identifiers-determined : (κs : _) (a : _) (r r′ : _) (s s′ : _) → keep-identifiers.Post κs a r s → keep-identifiers.Post κs a r′ s′
     → (r ≡ r′) × (now (s .1 .1 .0) ≡ now (s′ .1 .1 .0))
 keep-identifiers-determined κs a r r′ s s′ p q = (p .0 ∙ sym (q .0), p .1 ∙ sym (q .1))
+
+pub mark-brought-determined : (κs : _) (a : _) (r r′ : _) (s s′ : _) → mark-brought.Post κs a r s → mark-brought.Post κs a r′ s′
+    → (r ≡ r′) × (now (s .1 .1 .0) ≡ now (s′ .1 .1 .0))
+mark-brought-determined κs a r r′ s s′ p q = (p .0 ∙ sym (q .0), p .1 ∙ sym (q .1))
+
+pub mark-known-determined : (κs : _) (a : _) (r r′ : _) (s s′ : _) → mark-known.Post κs a r s → mark-known.Post κs a r′ s′
+    → (r ≡ r′) × (now (s .1 .1 .1 .0) ≡ now (s′ .1 .1 .1 .0))
+mark-known-determined κs a r r′ s s′ p q = (p .0 ∙ sym (q .0), p .1 ∙ sym (q .1))
 
 pub line-known-determined : (κs : _) (a : _) (r r′ : _) (s s′ : _) → line-known.Post κs a r s → line-known.Post κs a r′ s′ → r ≡ r′
 line-known-determined κs a r r′ s s′ p q = toldRead-one r r′ (p ∙ sym q)

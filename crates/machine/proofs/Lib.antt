@@ -4,3 +4,4 @@ pub mod Told
 pub mod Stepping
 pub mod Usual
 pub mod Determined
+pub mod Unlooked

@@ -25,7 +25,7 @@ use Rattle.record.proofs.Determined.{toldKind-one}
 use Rattle.header.specs.declared.types.Rules.{Rules}
 use Rattle.record.specs.declared.types.LineKind.{LineKind}
 use Rattle.machine.specs.Faults.{firstUnprintable}
-use Rattle.machine.specs.State.{seen, identifiersIn, fitBehind, laidBehind, hasRoom, identifiersJoined}
+use Rattle.machine.specs.State.{seen, knownIdentifiers, identifiersIn, fitBehind, laidBehind, hasRoom, identifiersJoined}
 use Rattle.machine.specs.Step.{judgedLine, printedLine, stepOf, identifiersBrought, keptOn, identifiersKept, findsRoom, ifRoom, stepWithin, readAs, readFirst, identifiersFirst, lineKnown, lineRead, lineIdentifiers}
 use Rattle.machine.specs.Told.{toldRead}
 use Rattle.machine.proofs.Told.{toldRead-one}
@@ -130,10 +130,14 @@ module _ (rules : Rules) (s : State) (line new : List ℕ) where
   further-identifiers e is = is ∙ rw (ne-eqb (s .satellites) 0 e)
 
 -- the room for them and the list after them, by what the code has in hand
-pub kept-so : (rules : Rules) (s : State) (identifiers line pad new : List ℕ) (from : ℕ) → pad ≡ padded line → from ≡ seen s → new ≡ identifiersIn rules s pad
+pub kept-so : (rules : Rules) (s : State) (identifiers line new : List ℕ) (from : ℕ) → from ≡ seen s → new ≡ identifiersIn rules s (padded line)
     → (fitBehind from new identifiers ≡ hasRoom rules s identifiers (padded line)) × (laidBehind from new identifiers ≡ identifiersJoined rules s identifiers (padded line))
 unfolding hasRoom identifiersJoined
-kept-so rules s identifiers line pad new from pad-is from-is new-is = rw (new-is, from-is, pad-is) (refl, refl)
+kept-so rules s identifiers line new from from-is new-is = rw (new-is, from-is) (refl, refl)
+
+-- those known so far
+pub known-front : (s : State) (identifiers known : List ℕ) (many : ℕ) → many ≡ seen s → known ≡ take many identifiers → known ≡ knownIdentifiers s identifiers
+known-front s identifiers known many many-is is = is ∙ ap (λ (n : ℕ). take n identifiers) many-is
 
 -- a line keeps the number of places for identifiers
 pub brought-length : (rules : Rules) (s : State) (identifiers line : List ℕ) → length (identifiersBrought rules s identifiers line) ≡ length identifiers

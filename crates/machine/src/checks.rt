@@ -3,9 +3,8 @@ ghost use mathlib.Core.Path.{_≡_};
 ghost use mathlib.Core.Bool.{_||_};
 ghost use lib.ListN.{length};
 ghost use Rattle.laws.specs.Texts.{every};
-ghost use Rattle.layout.specs.Kind.{isOneOf};
 ghost use lib.Dec.{eqb};
-ghost use Rattle.record.specs.Agrees.{instantIn, secondAgrees, repeats, letterOf, typeAgrees};
+ghost use Rattle.record.specs.Agrees.{instantIn, secondAgrees, letterOf, typeAgrees};
 ghost use Rattle.machine.specs.Faults.{firstUnprintable};
 use calendar::Instant;
 use calendar::Week;
@@ -56,37 +55,6 @@ pub(crate) fn second_agrees(start8: u64, second: Second) -> bool
     let day = start8 / DAY == second.mjd;
     let fraction = calendar::fraction_agrees(second.fraction13, start8 % DAY);
     ((week == second.week) & (second8 == second.seconds8)) & (day & fraction)
-}
-
-// Whether an identifier stands among others.
-pub(crate) fn is_among(identifier: u64, identifiers: &[u64]) -> bool
-    ensures { λ r. ⌜ r ≡ isOneOf identifier (now (identifiers .entry)) ⌝ }
-{
-    let mut i = 0;
-    while i < identifiers.len() {
-        if identifier == identifiers[i] {
-            return true;
-        }
-        i += 1;
-    }
-    false
-}
-
-// Whether one of the new identifiers stands among those known or earlier among the new.
-pub fn repeats_identifier(known: &[u64], new: &[u64]) -> bool
-    ensures result { λ r. ⌜ r ≡ repeats (now (known .entry)) (now (new .entry)) ⌝ }
-{
-    let mut i = 0;
-    while i < new.len() {
-        if is_among(new[i], known) {
-            return true;
-        }
-        if is_among(new[i], &new[0..i]) {
-            return true;
-        }
-        i += 1;
-    }
-    false
 }
 
 // Whether every identifier begins with a letter.

@@ -95,12 +95,12 @@ fn satellites_fault(rules: Rules, state: State, identifiers: &[u64], line: &[u8;
     if state.satellites == 0 {
         let first = record::slots::read_satellites(rules, line);
         let all = first.identifiers;
-        let repeated = checks::repeats_identifier(known, front_of(&all, first.count as usize));
+        let repeated = marks::repeats_identifier(known, front_of(&all, first.count as usize));
         return lower_unless(first.fault, !repeated, 8);
     }
     let more = record::slots::read_slots(line, false, state.left);
     let all = more.values;
-    let repeated = checks::repeats_identifier(known, front_of(&all, state.left as usize));
+    let repeated = marks::repeats_identifier(known, front_of(&all, state.left as usize));
     lower_unless(more.fault, !repeated, 8)
 }
 

@@ -1,14 +1,17 @@
 // What a line does where it stands: the plain line reader.
 ghost use mathlib.Core.Path.{_≡_};
 ghost use Rattle.laws.specs.Texts.{every, isPrintable};
+ghost use lib.ListN.{take, drop};
 ghost use Rattle.layout.specs.Line.{padded};
-ghost use Rattle.machine.specs.State.{startState, fitBehind, laidBehind, hasRoom, identifiersJoined};
+ghost use Rattle.marks.specs.Marks.{allNew, markedAll};
+ghost use Rattle.machine.specs.State.{startState, seen, knownIdentifiers, identifiersIn, fitBehind, laidBehind, hasRoom, identifiersJoined};
 ghost use Rattle.machine.specs.Told.{toldVerdict, toldRead};
 ghost use Rattle.machine.specs.Usual.{dueRow};
 ghost use Rattle.machine.specs.Step.{judgedLine, stepOf, lineKnown, lineRead, lineIdentifiers};
 use crate::checks;
 use crate::faults;
 use crate::next;
+use crate::types::Brought;
 use crate::types::LineRead;
 use crate::types::State;
 use crate::types::Verdict;
@@ -123,30 +126,60 @@ fn lay_behind(list: &mut [u64], from: usize, new: &[u64]) -> bool
     true
 }
 
+// The identifiers that a `+ ` line brings: the first so many of 17.
+fn brought_by(rules: Rules, state: State, line: &[u8]) -> Brought
+    ensures { λ r. ⌜ take (r .count) (r .identifiers) ≡ identifiersIn rules state (padded (now (line .entry))) ⌝ }
+{
+    let padded = layout::pad(line);
+    if state.satellites == 0 {
+        let first = record::slots::read_satellites(rules, &padded);
+        let identifiers = first.identifiers;
+        return Brought {
+            identifiers,
+            count: first.count as usize,
+        };
+    }
+    let more = record::slots::read_slots(&padded, false, state.left);
+    let identifiers = more.values;
+    Brought {
+        identifiers,
+        count: state.left as usize,
+    }
+}
+
 // Keeps the identifiers that a `+ ` line without fault brings, behind those known, and tells whether there is room for them; where there is none
 // nothing changes.
 pub fn keep_identifiers(rules: Rules, state: State, identifiers: &mut [u64], line: &[u8]) -> bool
     ensures result { λ r. ⌜ r ≡ hasRoom rules state (now (identifiers .entry)) (padded (now (line .entry))) ⌝ }
     ensures lent { λ _. ⌜ now (identifiers .exit) ≡ identifiersJoined rules state (now (identifiers .entry)) (padded (now (line .entry))) ⌝ }
 {
-    let padded = layout::pad(line);
+    let brought = brought_by(rules, state, line);
+    let all = brought.identifiers;
     let from = faults::seen_so_far(state);
-    if state.satellites == 0 {
-        let first = record::slots::read_satellites(rules, &padded);
-        let all = first.identifiers;
-        return lay_behind(
-            identifiers,
-            from,
-            faults::front_of(&all, first.count as usize),
-        );
+    lay_behind(identifiers, from, faults::front_of(&all, brought.count))
+}
+
+// Marks the identifiers that a `+ ` line brings, and tells whether each of them has a mark that was not set before.
+pub fn mark_brought(rules: Rules, state: State, marks: &mut [u8], line: &[u8]) -> bool
+    ensures result { λ r. ⌜ r ≡ allNew (now (marks .entry)) (identifiersIn rules state (padded (now (line .entry)))) ⌝ }
+    ensures lent { λ _. ⌜ now (marks .exit) ≡ markedAll (identifiersIn rules state (padded (now (line .entry)))) (now (marks .entry)) ⌝ }
+{
+    let brought = brought_by(rules, state, line);
+    let all = brought.identifiers;
+    marks::mark_identifiers(marks, faults::front_of(&all, brought.count))
+}
+
+// Marks the identifiers known so far of which the first `marked` are marked already, and tells how many are known.
+pub fn mark_known(state: State, identifiers: &[u64], marked: usize, marks: &mut [u8]) -> usize
+    ensures result { λ r. ⌜ r ≡ seen state ⌝ }
+    ensures lent { λ _. ⌜ now (marks .exit) ≡ markedAll (drop marked (knownIdentifiers state (now (identifiers .entry)))) (now (marks .entry)) ⌝ }
+{
+    let many = faults::seen_so_far(state);
+    let known = faults::front_of(identifiers, many);
+    if marked < known.len() {
+        marks::mark_identifiers(marks, &known[marked..]);
     }
-    let more = record::slots::read_slots(&padded, false, state.left);
-    let all = more.values;
-    lay_behind(
-        identifiers,
-        from,
-        faults::front_of(&all, state.left as usize),
-    )
+    many
 }
 
 // What the line at a byte does, where the header's identifiers so far are `identifiers`, and where the next begins. No LF from there on: no line.

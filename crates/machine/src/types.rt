@@ -47,3 +47,8 @@ pub enum LineRead {
     Next { at: usize, state: State },
     Finished { at: usize },
 }
+// The identifiers that a `+ ` line brings: as many as `count` says, of the 17 of its slots.
+pub(crate) struct Brought {
+    pub identifiers: [u64; 17],
+    pub count: usize,
+}

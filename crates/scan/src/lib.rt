@@ -2,15 +2,20 @@
 ghost use mathlib.Core.Path.{_≡_};
 ghost use Prim.Native.Nat.{_+_, _<_, _^_};
 ghost use lib.ListN.{length};
+ghost use Rattle.record.specs.LineKinds.{satellitesKind};
+ghost use Rattle.marks.specs.Marks.{Covers};
+ghost use Rattle.machine.specs.State.{knownIdentifiers};
 ghost use Rattle.file.specs.Kinds.{kindIn};
 ghost use Rattle.scan.specs.declared.Front.the-variants as front;
 ghost use Rattle.scan.specs.Told.{toldFront};
+ghost use Rattle.scan.specs.Looking.{Enough};
 ghost use Rattle.scan.specs.Run.{counted, scanOf, wholeFront};
 use header::Header;
 use header::Rules;
 use machine::LineRead;
 use machine::State;
 use record::kind::COMMENT_KIND;
+use record::kind::NO_KIND;
 use record::kind::POSITION_KIND;
 use record::kind::SATELLITES_KIND;
 use record::kind::VELOCITY_KIND;
@@ -80,11 +85,40 @@ fn refused(number: usize, line: u64, column: usize) -> Front
     }
 }
 
+// How many of the identifiers must be looked at to judge the line at a byte, where a `+ ` line is due and the known ones are marked: none where its own
+// have marks that were not set before. They are marked too.
+fn looked_at(
+    rules: Rules,
+    bytes: &[u8],
+    at: usize,
+    state: State,
+    identifiers: &[u64],
+    marks: &mut [u8],
+) -> usize
+    requires { ⌜ (state .due ≡ satellitesKind) × Covers (knownIdentifiers state (now identifiers)) (now marks) ⌝ }
+    ensures result { λ r. ⌜ Enough rules (now (bytes .entry)) at state (now (identifiers .entry)) r ⌝ }
+    ensures lent { λ _. ⌜ Covers (knownIdentifiers state (now (identifiers .entry))) (now (marks .exit)) ⌝ }
+{
+    let end = lines::line_end(bytes, at);
+    if end >= bytes.len() {
+        return identifiers.len();
+    }
+    if state.also != NO_KIND {
+        return identifiers.len();
+    }
+    if machine::mark_brought(rules, state, marks, &bytes[at..end]) {
+        return 0;
+    }
+    identifiers.len()
+}
+
 // The file at the front of the bytes, judged line by line: no bytes are refused with 1 at line 1.
 pub fn scan_front(rules: Rules, bytes: &[u8]) -> Front
     ensures result { λ r. ⌜ toldFront r ≡ toldFront (scanOf rules (now (bytes .entry))) ⌝ }
 {
     let mut identifiers = [0u64; Header::MAX_SATELLITES as usize];
+    let mut marks = [0u8; marks::MARKS];
+    let mut marked: usize = 0;
     let mut state = machine::start();
     let mut tally = Tally {
         lines: 0,
@@ -95,7 +129,13 @@ pub fn scan_front(rules: Rules, bytes: &[u8]) -> Front
     loop {
         let at = tally.end;
         let line = tally.lines + 1;
-        match machine::line_known(rules, bytes, at, state, &identifiers) {
+        let mut many = Header::MAX_SATELLITES as usize;
+        if state.due == SATELLITES_KIND {
+            marked = machine::mark_known(state, &identifiers, marked, &mut marks);
+            many = looked_at(rules, bytes, at, state, &identifiers, &mut marks);
+        }
+        let all = &identifiers[..];
+        match machine::line_known(rules, bytes, at, state, &all[0..many]) {
             LineRead::NoLine => {
                 return refused(1, line, 0);
             }

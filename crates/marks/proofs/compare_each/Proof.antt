@@ -1,4 +1,4 @@
--- `machine::checks::repeats_identifier` meets its contract. The invariant: the identifiers from i on decide, those before them known too.
+-- `marks::compare_each` meets its contract. The invariant: the identifiers from i on decide, those before them known too.
 -- Assumes nothing.
 use mathlib.Core.Path.{_≡_, sym, _∙_}
 use mathlib.Core.Bool.{true, false}
@@ -8,9 +8,9 @@ use borrow.Author.Needs.{needs}
 use lib.ListN.{length, getD, take, drop}
 use Rattle.layout.specs.Kind.{isOneOf}
 use Rattle.record.specs.Agrees.{repeats}
-use Rattle.machine.proofs.Checking.{repeats-start, repeats-step, repeats-end}
-use Rattle.machine.proofs.checks.repeats_identifier.Statement.{statement}
-use Rattle.machine.proofs.checks.repeats_identifier.Tie as tie
+use Rattle.marks.proofs.Comparing.{repeats-start, repeats-step, repeats-end}
+use Rattle.marks.proofs.compare_each.Statement.{statement}
+use Rattle.marks.proofs.compare_each.Tie as tie
 
 abbrev Inv-loop : tie.InvT-loop
 Inv-loop known new i₀ i = repeats (known ++ take i new) (drop i new) ≡ repeats known new
@@ -60,8 +60,8 @@ returns-3 c =
     let a = at-loop .before .before .before .args in
     sym (sym (at-loop .loop .inv) ∙ repeats-end (a .known .now) (a .new .now) (at-loop .loop .i) (c .loop-test .left))
 
-pub repeats-identifier-spec : {M : Type 1} → statement M
-repeats-identifier-spec =
+pub compare-each-spec : {M : Type 1} → statement M
+compare-each-spec =
     tie.close
     (tie.spec
     Inv-loop

@@ -1,4 +1,4 @@
--- `machine::checks::is_among` meets its contract. The invariant: the identifiers from i on decide.
+-- `marks::is_among` meets its contract. The invariant: the identifiers from i on decide.
 -- Assumes nothing.
 use mathlib.Core.Path.{_≡_, refl, sym, _∙_}
 use Prim.Native.Nat.{_-_}
@@ -6,9 +6,9 @@ use borrow.Author.Needs.{needs}
 use borrow.Author.Tests.{eq-eqb, ne-eqb}
 use lib.ListN.{length, drop}
 use Rattle.layout.specs.Kind.{isOneOf}
-use Rattle.machine.proofs.Checking.{among-step, among-end}
-use Rattle.machine.proofs.checks.is_among.Statement.{statement}
-use Rattle.machine.proofs.checks.is_among.Tie as tie
+use Rattle.marks.proofs.Comparing.{among-step, among-end}
+use Rattle.marks.proofs.is_among.Statement.{statement}
+use Rattle.marks.proofs.is_among.Tie as tie
 
 abbrev Inv-loop : tie.InvT-loop
 Inv-loop identifier identifiers i₀ i = isOneOf identifier (drop i identifiers) ≡ isOneOf identifier identifiers
