@@ -38,8 +38,11 @@ fn are_identifiers(identifiers: &[u64]) -> bool
 pub(crate) fn identifiers_valid(file_type: u8, identifiers: &[u64]) -> bool
     ensures { λ r. ⌜ r ≡ identifiersValid «file_type» (now (identifiers .entry)) ⌝ }
 {
+    if !are_identifiers(identifiers) {
+        return false;
+    }
     let different = !marks::repeats_identifier(&identifiers[0..0], identifiers);
-    are_identifiers(identifiers) & (different & machine::type_agrees(file_type, identifiers))
+    different & machine::type_agrees(file_type, identifiers)
 }
 
 // Whether every exponent is 0 to 999.

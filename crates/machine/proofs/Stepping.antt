@@ -1,7 +1,7 @@
 -- What a line does, on plain values: each test that the code makes, and what follows of it.
 -- Assumes nothing.
 use mathlib.Core.Path.{_≡_, refl, sym, ap, _∙_, subst}
-use mathlib.Core.Bool.{Bool, true, false, _&&_}
+use mathlib.Core.Bool.{Bool, true, false, cond, _&&_}
 use mathlib.Core.List.{List, [], _∷_, _++_}
 use Prim.Native.Nat.{ℕ, zero, suc, _+_, _-_, _≤_, _<_}
 use native.Mathlib.Omega.{arith}
@@ -11,7 +11,7 @@ use borrow.Author.Tests.{eq-eqb, ne-eqb, le-leb, lt-leb, leb-true}
 use borrow.Rule.Slice.PartMut.{putMid}
 use lib.Dec.{eqb}
 use lib.ListN.{length, take, drop, length-append, length-drop}
-use lib.Seq.{length-take-le}
+use lib.Seq.{take-at, length-take-le}
 use Rattle.laws.specs.Texts.{every, isPrintable, blanks}
 use Rattle.layout.specs.Line.{padded}
 use Rattle.lines.specs.Lent.{over, laid}
@@ -147,6 +147,22 @@ brought-length rules s identifiers line = go (eqb (s .due) satellitesKind) refl
     go : (due : Bool) → eqb (s .due) satellitesKind ≡ due → length (identifiersBrought rules s identifiers line) ≡ length identifiers
     go true e = rw e (laid-length (seen s) (identifiersIn rules s (padded line)) identifiers)
     go false e = rw e
+
+-- and those known before it
+pub brought-front : (rules : Rules) (s : State) (identifiers line : List ℕ) → take (seen s) (identifiersBrought rules s identifiers line) ≡ take (seen s) identifiers
+unfolding identifiersBrought identifiersJoined laidBehind
+brought-front rules s identifiers line = go (eqb (s .due) satellitesKind) (fitBehind (seen s) new identifiers) refl
+  where
+    new : List ℕ
+    new = identifiersIn rules s (padded line)
+
+    go : (due fit : Bool) → fitBehind (seen s) new identifiers ≡ fit
+        → take (seen s) (cond due (cond fit (take (seen s) identifiers ++ over new (drop (seen s) identifiers)) identifiers) identifiers) ≡ take (seen s) identifiers
+    go false fit e = refl
+    go true false e = refl
+    go true true e =
+        let h = leb-true (seen s + length new) (length identifiers) e in
+        take-at (take (seen s) identifiers) (over new (drop (seen s) identifiers)) (seen s) (length-take-le (seen s) identifiers (omega arith))
 
 -- The line at a place of some bytes, by what lines do.
 module _ (does : List ℕ → Verdict) (bytes : List ℕ) (at end : ℕ) (ended : end ≡ at + lineLength (drop at bytes)) where

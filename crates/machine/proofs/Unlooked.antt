@@ -79,8 +79,7 @@ module _ (rules : Rules) (s : State) (identifiers : List ℕ) (due : s .due ≡ 
   does-same l new = rw (standing (padded l) new (kindOf rules (padded l)))
 
   -- and so does the line at a byte of some bytes
-  pub reads-same : (at : ℕ) (ls : List (List ℕ)) → ((l : List ℕ) (more : List (List ℕ)) → ls ≡ l ∷ more → repeats (knownIdentifiers s identifiers) (identifiersIn rules s (padded l)) ≡ false)
+  pub reads-same : (at : ℕ) (l : List ℕ) (ls more : List (List ℕ)) → ls ≡ l ∷ more → repeats (knownIdentifiers s identifiers) (identifiersIn rules s (padded l)) ≡ false
       → readFirst (stepOf rules s []) at ls ≡ readFirst (stepOf rules s identifiers) at ls
   unfolding readFirst
-  reads-same at [] new = refl
-  reads-same at (l ∷ more) new = ap (λ (v : Verdict). readAs v (at + length l + 1)) (does-same l (new l more refl))
+  reads-same at l ls more e new = rw e (ap (λ (v : Verdict). readAs v (at + length l + 1)) (does-same l new))

@@ -3,11 +3,11 @@
 use mathlib.Core.Path.{_≡_, refl, sym, ap, ap₂, _∙_, subst}
 use mathlib.Core.Bool.{Bool, true, false, _||_}
 use mathlib.Core.List.{List, [], _∷_}
-use Prim.Native.Nat.{ℕ, _+_, _-_, _≤_, _<_, zero-le}
+use Prim.Native.Nat.{ℕ, _+_, _-_, _^_, _≤_, _<_, zero-le}
 use native.Mathlib.Omega.{arith}
 use borrow.Author.Tests.{eq-eqb, ne-eqb}
 use lib.Dec.{eqb}
-use lib.ListN.{length, getD, take, drop}
+use lib.ListN.{length, getD, take, drop, length-take}
 use Rattle.header.specs.Rules.{maxSatellites}
 use Rattle.layout.specs.Line.{padded}
 use Rattle.lines.specs.Lines.{linesOf}
@@ -54,6 +54,16 @@ pub record Going (rules : Rules) (bytes identifiers : List ℕ) (s : State) (t :
 pub going-first : (rules : Rules) (bytes : List ℕ) (s : State) → s ≡ startState → Going rules bytes noIdentifiers s nothingSeen
 going-first rules bytes s e =
     record { size = refl; within = zero-le; lines = zero-le; comments = zero-le; rows = zero-le; same = rw e }
+
+-- no count can overflow, since there are no more lines than bytes
+pub no-overflow : (rules : Rules) (bytes identifiers : List ℕ) (s : State) (t : Tally) → Going rules bytes identifiers s t → (end : ℕ) → t .end < end → end ≤ length bytes → length bytes < 2 ^ 64
+    → (t .lines + 1 < 2 ^ 64) × (t .comments + 1 < 2 ^ 64) × (t .rows + 1 < 2 ^ 64) × (t .end + length (take (end - 1 - t .end) (drop (t .end) bytes)) + 1 < 2 ^ 64)
+no-overflow rules bytes identifiers s t g end starts within size = (
+  omega (arith, g .lines),
+  omega (arith, g .comments),
+  omega (arith, g .rows),
+  omega (arith, length-take (end - 1 - t .end) (drop (t .end) bytes)),
+)
 
 -- after the last line of a file, which ends before `end`
 pub record Ended (rules : Rules) (bytes : List ℕ) (t : Tally) (end : ℕ) : Type 0 where
