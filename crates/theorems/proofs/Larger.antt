@@ -8,7 +8,8 @@ use Prim.Native.Nat.{ℕ, _≤_}
 use native.Mathlib.Omega.{arith}
 use lib.IntN.{ℤ}
 use lib.ListN.{length}
-use Rattle.header.specs.Rules.{d}
+use borrow.Author.Tests.{le-leb}
+use Rattle.header.specs.Rules.{d, maxSatellites}
 use Rattle.lines.specs.Lent.{over}
 use Rattle.lines.specs.Lines.{linesOf}
 use Rattle.record.specs.LineKinds.{kindOf}
@@ -16,8 +17,8 @@ use Rattle.file.specs.Table.{headerIn, slotsIn, commentsIn, rowsOfLines}
 use Rattle.file.specs.Plain.{Sound}
 use Rattle.scan.specs.Run.{IsFile}
 use Rattle.reader.specs.Reading.{fileOf, judged, enough, delivered, readAnswer, identifiersAfter, exponentsAfter, commentsAfter, rowsAfter}
-use Rattle.canon.specs.Table.{Table}
-use Rattle.canon.specs.Valid.{valid}
+use Rattle.canon.specs.Table.{Table, commentsOf}
+use Rattle.canon.specs.Valid.{countsValid, valid}
 use Rattle.canon.specs.Canonical.{canonical}
 use Rattle.canon.specs.Measured.{measured}
 use Rattle.canon.specs.declared.types.Measured.{Measured}
@@ -25,7 +26,7 @@ use Rattle.writer.specs.Writing.{outAfter}
 use Rattle.canon_laws.specs.Held.{tableIn, rewritten}
 use Rattle.canon_laws.specs.Within.{Within}
 use Rattle.canon_laws.proofs.SameForm.{form-letter, table-letter}
-use Rattle.canon_laws.proofs.Wider.{wider}
+use Rattle.canon_laws.proofs.Wider.{same-columns, valid-by, wider}
 use Rattle.canon_laws.proofs.WiderFiles.{file-wider}
 use Rattle.canon_laws.proofs.Versions.{d-proper}
 use Rattle.canon_laws.proofs.Trips.{form-accepted}
@@ -33,7 +34,7 @@ use Rattle.canon_laws.proofs.Rewriting.{form-again}
 use Rattle.scan_laws.proofs.Files.{d-sound, d-exactly}
 use Rattle.scan.specs.declared.Front.{Front}
 use Rattle.scan.specs.declared.Front.the-variants as front
-use Rattle.theorems.specs.Before.{before}
+use Rattle.theorems.specs.Before.{satellitesBefore, before}
 use Rattle.theorems.specs.Again.{lentTable}
 use Rattle.theorems.proofs.Writing.{written-0, out-is}
 use Rattle.theorems.proofs.Rewritten.{canonical-again}
@@ -46,42 +47,53 @@ before-within = record { satellites = omega arith; fewest = omega arith; most = 
 pub before-sound : Sound before
 before-sound = record { identifiers-fit = omega arith; comments-fit = omega arith }
 
--- A table that was valid is valid,
+-- EVERY TABLE HAS THE FORM THAT IT HAD.
+pub forms-stay : (t : Table) → canonical d t ≡ canonical before t
+forms-stay t = form-letter d before t refl
+
+-- ONE OF UP TO 255 SATELLITES IS VALID EXACTLY WHEN IT WAS,
+module _ (t : Table) (few : t .header .satellites ≤ satellitesBefore) where
+  counts-same : countsValid d (t .header) ≡ countsValid before (t .header)
+  unfolding countsValid
+  counts-same =
+      let n = t .header .satellites in
+      rw (le-leb n maxSatellites (omega (arith, few)), le-leb n satellitesBefore few)
+
+  pub valid-same : valid d t ≡ valid before t
+  valid-same = valid-by d before t counts-same (same-columns d before refl (t .header .comments) (commentsOf t))
+
+  -- is answered as it was, valid or not and whatever the room, and leaves the same output.
+  pub answer-stays : (room : ℕ) → measured d t room ≡ measured before t room
+  unfolding measured
+  answer-stays room = rw (valid-same, forms-stay t)
+
+  pub output-stays : (out : List ℕ) → outAfter d t out ≡ outAfter before t out
+  unfolding outAfter
+  output-stays out = rw (valid-same, forms-stay t)
+
+-- One that was valid is valid,
 pub valid-stays : (t : Table) → valid before t ≡ true → valid d t ≡ true
 valid-stays t ok = wider before d before-within t ok
 
--- EVERY TABLE HAS THE FORM THAT IT HAD,
-pub forms-stay : (t : Table) → canonical before t ≡ canonical d t
-forms-stay t = form-letter before d t refl
-
--- one that was valid is answered as it was, whatever the room, and leaves the same output,
-pub answer-stays : (t : Table) → valid before t ≡ true → (room : ℕ) → measured d t room ≡ measured before t room
-unfolding measured
-answer-stays t ok room = rw (ok, valid-stays t ok, forms-stay t)
-
-pub output-stays : (t : Table) → valid before t ≡ true → (out : List ℕ) → outAfter d t out ≡ outAfter before t out
-unfolding outAfter
-output-stays t ok out = rw (ok, valid-stays t ok, forms-stay t)
-
--- so with room by 0 and the length of that form, which then stands from the first byte of the output on.
+-- and with room it is answered by 0 and the length of the form of before, which stands from the first byte of the output on.
 pub writing-stays : (t : Table) → valid before t ≡ true → (out : List ℕ) → length (canonical before t) ≤ length out
     → (measured d t (length out) ≡ record { refusal = 0; length = length (canonical before t) }) × (outAfter d t out ≡ over (canonical before t) out)
 writing-stays t ok out room =
     let now = valid-stays t ok in
-    let enough-now : length (canonical d t) ≤ length out = subst (λ (s : List ℕ). length s ≤ length out) (forms-stay t) room in
+    let enough-now : length (canonical d t) ≤ length out = subst (λ (s : List ℕ). length s ≤ length out) (sym (forms-stay t)) room in
     let told = written-0 t out now enough-now in (
-      told ∙ ap (λ (s : List ℕ). record { refusal = 0; length = length s }) (sym (forms-stay t)),
-      out-is t out (ap (λ (m : Measured). m .refusal) told) ∙ ap (λ (s : List ℕ). over s out) (sym (forms-stay t)),
+      told ∙ ap (λ (s : List ℕ). record { refusal = 0; length = length s }) (forms-stay t),
+      out-is t out (ap (λ (m : Measured). m .refusal) told) ∙ ap (λ (s : List ℕ). over s out) (forms-stay t),
     )
 
 -- CANONICAL FILES STAY BYTE FOR BYTE AS THEY ARE: each is its own rewriting,
 pub files-stay : (t : Table) → valid before t ≡ true → rewritten d (canonical before t) ≡ canonical before t
-files-stay t ok = ap (rewritten d) (forms-stay t) ∙ form-again d d-proper t (valid-stays t ok) ∙ sym (forms-stay t)
+files-stay t ok = ap (rewritten d) (sym (forms-stay t)) ∙ form-again d d-proper t (valid-stays t ok) ∙ forms-stay t
 
 -- accepted,
 pub canonical-accepted : (t : Table) → valid before t ≡ true → IsFile d (canonical before t)
 canonical-accepted t ok =
-    subst (λ (s : List ℕ). IsFile d s) (sym (forms-stay t)) (d-exactly (canonical d t) .1 (form-accepted d d-proper t (valid-stays t ok)))
+    subst (λ (s : List ℕ). IsFile d s) (forms-stay t) (d-exactly (canonical d t) .1 (form-accepted d d-proper t (valid-stays t ok)))
 
 -- and read and written it comes back: 0, its length, and its bytes.
 pub bytes-stay : (t : Table) → valid before t ≡ true → (identifiers exponents comments : List ℕ) (rows : List ℤ) → let bytes = canonical before t in
@@ -89,7 +101,7 @@ pub bytes-stay : (t : Table) → valid before t ≡ true → (identifiers expone
     → (measured d (lentTable true bytes identifiers exponents comments rows) (length out) ≡ record { refusal = 0; length = length bytes })
     × (outAfter d (lentTable true bytes identifiers exponents comments rows) out ≡ over bytes out)
 bytes-stay t ok identifiers exponents comments rows read out room =
-    canonical-again (canonical before t) (canonical-accepted t ok) identifiers exponents comments rows read t (valid-stays t ok) (forms-stay t) out room
+    canonical-again (canonical before t) (canonical-accepted t ok) identifiers exponents comments rows read t (valid-stays t ok) (sym (forms-stay t)) out room
 
 -- THE LINES OF ANY BYTES HAVE THE TABLE THAT THEY HAD.
 pub table-stays : (bytes : List ℕ) → tableIn d (linesOf bytes) ≡ tableIn before (linesOf bytes)
