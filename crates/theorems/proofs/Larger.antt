@@ -128,18 +128,14 @@ module _ (bytes : List ℕ) (accepted : IsFile before bytes) where
     unfolding delivered headerIn kindOf
     reading-stays = as-before (λ f. readAnswer d bytes f identifiers exponents comments rows) (λ f. readAnswer before bytes f identifiers exponents comments rows) refl
 
-    pub identifiers-stay : identifiersAfter d bytes (fileOf d bytes) identifiers exponents comments rows ≡ identifiersAfter before bytes (fileOf before bytes) identifiers exponents comments rows
-    unfolding enough slotsIn kindOf
-    identifiers-stay = as-before (λ f. identifiersAfter d bytes f identifiers exponents comments rows) (λ f. identifiersAfter before bytes f identifiers exponents comments rows) refl
-
-    pub exponents-stay : exponentsAfter d bytes (fileOf d bytes) identifiers exponents comments rows ≡ exponentsAfter before bytes (fileOf before bytes) identifiers exponents comments rows
-    unfolding enough slotsIn kindOf
-    exponents-stay = as-before (λ f. exponentsAfter d bytes f identifiers exponents comments rows) (λ f. exponentsAfter before bytes f identifiers exponents comments rows) refl
-
-    pub comments-stay : commentsAfter d bytes (fileOf d bytes) identifiers exponents comments rows ≡ commentsAfter before bytes (fileOf before bytes) identifiers exponents comments rows
-    unfolding enough commentsIn kindOf
-    comments-stay = as-before (λ f. commentsAfter d bytes f identifiers exponents comments rows) (λ f. commentsAfter before bytes f identifiers exponents comments rows) refl
-
-    pub rows-stay : rowsAfter d bytes (fileOf d bytes) identifiers exponents comments rows ≡ rowsAfter before bytes (fileOf before bytes) identifiers exponents comments rows
-    unfolding enough rowsOfLines kindOf
-    rows-stay = as-before (λ f. rowsAfter d bytes f identifiers exponents comments rows) (λ f. rowsAfter before bytes f identifiers exponents comments rows) refl
+    pub lists-stay : (identifiersAfter d bytes (fileOf d bytes) identifiers exponents comments rows ≡ identifiersAfter before bytes (fileOf before bytes) identifiers exponents comments rows)
+        × (exponentsAfter d bytes (fileOf d bytes) identifiers exponents comments rows ≡ exponentsAfter before bytes (fileOf before bytes) identifiers exponents comments rows)
+        × (commentsAfter d bytes (fileOf d bytes) identifiers exponents comments rows ≡ commentsAfter before bytes (fileOf before bytes) identifiers exponents comments rows)
+        × (rowsAfter d bytes (fileOf d bytes) identifiers exponents comments rows ≡ rowsAfter before bytes (fileOf before bytes) identifiers exponents comments rows)
+    unfolding enough slotsIn commentsIn rowsOfLines kindOf
+    lists-stay = (
+      as-before (λ f. identifiersAfter d bytes f identifiers exponents comments rows) (λ f. identifiersAfter before bytes f identifiers exponents comments rows) refl,
+      as-before (λ f. exponentsAfter d bytes f identifiers exponents comments rows) (λ f. exponentsAfter before bytes f identifiers exponents comments rows) refl,
+      as-before (λ f. commentsAfter d bytes f identifiers exponents comments rows) (λ f. commentsAfter before bytes f identifiers exponents comments rows) refl,
+      as-before (λ f. rowsAfter d bytes f identifiers exponents comments rows) (λ f. rowsAfter before bytes f identifiers exponents comments rows) refl,
+    )
