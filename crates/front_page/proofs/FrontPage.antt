@@ -635,6 +635,18 @@ module _ (bytes : List ℕ) (accepted : IsFile before bytes) (identifiers expone
       ≡ rowsAfter before bytes (fileOf before bytes) identifiers exponents comments rows)
   lists-stay = larger.lists-stay bytes accepted identifiers exponents comments rows
 
+-- A stretch that was divided is divided in the same way.
+pub division-stays : {bytes lengths : List ℕ} → Divides before bytes lengths → Divides d bytes lengths
+division-stays divides = larger.division-stays divides
+
+-- NOTHING ELSE CHANGES: any bytes are judged as they were, by number, line, column, length and header, but those that were refused with 7 at column 4 of a
+-- line whose columns 4 to 6 hold more than 255.
+pub nothing-else : (bytes : List ℕ) → (judged d bytes (fileOf d bytes) ≡ judged before bytes (fileOf before bytes))
+    ⊎ ((line : ℕ)
+    × (judged before bytes (fileOf before bytes) ≡ refusedWith 7 line 4)
+    × (satellitesBefore < satellitesOf d (padded (refusedLine bytes line)) .count))
+nothing-else bytes = larger.nothing-else bytes
+
 -- Every number of satellites from 1 to 999 has a valid table, and an accepted file has it;
 pub every-number : (n : ℕ) → 1 ≤ n → n ≤ maxSatellites
     → (valid d (tableOfMany n) ≡ true) × ((bytes : List ℕ) × IsFile d bytes × Holds d (linesOf bytes) (tableOfMany n) × (header bytes .satellites ≡ n))

@@ -4,7 +4,8 @@
 use mathlib.Core.Path.{_≡_, refl, sym, ap, _∙_, subst}
 use mathlib.Core.Bool.{true}
 use mathlib.Core.List.{List}
-use Prim.Native.Nat.{ℕ, _≤_}
+use mathlib.Core.Logic.{_⊎_, inl, inr}
+use Prim.Native.Nat.{ℕ, _≤_, _<_}
 use native.Mathlib.Omega.{arith}
 use lib.IntN.{ℤ}
 use lib.ListN.{length}
@@ -12,11 +13,13 @@ use borrow.Author.Tests.{le-leb}
 use Rattle.header.specs.Rules.{d, maxSatellites}
 use Rattle.lines.specs.Lent.{over}
 use Rattle.lines.specs.Lines.{linesOf}
+use Rattle.layout.specs.Line.{padded}
 use Rattle.record.specs.LineKinds.{kindOf}
+use Rattle.record.specs.SlotLines.{satellitesOf}
 use Rattle.file.specs.Table.{headerIn, slotsIn, commentsIn, rowsOfLines}
 use Rattle.file.specs.Plain.{Sound}
 use Rattle.scan.specs.Run.{IsFile}
-use Rattle.reader.specs.Reading.{fileOf, judged, enough, delivered, readAnswer, identifiersAfter, exponentsAfter, commentsAfter, rowsAfter}
+use Rattle.reader.specs.Reading.{refusedWith, fileOf, judged, enough, delivered, readAnswer, identifiersAfter, exponentsAfter, commentsAfter, rowsAfter}
 use Rattle.canon.specs.Table.{Table, commentsOf}
 use Rattle.canon.specs.Valid.{countsValid, valid}
 use Rattle.canon.specs.Canonical.{canonical}
@@ -34,11 +37,15 @@ use Rattle.canon_laws.proofs.Rewriting.{form-again}
 use Rattle.scan_laws.proofs.Files.{d-sound, d-exactly}
 use Rattle.scan.specs.declared.Front.{Front}
 use Rattle.scan.specs.declared.Front.the-variants as front
+use Rattle.divide.specs.Dividing.{Divides}
+use Rattle.divide.specs.Dividing.Divides.{none, one}
+use Rattle.theorems.specs.Faults.{refusedLine}
 use Rattle.theorems.specs.Before.{satellitesBefore, before}
 use Rattle.theorems.specs.Again.{lentTable}
 use Rattle.theorems.proofs.Writing.{written-0, out-is}
 use Rattle.theorems.proofs.Rewritten.{canonical-again}
 use Rattle.theorems.proofs.Answers.{judge-accepts}
+use Rattle.theorems.proofs.NothingElse.{found-either}
 
 -- the bounds of before lie within those of now
 pub before-within : Within before d
@@ -139,3 +146,27 @@ module _ (bytes : List ℕ) (accepted : IsFile before bytes) where
       as-before (λ f. commentsAfter d bytes f identifiers exponents comments rows) (λ f. commentsAfter before bytes f identifiers exponents comments rows) refl,
       as-before (λ f. rowsAfter d bytes f identifiers exponents comments rows) (λ f. rowsAfter before bytes f identifiers exponents comments rows) refl,
     )
+
+-- A stretch that was divided is divided in the same way.
+pub division-stays : {bytes lengths : List ℕ} → Divides before bytes lengths → Divides d bytes lengths
+division-stays none = none
+division-stays (one a file more) = one a (accepted-stays a file) (division-stays more)
+
+-- NOTHING ELSE CHANGES: any bytes are judged as they were, but those that were refused with 7 at column 4 of a line whose columns 4 to 6 hold more.
+module _ (bytes : List ℕ) where
+  same-answer : (f : Front) → judged d bytes f ≡ judged before bytes f
+  unfolding judged headerIn kindOf
+  same-answer (front.File t) = refl
+  same-answer (front.Refused number line column) = refl
+
+  pub nothing-else : (judged d bytes (fileOf d bytes) ≡ judged before bytes (fileOf before bytes))
+      ⊎ ((line : ℕ) × (judged before bytes (fileOf before bytes) ≡ refusedWith 7 line 4) × (satellitesBefore < satellitesOf d (padded (refusedLine bytes line)) .count))
+  unfolding judged
+  nothing-else = go (found-either d satellitesBefore (omega arith) bytes)
+    where
+      go : (fileOf d bytes ≡ fileOf before bytes)
+          ⊎ ((line : ℕ) × (fileOf before bytes ≡ front.Refused 7 line 4) × (satellitesBefore < satellitesOf d (padded (refusedLine bytes line)) .count))
+          → (judged d bytes (fileOf d bytes) ≡ judged before bytes (fileOf before bytes))
+          ⊎ ((line : ℕ) × (judged before bytes (fileOf before bytes) ≡ refusedWith 7 line 4) × (satellitesBefore < satellitesOf d (padded (refusedLine bytes line)) .count))
+      go (inl e) = inl (ap (judged d bytes) e ∙ same-answer (fileOf before bytes))
+      go (inr (line, is, more)) = inr (line, ap (judged before bytes) is, more)

@@ -21,6 +21,8 @@ pub mod Walks
 pub mod WalkedRows
 pub mod Beginning
 pub mod Answers
+pub mod Beside
+pub mod NothingElse
 pub mod Larger
 pub mod Exist
 pub mod Most

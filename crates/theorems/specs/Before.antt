@@ -3,16 +3,19 @@ use Prim.Native.Nat.{ℕ}
 use Rattle.header.specs.Rules.{d}
 use Rattle.header.specs.declared.types.Rules.{Rules}
 
--- the most satellites of a file
+-- rules with another bound of satellites, all else as it is
+abbrev pub withMost : ℕ → Rules → Rules
+withMost most rules = record {
+  letter = rules .letter;
+  «most_satellites» = most;
+  «fewest_comments» = rules .«fewest_comments»;
+  «most_comments» = rules .«most_comments»;
+  «comment_columns» = rules .«comment_columns»;
+}
+
+-- the most satellites of a file as it was, and the rules with that bound
 abbrev pub satellitesBefore : ℕ
 satellitesBefore = 255
 
--- all else is as it is now
 abbrev pub before : Rules
-before = record {
-  letter = d .letter;
-  «most_satellites» = satellitesBefore;
-  «fewest_comments» = d .«fewest_comments»;
-  «most_comments» = d .«most_comments»;
-  «comment_columns» = d .«comment_columns»;
-}
+before = withMost satellitesBefore d
