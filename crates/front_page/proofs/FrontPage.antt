@@ -639,13 +639,14 @@ module _ (bytes : List ℕ) (accepted : IsFile before bytes) (identifiers expone
 pub division-stays : {bytes lengths : List ℕ} → Divides before bytes lengths → Divides d bytes lengths
 division-stays divides = larger.division-stays divides
 
--- NOTHING ELSE CHANGES: any bytes are judged as they were, by number, line, column, length and header, but those that were refused with 7 at column 4 of a
--- line whose columns 4 to 6 hold more than 255.
-pub nothing-else : (bytes : List ℕ) → (judged d bytes (fileOf d bytes) ≡ judged before bytes (fileOf before bytes))
+-- NOTHING ELSE CHANGES: any bytes are judged as they were, by number, line, column, length and header, whole files (true) and files at the front (false) at
+-- once, but those that were refused with 7 at column 4 of a `+ ` line whose columns 4 to 6 hold more than 255.
+pub nothing-else : (bytes : List ℕ) (whole : Bool) → (judged d bytes (foundIn whole bytes) ≡ judged before bytes (foundBefore whole bytes))
     ⊎ ((line : ℕ)
-    × (judged before bytes (fileOf before bytes) ≡ refusedWith 7 line 4)
+    × (judged before bytes (foundBefore whole bytes) ≡ refusedWith 7 line 4)
+    × (kindIn d (refusedLine bytes line) ≡ satellitesKind)
     × (satellitesBefore < satellitesOf d (padded (refusedLine bytes line)) .count))
-nothing-else bytes = larger.nothing-else bytes
+nothing-else bytes whole = larger.nothing-else bytes whole
 
 -- Every number of satellites from 1 to 999 has a valid table, and an accepted file has it;
 pub every-number : (n : ℕ) → 1 ≤ n → n ≤ maxSatellites

@@ -2,7 +2,7 @@
 -- valid, written and accepted by the rules of before is so now, with the same form and the same table.
 -- Assumes nothing.
 use mathlib.Core.Path.{_≡_, refl, sym, ap, _∙_, subst}
-use mathlib.Core.Bool.{true}
+use mathlib.Core.Bool.{Bool, true, false}
 use mathlib.Core.List.{List}
 use mathlib.Core.Logic.{_⊎_, inl, inr}
 use Prim.Native.Nat.{ℕ, _≤_, _<_}
@@ -14,9 +14,10 @@ use Rattle.header.specs.Rules.{d, maxSatellites}
 use Rattle.lines.specs.Lent.{over}
 use Rattle.lines.specs.Lines.{linesOf}
 use Rattle.layout.specs.Line.{padded}
-use Rattle.record.specs.LineKinds.{kindOf}
+use Rattle.record.specs.LineKinds.{kindOf, toldKind, satellitesKind}
 use Rattle.record.specs.SlotLines.{satellitesOf}
 use Rattle.file.specs.Table.{headerIn, slotsIn, commentsIn, rowsOfLines}
+use Rattle.file.specs.Kinds.{kindIn}
 use Rattle.file.specs.Plain.{Sound}
 use Rattle.scan.specs.Run.{IsFile}
 use Rattle.reader.specs.Reading.{refusedWith, fileOf, judged, enough, delivered, readAnswer, identifiersAfter, exponentsAfter, commentsAfter, rowsAfter}
@@ -40,12 +41,13 @@ use Rattle.scan.specs.declared.Front.the-variants as front
 use Rattle.divide.specs.Dividing.{Divides}
 use Rattle.divide.specs.Dividing.Divides.{none, one}
 use Rattle.theorems.specs.Faults.{refusedLine}
-use Rattle.theorems.specs.Before.{satellitesBefore, before}
+use Rattle.theorems.specs.Before.{satellitesBefore, before, foundBefore}
+use Rattle.theorems.specs.Room.{foundIn}
 use Rattle.theorems.specs.Again.{lentTable}
 use Rattle.theorems.proofs.Writing.{written-0, out-is}
 use Rattle.theorems.proofs.Rewritten.{canonical-again}
 use Rattle.theorems.proofs.Answers.{judge-accepts}
-use Rattle.theorems.proofs.NothingElse.{found-either}
+use Rattle.theorems.proofs.NothingElse.{Found, front-either, file-either}
 
 -- the bounds of before lie within those of now
 pub before-within : Within before d
@@ -152,21 +154,30 @@ pub division-stays : {bytes lengths : List ℕ} → Divides before bytes lengths
 division-stays none = none
 division-stays (one a file more) = one a (accepted-stays a file) (division-stays more)
 
--- NOTHING ELSE CHANGES: any bytes are judged as they were, but those that were refused with 7 at column 4 of a line whose columns 4 to 6 hold more.
+-- NOTHING ELSE CHANGES: any bytes are judged as they were, but those that were refused with 7 at column 4 of a `+ ` line whose columns 4 to 6 hold more.
 module _ (bytes : List ℕ) where
   same-answer : (f : Front) → judged d bytes f ≡ judged before bytes f
   unfolding judged headerIn kindOf
   same-answer (front.File t) = refl
   same-answer (front.Refused number line column) = refl
 
-  pub nothing-else : (judged d bytes (fileOf d bytes) ≡ judged before bytes (fileOf before bytes))
-      ⊎ ((line : ℕ) × (judged before bytes (fileOf before bytes) ≡ refusedWith 7 line 4) × (satellitesBefore < satellitesOf d (padded (refusedLine bytes line)) .count))
+  found-either : (whole : Bool) → Found d satellitesBefore (omega arith) bytes (foundBefore whole bytes) (foundIn whole bytes)
+  found-either true = file-either d satellitesBefore (omega arith) bytes
+  found-either false = front-either d satellitesBefore (omega arith) bytes
+
+  pub nothing-else : (whole : Bool) → (judged d bytes (foundIn whole bytes) ≡ judged before bytes (foundBefore whole bytes))
+      ⊎ ((line : ℕ)
+      × (judged before bytes (foundBefore whole bytes) ≡ refusedWith 7 line 4)
+      × (kindIn d (refusedLine bytes line) ≡ satellitesKind)
+      × (satellitesBefore < satellitesOf d (padded (refusedLine bytes line)) .count))
   unfolding judged
-  nothing-else = go (found-either d satellitesBefore (omega arith) bytes)
+  nothing-else whole = go (found-either whole)
     where
-      go : (fileOf d bytes ≡ fileOf before bytes)
-          ⊎ ((line : ℕ) × (fileOf before bytes ≡ front.Refused 7 line 4) × (satellitesBefore < satellitesOf d (padded (refusedLine bytes line)) .count))
-          → (judged d bytes (fileOf d bytes) ≡ judged before bytes (fileOf before bytes))
-          ⊎ ((line : ℕ) × (judged before bytes (fileOf before bytes) ≡ refusedWith 7 line 4) × (satellitesBefore < satellitesOf d (padded (refusedLine bytes line)) .count))
-      go (inl e) = inl (ap (judged d bytes) e ∙ same-answer (fileOf before bytes))
-      go (inr (line, is, more)) = inr (line, ap (judged before bytes) is, more)
+      go : Found d satellitesBefore (omega arith) bytes (foundBefore whole bytes) (foundIn whole bytes)
+          → (judged d bytes (foundIn whole bytes) ≡ judged before bytes (foundBefore whole bytes))
+          ⊎ ((line : ℕ)
+          × (judged before bytes (foundBefore whole bytes) ≡ refusedWith 7 line 4)
+          × (kindIn d (refusedLine bytes line) ≡ satellitesKind)
+          × (satellitesBefore < satellitesOf d (padded (refusedLine bytes line)) .count))
+      go (inl e) = inl (ap (judged d bytes) e ∙ same-answer (foundBefore whole bytes))
+      go (inr (line, is, (plus, more))) = inr (line, ap (judged before bytes) is, ap toldKind plus, more)

@@ -1,5 +1,5 @@
 -- Nothing else changes with the bound of satellites: any bytes are judged as by a lower bound, but those that the lower refuses with 7 at column 4 of a
--- line whose columns 4 to 6 hold more.
+-- `+ ` line whose columns 4 to 6 hold more.
 -- Assumes nothing.
 use mathlib.Core.Path.{_≡_, refl, sym, ap, ap₂, _∙_, subst}
 use mathlib.Core.Bool.{Bool, true, false, cond, not}
@@ -46,9 +46,12 @@ module _ (rules : Rules) (most : ℕ) (lower-most : most ≤ rules .«most_satel
   abbrev narrow : Rules
   narrow = withMost most rules
 
-  -- a line whose columns 4 to 6 hold more
-  abbrev pub More : List ℕ → Type 0
-  More line = most < satellitesOf rules line .count
+  -- a line whose columns 4 to 6 hold more, and a `+ ` line of which that is so
+  abbrev Many : List ℕ → Type 0
+  Many line = most < satellitesOf rules line .count
+
+  abbrev More : List ℕ → Type 0
+  More line = (kindOf rules line ≡ kind.Satellites) × Many line
 
   -- the number of satellites has the same fault, or holds more and has 7 by the lower bound alone
   number-either : (x : Whole) → (wholeFault 4 1 most x ≡ wholeFault 4 1 (rules .«most_satellites») x)
@@ -70,7 +73,7 @@ module _ (rules : Rules) (most : ℕ) (lower-most : most ≤ rules .«most_satel
 
   -- so the first `+ ` line
   count-either : (line : List ℕ) → (satellitesOf narrow line .fault ≡ satellitesOf rules line .fault)
-      ⊎ (Beside (satellitesOf narrow line .fault) (satellitesOf rules line .fault) × More line)
+      ⊎ (Beside (satellitesOf narrow line .fault) (satellitesOf rules line .fault) × Many line)
   count-either line = go (number-either (wholeOf (partOf (countItem rules) line)))
     where
       earlier : ℕ
@@ -80,9 +83,9 @@ module _ (rules : Rules) (most : ℕ) (lower-most : most ≤ rules .«most_satel
       rest = columns 7 9 unused ∷ (slotItems false (countIn rules line) ++ (columns 61 80 unused ∷ []))
 
       go : (faultAt (countItem narrow) line ≡ faultAt (countItem rules) line)
-          ⊎ ((faultAt (countItem narrow) line ≡ keyed 7 4) × (faultAt (countItem rules) line ≡ clean) × More line)
+          ⊎ ((faultAt (countItem narrow) line ≡ keyed 7 4) × (faultAt (countItem rules) line ≡ clean) × Many line)
           → (satellitesOf narrow line .fault ≡ satellitesOf rules line .fault)
-          ⊎ (Beside (satellitesOf narrow line .fault) (satellitesOf rules line .fault) × More line)
+          ⊎ (Beside (satellitesOf narrow line .fault) (satellitesOf rules line .fault) × Many line)
       go (inl e) = inl (ap (λ (f : ℕ). faultFrom (lower earlier f) rest line) e)
       go (inr (seven, none, more)) =
           inr (
@@ -92,11 +95,11 @@ module _ (rules : Rules) (most : ℕ) (lower-most : most ≤ rules .«most_satel
             more,
           )
 
-  -- the same fault, or 7 at column 4 of a line that holds more
+  -- the same fault, or 7 at column 4 of a line that holds more; so after a further test
   abbrev Either : ℕ → ℕ → List ℕ → Type 0
-  Either p q line = (p ≡ q) ⊎ ((p ≡ keyed 7 4) × More line)
+  Either p q line = (p ≡ q) ⊎ ((p ≡ keyed 7 4) × Many line)
 
-  lowered : (p q g : ℕ) (line : List ℕ) → (p ≡ q) ⊎ (Beside p q × More line) → Either (lower p g) (lower q g) line
+  lowered : (p q g : ℕ) (line : List ℕ) → (p ≡ q) ⊎ (Beside p q × Many line) → Either (lower p g) (lower q g) line
   lowered p q g line (inl e) = inl (ap (λ (x : ℕ). lower x g) e)
   lowered p q g line (inr (b, more)) = go (lower-beside p q g b)
     where
@@ -104,9 +107,12 @@ module _ (rules : Rules) (most : ℕ) (lower-most : most ≤ rules .«most_satel
       go (inl e) = inl e
       go (inr (seven, other)) = inr (seven, more)
 
-  -- the same verdict, or that one
-  abbrev Agree : Verdict → Verdict → List ℕ → Type 0
-  Agree v w line = (v ≡ w) ⊎ ((v ≡ verdict.Fault 7 4) × More line)
+  -- so of a line of a kind, and the same verdict, or that fault
+  abbrev Of : LineKind → ℕ → ℕ → List ℕ → Type 0
+  Of k p q line = (p ≡ q) ⊎ ((p ≡ keyed 7 4) × (k ≡ kind.Satellites) × Many line)
+
+  abbrev Agree : LineKind → Verdict → Verdict → List ℕ → Type 0
+  Agree k v w line = (v ≡ w) ⊎ ((v ≡ verdict.Fault 7 4) × (k ≡ kind.Satellites) × Many line)
 
   -- a line may be as long
   same-length : (k : LineKind) → longest narrow k ≡ longest rules k
@@ -129,7 +135,7 @@ module _ (rules : Rules) (most : ℕ) (lower-most : most ≤ rules .«most_satel
   module _ (s : State) (identifiers : List ℕ) (line : List ℕ) where
     -- a `+ ` line, the first or a further one,
     slots-either : (b : Bool) → let p = cond b (satellitesOf narrow line .fault) (moreOf false (s .left) line .fault) in
-        let q = cond b (satellitesOf rules line .fault) (moreOf false (s .left) line .fault) in (p ≡ q) ⊎ (Beside p q × More line)
+        let q = cond b (satellitesOf rules line .fault) (moreOf false (s .left) line .fault) in (p ≡ q) ⊎ (Beside p q × Many line)
     slots-either true = count-either line
     slots-either false = inl refl
 
@@ -139,8 +145,13 @@ module _ (rules : Rules) (most : ℕ) (lower-most : most ≤ rules .«most_satel
         lowered (slotsFault narrow s line) (slotsFault rules s line) (unless (not (namesAgain rules s identifiers line)) 8 0) line (slots-either (isFirst s))
 
     -- and any line, by its kind
-    fault-either : (k : LineKind) → Either (recordFault k narrow s identifiers line) (recordFault k rules s identifiers line) line
-    fault-either kind.Satellites = satellites-either
+    fault-either : (k : LineKind) → Of k (recordFault k narrow s identifiers line) (recordFault k rules s identifiers line) line
+    fault-either kind.Satellites = named satellites-either
+      where
+        named : Either (satellitesFault narrow s identifiers line) (satellitesFault rules s identifiers line) line
+            → Of kind.Satellites (satellitesFault narrow s identifiers line) (satellitesFault rules s identifiers line) line
+        named (inl e) = inl e
+        named (inr (seven, more)) = inr (seven, refl, more)
     fault-either kind.Other = inl refl
     fault-either kind.First = inl refl
     fault-either kind.Second = inl refl
@@ -174,27 +185,27 @@ module _ (rules : Rules) (most : ℕ) (lower-most : most ≤ rules .«most_satel
     same-next kind.VelocityCorrelation = refl
     same-next kind.EndOfFile = refl
 
-    standing-either : (k : LineKind) → Either (standingFault k narrow s identifiers line) (standingFault k rules s identifiers line) line
+    standing-either : (k : LineKind) → Of k (standingFault k narrow s identifiers line) (standingFault k rules s identifiers line) line
     unfolding standingFault
     standing-either k = go (stands s k)
       where
-        go : (b : Bool) → Either (cond b (recordFault k narrow s identifiers line) (keyed 4 0)) (cond b (recordFault k rules s identifiers line) (keyed 4 0)) line
+        go : (b : Bool) → Of k (cond b (recordFault k narrow s identifiers line) (keyed 4 0)) (cond b (recordFault k rules s identifiers line) (keyed 4 0)) line
         go true = fault-either k
         go false = inl refl
 
-    judged-either : (k : LineKind) → Agree (judgedLine k narrow s identifiers line) (judgedLine k rules s identifiers line) line
+    judged-either : (k : LineKind) → Agree k (judgedLine k narrow s identifiers line) (judgedLine k rules s identifiers line) line
     unfolding judgedLine onKey
     judged-either k = go (standing-either k)
       where
-        go : Either (standingFault k narrow s identifiers line) (standingFault k rules s identifiers line) line
-            → Agree (judgedLine k narrow s identifiers line) (judgedLine k rules s identifiers line) line
+        go : Of k (standingFault k narrow s identifiers line) (standingFault k rules s identifiers line) line
+            → Agree k (judgedLine k narrow s identifiers line) (judgedLine k rules s identifiers line) line
         go (inl e) = inl (ap₂ onKey e (same-next k))
-        go (inr (seven, more)) = inr (ap (λ (f : ℕ). onKey f (nextOf k narrow s line)) seven, more)
+        go (inr (seven, plus, more)) = inr (ap (λ (f : ℕ). onKey f (nextOf k narrow s line)) seven, plus, more)
 
-  step-either : (s : State) (identifiers : List ℕ) (l : List ℕ) → Agree (stepOf narrow s identifiers l) (stepOf rules s identifiers l) (padded l)
+  step-either : (s : State) (identifiers : List ℕ) (l : List ℕ) → Agree (kindOf rules (padded l)) (stepOf narrow s identifiers l) (stepOf rules s identifiers l) (padded l)
   unfolding stepOf printedLine kindOf
   step-either s identifiers l =
-      subst (λ (v : Verdict). Agree v (stepOf rules s identifiers l) (padded l)) (ap by-length (sym (same-length k)))
+      subst (λ (v : Verdict). Agree k v (stepOf rules s identifiers l) (padded l)) (ap by-length (sym (same-length k)))
       (go (every isPrintable l) (leb (length l) (longest rules k)))
     where
       k : LineKind
@@ -207,12 +218,12 @@ module _ (rules : Rules) (most : ℕ) (lower-most : most ≤ rules .«most_satel
       by : Rules → Bool → Bool → Verdict
       by r b c = cond b (cond c (judgedLine k r s identifiers (padded l)) (verdict.Fault 3 (longest rules k + 1))) (verdict.Fault 2 (firstUnprintable l))
 
-      go : (b c : Bool) → Agree (by narrow b c) (by rules b c) (padded l)
+      go : (b c : Bool) → Agree k (by narrow b c) (by rules b c) (padded l)
       go true true = judged-either s identifiers (padded l) k
       go true false = inl refl
       go false c = inl refl
 
-  -- THE RUN over any lines is the same, or is refused by the lower bound with 7 at column 4 of a line that holds more.
+  -- THE RUN over any lines is the same, or is refused by the lower bound with 7 at column 4 of a `+ ` line that holds more.
   abbrev Runs : Front → Front → ℕ → List (List ℕ) → Type 0
   Runs f g before ls = (f ≡ g) ⊎ ((j : ℕ) × (f ≡ front.Refused 7 (before + 1 + j) 4) × More (padded (nth j ls)))
 
@@ -244,24 +255,31 @@ module _ (rules : Rules) (most : ℕ) (lower-most : most ≤ rules .«most_satel
       on verdict.Finished later = inl refl
       on (verdict.Next s′) later = shifted (run narrow s′ brought seen ls) (run rules s′ brought seen ls) (later s′)
 
-      go : Agree (stepOf narrow s identifiers l) (stepOf rules s identifiers l) (padded l) → Later
+      go : Agree (kindOf rules (padded l)) (stepOf narrow s identifiers l) (stepOf rules s identifiers l) (padded l) → Later
           → Runs (goesOn narrow (stepOf narrow s identifiers l)) (goesOn rules (stepOf rules s identifiers l)) (t .lines) (l ∷ ls)
       go (inl e) later =
           subst (λ (v : Verdict). Runs (goesOn narrow v) (goesOn rules (stepOf rules s identifiers l)) (t .lines) (l ∷ ls)) (sym e) (on (stepOf rules s identifiers l) later)
-      go (inr (seven, more)) later =
+      go (inr (seven, plus, more)) later =
           let line : t .lines + 1 ≡ t .lines + 1 + 0 = omega arith in
-          inr (0, ap (goesOn narrow) seven ∙ ap (λ (n : ℕ). front.Refused 7 n 4) line, more)
+          inr (0, ap (goesOn narrow) seven ∙ ap (λ (n : ℕ). front.Refused 7 n 4) line, (plus, more))
 
   -- so of any bytes, at their front and as a whole.
-  pub found-either : (bytes : List ℕ) → let f = wholeFront (length bytes) (scanOf narrow bytes) in
-      (wholeFront (length bytes) (scanOf rules bytes) ≡ f) ⊎ ((line : ℕ) × (f ≡ front.Refused 7 line 4) × More (padded (nth (line - 1) (linesOf bytes))))
-  unfolding wholeFront
-  found-either bytes = go (run-either (linesOf bytes) startState noIdentifiers nothingSeen)
+  abbrev pub Found : List ℕ → Front → Front → Type 0
+  Found bytes f g = (g ≡ f) ⊎ ((line : ℕ) × (f ≡ front.Refused 7 line 4) × More (padded (nth (line - 1) (linesOf bytes))))
+
+  pub front-either : (bytes : List ℕ) → Found bytes (scanOf narrow bytes) (scanOf rules bytes)
+  front-either bytes = go (run-either (linesOf bytes) startState noIdentifiers nothingSeen)
     where
-      go : Runs (scanOf narrow bytes) (scanOf rules bytes) 0 (linesOf bytes)
-          → (wholeFront (length bytes) (scanOf rules bytes) ≡ wholeFront (length bytes) (scanOf narrow bytes))
-          ⊎ ((line : ℕ) × (wholeFront (length bytes) (scanOf narrow bytes) ≡ front.Refused 7 line 4) × More (padded (nth (line - 1) (linesOf bytes))))
-      go (inl e) = inl (ap (wholeFront (length bytes)) (sym e))
+      go : Runs (scanOf narrow bytes) (scanOf rules bytes) 0 (linesOf bytes) → Found bytes (scanOf narrow bytes) (scanOf rules bytes)
+      go (inl e) = inl (sym e)
       go (inr (j, is, more)) =
           let back : 0 + 1 + j - 1 ≡ j = omega arith in
-          inr (0 + 1 + j, ap (wholeFront (length bytes)) is, subst (λ (i : ℕ). More (padded (nth i (linesOf bytes)))) (sym back) more)
+          inr (0 + 1 + j, is, subst (λ (i : ℕ). More (padded (nth i (linesOf bytes)))) (sym back) more)
+
+  pub file-either : (bytes : List ℕ) → Found bytes (wholeFront (length bytes) (scanOf narrow bytes)) (wholeFront (length bytes) (scanOf rules bytes))
+  unfolding wholeFront
+  file-either bytes = go (front-either bytes)
+    where
+      go : Found bytes (scanOf narrow bytes) (scanOf rules bytes) → Found bytes (wholeFront (length bytes) (scanOf narrow bytes)) (wholeFront (length bytes) (scanOf rules bytes))
+      go (inl e) = inl (ap (wholeFront (length bytes)) e)
+      go (inr (line, is, more)) = inr (line, ap (wholeFront (length bytes)) is, more)

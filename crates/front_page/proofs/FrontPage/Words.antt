@@ -28,7 +28,8 @@ pub use Rattle.header.specs.declared.types.Bases.{Bases}
 pub use Rattle.lines.specs.Lent.{over}
 pub use Rattle.lines.specs.Lines.{linesOf, joinLines, select}
 pub use Rattle.laws.specs.Texts.{every}
-pub use Rattle.file.specs.Kinds.{isNote}
+pub use Rattle.file.specs.Kinds.{isNote, kindIn}
+pub use Rattle.record.specs.LineKinds.{satellitesKind}
 pub use Rattle.file.specs.Plain.{Accepted}
 pub use Rattle.file.specs.Table.{rowLines, rowsIn, headerIn, commentsIn}
 pub use Rattle.machine.specs.State.{noIdentifiers}
@@ -78,7 +79,7 @@ pub use Rattle.theorems.proofs.Clocks as clocks
 pub use Rattle.theorems.proofs.Clocks.{twelveNines}
 pub use Rattle.theorems.proofs.Rewritten as rewritten
 pub use Rattle.theorems.specs.Again.{writtenBytes, lentTable}
-pub use Rattle.theorems.specs.Before.{satellitesBefore, before}
+pub use Rattle.theorems.specs.Before.{satellitesBefore, before, foundBefore}
 pub use Rattle.theorems.proofs.Larger as larger
 pub use Rattle.theorems.proofs.Most as most
 pub use Rattle.theorems.proofs.EveryNumber as everyNumber
