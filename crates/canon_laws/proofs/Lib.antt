@@ -1,6 +1,9 @@
 pub mod Bare
 pub mod Fits
 pub mod Versions
+pub mod SameForm
+pub mod Wider
+pub mod WiderFiles
 pub mod Moments
 pub mod FirstLines
 pub mod DescriptorLines

@@ -586,6 +586,89 @@ module _ (bytes : List ℕ) (accepted : IsFile d bytes) (identifiers exponents c
       × (outAfter d (lentTable true bytes identifiers exponents comments rows) out ≡ over bytes out)
   canonical-again t ok is out enough = rewritten.canonical-again bytes accepted identifiers exponents comments rows read t ok is out enough
 
+-- UP TO 999 SATELLITES (02, Ask 6). `before` are the rules of before, of at most 255 satellites, all else as in `d`. Every table has the form that it had,
+pub forms-stay : (t : Table) → canonical d t ≡ canonical before t
+forms-stay t = larger.forms-stay t
+
+-- one of up to 255 satellites, valid or not, is answered as it was, whatever the room, and leaves the same output;
+pub writing-stays : (t : Table) → t .header .satellites ≤ satellitesBefore → (out : List ℕ)
+    → (measured d t (length out) ≡ measured before t (length out)) × (outAfter d t out ≡ outAfter before t out)
+writing-stays t few out = (larger.answer-stays t few (length out), larger.output-stays t few out)
+
+-- so one that was valid, with room, by 0 and the length of the form of before, which stands from the first byte of the output on.
+pub written-as-before : (t : Table) → valid before t ≡ true → (out : List ℕ) → length (canonical before t) ≤ length out
+    → (measured d t (length out) ≡ record { refusal = 0; length = length (canonical before t) }) × (outAfter d t out ≡ over (canonical before t) out)
+written-as-before t ok out enough = larger.writing-stays t ok out enough
+
+-- A file that was canonical is accepted, is its own form,
+pub files-stay : (t : Table) → valid before t ≡ true → IsFile d (canonical before t) × (formOf d (canonical before t) ≡ canonical before t)
+files-stay t ok = (larger.canonical-accepted t ok, larger.files-stay t ok)
+
+-- and read and written it comes back: 0, its length, and its bytes.
+pub files-come-back : (t : Table) → valid before t ≡ true → (identifiers exponents comments : List ℕ) (rows : List ℤ) → let bytes = canonical before t in
+    readAnswer d bytes (fileOf d bytes) identifiers exponents comments rows .refusal ≡ 0 → (out : List ℕ) → length bytes ≤ length out
+    → (measured d (lentTable true bytes identifiers exponents comments rows) (length out) ≡ record { refusal = 0; length = length bytes })
+    × (outAfter d (lentTable true bytes identifiers exponents comments rows) out ≡ over bytes out)
+files-come-back t ok identifiers exponents comments rows read out enough = larger.bytes-stay t ok identifiers exponents comments rows read out enough
+
+-- What was accepted is accepted, and judging answers 0;
+pub accepted-stays : (bytes : List ℕ) → IsFile before bytes → IsFile d bytes × (judged d bytes (fileOf d bytes) .refusal ≡ 0)
+accepted-stays bytes accepted = (larger.accepted-stays bytes accepted, larger.judge-stays bytes accepted)
+
+-- it has the table that it had, as the lines of any bytes have: header, identifiers, exponents, comments and rows;
+pub table-stays : (bytes : List ℕ) → tableIn d (linesOf bytes) ≡ tableIn before (linesOf bytes)
+table-stays bytes = larger.table-stays bytes
+
+-- reading it gives the same answer, and leaves each list as it did.
+module _ (bytes : List ℕ) (accepted : IsFile before bytes) (identifiers exponents comments : List ℕ) (rows : List ℤ) where
+  pub reading-stays : readAnswer d bytes (fileOf d bytes) identifiers exponents comments rows
+      ≡ readAnswer before bytes (fileOf before bytes) identifiers exponents comments rows
+  reading-stays = larger.reading-stays bytes accepted identifiers exponents comments rows
+
+  pub lists-stay : (identifiersAfter d bytes (fileOf d bytes) identifiers exponents comments rows
+      ≡ identifiersAfter before bytes (fileOf before bytes) identifiers exponents comments rows)
+      × (exponentsAfter d bytes (fileOf d bytes) identifiers exponents comments rows
+      ≡ exponentsAfter before bytes (fileOf before bytes) identifiers exponents comments rows)
+      × (commentsAfter d bytes (fileOf d bytes) identifiers exponents comments rows
+      ≡ commentsAfter before bytes (fileOf before bytes) identifiers exponents comments rows)
+      × (rowsAfter d bytes (fileOf d bytes) identifiers exponents comments rows
+      ≡ rowsAfter before bytes (fileOf before bytes) identifiers exponents comments rows)
+  lists-stay = larger.lists-stay bytes accepted identifiers exponents comments rows
+
+-- A stretch that was divided is divided in the same way.
+pub division-stays : {bytes lengths : List ℕ} → Divides before bytes lengths → Divides d bytes lengths
+division-stays divides = larger.division-stays divides
+
+-- NOTHING ELSE CHANGES: any bytes are judged as they were, by number, line, column, length and header, whole files (true) and files at the front (false) at
+-- once, but those that were refused with 7 at column 4 of a `+ ` line whose columns 4 to 6 hold more than 255.
+pub nothing-else : (bytes : List ℕ) (whole : Bool) → (judged d bytes (foundIn whole bytes) ≡ judged before bytes (foundBefore whole bytes))
+    ⊎ ((line : ℕ)
+    × (judged before bytes (foundBefore whole bytes) ≡ refusedWith 7 line 4)
+    × (kindIn d (refusedLine bytes line) ≡ satellitesKind)
+    × (satellitesBefore < satellitesOf d (padded (refusedLine bytes line)) .count))
+nothing-else bytes whole = larger.nothing-else bytes whole
+
+-- Every number of satellites from 1 to 999 has a valid table, and an accepted file has it;
+pub every-number : (n : ℕ) → 1 ≤ n → n ≤ maxSatellites
+    → (valid d (tableOfMany n) ≡ true) × ((bytes : List ℕ) × IsFile d bytes × Holds d (linesOf bytes) (tableOfMany n) × (header bytes .satellites ≡ n))
+every-number n some few = (everyNumber.many-valid n some few, everyNumber.every-number n some few)
+
+-- a table of more is 13, whatever the room,
+pub too-many-13 : (t : Table) → maxSatellites < t .header .satellites → (room : ℕ) → measured d t room ≡ refusedAs 13
+too-many-13 t more room = most.too-many-13 t more room
+
+-- and `Header::new` with more is 7, where its letters are listed.
+pub new-too-many : (mode : ℕ) (start : Moment) (epochs interval8 : ℕ) (texts : Texts) (satellites comments fileType : ℕ) (timeSystem : List ℕ) (bases : Bases)
+    → lettersListed mode texts fileType timeSystem ≡ true → maxSatellites < satellites
+    → headerOf mode start epochs interval8 texts satellites comments fileType timeSystem bases ≡ noHeaderBut 7
+new-too-many mode start epochs interval8 texts satellites comments fileType timeSystem bases listed more =
+    most.new-too-many mode start epochs interval8 texts satellites comments fileType timeSystem bases listed more
+
+-- More cannot be written in the field: whatever bytes a line has, the number that its columns 4 to 6 hold is at most 999, and where that field is 7 it is 0.
+pub never-too-many : (line : List ℕ)
+    → (satellitesOf d line .count ≤ maxSatellites) × (faultAt (countItem d) line ≡ keyed 7 4 → satellitesOf d line .count ≡ 0)
+never-too-many line = (most.never-too-many line, most.seven-is-none line)
+
 -- The program `rewrite` lends room for 999 satellites, 800 comments and 1,191 rows, and 65,536 bytes of output. Rows are never short in a file of at most
 -- 65,536 bytes; reading it answers 12 exactly where it has more than 800 comments, and writing what was read exactly where the form has more than 65,536
 -- bytes, which it may have: a row of 55 bytes is written in 61.

@@ -154,7 +154,7 @@ module _ (mode : ℕ) (start : Moment) (epochs interval8 : ℕ) (texts : Texts) 
   unfolding headerOf
   new-refused e = none-beside listed (isMoment start && bounded) (whole (instantOf start) .header) e
 
--- five lines up to 85 satellites, fifteen for the most
+-- five lines up to 85 satellites, fifteen for 255, fifty-nine for the most
 pub slots-85 : slotLines 85 ≡ 5
 unfolding slotLines
 slots-85 = refl
@@ -166,6 +166,10 @@ slots-86 = refl
 pub slots-255 : slotLines 255 ≡ 15
 unfolding slotLines
 slots-255 = refl
+
+pub slots-most : slotLines maxSatellites ≡ 59
+unfolding slotLines
+slots-most = refl
 
 -- the lines have a slot for each satellite, and none of them is beyond the fifth and without one
 pub slots-enough : (n : ℕ) → n ≤ slotLines n * 17

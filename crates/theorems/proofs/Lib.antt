@@ -21,6 +21,11 @@ pub mod Walks
 pub mod WalkedRows
 pub mod Beginning
 pub mod Answers
+pub mod Beside
+pub mod NothingElse
+pub mod Larger
 pub mod Exist
+pub mod Most
+pub mod EveryNumber
 pub mod EndToEnd
 pub mod Dividing

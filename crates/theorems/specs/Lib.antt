@@ -5,3 +5,4 @@ pub mod Asked
 pub mod Again
 pub mod Divided
 pub mod Walked
+pub mod Before

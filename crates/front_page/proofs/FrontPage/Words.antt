@@ -20,11 +20,16 @@ pub use prog.Wp.{Heap}
 pub use lib.Dec.{eqb, leb}
 pub use lib.IntN.{ℤ, pos, natAbs}
 pub use lib.ListN.{length, getD, take, drop, replicate}
-pub use Rattle.header.specs.Rules.{d}
+pub use Rattle.header.specs.Rules.{d, maxSatellites}
+pub use Rattle.header.specs.Header.{lettersListed, headerOf, refused as noHeaderBut}
+pub use Rattle.header.specs.declared.types.Moment.{Moment}
+pub use Rattle.header.specs.declared.types.Texts.{Texts}
+pub use Rattle.header.specs.declared.types.Bases.{Bases}
 pub use Rattle.lines.specs.Lent.{over}
 pub use Rattle.lines.specs.Lines.{linesOf, joinLines, select}
 pub use Rattle.laws.specs.Texts.{every}
-pub use Rattle.file.specs.Kinds.{isNote}
+pub use Rattle.file.specs.Kinds.{isNote, kindIn}
+pub use Rattle.record.specs.LineKinds.{satellitesKind}
 pub use Rattle.file.specs.Plain.{Accepted}
 pub use Rattle.file.specs.Table.{rowLines, rowsIn, headerIn, commentsIn}
 pub use Rattle.machine.specs.State.{noIdentifiers}
@@ -37,10 +42,10 @@ pub use Rattle.canon.specs.Table.{Table, rowsOf}
 pub use Rattle.canon.specs.Table as table
 pub use Rattle.canon.specs.Valid.{valid}
 pub use Rattle.canon.specs.Canonical.{canonical, noteShown}
-pub use Rattle.canon.specs.Measured.{measured}
+pub use Rattle.canon.specs.Measured.{refusedAs, measured}
 pub use Rattle.writer.specs.Writing.{outAfter}
 pub use Rattle.canon_laws.proofs.Rewriting as rewriting
-pub use Rattle.canon_laws.specs.Held.{Holds, rewritten as formOf}
+pub use Rattle.canon_laws.specs.Held.{Holds, tableIn, rewritten as formOf}
 pub use Rattle.divide.specs.Dividing.{Divides, sum, division, divideOf, lengthsAfter}
 pub use Rattle.line_walk.specs.Spots.{firstSpot}
 pub use Rattle.file.specs.Exact.{exactSigned, exactNote}
@@ -74,6 +79,12 @@ pub use Rattle.theorems.proofs.Clocks as clocks
 pub use Rattle.theorems.proofs.Clocks.{twelveNines}
 pub use Rattle.theorems.proofs.Rewritten as rewritten
 pub use Rattle.theorems.specs.Again.{writtenBytes, lentTable}
+pub use Rattle.theorems.specs.Before.{satellitesBefore, before, foundBefore}
+pub use Rattle.theorems.proofs.Larger as larger
+pub use Rattle.theorems.proofs.Most as most
+pub use Rattle.theorems.proofs.EveryNumber as everyNumber
+pub use Rattle.theorems.proofs.EveryNumber.{tableOfMany}
+pub use Rattle.record.specs.SlotLines.{countItem, satellitesOf}
 pub use Rattle.theorems.proofs.Correlations as correlations
 pub use Rattle.theorems.proofs.LentNotes as lent-notes
 pub use Rattle.theorems.proofs.WrittenNotes as written-notes
