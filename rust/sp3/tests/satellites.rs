@@ -100,7 +100,7 @@ fn the_last_slots() {
         assert!(!due_at(&file, 60).repeats);
     }
     let mut table = many(MOST);
-    table.identifiers[998] = table.identifiers[0];
+    table.identifiers[MOST_SATELLITES - 1] = table.identifiers[0];
     assert_eq!(table.write(), refused(13, 0, 0));
 }
 
@@ -152,14 +152,15 @@ fn room_for_the_identifiers() {
 /// A reading with one place fewer for identifiers or for exponents.
 #[test]
 fn room_for_a_table() {
-    let (file, table) = (crowd(MOST).bytes(), many(MOST));
-    for (identifier_room, exponent_room) in [(998, 999), (999, 998), (255, 255), (999, 999)] {
+    let (file, table, all) = (crowd(MOST).bytes(), many(MOST), MOST_SATELLITES);
+    for (identifier_room, exponent_room) in [(all - 1, all), (all, all - 1), (255, 255), (all, all)]
+    {
         let (mut identifiers, mut exponents) = (vec![1; identifier_room], vec![1; exponent_room]);
         let (mut comments, mut rows) = (table.comments.clone(), table.rows.clone());
         let read = sp3::read(&file, &mut identifiers, &mut exponents, &mut comments, &mut rows);
-        if (identifier_room, exponent_room) == (999, 999) {
+        if (identifier_room, exponent_room) == (all, all) {
             assert_eq!(read.map(|reading| reading.length), Ok(file.len()));
-            assert_eq!((identifiers, exponents), (table.identifiers.clone(), vec![0; 999]));
+            assert_eq!((identifiers, exponents), (table.identifiers.clone(), vec![0; all]));
         } else {
             assert_eq!(read, refused(12, 0, 0));
             assert_eq!(
@@ -173,9 +174,8 @@ fn room_for_a_table() {
 /// The walker stays at the `+ ` line that brings more identifiers than there are places for: 16 lines of 17 are 272.
 #[test]
 fn room_for_a_walk() {
-    let file = crowd(MOST).bytes();
-    let lines = crowd(MOST).0.len();
-    for (room, stays) in [(255, 18), (271, 18), (272, 19), (998, 61), (MOST_SATELLITES, lines)] {
+    let (file, lines, all) = (crowd(MOST).bytes(), crowd(MOST).0.len(), MOST_SATELLITES);
+    for (room, stays) in [(255, 18), (271, 18), (272, 19), (all - 1, 61), (all, lines)] {
         let mut identifiers = vec![77_777; room];
         let spot = sp3::after_lines(&file, &mut identifiers, sp3::first_spot(), lines + 5);
         let before: usize = crowd(MOST).0[..stays - 1].iter().map(|line| line.len() + 1).sum();
