@@ -10,7 +10,6 @@
 set -euo pipefail
 . "$(dirname "$0")/counting.sh"
 
-most=$(sed -n 's/^#define SP3_MOST_SATELLITES //p' "$root/include/sp3.h")
 fourth=$(((most + 2) / 4)) sixteenth=$((most / 16))
 
 right() { awk "$@" -f "$bench/file.awk"; }
