@@ -14,6 +14,7 @@ def load_make():
 
 
 make = load_make()
+MOST = make.MOST_SATELLITES
 PAPER = make.paper_lines()
 WHOLE = make.joined(PAPER)
 
@@ -144,7 +145,7 @@ def crowded():
     """The number of satellites has three columns: 1000 reaches into an unused one, to the right or to the left, and 000 are none. A slot within the
     number that holds `  0` is malformed, with 999 in a file of one satellite as in one of 998; with 256 in a file of 255 a `+ ` line is due."""
     return [(changed(3, 4, "1000"), 5, 3, 7), (changed(3, 3, "1000"), 5, 3, 3), (changed(3, 4, "000"), 7, 3, 4), (changed(3, 4, "999"), 6, 3, 13),
-            (put(crowd(255), 3, 4, "256"), 4, 18, 0), (put(crowd(998), 3, 4, "999"), 6, 61, 46), (put(crowd(999), 3, 4, "1000"), 5, 3, 7)]
+            (put(crowd(255), 3, 4, "256"), 4, 18, 0), (put(crowd(MOST - 1), 3, 4, "999"), 6, 61, 46), (put(crowd(MOST), 3, 4, "1000"), 5, 3, 7)]
 
 
 # ---- What a refusal comes from ----
@@ -176,7 +177,7 @@ def disagreeing():
     not have. A slot is said before an identifier that repeats."""
     start, file_type = "line 2 disagrees with the start", "the file type disagrees with the identifiers"
     slot, repeated = "a slot after the last satellite is not `  0`", "an identifier repeats"
-    twenty = many()
+    twenty, most = many(), crowd(MOST)
     return [(changed(2, 4, "1735"), 2, start), (changed(2, 14, "1"), 2, start), (changed(2, 40, "56386"), 2, start),
             (changed(2, 60, "2"), 2, start), (changed(3, 13, "G08"), 3, slot), (changed(3, 13, "G07"), 3, slot), (changed(3, 13, "000"), 3, slot),
             (changed(4, 10, "  1"), 4, slot), (changed(7, 58, "   "), 7, slot), (changed(8, 13, "  1"), 8, slot), (changed(9, 10, "  x"), 9, slot),
@@ -184,8 +185,8 @@ def disagreeing():
             (put(twenty, 3, 13, "G01"), 3, repeated), (put(twenty, 3, 58, "G16"), 3, repeated), (put(twenty, 4, 10, "G17"), 4, repeated),
             (put(twenty, 4, 16, "G18"), 4, repeated), (put(twenty, 4, 16, "G18G21"), 4, slot), (changed(13, 4, "R "), 13, file_type),
             (put(moving(), 13, 4, "G "), 13, file_type), (put(crowd(100), 15, 4, "G "), 15, file_type),
-            (put(crowd(256), 18, 10, "G01"), 18, repeated), (put(crowd(999), 61, 46, "G01"), 61, repeated),
-            (put(crowd(999), 61, 46, "D08"), 61, repeated), (put(crowd(999), 61, 49, "D10"), 61, slot), (put(crowd(999), 120, 49, "  1"), 120, slot)]
+            (put(crowd(256), 18, 10, "G01"), 18, repeated), (put(most, 61, 46, "G01"), 61, repeated), (put(most, 61, 46, "D08"), 61, repeated),
+            (put(most, 61, 49, "D10"), 61, slot), (put(most, 120, 49, "  1"), 120, slot)]
 
 
 def elsewhere():
@@ -200,12 +201,12 @@ def elsewhere():
             (changed(24, 2, "G08"), 10, 24, "G08", "G07"), (put(many(), 25, 2, "G03"), 10, 25, "G03", "G02"),
             (put(many(), 45, 2, "G20"), 10, 45, "G20", "G01"), (put(moving(), 28, 2, "E12"), 10, 28, "E12", "E11"),
             (put(moving(), 30, 2, "E12"), 10, 30, "E12", "E11"), (put(moving(), 39, 2, "E11"), 10, 39, "E11", "G01"),
-            (put(crowd(256), 301, 2, "E59"), 10, 301, "E59", "E58"), (put(crowd(999), 1130, 2, "D10"), 10, 1130, "D10", "D09")]
+            (put(crowd(256), 301, 2, "E59"), 10, 301, "E59", "E58"), (put(crowd(MOST), 1130, 2, "D10"), 10, 1130, "D10", "D09")]
 
 
 def misplaced():
     """Lines of a kind that may not stand there, with how the one begins that is due, and one that may stand before it."""
-    twenty, moved, most = many(), moving(), crowd(make.MOST_SATELLITES)
+    twenty, moved, most = many(), moving(), crowd(MOST)
     return [(PAPER[1:], 1, "#d", ""), (PAPER[:1] + PAPER[2:], 2, "##", ""), (with_line(3, ""), 3, "+ ", ""), (PAPER[:5] + PAPER[7:], 6, "+ ", ""),
             (PAPER[:7] + PAPER[8:], 12, "++", ""), (changed(8, 2, " "), 8, "++", ""), (changed(13, 2, "C"), 13, "%c", ""),
             (PAPER[:13] + PAPER[14:], 14, "%c", ""), (changed(15, 2, "F"), 15, "%f", ""), (changed(17, 2, "f"), 17, "%i", ""),

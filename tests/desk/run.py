@@ -20,7 +20,7 @@ import threading
 import expected
 import refusals
 from expected import ROOT, of_model, refused
-from refusals import PAPER, after_row, as_content, changed, crowd_model, make, moving, with_clock
+from refusals import MOST, PAPER, after_row, as_content, changed, crowd_model, make, moving, with_clock
 
 SEED = 20130403
 GENERATED = 80
@@ -387,9 +387,8 @@ def test_samples(desk):
 
 def test_crowds(desk):
     """Files of many satellites, up to as many as there can be; the 17 slots of their last lines all taken, or one, or some."""
-    most = make.MOST_SATELLITES
-    crowds = [(count, "P", 1) for count in (255, 256, 272, 273, 986, 987, most - 1, most)]
-    for count, mode, epochs in [*crowds, (256, "P", 2), (256, "V", 1), (most, "V", 2)]:
+    crowds = [(count, "P", 1) for count in (255, 256, 272, 273, 986, 987, MOST - 1, MOST)]
+    for count, mode, epochs in [*crowds, (256, "P", 2), (256, "V", 1), (MOST, "V", 2)]:
         model = crowd_model(count, mode, epochs)
         content, held = make.joined(make.file_lines(model)), of_model(model)
         name, (last, _), paper = desk.file("crowd.sp3", content), held.satellites[-1], make.joined(PAPER)
