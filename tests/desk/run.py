@@ -188,7 +188,7 @@ def expect_refusal(desk, content, refusal, message=None):
     """The refusal of these bytes is said, with this message after their name where one is given: as a result, as a message, and by `divide` also of
     a rest after another file. Number, line and column are those of the independent implementation, and the message the one by rule."""
     said = refused("", *refusal, content)
-    assert desk.oracles.judged(content)[0] == tuple(refusal), (refusal, content)
+    assert desk.oracles.judged(content)[0] == tuple(refusal), (refusal, content[:400])
     assert message in (None, said), (message, said)
     name, first = desk.file("refused.sp3", content), make.joined(PAPER)
     for words in (["check", name], ["comment", name, "0"]):

@@ -188,6 +188,23 @@ fn room_for_a_walk() {
     }
 }
 
+/// The combined sample: every 37th satellite has no place and no clock, nine others no place, twenty no clock (samples/make.py). It is canonical.
+#[test]
+fn the_combined_sample() {
+    let file = include_bytes!("../../../samples/combined.sp3");
+    let table = Table::read(file).unwrap();
+    assert_eq!(table.write().as_deref(), Ok(&file[..]));
+    assert_eq!((table.header.satellites, table.header.file_type), (MOST, b'M'));
+    let absent = |is_absent: fn(&sp3::TableRow) -> bool| table.rows().filter(is_absent).count();
+    assert_eq!(absent(|row| row.position.place.is_none()), 27 + 9);
+    assert_eq!(absent(|row| row.position.clock.is_none()), 27 + 20);
+    let last = table.rows().last().unwrap();
+    assert_eq!(last.satellite, MOST - 1);
+    assert_eq!(last.position.place, Some([10_270_969_466, 13_491_121_968, -20_443_346_455]));
+    assert_eq!(last.position.clock, Some(219_654_700));
+    assert!(last.position.flags.clock_predicted && last.position.flags.orbit_predicted);
+}
+
 #[test]
 fn divided() {
     let files = [crowd(MOST).bytes(), SAMPLE.to_vec(), moving(256).bytes(), crowd(256).bytes()];
