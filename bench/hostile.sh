@@ -92,15 +92,15 @@ awk 'FILENAME == "titles" { title[FNR - 1] = $0; next }
          exit (worst > 1.1)
      }' titles answers counts || ended=1
 
-few=85
-satellites "$few" >few
+usual=85
+satellites "$usual" >usual
 satellites "$most" >most
 repeating "$most" >repeating
-counted hostile measure few most repeating
+counted hostile measure usual most repeating
 grep '^file ' said >answers
 
 # counts: of the first two files judged, measured and measured with an identifier that repeats, of the third judged
-awk -v few="$few" -v most="$most" '
+awk -v usual="$usual" -v most="$most" '
      FILENAME == "answers" { bytes[FNR] = $2; refusal[FNR] = $3; line[FNR] = $4; form[FNR] = $5; valid[FNR] = $6; repeated[FNR] = $7; next }
      { count[FNR] = $2 }
      function ratio(one, other) { if (one / other > worst) worst = one / other; return sprintf("%.2f", one / other) }
@@ -114,7 +114,7 @@ awk -v few="$few" -v most="$most" '
          printf "%-33s%8s%8s%6s%24s %7s%8s%24s\n", "", "", "", "", "judged: instructions", "", "", "measured: instructions"
          printf "%-33s%8s%8s%6s %9s %6s %6s %7s%8s %9s %6s %6s\n", "satellites; 1 epoch", "bytes", "refusal", "line", "all", "a byte", "ratio",
              "form", "refusal", "all", "a byte", "ratio"
-         row(few, 1, count[1], "-", form[1], valid[1], count[2], "-")
+         row(usual, 1, count[1], "-", form[1], valid[1], count[2], "-")
          row(most, 2, count[4], ratio(count[4] / bytes[2], count[1] / bytes[1]), form[2], valid[2], count[5],
              ratio(count[5] / form[2], count[2] / form[1]))
          row(most ", the last as the first", 3, count[7], ratio(count[7], count[4]), form[2], repeated[2], count[6], ratio(count[6], count[5]))
