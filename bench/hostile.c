@@ -3,7 +3,6 @@
 //   hostile measure FILE..   each is judged and, where it is accepted, its table measured, then once more with the last identifier as the first;
 //                            prints length, refusal and line of the file, then the length and the refusals of both tables
 #include <inttypes.h>
-#include <stdlib.h>
 
 #include "../include/sp3.h"
 #include "count.h"
@@ -53,7 +52,7 @@ static void count_measuring(void) {
     counted("measure", measure_table);
     whole = measured;
     identifiers[filled.header.satellites - 1] = identifiers[0];
-    counted("measure", measure_table);
+    counted("repeated", measure_table);
     told();
     printf(" %zu %zu %zu\n", whole.length, whole.refusal, measured.refusal);
 }
