@@ -4,10 +4,12 @@
 #   harness NAME WORD.. compiles NAME.c of this folder to NAME, for x86-64, with these words for the compiler, and links it with what was built
 #   counted NAME WORD.. runs it on these words and puts what it printed into said and, of each run that it counted (count.h), a line
 #                       `name count` into counts
+# most is the number of satellites that a file has at most.
 # Instructions are counted, not timed: on x86-64 by valgrind (callgrind), on another processor by Debian's qemu-user with the plugin insns.c. Both
 # count the same; COUNTER=qemu takes the second on x86-64 too. What is missing is installed where apt-get can do so.
 bench=$(cd "$(dirname "$0")" && pwd -P)
 root=$(dirname "$bench")
+most=$(sed -n 's/^#define SP3_MOST_SATELLITES //p' "$root/include/sp3.h")
 work=$(mktemp -d)
 trap 'rm -rf "$work"' EXIT
 counter=${COUNTER:-qemu}

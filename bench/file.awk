@@ -1,7 +1,8 @@
 # A file in mode P for the counts of this folder: `awk -v epochs=96 -v satellites=32 -f file.awk`. It begins on 2013-04-03 and its epochs, 1440 at
 # most, are spread over the day by whole minutes; every place, clock and exponent is known, rows have all their 80 columns, and flags stand in some
-# of them. Its canonical form is the file with the trailing blanks of each line cut. `-v comments=9` says how many comments it has (else 4);
-# `-v front=1` ends it after them.
+# of them. Its satellites, 999 at most, are 99 of each letter in turn. Its canonical form is the file with the trailing blanks of each line cut.
+# `-v comments=9` says how many comments it has (else 4); `-v front=1` ends it after them; `-v descending=1` has each identifier lower than the one
+# before it; `-v repeating=1` has the first again as the last, which is refused.
 function random(below) {
     seed = (seed * 16807) % 2147483647
     return seed % below
@@ -13,7 +14,11 @@ function coordinate(size) {
 
 function letter(c, times) { return random(times) ? " " : c }
 
-function identifier(k) { return sprintf("%s%02d", substr("GREC", int((k - 1) / 99) + 1, 1), (k - 1) % 99 + 1) }
+function identifier(k) {
+    if (repeating && k == satellites) k = 1
+    if (descending) return sprintf("%s%02d", substr("SRLJIGEDCBA", int((k - 1) / 99) + 1, 1), 99 - (k - 1) % 99)
+    return sprintf("%s%02d", substr("GRECJISLABD", int((k - 1) / 99) + 1, 1), (k - 1) % 99 + 1)
+}
 
 # lines of 17 slots, at least five
 function slots(symbol, count, exponents, j, i, k) {
@@ -35,7 +40,7 @@ BEGIN {
     printf "## 1734 259200.00000000 %5d.00000000 56385 0.0000000000000\n", 60 * minutes
     slots("+", 1, 0)
     slots("++", 0, 1)
-    print "%c " (satellites > 99 ? "M" : "G") "  cc GPS ccc cccc cccc cccc cccc ccccc ccccc ccccc ccccc"
+    print "%c " (satellites > 99 ? "M" : substr(identifier(1), 1, 1)) "  cc GPS ccc cccc cccc cccc cccc ccccc ccccc ccccc ccccc"
     print "%c cc cc ccc ccc cccc cccc cccc cccc ccccc ccccc ccccc ccccc"
     print "%f  1.2500000  1.025000000  0.00000000000  0.000000000000000"
     print "%f  0.0000000  0.000000000  0.00000000000  0.000000000000000"

@@ -1,11 +1,14 @@
 // A plain scalar reader and divider of SP3-d files in C, the yardstick of bench/run.sh. It is written from the documents alone and shares with the
-// library the types of its answers and no code: one line at a time, every column judged in a first pass, the lent lists filled in a second. Of a
+// library its header and no code: one line at a time, every column judged in a first pass, the lent lists filled in a second. Of a
 // refusal it tells number and line; the column is 0.
 #include <string.h>
 
 #include "plain.h"
 
-enum { COLUMNS = 80, SLOTS = 17, MOST_SATELLITES = 255, MOST_EPOCHS = 100000, TEXT = 77, UNKNOWN = 1000 };
+enum { COLUMNS = 80, SLOTS = 17, MOST_SATELLITES = SP3_MOST_SATELLITES, MOST_EPOCHS = 100000, TEXT = 77, UNKNOWN = 1000 };
+
+// the codes of A00 and Z99, between which those of all identifiers lie
+enum { FIRST_CODE = 6500, LAST_CODE = 9099 };
 
 // the numbers of a row, of which those from NOTE on say what the correlation record after it holds
 enum { NUMBERS = 23, NOTE = 12, NOTED = NUMBERS - NOTE, UNNOTED = 100000000, MOST_CORRELATION = 9999999 };
@@ -27,10 +30,11 @@ struct file {
     uint8_t padded[COLUMNS];
 };
 
-// what the header lines say, and the identifiers of its satellites
+// what the header lines say, and the identifiers of its satellites; of each code whether it has been named
 struct header {
     sp3_header_t said;
     uint64_t identifiers[MOST_SATELLITES];
+    bool named[LAST_CODE - FIRST_CODE + 1];
 };
 
 static void fault(struct file *f, unsigned number) {
@@ -239,20 +243,22 @@ static void empty_slot(struct file *f, size_t first) {
     if (s[0] != ' ' || s[1] != ' ' || s[2] != '0') fault(f, DISAGREES);
 }
 
-// Whether this identifier stands before slot k of the header.
-static bool repeats(const struct header *h, size_t k) {
-    for (size_t i = 0; i < k; i++)
-        if (h->identifiers[i] == h->identifiers[k]) return true;
-    return false;
+// Whether this identifier has been named before; from now on it has. One that is malformed has another fault already.
+static bool repeats(struct header *h, uint64_t code) {
+    bool before;
+    if (code < FIRST_CODE) return false;
+    before = h->named[code - FIRST_CODE];
+    h->named[code - FIRST_CODE] = true;
+    return before;
 }
 
-// The 17 slots of line j; more satellites than the bound are refused anyway, but the slots of their line count.
+// The 17 slots of line j.
 static void identifier_slots(struct file *f, struct header *h, size_t j) {
     for (size_t i = 0; i < SLOTS; i++) {
         size_t k = SLOTS * j + i;
         if (k < h->said.satellites) {
             h->identifiers[k] = identifier_at(f, 10 + 3 * i);
-            if (repeats(h, k)) fault(f, DISAGREES);
+            if (repeats(h, h->identifiers[k])) fault(f, DISAGREES);
         } else {
             empty_slot(f, 10 + 3 * i);
         }
@@ -269,6 +275,7 @@ static bool identifier_lines(struct file *f, struct header *h) {
     }
     if (n < 1 || n > MOST_SATELLITES) fault(f, BOUNDS);
     h->said.satellites = n;
+    memset(h->named, 0, sizeof h->named);
     identifier_slots(f, h, 0);
     if (f->fault != NO_FAULT) return false;
     for (size_t j = 1; j < satellite_lines(n); j++) {

@@ -14,7 +14,8 @@
 #define PLAIN(name) o3_##name
 #include "plain.h"
 
-enum { BYTES = 1 << 22, COPIES = 16, SATELLITES = 255, COMMENTS = 16 * SP3_COMMENT_WIDTH, ROWS = 36000 * SP3_ROW_WIDTH, MARK = 7, TURNS = 15 };
+enum { BYTES = 1 << 22, COPIES = 16, MARK = 7, TURNS = 15 };
+enum { SATELLITES = SP3_MOST_SATELLITES, COMMENTS = 16 * SP3_COMMENT_WIDTH, ROWS = 36000 * SP3_ROW_WIDTH };
 
 static const struct side {
     __typeof__(sp3_judge) *judge;

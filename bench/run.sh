@@ -6,8 +6,9 @@
 # left out). Walk is the library alone: a file begun, then all its rows. Then the instructions for a row, of 80 columns, with its trailing blanks cut,
 # of a kind that has no picture (E in column 75 beside a blank), and with an EP after it; those at 1, 4 and 16 times the size; and how much of its
 # stack each side touches. Ours is target/staticlib/libsp3.a, what include/sp3.h is linked with (LLVM, -O3), proved and built first as far as that is
-# not done; the C is gcc's; both are for plain x86-64. This ends with 1 where the sides do not answer the same, on the files themselves or with one
-# byte or one number altered, or where a byte of ours costs over a tenth more at 16 times the size. Time decides nothing.
+# not done; the C is gcc's; both are for plain x86-64. This ends with 1 where the sides do not answer the same, on the files themselves, on one of as
+# many satellites as there can be, or with one byte or one number altered, or where a byte of ours costs over a tenth more at 16 times the size. Time
+# decides nothing.
 set -euo pipefail
 . "$(dirname "$0")/counting.sh"
 archive
@@ -49,6 +50,8 @@ done
 run run altered 96x32.sp3 2000 500 >said || { tail -n 1 said; exit 1; }
 run run altered 288x120.sp3 100 50 >said || { tail -n 1 said; exit 1; }
 run run altered noted.sp3 500 500 >said || { tail -n 1 said; exit 1; }
+awk -v epochs=1 -v satellites="$most" -f "$bench/file.awk" >crowd.sp3
+run run altered crowd.sp3 1000 200 >said || { tail -n 1 said; exit 1; }
 
 # lines `bytes SIZE WHAT N` and `count`, `time` or `stack SIZE WHAT SIDE N`; side 0 is ours
 awk '$1 == "bytes" { bytes[$2, $3] = $4; next }

@@ -1,10 +1,13 @@
-// A plain scalar writer of SP3-d files in C, the yardstick of bench/run.sh. It is written from the documents alone and shares with the library the
-// types of its answers and no code: a table is judged and its form measured in a first pass, then written in a second, one line at a time.
+// A plain scalar writer of SP3-d files in C, the yardstick of bench/run.sh. It is written from the documents alone and shares with the library its
+// header and no code: a table is judged and its form measured in a first pass, then written in a second, one line at a time.
 #include <string.h>
 
 #include "plain.h"
 
-enum { COLUMNS = 80, SLOTS = 17, TEXT = 77, UNKNOWN = 1000 };
+enum { COLUMNS = 80, SLOTS = 17, MOST_SATELLITES = SP3_MOST_SATELLITES, TEXT = 77, UNKNOWN = 1000 };
+
+// the codes of A00 and Z99, between which those of all identifiers lie
+enum { FIRST_CODE = 6500, LAST_CODE = 9099 };
 
 // the numbers of a row, of which those from NOTE on say what the correlation record after it holds
 enum { NUMBERS = 23, NOTE = 12, NOTED = NUMBERS - NOTE, UNNOTED = 100000000, MOST_CORRELATION = 9999999 };
@@ -42,10 +45,10 @@ static bool letters_listed(const sp3_header_t *h) {
     return listed(&h->file_type, 1, "GMRLSIECJ") && listed(h->time_system, 3, "GPSGLOGALBDTTAIUTCIRNQZS") && printable(texts_of(h), 17);
 }
 
-// I7 up to 100,000, F14.8 above 0, 1 to 255, four or more, F10.7 and F12.9
+// I7 up to 100,000, F14.8 above 0, 1 to the most satellites, four or more, F10.7 and F12.9
 static bool numbers_bounded(const sp3_header_t *h) {
     return h->epochs >= 1 && h->epochs <= 100000 && h->interval8 >= 1 && h->interval8 <= 9999999999999 && h->satellites >= 1
-        && h->satellites <= 255 && h->comments >= 4 && h->bases.place <= 999999999 && h->bases.clock <= 99999999999;
+        && h->satellites <= MOST_SATELLITES && h->comments >= 4 && h->bases.place <= 999999999 && h->bases.clock <= 99999999999;
 }
 
 static bool allowed_day(uint64_t instant) { return instant / DAY >= FIRST_DAY && instant / DAY <= LAST_DAY; }
@@ -62,12 +65,13 @@ static bool lists_suffice(const sp3_header_t *h, const struct lists *t) {
 
 // a capital letter and 01 to 99, no other like it before; the file type is M or its letter
 static bool identifiers_valid(const sp3_header_t *h, const uint64_t *codes) {
+    bool named[LAST_CODE - FIRST_CODE + 1] = {false};
     for (size_t i = 0; i < h->satellites; i++) {
         uint64_t letter = codes[i] / 100;
         if (letter < 'A' || letter > 'Z' || codes[i] % 100 == 0) return false;
         if (h->file_type != 'M' && letter != h->file_type) return false;
-        for (size_t j = 0; j < i; j++)
-            if (codes[j] == codes[i]) return false;
+        if (named[codes[i] - FIRST_CODE]) return false;
+        named[codes[i] - FIRST_CODE] = true;
     }
     return true;
 }

@@ -37,10 +37,9 @@ static const char *hint_of(const refusal_t *refusal, line_t line) {
 
 // What the library says was due in the line of a refusal.
 static sp3_due_t due_at(const refusal_t *refusal) {
-    enum { SATELLITES = 255 };
-    uint64_t identifiers[SATELLITES] = {0};
-    sp3_spot_t spot = sp3_after_lines(refusal->bytes, refusal->length, identifiers, SATELLITES, sp3_first_spot(), refusal->line - 1);
-    return sp3_due(refusal->bytes, refusal->length, identifiers, SATELLITES, spot);
+    uint64_t identifiers[SP3_MOST_SATELLITES] = {0};
+    sp3_spot_t spot = sp3_after_lines(refusal->bytes, refusal->length, identifiers, SP3_MOST_SATELLITES, sp3_first_spot(), refusal->line - 1);
+    return sp3_due(refusal->bytes, refusal->length, identifiers, SP3_MOST_SATELLITES, spot);
 }
 
 // Which of the causes of 8 it was.

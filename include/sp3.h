@@ -60,6 +60,9 @@ extern "C" {
 enum { SP3_ROW_WIDTH = 23, SP3_COMMENT_WIDTH = 77, SP3_UNKNOWN = 1000, SP3_UNNOTED = 100000000 };
 #define SP3_NO_CLOCK INT64_C(999999999999)
 
+/* So many satellites a file has at most: room for as many identifiers always suffices. */
+#define SP3_MOST_SATELLITES 999
+
 /* A date and a time of day, the seconds in 10^-8 s. */
 typedef struct {
     uint64_t year, month, day, hour, minute, second8;
@@ -75,7 +78,8 @@ typedef struct {
     uint64_t place, clock;
 } sp3_bases_t;
 
-/* What the header lines of a file say. `velocity` is mode V; `start8` is the start since MJD 0; `file_type` is G, M, R, L, S, I, E, C or J. */
+/* What the header lines of a file say. `velocity` is mode V; `start8` is the start since MJD 0; `satellites` is 1 to
+ * SP3_MOST_SATELLITES; `file_type` is G, M, R, L, S, I, E, C or J. */
 typedef struct {
     bool velocity;
     uint64_t start8, epochs, interval8;
@@ -147,7 +151,7 @@ typedef struct {
     sp3_header_t header;
 } sp3_header_answer_t;
 
-/* A header out of its parts. Refused: 6 for mode 'Q', 7 for 256 satellites, 6 for both. */
+/* A header out of its parts. Refused: 6 for mode 'Q', 7 for 1000 satellites, 6 for both. */
 sp3_header_answer_t sp3_header(sp3_header_parts_t parts);
 
 /* ---- Stored rows, by name ---- */
@@ -319,9 +323,10 @@ typedef struct {
 /* Before the first line. */
 sp3_spot_t sp3_first_spot(void);
 
-/* The plain line reader: what the line at a spot does. A `+ ` line without fault leaves its own in `identifiers` (255 places suffice), after those of
- * the lines before it; no other line changes the list, which is lent to the next line as this one left it. Refused: 1 where no LF is left; 12 at the
- * `+ ` line without fault that brings more identifiers than there are places for, and the list is then as it was. Never 11 or 13. */
+/* The plain line reader: what the line at a spot does. A `+ ` line without fault leaves its own in `identifiers` (SP3_MOST_SATELLITES places
+ * suffice), after those of the lines before it; no other line changes the list, which is lent to the next line as this one left it. Refused: 1 where
+ * no LF is left; 12 at the `+ ` line without fault that brings more identifiers than there are places for, and the list is then as it was. Never 11
+ * or 13. */
 sp3_line_answer_t sp3_read_line(const uint8_t *file, size_t length, sp3_spot_t spot, uint64_t *identifiers, size_t identifier_room);
 
 /* The line reader where all identifiers of the header are known (sp3_begin): what the line at a spot does. Refused: as sp3_read_line, but never
@@ -342,9 +347,9 @@ typedef struct {
  * lines before it left. Has no refusal. */
 sp3_due_t sp3_due(const uint8_t *file, size_t length, const uint64_t *identifiers, size_t identifier_count, sp3_spot_t spot);
 
-/* The walker's steps: the spot so many lines further, each line read as by sp3_read_line. Afterwards `identifiers` (255 places suffice) holds those
- * of the `+ ` lines that were passed; to go on from there lend it as it is. The spot stays at a line that is refused, with 12 too, and at the one
- * that ends the file. Every step costs a line, also one that stays. Has no refusal. */
+/* The walker's steps: the spot so many lines further, each line read as by sp3_read_line. Afterwards `identifiers` (SP3_MOST_SATELLITES places
+ * suffice) holds those of the `+ ` lines that were passed; to go on from there lend it as it is. The spot stays at a line that is refused, with 12
+ * too, and at the one that ends the file. Every step costs a line, also one that stays. Has no refusal. */
 sp3_spot_t sp3_after_lines(const uint8_t *file, size_t length, uint64_t *identifiers, size_t identifier_room, sp3_spot_t spot, size_t lines);
 
 /* ---- A file row by row, for the adjustment's loop ---- */
@@ -367,8 +372,8 @@ typedef struct {
     sp3_row_walk_t next;
 } sp3_row_step_t;
 
-/* Judges a whole file and leaves the identifiers of its header in `identifiers` (255 places suffice). Refused: 12 where there is less room than
- * satellites. */
+/* Judges a whole file and leaves the identifiers of its header in `identifiers` (SP3_MOST_SATELLITES places suffice). Refused: 12 where there is less
+ * room than satellites. */
 sp3_reading_t sp3_begin(const uint8_t *file, size_t length, uint64_t *identifiers, size_t identifier_room);
 
 /* Before the first row. */

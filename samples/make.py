@@ -6,8 +6,8 @@
 
 paper.sp3 is the file that 01 prints, and late.sp3 the same with its epoch a quarter of an hour late, which is refused with 9 at line 23. The others
 are made up: circles of 26,560 km at 55 degrees around a turning Earth, in Earth-fixed coordinates. velocity.sp3 and correlations.sp3 have EP and EV
-records, the second of every kind. six-nines.sp3 has absent clocks and rates in every spelling, beside clocks at their ends. It and the second file
-of season.sp3 are no canonical forms.
+records, the second of every kind. six-nines.sp3 has absent clocks and rates in every spelling, beside clocks at their ends. combined.sp3 has as many
+satellites as a file can have. six-nines.sp3 and the second file of season.sp3 are no canonical forms.
 `tests/desk/run.py` takes the numbers of the files from here, to know what the desk tool must print.
 """
 import datetime
@@ -20,6 +20,7 @@ FOLDER = pathlib.Path(__file__).resolve().parent
 DAY = 86400
 GPS_ZERO = 44244
 ABSENT_CLOCK = 999_999_999_999
+MOST_SATELLITES = 999
 decimal.getcontext().prec = 45
 
 PI = Decimal("3.14159265358979323846264338327950288419716939937510")
@@ -198,6 +199,39 @@ def six_nines_rows(epoch, k):
     return [Row(place, time, (18, 18, 18, None) if last else (None,) * 4, " P P" if last else "    "), Row(speed, rate)]
 
 
+def identifiers(letters, count):
+    """So many identifiers, 99 of each letter in turn."""
+    return [f"{letter}{number:02}" for letter in letters for number in range(1, 100)][:count]
+
+
+def combined():
+    """One epoch of as many satellites as a file can have: 99 of each of the eight systems that the SP3-d document names, and the other 207 of three
+    letters that no system has."""
+    names = identifiers("GRECJISLABD", MOST_SATELLITES)
+    rows = [[[combined_row(k, name)] for k, name in enumerate(names)]]
+    accuracies = [0 if is_withdrawn(k) else 2 + k % 11 for k in range(len(names))]
+    comments = ["MADE UP: BROADCAST ORBITS OF ALL SYSTEMS COMBINED. THE ORBITS ARE CIRCLES.",
+                "999 SATELLITES, THE MOST THAT A FILE CAN HAVE, IN 59 LINES OF EACH KIND.",
+                "EVERY 37TH FROM G11 ON IS WITHDRAWN. EVERY 111TH FROM G06 ON HAS NO PLACE,",
+                "EVERY 50TH FROM G21 ON NO CLOCK. A, B AND D, OF NO SYSTEM, ARE PREDICTED."]
+    return Model("P", datetime.datetime(2024, 6, 30, 12), 900, names, accuracies, comments, rows, ("BRDC", "WGS84", "BCT", "MADE"))
+
+
+def is_withdrawn(k):
+    return k % 37 == 10
+
+
+def combined_row(k, name):
+    if is_withdrawn(k):
+        return Row(None, None)
+    place = None if k % 111 == 5 else circle(k, 90 * k)[0]
+    time = None if k % 50 == 20 else clock(k, 0)[0]
+    exponents = (4 + k % 9, 4 + k % 7, 5 + k % 8, None if time is None else 80 + k % 50)
+    predicted = "P" if name[0] in "ABD" else " "
+    flags = ("E" if k % 250 == 7 else " ") + predicted + ("M" if k % 200 == 3 else " ") + predicted
+    return Row(place, time, exponents, flags)
+
+
 def season():
     """Three small files for one stretch; the second has its lines filled up with blanks."""
     starts = [datetime.datetime(2024, 3, 31, 23, 59, 30), datetime.datetime(2024, 6, 30), datetime.datetime(2024, 9, 30, 12)]
@@ -313,7 +347,7 @@ def late_lines():
 def samples():
     return {"paper.sp3": joined(paper_lines()), "late.sp3": joined(late_lines()), "day.sp3": joined(file_lines(day())),
             "velocity.sp3": joined(file_lines(velocity())), "correlations.sp3": joined(file_lines(correlations())),
-            "six-nines.sp3": joined(six_nines_lines()), "season.sp3": b"".join(season_files())}
+            "six-nines.sp3": joined(six_nines_lines()), "combined.sp3": joined(file_lines(combined())), "season.sp3": b"".join(season_files())}
 
 
 def main(words):

@@ -4,9 +4,9 @@
 #   tests/wrapper.sh
 #
 # The archive is built first where it is missing or older than a source; SP3_LIB_DIR names the folder of another one. What the wrapper takes
-# include/sp3.h to be (structs, fields, constants, functions, the numbers in words) is held to what the header says. The archive is for x86-64: on
-# another processor Rust's target x86_64-unknown-linux-gnu is needed; without it the wrapper is only checked. Prints `wrapper: passed`, or what
-# failed, and then ends with 1.
+# include/sp3.h to be (structs, fields, constants, functions, the numbers in words) is held to what the header says, and the most satellites of the
+# header to those of the proved source. The archive is for x86-64: on another processor Rust's target x86_64-unknown-linux-gnu is needed; without it
+# the wrapper is only checked. Prints `wrapper: passed`, or what failed, and then ends with 1.
 set -eu
 
 root=$(cd "$(dirname "$0")/.." && pwd -P)
@@ -84,9 +84,9 @@ cargo_in() {
     }
 }
 
-# The header without its comments.
+# The header without its comments, with what it defines.
 bare_header() {
-    x86_cc -fpreprocessed -E -P -x c "$root/include/sp3.h"
+    x86_cc -fpreprocessed -dD -E -P -x c "$root/include/sp3.h"
 }
 
 # How a C program prints a struct, a field and a constant.
@@ -98,11 +98,12 @@ layout_macros() {
                          uint8_t *: "bytes", default: "struct")
 #define STRUCT(s) printf("struct %s %zu\n", #s, sizeof(s));
 #define FIELD(s, f) printf("field %s.%s %zu %zu %s\n", #s, #f, offsetof(s, f), sizeof(((s *)0)->f), KIND(((s *)0)->f));
-#define CONSTANT(c) printf("constant %s %d\n", #c, c);
+#define CONSTANT(c) printf("constant %s %lld\n", #c, (long long)(c));
 END
 }
 
-# A line for each struct, field and constant of the header: NAME, NAME and FIELD, NAME, as calls of those macros.
+# A line for each struct, field and constant of the header: NAME, NAME and FIELD, NAME, as calls of those macros. A constant is every name that begins
+# with SP3_, of an enum or defined, but for SP3_H, which keeps the header from being included twice.
 layout_calls() {
     bare_header | tr '\n' ' ' | awk '
         function taken(pattern,    text) {
@@ -131,21 +132,31 @@ layout_calls() {
                 fields(halves[3], halves[2])
             }
             rest = $0
-            while ((text = taken("SP3_[A-Z_]+ *=")) != "") {
-                gsub(/[ =]/, "", text)
-                print "CONSTANT(" text ")"
-            }
+            while ((text = taken("SP3_[A-Z0-9_]+")) != "")
+                if (text != "SP3_H" && !seen[text]++) print "CONSTANT(" text ")"
         }'
 }
 
-# Structs, fields and constants are those that C has.
-compare_layout() {
+# Structs, fields and constants as C has them.
+print_layout() {
     { layout_macros && echo 'int main(void) {' && layout_calls && echo 'return 0; }'; } >"$made/layout.c"
     x86_cc $words -I "$root/include" -o "$made/layout" "$made/layout.c" || fail 'a C program that prints the layout does not compile'
-    x86_run "$made/layout" | sort >"$made/by_c"
+    x86_run "$made/layout" | sort >"$made/layout_of_c"
+    [ "$(grep -c '^struct ' "$made/layout_of_c")" -ge 20 ] || fail 'structs of include/sp3.h were not found'
+}
+
+# The most satellites of the header are those of the proved source.
+compare_bound() {
+    most=$(sed -n 's/^ *pub const MAX_SATELLITES: u64 = \([0-9_]*\);$/\1/p' "$root/crates/header/src/making.rt" | tr -d _)
+    echo "constant SP3_MOST_SATELLITES $most" >"$made/by_source"
+    grep '^constant SP3_MOST_SATELLITES ' "$made/layout_of_c" >"$made/found" || :
+    same 'MAX_SATELLITES of crates/header/src/making.rt (<) and SP3_MOST_SATELLITES of include/sp3.h (>) differ' "$made/by_source" "$made/found"
+}
+
+# Structs, fields and constants of the wrapper are those that C has.
+compare_layout() {
     grep -E '^(struct|field|constant) ' "$made/by_rust" | sort >"$made/found" || :
-    [ "$(grep -c '^struct ' "$made/by_c")" -ge 20 ] || fail 'structs of include/sp3.h were not found'
-    same 'structs, fields and constants of include/sp3.h (<) and rust/sp3/src/ffi.rs (>) differ' "$made/by_c" "$made/found"
+    same 'structs, fields and constants of include/sp3.h (<) and rust/sp3 (>) differ' "$made/layout_of_c" "$made/found"
 }
 
 # Functions are those that the header declares: each declared again as the wrapper has it, which C refuses where a type differs.
@@ -225,6 +236,8 @@ c_example() {
 }
 
 command -v cargo >/dev/null || fail 'cargo is needed for the tests of rust/sp3'
+print_layout
+compare_bound
 find_archive
 make_files
 c_example

@@ -51,8 +51,8 @@ static int refused(const char *name, size_t number, uint64_t line, size_t column
 
 /* Judges the file, walks its rows and prints them; gives the status of the program. */
 static int walk(const char *name, const uint8_t *file, size_t length) {
-    uint64_t identifiers[255], counts[2] = {0, 0};
-    sp3_reading_t reading = sp3_begin(file, length, identifiers, 255);
+    uint64_t identifiers[SP3_MOST_SATELLITES], counts[2] = {0, 0};
+    sp3_reading_t reading = sp3_begin(file, length, identifiers, SP3_MOST_SATELLITES);
     if (reading.refusal != 0) return refused(name, reading.refusal, reading.line, reading.column);
     sp3_row_step_t step = {.next = sp3_first_row()};
     for (;;) {

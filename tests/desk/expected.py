@@ -291,7 +291,7 @@ class Oracles:
 
     def judged(self, file, asked=(0, 0, 0, 0)):
         """The refusal, its line and its column, what the file holds where there is none, and the answers by their first word."""
-        rooms = [300, 300, 100_000, 2_000_000]
+        rooms = [1000, 1000, 100_000, 2_000_000]
         batch = " ".join(str(n) for n in [len(file), *rooms, *asked]).encode() + b"\n" + file
         lines = self.ask("files", "answer", batch=batch).decode("latin-1").split("\n")
         answers = {line.split(" ", 1)[0]: line.split(" ") for line in lines[:3] + lines[-8:] if line}
@@ -300,7 +300,7 @@ class Oracles:
 
     def form(self, file):
         """The canonical form of an accepted file."""
-        answer = self.ask("forms", "answer", batch=b"2 60000 %d\n" % len(file) + file)
+        answer = self.ask("forms", "answer", batch=b"2 1000000 %d\n" % len(file) + file)
         _, read, write, rest = answer.split(b"\n", 3)
         assert read.startswith(b"read 0 ") and write.startswith(b"write 0 "), (read, write)
         return rest[: int(write.split()[2])]

@@ -1,5 +1,5 @@
-"""Files that are refused, each with what the desk tool says of it: worked out by hand from 01 and from asks 2 and 3 of 02, which tell the column and
-how an absent clock may be spelt."""
+"""Files that are refused, each with what the desk tool says of it: worked out by hand from 01 and from asks 2, 3 and 6 of 02, which tell the column,
+how an absent clock may be spelt, and how many satellites there may be."""
 import gzip
 import importlib.util
 
@@ -14,6 +14,7 @@ def load_make():
 
 
 make = load_make()
+MOST = make.MOST_SATELLITES
 PAPER = make.paper_lines()
 WHOLE = make.joined(PAPER)
 
@@ -55,6 +56,24 @@ def many():
     return make.file_lines(make.Model("P", make.datetime.datetime(2013, 4, 3, 23, 45), 900, names, [1] * 20, ["TWENTY", "", "", ""], rows))
 
 
+def crowd_model(count, mode="P", epochs=1):
+    """By a rule: so many satellites, 99 of each letter in turn; every seventh place and every eleventh clock absent."""
+    kinds = 2 if mode == "V" else 1
+    rows = [[[crowd_row(k + epoch + kind) for kind in range(kinds)] for k in range(count)] for epoch in range(epochs)]
+    names, accuracies = make.identifiers("GRECJISLABD", count), [k % 100 for k in range(count)]
+    return make.Model(mode, make.datetime.datetime(2013, 4, 3, 23, 45), 900, names, accuracies, ["BY RULE", "", "", ""], rows)
+
+
+def crowd_row(number):
+    return make.Row(None if number % 7 == 3 else (number * 7_919 - 10**6, number, -number), None if number % 11 == 5 else 5 * number - 3_000)
+
+
+def crowd(count):
+    """The lines of such a file in mode P with one epoch. Of 999 satellites the `+ ` lines are 3 to 61, the `++` lines 62 to 120, the rows 132 to
+    1130."""
+    return make.file_lines(crowd_model(count))
+
+
 def moving():
     """The lines of samples/velocity.sp3: G01, E11 and E12 in mode V, with an EP or EV after each row; 23, 36 and 49 are the epochs."""
     return make.file_lines(make.velocity())
@@ -72,12 +91,11 @@ def last_night():
 
 def damaged():
     """Each of the refusals 1 to 11."""
-    identifiers = "".join(f"G{k:02}" for k in range(1, 18))
     return [(WHOLE[:-1], 1, 25, 0), (WHOLE[:700], 1, WHOLE[:700].count(b"\n") + 1, 0), (changed(19, 4, "\a"), 2, 19, 4),
             (WHOLE.replace(b"\n", b"\r\n"), 2, 1, 61), (changed(19, 4, "X" * 78), 3, 19, 81), (PAPER[:21] + PAPER[22:], 4, 22, 0),
             (changed(1, 46, "x"), 5, 1, 46), (changed(16, 4, "  0.0000001"), 5, 16, 4), (changed(1, 3, "v"), 6, 1, 3),
             (changed(13, 10, "gps"), 6, 13, 10), (changed(24, 19, "       .500000"), 6, 24, 19), (changed(1, 33, "      0"), 7, 1, 33),
-            (changed(3, 4, "256   " + identifiers), 7, 3, 4), (changed(2, 40, "56386"), 8, 2, 0), (changed(23, 18, "15"), 9, 23, 0),
+            (changed(3, 4, "000"), 7, 3, 4), (changed(2, 40, "56386"), 8, 2, 0), (changed(23, 18, "15"), 9, 23, 0),
             (changed(24, 2, "G08"), 10, 24, 0), (WHOLE + b" ", 11, 26, 0), (WHOLE + WHOLE, 11, 26, 0)]
 
 
@@ -95,12 +113,12 @@ def dated():
 def columned():
     """A column for each number that has one; the lowest number, then the leftmost column; a field past the end of a short line."""
     ones = "1000000.000000"
-    flagged, names = put(moving(), 26, 75, "E"), "G01" + "G 2" + "".join(f"G{k:02}" for k in range(3, 18))
+    flagged, names = put(moving(), 26, 75, "E"), "G00" + "G 2" + "".join(f"G{k:02}" for k in range(3, 18))
     return [*dated(), (changed(24, 5, "  5000.0000001"), 6, 24, 5), (changed(19, 4, "\t"), 2, 19, 4),
             (put(changed(24, 40, "\x7f"), 24, 9, "\x7f"), 2, 24, 9), (put(changed(24, 200, "\x7f"), 24, 300, "x"), 2, 24, 200),
             (put(changed(24, 5, "x"), 24, 128, "\x7f"), 2, 24, 128), (with_line(19, "/*".ljust(81)), 3, 19, 81),
             (with_line(19, "/*".ljust(300, "x")), 3, 19, 81), (changed(24, 61, "x        x"), 5, 24, 61), (changed(3, 63, "x"), 5, 3, 63),
-            (changed(13, 58, "x"), 5, 13, 56), (changed(3, 4, "256   " + names), 6, 3, 13), (changed(24, 2, "G00"), 7, 24, 2),
+            (changed(13, 58, "x"), 5, 13, 56), (changed(3, 4, " 17   " + names), 6, 3, 13), (changed(24, 2, "G00"), 7, 24, 2),
             (changed(24, 2, "G 7"), 6, 24, 2), (put(changed(24, 47, ones), 24, 5, ones), 7, 24, 5), (put(changed(24, 47, ones), 24, 5, "x"), 6, 24, 5),
             (changed(24, 75, "e"), 6, 24, 75), (flagged, 5, 26, 75), (changed(13, 4, "Gx"), 6, 13, 4), (with_line(24, "PG07"), 6, 24, 5),
             (with_line(24, "P"), 6, 24, 2), (with_line(1, "#d"), 6, 1, 3), (with_line(1, "#dP"), 6, 1, 4), (with_line(3, "+"), 6, 3, 4),
@@ -121,6 +139,13 @@ def clocked():
     cases += [(changed(24, first, " 999999.      "), 6, 24, first) for first in (5, 19, 33)]
     cases += [(with_clock(PAPER, 24, clock), 5, 24, 61) for clock in (" 999999.      x", " 999999.     0x")]
     return cases + [(with_clock(PAPER, 24, " 999999.       1"), 6, 24, 62), (with_clock(changed(24, 2, "G08"), 24, " 999999."), 10, 24, 0)]
+
+
+def crowded():
+    """The number of satellites has three columns: 1000 reaches into an unused one, to the right or to the left, and 000 are none. A slot within the
+    number that holds `  0` is malformed, with 999 in a file of one satellite as in one of 998; with 256 in a file of 255 a `+ ` line is due."""
+    return [(changed(3, 4, "1000"), 5, 3, 7), (changed(3, 3, "1000"), 5, 3, 3), (changed(3, 4, "000"), 7, 3, 4), (changed(3, 4, "999"), 6, 3, 13),
+            (put(crowd(255), 3, 4, "256"), 4, 18, 0), (put(crowd(MOST - 1), 3, 4, "999"), 6, 61, 46), (put(crowd(MOST), 3, 4, "1000"), 5, 3, 7)]
 
 
 # ---- What a refusal comes from ----
@@ -148,17 +173,20 @@ def unhinted():
 
 def disagreeing():
     """Each cause of 8, with its line: line 2; a slot after the last satellite, in the first and in a further line of either kind; an identifier that
-    repeats, in the first line, in a further one, after the one before; the file type. A slot is said before an identifier that repeats."""
+    repeats, in the first line, in a further one, after the one before, the last of 999; the file type, also of 100 satellites, which one letter does
+    not have. A slot is said before an identifier that repeats."""
     start, file_type = "line 2 disagrees with the start", "the file type disagrees with the identifiers"
     slot, repeated = "a slot after the last satellite is not `  0`", "an identifier repeats"
-    twenty = many()
+    twenty, most = many(), crowd(MOST)
     return [(changed(2, 4, "1735"), 2, start), (changed(2, 14, "1"), 2, start), (changed(2, 40, "56386"), 2, start),
             (changed(2, 60, "2"), 2, start), (changed(3, 13, "G08"), 3, slot), (changed(3, 13, "G07"), 3, slot), (changed(3, 13, "000"), 3, slot),
             (changed(4, 10, "  1"), 4, slot), (changed(7, 58, "   "), 7, slot), (changed(8, 13, "  1"), 8, slot), (changed(9, 10, "  x"), 9, slot),
             (put(twenty, 4, 19, "G21"), 4, slot), (put(twenty, 4, 19, "G01"), 4, slot), (put(twenty, 9, 19, "000"), 9, slot),
             (put(twenty, 3, 13, "G01"), 3, repeated), (put(twenty, 3, 58, "G16"), 3, repeated), (put(twenty, 4, 10, "G17"), 4, repeated),
             (put(twenty, 4, 16, "G18"), 4, repeated), (put(twenty, 4, 16, "G18G21"), 4, slot), (changed(13, 4, "R "), 13, file_type),
-            (put(moving(), 13, 4, "G "), 13, file_type)]
+            (put(moving(), 13, 4, "G "), 13, file_type), (put(crowd(100), 15, 4, "G "), 15, file_type),
+            (put(crowd(256), 18, 10, "G01"), 18, repeated), (put(most, 61, 46, "G01"), 61, repeated), (put(most, 61, 46, "D08"), 61, repeated),
+            (put(most, 61, 49, "D10"), 61, slot), (put(most, 120, 49, "  1"), 120, slot)]
 
 
 def elsewhere():
@@ -172,12 +200,13 @@ def elsewhere():
             (last_night(), 9, 25, "2099-12-31 23:59:30.00000000", "an instant past the last date"),
             (changed(24, 2, "G08"), 10, 24, "G08", "G07"), (put(many(), 25, 2, "G03"), 10, 25, "G03", "G02"),
             (put(many(), 45, 2, "G20"), 10, 45, "G20", "G01"), (put(moving(), 28, 2, "E12"), 10, 28, "E12", "E11"),
-            (put(moving(), 30, 2, "E12"), 10, 30, "E12", "E11"), (put(moving(), 39, 2, "E11"), 10, 39, "E11", "G01")]
+            (put(moving(), 30, 2, "E12"), 10, 30, "E12", "E11"), (put(moving(), 39, 2, "E11"), 10, 39, "E11", "G01"),
+            (put(crowd(256), 301, 2, "E59"), 10, 301, "E59", "E58"), (put(crowd(MOST), 1130, 2, "D10"), 10, 1130, "D10", "D09")]
 
 
 def misplaced():
     """Lines of a kind that may not stand there, with how the one begins that is due, and one that may stand before it."""
-    twenty, moved = many(), moving()
+    twenty, moved, most = many(), moving(), crowd(MOST)
     return [(PAPER[1:], 1, "#d", ""), (PAPER[:1] + PAPER[2:], 2, "##", ""), (with_line(3, ""), 3, "+ ", ""), (PAPER[:5] + PAPER[7:], 6, "+ ", ""),
             (PAPER[:7] + PAPER[8:], 12, "++", ""), (changed(8, 2, " "), 8, "++", ""), (changed(13, 2, "C"), 13, "%c", ""),
             (PAPER[:13] + PAPER[14:], 14, "%c", ""), (changed(15, 2, "F"), 15, "%f", ""), (changed(17, 2, "f"), 17, "%i", ""),
@@ -185,7 +214,9 @@ def misplaced():
             (PAPER[:23] + PAPER[24:], 24, "PG07", ""), (after_row("EP", "EP"), 26, "EOF", ""), (after_row(PAPER[22]), 25, "EOF", "EP"),
             (twenty[:24] + twenty[43:], 25, "PG02", "EP"), (twenty[:43] + ["EOF"], 44, "* ", "EP"), (twenty[:43] + ["EP", "EOF"], 45, "* ", ""),
             (moved[:25] + moved[26:], 26, "VG01", ""), (moved[:24] + moved[26:], 25, "VG01", "EP"), (moved[:26] + moved[35:], 27, "PE11", "EV"),
-            (moved[:27] + moved[35:], 28, "PE11", ""), (moved[:34] + ["EOF"], 35, "* ", "EV"), (moved[:60] + [moved[48]], 61, "EOF", "EV")]
+            (moved[:27] + moved[35:], 28, "PE11", ""), (moved[:34] + ["EOF"], 35, "* ", "EV"), (moved[:60] + [moved[48]], 61, "EOF", "EV"),
+            (crowd(256)[:17] + crowd(256)[18:], 18, "+ ", ""), (most[:61] + [PAPER[3]] + most[61:], 62, "++", ""),
+            (most[:1129] + ["EOF"], 1130, "PD09", "EP")]
 
 
 def causes():

@@ -20,7 +20,7 @@ import threading
 import expected
 import refusals
 from expected import ROOT, of_model, refused
-from refusals import PAPER, after_row, as_content, changed, make, moving, with_clock
+from refusals import MOST, PAPER, after_row, as_content, changed, crowd_model, make, moving, with_clock
 
 SEED = 20130403
 GENERATED = 80
@@ -172,7 +172,7 @@ def about(name):
 
 
 def test_damaged(desk):
-    """Each of the refusals 1 to 11, by each command; then the columns, and clocks that are none."""
+    """Each of the refusals 1 to 11, by each command; then the columns, clocks that are none, and numbers of satellites."""
     assert {number for _, number, _, _ in refusals.damaged()} == set(range(1, 12))
     for content, *refusal in refusals.damaged():
         content = as_content(content)
@@ -180,7 +180,7 @@ def test_damaged(desk):
         for words in [*about(name), ["row", name, "9", "0"]]:
             desk.expect_refused(words, refused(name, *refusal, content))
         expect_refusal(desk, content, refusal)
-    for content, *refusal in [*refusals.columned(), *refusals.clocked()]:
+    for content, *refusal in [*refusals.columned(), *refusals.clocked(), *refusals.crowded()]:
         expect_refusal(desk, as_content(content), refusal)
 
 
@@ -188,7 +188,7 @@ def expect_refusal(desk, content, refusal, message=None):
     """The refusal of these bytes is said, with this message after their name where one is given: as a result, as a message, and by `divide` also of
     a rest after another file. Number, line and column are those of the independent implementation, and the message the one by rule."""
     said = refused("", *refusal, content)
-    assert desk.oracles.judged(content)[0] == tuple(refusal), (refusal, content)
+    assert desk.oracles.judged(content)[0] == tuple(refusal), (refusal, content[:400])
     assert message in (None, said), (message, said)
     name, first = desk.file("refused.sp3", content), make.joined(PAPER)
     for words in (["check", name], ["comment", name, "0"]):
@@ -363,7 +363,7 @@ def test_samples(desk):
     late = str(ROOT / "samples/late.sp3")
     desk.expect(["check", late], 1, refused(late, 9, 23, 0, make.samples()["late.sp3"]))
     models, files = {"day.sp3": make.day(), "velocity.sp3": make.velocity(), "correlations.sp3": make.correlations()}, make.season_files()
-    models["six-nines.sp3"] = make.six_nines()
+    models |= {"six-nines.sp3": make.six_nines(), "combined.sp3": make.combined()}
     for sample, model in models.items():
         name, held, form = str(ROOT / "samples" / sample), of_model(model), make.joined(make.file_lines(model))
         desk.expect(["check", name], 0, expected.check(name, held))
@@ -371,7 +371,7 @@ def test_samples(desk):
         desk.expect(["rewrite", name], 0, form)
         for k, text in enumerate(held.comments):
             desk.expect(["comment", name, str(k)], 0, text + "\n")
-        for epoch, k in ((0, 0), (1, 1), (held.epochs - 1, len(held.satellites) - 1)):
+        for epoch, k in ((0, 0), (min(1, held.epochs - 1), 1), (held.epochs - 1, len(held.satellites) - 1)):
             for satellite in (str(k), held.satellites[k][0]):
                 desk.expect(["row", name, str(epoch), satellite], 0, expected.row(held, epoch, k))
     day, season, held = str(ROOT / "samples/day.sp3"), str(ROOT / "samples/season.sp3"), of_model(make.day())
@@ -383,6 +383,25 @@ def test_samples(desk):
     for k, (file, model) in enumerate(zip(files, make.season())):
         desk.expect(["check", desk.file("part.sp3", file)], 0, expected.check("part.sp3", of_model(model)))
         desk.expect(["rewrite", "part.sp3"], 0, make.joined(make.file_lines(model)))
+
+
+def test_crowds(desk):
+    """Files of many satellites, up to as many as there can be; the 17 slots of their last lines all taken, or one, or some."""
+    crowds = [(count, "P", 1) for count in (255, 256, 272, 273, 986, 987, MOST - 1, MOST)]
+    for count, mode, epochs in [*crowds, (256, "P", 2), (256, "V", 1), (MOST, "V", 2)]:
+        model = crowd_model(count, mode, epochs)
+        content, held = make.joined(make.file_lines(model)), of_model(model)
+        name, (last, _), paper = desk.file("crowd.sp3", content), held.satellites[-1], make.joined(PAPER)
+        assert expected.table(desk.oracles.judged(content)[1]) == expected.table(held)
+        assert desk.oracles.form(content) == content
+        desk.expect(["check", name], 0, expected.check(name, held))
+        desk.expect(["table", name], 0, expected.table(held))
+        desk.expect(["rewrite", name], 0, content)
+        for satellite in (last, str(count - 1)):
+            desk.expect(["row", name, str(epochs - 1), satellite], 0, expected.row(held, epochs - 1, count - 1))
+        desk.expect(["row", name, "0", str(count)], 1, "", refused(f"{name}: epoch 0, satellite {count}", 13))
+        desk.expect(["row", name, "0", "Z99"], 1, "", refused(f"{name}: satellite Z99", 13))
+        desk.expect(["divide", "-"], 0, expected.divide([len(content), 1215, len(content)]), stdin=content + paper + content)
 
 
 def test_generated(desk):
@@ -635,8 +654,8 @@ def expect_without_memory(desk, words, out, content, tool):
 def main():
     desk = Desk(pathlib.Path(sys.argv[1]).resolve())
     for test in (test_paper, test_dates, test_damaged, test_causes, test_pictures, test_edges, test_clocks, test_clocks_before_exponents,
-                 test_rates, test_nines_in_places, test_notes, test_moving_notes, test_samples, test_generated, test_usage, test_numbers,
-                 test_inputs, test_pipes, test_many, test_outputs, test_failing, test_large):
+                 test_rates, test_nines_in_places, test_notes, test_moving_notes, test_samples, test_crowds, test_generated, test_usage,
+                 test_numbers, test_inputs, test_pipes, test_many, test_outputs, test_failing, test_large):
         test(desk)
     print(f"desk: {desk.passed} tests passed")
 

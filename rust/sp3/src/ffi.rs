@@ -60,7 +60,7 @@ pub struct Header {
     pub interval8: u64,
     /// The four texts of line 1.
     pub texts: Texts,
-    /// The number of satellites, 1 to 255.
+    /// The number of satellites, 1 to [`MOST_SATELLITES`](crate::MOST_SATELLITES).
     pub satellites: u64,
     /// The number of comments, 4 or more.
     pub comments: u64,
@@ -105,7 +105,7 @@ pub struct HeaderParts {
     pub interval8: u64,
     /// The four texts of line 1.
     pub texts: Texts,
-    /// The number of satellites, 1 to 255.
+    /// The number of satellites, 1 to [`MOST_SATELLITES`](crate::MOST_SATELLITES).
     pub satellites: u64,
     /// The number of comments, 4 or more.
     pub comments: u64,

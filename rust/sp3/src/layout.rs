@@ -181,6 +181,8 @@ fn layout() {
         format!("constant SP3_COMMENT_WIDTH {}", crate::COMMENT_WIDTH),
         format!("constant SP3_UNKNOWN {}", crate::stored::UNKNOWN),
         format!("constant SP3_UNNOTED {}", crate::notes::UNNOTED),
+        format!("constant SP3_NO_CLOCK {}", crate::stored::ABSENT_CLOCK),
+        format!("constant SP3_MOST_SATELLITES {}", crate::MOST_SATELLITES),
     ];
     let words = (0..=13).map(|number| format!("words {number} {}", crate::words(number)));
     println!();

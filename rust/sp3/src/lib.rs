@@ -59,7 +59,7 @@ pub use questions::{
     comment, comment_answer, date, identifier, identifier_text, moment, row, satellite_of, Date,
     Row,
 };
-pub use reading::{judge, judge_front, read, read_front, Reading};
+pub use reading::{judge, judge_front, read, read_front, Reading, MOST_SATELLITES};
 pub use refusal::{words, LineRefusal, Refusal};
 pub use stored::{
     clock_of, exponent_of, flag_of, place_of, stored_comment, stored_row, Exponent, Flags,

@@ -39,15 +39,15 @@ pub fn first_spot() -> Spot {
     ffi::sp3_first_spot()
 }
 
-/// What the line at a spot does. A `+ ` line without fault leaves its own in `identifiers` (255 places suffice), after those of the lines before
-/// it; no other line changes the list, which is lent to the next line as this one left it.
+/// What the line at a spot does. A `+ ` line without fault leaves its own in `identifiers` ([`MOST_SATELLITES`](crate::MOST_SATELLITES) places
+/// suffice), after those of the lines before it; no other line changes the list, which is lent to the next line as this one left it.
 ///
 /// Refused: 1 where no LF is left, 12 at the `+ ` line without fault that brings more identifiers than the list has places for; the list is then
 /// as it was.
 ///
 /// ```
 /// let file = include_bytes!("../../../samples/paper.sp3");
-/// let mut identifiers = [0; 255];
+/// let mut identifiers = [0; sp3::MOST_SATELLITES];
 /// let mut line = sp3::read_line(file, sp3::first_spot(), &mut identifiers)?;
 /// assert_eq!(line.next.at(), 61);
 /// while !line.finished {
@@ -84,7 +84,7 @@ pub fn read_line(file: &[u8], spot: Spot, identifiers: &mut [u64]) -> Result<Lin
 ///
 /// ```
 /// let file = include_bytes!("../../../samples/paper.sp3");
-/// let row = sp3::after_lines(file, &mut [0; 255], sp3::first_spot(), 23);
+/// let row = sp3::after_lines(file, &mut [0; sp3::MOST_SATELLITES], sp3::first_spot(), 23);
 /// assert!(file[row.at()..].starts_with(b"PG07"));
 /// assert!(sp3::next_line(file, &[7107], row).is_ok());
 /// assert_eq!(sp3::next_line(file, &[7108], row).unwrap_err().number, 10);
@@ -136,7 +136,7 @@ impl ffi::Due {
 /// let refusal = sp3::judge(file.as_bytes()).unwrap_err();
 /// assert_eq!((refusal.number, refusal.line), (10, 24));
 ///
-/// let mut identifiers = [0; 255];
+/// let mut identifiers = [0; sp3::MOST_SATELLITES];
 /// let row = sp3::after_lines(file.as_bytes(), &mut identifiers, sp3::first_spot(), 23);
 /// let due = sp3::due(file.as_bytes(), &identifiers, row);
 /// assert_eq!((due.kind, due.also), (10, None));
@@ -155,13 +155,13 @@ pub fn due(file: &[u8], identifiers: &[u64], spot: Spot) -> Due {
     answer.told()
 }
 
-/// The spot so many lines further, each line read as by [`read_line`]. Afterwards `identifiers` (255 places suffice) holds those of the
-/// `+ ` lines that were passed; to go on from there lend it as it is. The spot stays at a line that is refused, with 12 too, and at the EOF
-/// line.
+/// The spot so many lines further, each line read as by [`read_line`]. Afterwards `identifiers` ([`MOST_SATELLITES`](crate::MOST_SATELLITES)
+/// places suffice) holds those of the `+ ` lines that were passed; to go on from there lend it as it is. The spot stays at a line that is refused,
+/// with 12 too, and at the EOF line.
 ///
 /// ```
 /// let file = include_bytes!("../../../samples/paper.sp3");
-/// let mut identifiers = [0; 255];
+/// let mut identifiers = [0; sp3::MOST_SATELLITES];
 /// let end = sp3::after_lines(file, &mut identifiers, sp3::first_spot(), 1000);
 /// assert_eq!(&file[end.at()..], b"EOF\n");
 /// assert_eq!(identifiers[0], 7107);

@@ -4,6 +4,17 @@ use crate::ffi;
 use crate::refusal::accepted;
 use crate::{Header, Refusal};
 
+/// So many satellites a file has at most: room for as many identifiers always suffices.
+///
+/// ```
+/// let file = include_bytes!("../../../samples/combined.sp3");
+/// let mut identifiers = [0; sp3::MOST_SATELLITES];
+/// assert_eq!(sp3::begin(file, &mut identifiers)?.reading().header.satellites, 999);
+/// assert_eq!(identifiers.last().copied(), sp3::identifier("D09"));
+/// # Ok::<(), sp3::Refusal>(())
+/// ```
+pub const MOST_SATELLITES: usize = 999;
+
 /// An accepted file.
 #[derive(Clone, Copy, Debug, PartialEq, Eq, Hash)]
 pub struct Reading {

@@ -162,7 +162,7 @@ pub fn stored_row(rows: &[i64], k: usize) -> Result<StoredRow, Refusal> {
 }
 
 /// How an absent clock or rate is held, however a file spells it; an absent place or velocity is held as three zeros.
-const ABSENT_CLOCK: i64 = 999_999_999_999;
+pub(crate) const ABSENT_CLOCK: i64 = 999_999_999_999;
 
 /// How an unknown exponent is held.
 pub(crate) const UNKNOWN: i64 = 1000;

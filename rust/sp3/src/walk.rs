@@ -102,13 +102,14 @@ impl Iterator for Rows<'_> {
 
 impl FusedIterator for Rows<'_> {}
 
-/// Judges a whole file, leaves the identifiers of its header in the first places of `identifiers`, and gives the walk over its rows.
+/// Judges a whole file, leaves the identifiers of its header in the first places of `identifiers` ([`MOST_SATELLITES`](crate::MOST_SATELLITES)
+/// places suffice), and gives the walk over its rows.
 ///
 /// Refused: the file's own refusal first, then 12 with line 0 where there is less room than satellites; the list is then as it was.
 ///
 /// ```
 /// let file = include_bytes!("../../../samples/paper.sp3");
-/// let mut identifiers = [0; 255];
+/// let mut identifiers = [0; sp3::MOST_SATELLITES];
 /// for row in sp3::begin(file, &mut identifiers)? {
 ///     let row = row?;
 ///     assert_eq!((row.epoch, row.satellite), (0, 0));

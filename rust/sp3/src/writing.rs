@@ -7,7 +7,7 @@ use crate::{moment, Header, HeaderParts, Moment, Refusal};
 impl Header {
     /// A header out of its parts.
     ///
-    /// Refused: 6 for mode `Q`, 7 for 256 satellites, 6 for both; line 0.
+    /// Refused: 6 for mode `Q`, 7 for 1000 satellites, 6 for both; line 0.
     ///
     /// ```
     /// let parts = sp3::HeaderParts {
@@ -29,7 +29,7 @@ impl Header {
     /// };
     /// assert_eq!(sp3::Header::new(parts)?.epochs, 96);
     ///
-    /// let refused = sp3::Header::new(sp3::HeaderParts { satellites: 256, ..parts });
+    /// let refused = sp3::Header::new(sp3::HeaderParts { satellites: 1000, ..parts });
     /// assert_eq!(refused, Err(sp3::Refusal { number: 7, line: 0, column: 0 }));
     /// # Ok::<(), sp3::Refusal>(())
     /// ```

@@ -269,7 +269,7 @@ fn fewer_names_than_satellites() {
 #[test]
 fn walks_in_two_parts() {
     let file = many(18).write().unwrap();
-    for (room, end) in [(16, 2), (17, 3), (18, 41), (255, 41)] {
+    for (room, end) in [(16, 2), (17, 3), (18, 41), (sp3::MOST_SATELLITES, 41)] {
         let mut once = vec![77_777; room];
         let spot = sp3::after_lines(&file, &mut once, sp3::first_spot(), end);
         assert_eq!(sp3::after_lines(&file, &mut once, spot, 1), spot, "room for {room}");

@@ -3,7 +3,7 @@
 mod common;
 
 use common::{motion, night, paper, stored_again, CORRELATIONS, SIX_NINES};
-use sp3::{judge_front, Refusal, Table};
+use sp3::{judge_front, Refusal, Table, MOST_SATELLITES};
 
 /// Numbers that look random and are the same in each run (splitmix64).
 struct Random(u64);
@@ -40,15 +40,15 @@ fn damage(file: &mut Vec<u8>, random: &mut Random) {
 }
 
 /// The walker stays at a spot from so many lines on, with these identifiers.
-fn walker_stays(bytes: &[u8], lines: usize, spot: sp3::Spot, identifiers: &[u64; 255]) {
-    let mut learnt = [0; 255];
+fn walker_stays(bytes: &[u8], lines: usize, spot: sp3::Spot, identifiers: &[u64; MOST_SATELLITES]) {
+    let mut learnt = [0; MOST_SATELLITES];
     assert_eq!(sp3::after_lines(bytes, &mut learnt, sp3::first_spot(), lines), spot);
     assert_eq!(&learnt, identifiers);
 }
 
 /// What the line reader finds: the length of a file at the front, or the first line that is refused. The walker does not pass that line.
 fn by_lines(bytes: &[u8]) -> Result<usize, Refusal> {
-    let mut identifiers = [0; 255];
+    let mut identifiers = [0; MOST_SATELLITES];
     let mut spot = sp3::first_spot();
     for line in 1.. {
         let read = sp3::read_line(bytes, spot, &mut identifiers);

@@ -7,7 +7,7 @@ use sp3::Due;
 
 /// What must stand after so many lines of a file, or where the walker stays before.
 fn due_after(lines: usize, file: &[u8]) -> Due {
-    let mut identifiers = [0; 255];
+    let mut identifiers = [0; sp3::MOST_SATELLITES];
     let spot = sp3::after_lines(file, &mut identifiers, sp3::first_spot(), lines);
     sp3::due(file, &identifiers, spot)
 }

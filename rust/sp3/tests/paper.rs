@@ -2,7 +2,7 @@
 
 mod common;
 
-use common::{many, paper, paper_header, paper_parts, refused, SAMPLE};
+use common::{crowd, many, paper, paper_header, paper_parts, refused, SAMPLE};
 use sp3::{date, judge, Date, Exponent, Flags, Header, HeaderParts, Refusal, StoredRow, Table};
 
 /// x, y, z and clock of the row of the paper's file, with the y field replaced.
@@ -55,8 +55,8 @@ fn a_header_of_its_parts() {
     assert_eq!(Header::new(paper_parts()), Ok(paper_header()));
     let of = |parts: HeaderParts| Header::new(parts);
     assert_eq!(of(HeaderParts { mode: b'Q', ..paper_parts() }), refused(6, 0, 0));
-    assert_eq!(of(HeaderParts { satellites: 256, ..paper_parts() }), refused(7, 0, 0));
-    assert_eq!(of(HeaderParts { mode: b'Q', satellites: 256, ..paper_parts() }), refused(6, 0, 0));
+    assert_eq!(of(HeaderParts { satellites: 1000, ..paper_parts() }), refused(7, 0, 0));
+    assert_eq!(of(HeaderParts { mode: b'Q', satellites: 1000, ..paper_parts() }), refused(6, 0, 0));
     assert_eq!(of(HeaderParts { epochs: 0, ..paper_parts() }), refused(7, 0, 0));
     assert_eq!(of(HeaderParts { epochs: 100_001, ..paper_parts() }), refused(7, 0, 0));
     assert_eq!(of(HeaderParts { mode: b'V', ..paper_parts() }).map(|made| made.velocity), Ok(true));
@@ -81,7 +81,7 @@ fn cases_6_to_9() {
 
 #[test]
 fn case_10() {
-    for (n, lines) in [(85, 5), (86, 6), (255, 15)] {
+    for (n, lines) in [(85, 5), (86, 6), (255, 15), (999, 59)] {
         let file = many(n).write().unwrap();
         let begin = |symbol: &[u8]| {
             file.split(|&byte| byte == b'\n').filter(|line| line.starts_with(symbol)).count()
@@ -103,11 +103,12 @@ fn case_12() {
     assert_eq!(judge(b""), refused(1, 1, 0));
 }
 
-/// "Run: 256 satellites (7); 80 and 81 characters; three comments (4); `EOF` without LF (1); z alone zero (present)."
+/// "Run: 256 satellites (7); 80 and 81 characters; three comments (4); `EOF` without LF (1); z alone zero (present)." Of the first request 6 says:
+/// "256 passes, 1,000 can't be written in the field".
 #[test]
 fn cases_to_be_run() {
-    let identifiers: String = (1..=17).map(|number| format!("G{number:02}")).collect();
-    assert_eq!(judge(&paper().put(3, 4, "256").put(3, 10, identifiers).bytes()), refused(7, 3, 4));
+    assert!(judge(&crowd(256).bytes()).is_ok());
+    assert_eq!(judge(&paper().put(3, 4, "1000").bytes()), refused(5, 3, 7));
     assert!(judge(&paper().put(19, 4, [b'-'; 77]).bytes()).is_ok());
     assert_eq!(judge(&paper().put(19, 4, [b'-'; 78]).bytes()), refused(3, 19, 81));
     assert_eq!(judge(&paper().without(20).bytes()), refused(4, 22, 0));

@@ -3,7 +3,7 @@
 mod common;
 
 use common::{many, motion, night, paper, refused, Draft, SAMPLE};
-use sp3::{Header, Refusal, Table};
+use sp3::{Header, Refusal, Table, MOST_SATELLITES};
 
 /// Four lists to lend.
 #[derive(Clone, Debug, PartialEq)]
@@ -72,7 +72,7 @@ fn refused_files() -> Vec<(u8, u64, usize, Vec<u8>)> {
         of(6, 1, 3, paper().put(1, 3, "v")),
         of(6, 1, 4, paper().put(1, 12, "3 ")),
         of(6, 23, 15, paper().put(23, 9, "13").put(23, 15, "2x")),
-        of(6, 3, 13, paper().put(3, 4, "256")),
+        of(6, 3, 13, paper().put(3, 4, "999")),
         of(6, 13, 4, paper().put(13, 4, "Gx")),
         of(6, 13, 10, paper().put(13, 10, "gps")),
         of(6, 24, 2, row("P")),
@@ -88,6 +88,7 @@ fn refused_files() -> Vec<(u8, u64, usize, Vec<u8>)> {
         of(6, 27, 73, motion().put(27, 80, "x")),
         of(7, 1, 4, paper().put(1, 12, "31")),
         of(7, 1, 4, paper().put(1, 9, "13").put(1, 15, "24")),
+        of(7, 3, 4, paper().put(3, 4, "000")),
         of(7, 3, 10, paper().put(3, 10, "G00")),
         of(7, 23, 21, paper().put(23, 21, "60.00000000")),
         of(7, 24, 2, paper().put(24, 2, "G00")),
@@ -113,7 +114,7 @@ const PAPER_ROOM: [usize; 4] = [1, 1, 4 * 77, 23];
 fn numbers_1_to_11_with_their_lines_and_columns() {
     for (number, line, column, file) in refused_files() {
         assert_eq!(sp3::judge(&file), refused(number, line, column));
-        let mut lent = Lent::marked([255, 255, 1000, 1000]);
+        let mut lent = Lent::marked([MOST_SATELLITES, MOST_SATELLITES, 1000, 1000]);
         let before = lent.clone();
         assert_eq!(lent.read(&file), refused(number, line, column));
         assert_eq!(lent, before, "a refusal {number} changed what was lent");
@@ -131,9 +132,9 @@ fn questions_give_the_files_own_refusal_first() {
         assert_eq!(sp3::satellite_of(&file, 0), refused(number, line, column));
         assert_eq!(sp3::row(&file, 99, 99), refused(number, line, column));
         assert_eq!(sp3::rows(&file).map(|_| ()), refused(number, line, column));
-        let mut identifiers = [77_777; 255];
+        let mut identifiers = [77_777; MOST_SATELLITES];
         assert_eq!(sp3::begin(&file, &mut identifiers).map(|_| ()), refused(number, line, column));
-        assert_eq!(identifiers, [77_777; 255]);
+        assert_eq!(identifiers, [77_777; MOST_SATELLITES]);
     }
 }
 
@@ -146,7 +147,7 @@ fn a_file_at_the_front_is_never_11() {
             _ => assert_eq!(front, refused(number, line, column)),
         }
         assert_eq!(Table::read_front(&file).map(|(_, length)| length), front);
-        let mut lent = Lent::marked([255, 255, 1000, 1000]);
+        let mut lent = Lent::marked([MOST_SATELLITES, MOST_SATELLITES, 1000, 1000]);
         assert_eq!(lent.read_front(&file).map(|reading| reading.length), front);
     }
 }
@@ -303,7 +304,7 @@ fn empty_slices() {
 
 #[test]
 fn a_stretch_and_its_rest() {
-    let files = [SAMPLE.to_vec(), night().bytes(), motion().bytes(), many(255).write().unwrap()];
+    let files = [SAMPLE.to_vec(), night().bytes(), motion().bytes(), many(256).write().unwrap()];
     let wrong = paper().put(23, 18, " 1").bytes();
     let stretch = [files.concat(), wrong.clone()].concat();
     let rest = stretch.len() - wrong.len();

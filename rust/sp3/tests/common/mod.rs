@@ -180,17 +180,44 @@ pub fn paper_header() -> Header {
     }
 }
 
-/// A table of n satellites, G01 to G99, then R01 and so on, each with the row of the paper's file.
+/// The identifier of satellite k, counted from 0, where there are many: G01 to G99, then R01 and so on.
+pub fn name(k: u64) -> u64 {
+    u64::from(b"GRECJISLABD"[(k / 99) as usize]) * 100 + k % 99 + 1
+}
+
+/// The text of such an identifier.
+fn name_text(k: u64) -> String {
+    format!("{}{:02}", (name(k) / 100) as u8 as char, name(k) % 100)
+}
+
+/// A table of n satellites, each with the row of the paper's file.
 pub fn many(n: u64) -> Table {
     let one = Table::read(SAMPLE).expect("the paper's file");
-    let letter = |k: u64| u64::from(b"GRE"[(k / 99) as usize]);
     Table {
         header: Header { satellites: n, file_type: b'M', ..one.header },
-        identifiers: (0..n).map(|k| letter(k) * 100 + k % 99 + 1).collect(),
+        identifiers: (0..n).map(name).collect(),
         exponents: vec![0; n as usize],
         comments: one.comments,
         rows: one.rows.repeat(n as usize),
     }
+}
+
+/// The file of that table: lines of 17 slots, five or more of each kind, and a row for each satellite.
+pub fn crowd(n: u64) -> Draft {
+    let lines = n.div_ceil(17).max(5);
+    let slot = |k: u64| if k < n { name_text(k) } else { "  0".to_string() };
+    let slots = |line: u64| (17 * line..17 * line + 17).map(slot).collect::<String>();
+    let count = |line: u64| if line == 0 { n.to_string() } else { String::new() };
+    let Draft(paper) = paper();
+    let text = |line: usize| String::from_utf8(paper[line - 1].clone()).expect("ASCII");
+    let mut file = vec![text(1), text(2)];
+    file.extend((0..lines).map(|line| format!("+  {:>3}   {}", count(line), slots(line))));
+    file.extend((0..lines).map(|_| NO_EXPONENTS.to_string()));
+    file.push(text(13).replace("%c G", "%c M"));
+    file.extend((14..=23).map(text));
+    file.extend((0..n).map(|k| text(24).replace("G07", &name_text(k))));
+    file.push(text(25));
+    Draft(file.into_iter().map(String::into_bytes).collect())
 }
 
 /// The numbers of all rows of a table, made again from what each row says.
