@@ -664,6 +664,15 @@ pub new-too-many : (mode : ℕ) (start : Moment) (epochs interval8 : ℕ) (texts
 new-too-many mode start epochs interval8 texts satellites comments fileType timeSystem bases listed more =
     most.new-too-many mode start epochs interval8 texts satellites comments fileType timeSystem bases listed more
 
+-- An accepted file has as many `+ ` lines, and as many `++` lines, as its satellites ask for: 59 of each at 999.
+pub lines-of-each : (bytes : List ℕ) → IsFile d bytes → (length (ofKind d satellitesKind (linesOf bytes)) ≡ slotLines (header bytes .satellites))
+    × (length (ofKind d accuraciesKind (linesOf bytes)) ≡ slotLines (header bytes .satellites))
+lines-of-each bytes accepted = most.lines-of-each bytes accepted
+
+pub lines-most : (bytes : List ℕ) → IsFile d bytes → header bytes .satellites ≡ maxSatellites
+    → (length (ofKind d satellitesKind (linesOf bytes)) ≡ 59) × (length (ofKind d accuraciesKind (linesOf bytes)) ≡ 59)
+lines-most bytes accepted e = most.lines-most bytes accepted e
+
 -- More cannot be written in the field: whatever bytes a line has, the number that its columns 4 to 6 hold is at most 999, and where that field is 7 it is 0.
 pub never-too-many : (line : List ℕ)
     → (satellitesOf d line .count ≤ maxSatellites) × (faultAt (countItem d) line ≡ keyed 7 4 → satellitesOf d line .count ≡ 0)

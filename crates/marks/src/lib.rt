@@ -13,6 +13,9 @@ const LAST_MARKED: u64 = 9099;
 
 pub const MARKS: usize = 2600;
 
+// So few are compared in less time than all marks are cleared: as many as a line has.
+const FEW: usize = 17;
+
 // Sets the mark of a number, and tells whether it has one that was not set before.
 fn mark(marks: &mut [u8], number: u64) -> bool
     ensures result { λ r. ⌜ r ≡ isNew (now (marks .entry)) number ⌝ }
@@ -88,10 +91,13 @@ fn compare_each(known: &[u64], new: &[u64]) -> bool
     false
 }
 
-// Whether one of the new identifiers stands among those known or earlier among the new. Numbers that have no mark are compared.
+// Whether one of the new identifiers stands among those known or earlier among the new. A few are compared, and so are numbers that have no mark.
 pub fn repeats_identifier(known: &[u64], new: &[u64]) -> bool
     ensures result { λ r. ⌜ r ≡ repeats (now (known .entry)) (now (new .entry)) ⌝ }
 {
+    if (known.len() <= FEW) & (new.len() <= FEW) {
+        return compare_each(known, new);
+    }
     let mut marks = [0u8; MARKS];
     mark_identifiers(&mut marks, known);
     if mark_identifiers(&mut marks, new) {

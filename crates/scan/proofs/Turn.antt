@@ -51,9 +51,10 @@ pub record Going (rules : Rules) (bytes identifiers : List ℕ) (s : State) (t :
   pub rows : t .rows ≤ t .end
   pub same : run rules s identifiers t (linesOf (drop (t .end) bytes)) ≡ scanOf rules bytes
 
-pub going-first : (rules : Rules) (bytes : List ℕ) (s : State) → s ≡ startState → Going rules bytes noIdentifiers s nothingSeen
-going-first rules bytes s e =
-    record { size = refl; within = zero-le; lines = zero-le; comments = zero-le; rows = zero-le; same = rw e }
+pub going-first : (rules : Rules) (bytes : List ℕ) (s : State) (t : Tally) → s ≡ startState → t ≡ nothingSeen → Going rules bytes noIdentifiers s t
+going-first rules bytes s t e f =
+    subst (λ (x : Tally). Going rules bytes noIdentifiers s x) (sym f)
+    (record { size = refl; within = zero-le; lines = zero-le; comments = zero-le; rows = zero-le; same = rw e })
 
 -- no count can overflow, since there are no more lines than bytes
 pub no-overflow : (rules : Rules) (bytes identifiers : List ℕ) (s : State) (t : Tally) → Going rules bytes identifiers s t → (end : ℕ) → t .end < end → end ≤ length bytes → length bytes < 2 ^ 64

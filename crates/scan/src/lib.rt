@@ -9,7 +9,7 @@ ghost use Rattle.file.specs.Kinds.{kindIn};
 ghost use Rattle.scan.specs.declared.Front.the-variants as front;
 ghost use Rattle.scan.specs.Told.{toldFront};
 ghost use Rattle.scan.specs.Looking.{Enough};
-ghost use Rattle.scan.specs.Run.{counted, scanOf, wholeFront};
+ghost use Rattle.scan.specs.Run.{nothingSeen, counted, scanOf, wholeFront};
 use header::Header;
 use header::Rules;
 use machine::LineRead;
@@ -36,6 +36,18 @@ pub enum Front {
         line: u64,
         column: usize,
     },
+}
+
+// Before the first line.
+fn nothing_seen() -> Tally
+    ensures { λ r. ⌜ r ≡ nothingSeen ⌝ }
+{
+    Tally {
+        lines: 0,
+        end: 0,
+        comments: 0,
+        rows: 0,
+    }
 }
 
 // The number of a line's kind. Most lines of a file are P, which the first column tells.
@@ -120,12 +132,7 @@ pub fn scan_front(rules: Rules, bytes: &[u8]) -> Front
     let mut marks = [0u8; marks::MARKS];
     let mut marked: usize = 0;
     let mut state = machine::start();
-    let mut tally = Tally {
-        lines: 0,
-        end: 0,
-        comments: 0,
-        rows: 0,
-    };
+    let mut tally = nothing_seen();
     loop {
         let at = tally.end;
         let line = tally.lines + 1;

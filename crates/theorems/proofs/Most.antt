@@ -6,12 +6,12 @@ use mathlib.Core.List.{List}
 use Prim.Native.Nat.{ℕ, zero, suc, _^_, _≤_, _<_}
 use native.Mathlib.Omega.{arith}
 use lib.ListN.{length, drop, length-take}
-use Rattle.header.specs.Rules.{d, maxSatellites}
+use Rattle.header.specs.Rules.{d, maxSatellites, slotLines}
 use Rattle.header.specs.Header.{lettersListed, isMoment, numbersBounded, refused, headerOf}
 use Rattle.header.specs.declared.types.Moment.{Moment}
 use Rattle.header.specs.declared.types.Texts.{Texts}
 use Rattle.header.specs.declared.types.Bases.{Bases}
-use Rattle.header.proofs.Theorems.{numbers-bounded}
+use Rattle.header.proofs.Theorems.{numbers-bounded, slots-most}
 use Rattle.laws.specs.Tests.{within}
 use Rattle.laws.proofs.Bools.{and-right}
 use Rattle.laws.proofs.Bounds.{true-within}
@@ -23,10 +23,33 @@ use Rattle.layout.specs.Fault.{keyed}
 use Rattle.layout.specs.Kind.{wholeHeld, wholeFault}
 use Rattle.layout.specs.Layout.{partOf, faultAt}
 use Rattle.record.specs.SlotLines.{countItem, satellitesOf}
+use Rattle.lines.specs.Lines.{linesOf}
+use Rattle.record.specs.LineKinds.{satellitesKind, accuraciesKind}
+use Rattle.file.specs.Kinds.{ofKind}
+use Rattle.file_laws.proofs.Selected.{kind-satellites, kind-accuracies}
+use Rattle.scan.specs.Run.{IsFile}
 use Rattle.canon.specs.Table.{Table}
 use Rattle.canon.specs.Valid.{valid}
 use Rattle.canon.specs.Measured.{refusedAs, measured}
 use Rattle.canon.proofs.Parts.{parts}
+use Rattle.scan_laws.proofs.Files.{file-plain}
+use Rattle.theorems.specs.Files.{header}
+use Rattle.theorems.proofs.Accepting.{says-satellites}
+
+-- A FILE HAS SO MANY LINES OF EACH KIND as its number of satellites asks for, and 59 at the most.
+module _ (bytes : List ℕ) (accepted : IsFile d bytes) where
+  pub lines-of-each : (length (ofKind d satellitesKind (linesOf bytes)) ≡ slotLines (header bytes .satellites))
+      × (length (ofKind d accuraciesKind (linesOf bytes)) ≡ slotLines (header bytes .satellites))
+  lines-of-each =
+      let p = file-plain bytes accepted in
+      let says = sym (ap slotLines (says-satellites p)) in
+      (ap length (kind-satellites p) ∙ p .slots-many ∙ says, ap length (kind-accuracies p) ∙ p .accuracies-many ∙ says)
+
+  pub lines-most : header bytes .satellites ≡ maxSatellites
+      → (length (ofKind d satellitesKind (linesOf bytes)) ≡ 59) × (length (ofKind d accuraciesKind (linesOf bytes)) ≡ 59)
+  lines-most e =
+      let each = ap slotLines e ∙ slots-most in
+      (lines-of-each .0 ∙ each, lines-of-each .1 ∙ each)
 
 -- A TABLE OF MORE IS 13, whatever the room,
 pub too-many-13 : (t : Table) → maxSatellites < t .header .satellites → (room : ℕ) → measured d t room ≡ refusedAs 13

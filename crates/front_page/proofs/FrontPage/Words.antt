@@ -20,7 +20,7 @@ pub use prog.Wp.{Heap}
 pub use lib.Dec.{eqb, leb}
 pub use lib.IntN.{ℤ, pos, natAbs}
 pub use lib.ListN.{length, getD, take, drop, replicate}
-pub use Rattle.header.specs.Rules.{d, maxSatellites}
+pub use Rattle.header.specs.Rules.{d, maxSatellites, slotLines}
 pub use Rattle.header.specs.Header.{lettersListed, headerOf, refused as noHeaderBut}
 pub use Rattle.header.specs.declared.types.Moment.{Moment}
 pub use Rattle.header.specs.declared.types.Texts.{Texts}
@@ -28,8 +28,8 @@ pub use Rattle.header.specs.declared.types.Bases.{Bases}
 pub use Rattle.lines.specs.Lent.{over}
 pub use Rattle.lines.specs.Lines.{linesOf, joinLines, select}
 pub use Rattle.laws.specs.Texts.{every}
-pub use Rattle.file.specs.Kinds.{isNote, kindIn}
-pub use Rattle.record.specs.LineKinds.{satellitesKind}
+pub use Rattle.file.specs.Kinds.{isNote, kindIn, ofKind}
+pub use Rattle.record.specs.LineKinds.{satellitesKind, accuraciesKind}
 pub use Rattle.file.specs.Plain.{Accepted}
 pub use Rattle.file.specs.Table.{rowLines, rowsIn, headerIn, commentsIn}
 pub use Rattle.machine.specs.State.{noIdentifiers}

@@ -27,7 +27,9 @@ abbrev μ-loop : tie.MeasureT-loop
 μ-loop rules bytes identifiers₀ marks₀ marked₀ state₀ tally₀ identifiers marks marked state tally = length bytes - tally .end
 
 loop-holds : tie.Need-loop-holds Inv-loop μ-loop
-loop-holds c = (going-first (c .before .before .args .rules) (c .before .before .args .bytes .now) (c .start .result) (c .start .ensures), none-covered _, refl)
+loop-holds c =
+    let a = c .before .before .before .args in
+    (going-first (a .rules) (a .bytes .now) (c .before .start .result) (c .nothing-seen .result) (c .before .start .ensures) (c .nothing-seen .ensures), none-covered _, refl)
 
 -- where a `+ ` line is due, those known are marked
 marked-known : (c : tie.After-mark-known Inv-loop μ-loop)
@@ -41,11 +43,11 @@ marked-known c =
 -- before the line is read: enough of the identifiers, and the marks
 looked : (c : tie.Joined1 Inv-loop μ-loop)
     → let here = c .before .before .before in
-    let a = here .before .before .before .args in
+    let a = here .before .before .before .before .args in
     Looked (a .rules) (a .bytes .now) (here .loop .tally .end) (here .loop .identifiers) (c .if1 .marks) (c .if1 .marked) (here .loop .state) (c .if1 .many)
 looked c =
     let here = c .before .before .before in
-    let a = here .before .before .before .args in
+    let a = here .before .before .before .before .args in
     ⊎-elim
     (λ w. looked-due (a .rules) (a .bytes .now) (here .loop .tally .end) (here .loop .identifiers) (here .loop .state) _ (c .if1 .marks) (c .if1 .marked) _ (c .if1 .many)
     (w .7 .ensures .0) (w .7 .ensures .1) (w .9) (w .10 ∙ w .3 .ensures .0) (w .11))
@@ -65,12 +67,12 @@ marks-many c =
 -- where the line has been read
 after-read : (c : tie.After-line-known Inv-loop μ-loop) (w : LineRead) → c .line-known .result ≡ w
     → let here = c .before .before .before .before .before .before .before in
-    let a = here .before .before .before .args in
+    let a = here .before .before .before .before .args in
     Turned (a .rules) (a .bytes .now) (here .loop .identifiers) (here .loop .state) (here .loop .tally) w
 after-read c w e =
     let joined = c .before .before .before .before in
     let here = joined .before .before .before in
-    let a = here .before .before .before .args in
+    let a = here .before .before .before .before .args in
     turned (a .rules) (a .bytes .now) (here .loop .identifiers) (here .loop .state) (here .loop .tally) (here .loop .inv .0)
     (c .line-known .result) w (toldRead-one _ _ (c .line-known .ensures)
     ∙ ap (λ (n : ℕ). lineKnown (a .rules) (a .bytes .now) (here .loop .tally .end) (here .loop .state) (take n (here .loop .identifiers))) (sub-zero (joined .if1 .many))
@@ -92,7 +94,7 @@ counts : tie.Need-count-line-requires-2 Inv-loop μ-loop
 counts c κs =
     let known = c .before .before .before .before in
     let here = known .before .before .before .before .before .before .before .before .before in
-    let a = here .before .before .before .args in
+    let a = here .before .before .before .before .args in
     let p = after-read (known .before .before) _ (known .end2 .given .1) in
     no-overflow (a .rules) (a .bytes .now) (here .loop .identifiers) (here .loop .state) (here .loop .tally) (here .loop .inv .0) (known .end2 .given .0 .0) (p .starts) (p .within)
     (search needs)
@@ -109,7 +111,7 @@ loop-again c =
     let known = kept .before .before .before .before in
     let joined = known .before .before .before .before .before .before in
     let here = joined .before .before .before in
-    let a = here .before .before .before .args in
+    let a = here .before .before .before .before .args in
     let text = take (known .end2 .given .0 .0 - 1 - here .loop .tally .end) (drop (here .loop .tally .end) (a .bytes .now)) in
     let brought : kept .if2 .identifiers ≡ identifiersBrought (a .rules) (here .loop .state) (here .loop .identifiers) text =
     ⊎-elim
@@ -128,6 +130,7 @@ scan-front-spec =
     (tie.spec
     Inv-loop
     μ-loop
+    (λ c κs. search needs)
     (λ c κs. search needs)
     loop-holds
     (λ c. let g = c .before .loop .inv .0 in search needs)
