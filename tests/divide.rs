@@ -736,13 +736,12 @@ const DIVIDED: &[Divided] = &[
     // 255 satellites, of 17,929 bytes.
     (&[File(ManyFile(255), &[]), P], 2, [0, 0, 0, 2, 19144], &[17929, 1215]),
     (&[P, File(ManyFile(255), &[Join(299)])], 2, [1, 299, 0, 1, 1215], &[1215]),
-    // 999 satellites, of 68,681 bytes.
-    (&[P, File(ManyFile(999), &[]), N], 3, [0, 0, 0, 3, 71_532], &[1215, 68_681, 1636]),
 ];
 
 /// Files of more than 255 satellites; these aren't stored. One of 256 has 18,112 bytes,
 /// one of 999 has 68,681, its `+ ` lines being 3 to 61, its rows 132 to 1130.
 const MANY_DIVIDED: &[Divided] = &[
+    (&[P, File(ManyFile(999), &[]), N], 3, [0, 0, 0, 3, 71_532], &[1215, 68_681, 1636]),
     (&[File(ManyFile(256), &[]), P], 2, [0, 0, 0, 2, 19_327], &[18_112, 1215]),
     (&[File(ManyFile(999), &[]), File(ManyFile(256), &[])], 1, [12, 0, 0, 0, 0], &[]),
     (&[P, File(ManyFile(999), &[Join(1131)])], 2, [1, 1131, 0, 1, 1215], &[1215]),

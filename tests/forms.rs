@@ -1914,7 +1914,6 @@ const ROOMS: &[(Base, &[Change], isize, u8)] = &[
     (Many(18), &[], 0, 0),
     (Many(18), &[], -1, 12),
     (Talkative(103), &[], -1, 12),
-    (Many(256), &[], -1, 12),
     (Paper, &[RowNumber(4, 7), RowNumber(11, 1)], 0, 0),
     (Paper, &[RowNumber(4, 7), RowNumber(11, 1)], -1, 12),
     (Paper, &[Name(0, 7100)], -1215, 13),
@@ -1933,8 +1932,10 @@ const ROOMS: &[(Base, &[Change], isize, u8)] = &[
     (Paper, &[RowNumber(13, 5)], -1, 13),
 ];
 
-/// The same of 999 satellites, whose form has 68,681 bytes; these aren't stored.
+/// The same of 256 and 999 satellites, whose forms have 18,112 and 68,681 bytes; these aren't stored.
 const MANY_ROOMS: &[(Base, &[Change], isize, u8)] = &[
+    (Many(256), &[], 0, 0),
+    (Many(256), &[], -1, 12),
     (Many(999), &[], 0, 0),
     (Many(999), &[], -1, 12),
     (Many(999), &[], -3145, 12),
