@@ -1651,7 +1651,6 @@ const HAND: &[Hand] = &[
     (Paper, &[Put(3, 10, "g07")], 6, 3, 10),
     (Paper, &[Put(3, 10, "007")], 6, 3, 10),
     (Paper, &[Put(3, 4, "256")], 6, 3, 13),
-    (Paper, &[Put(3, 4, "999")], 6, 3, 13),
     (Paper, &[Put(8, 10, "   ")], 6, 8, 10),
     (Paper, &[Put(8, 10, " -1")], 6, 8, 10),
     (Paper, &[Put(13, 4, "X ")], 6, 13, 4),
@@ -1720,10 +1719,12 @@ const HAND: &[Hand] = &[
     (Paper, &[Put(2, 9, "604800.00000000")], 7, 2, 9),
     (Paper, &[Put(2, 25, "    0.00000000")], 7, 2, 25),
     (Paper, &[Put(2, 4, "9999"), Put(2, 46, "1.0000000000000")], 7, 2, 46),
+    (Many(255), &[Put(3, 4, "000"), Keep(40)], 7, 3, 4),
+    (Many(256), &[Put(3, 10, "G00"), Keep(40)], 7, 3, 10),
+    (Many(256), &[Put(3, 58, "G00"), Keep(40)], 7, 3, 58),
     (Many(256), &[Put(3, 58, "  0"), Keep(40)], 6, 3, 58),
     (Many(256), &[Put(3, 13, "G 2"), Keep(40)], 6, 3, 13),
     (Paper, &[Put(3, 4, "  0")], 7, 3, 4),
-    (Paper, &[Put(3, 4, "000")], 7, 3, 4),
     (Paper, &[Put(3, 4, "000"), Put(3, 10, "  0")], 7, 3, 4),
     (Paper, &[Put(3, 10, "G00")], 7, 3, 10),
     (Night, &[Put(3, 13, "G00"), Put(3, 16, "G07")], 7, 3, 13),
@@ -1981,6 +1982,8 @@ const MANY_REFUSED: &[Hand] = &[
     // "1,000 can't be written in the field": column 7 or 3 isn't blank, or it is 000.
     (Paper, &[Put(3, 4, "1000")], 5, 3, 7),
     (Paper, &[Put(3, 3, "1000")], 5, 3, 3),
+    (Paper, &[Put(3, 4, "000")], 7, 3, 4),
+    (Paper, &[Put(3, 4, "999")], 6, 3, 13),
     (Many(999), &[Put(3, 4, "1000"), Keep(5)], 5, 3, 7),
     (Many(999), &[Put(3, 3, "1000"), Keep(5)], 5, 3, 3),
     (Many(999), &[Put(3, 4, "000"), Keep(5)], 7, 3, 4),
@@ -2197,11 +2200,15 @@ pub(crate) fn choose_interval(random: &mut Random) -> i64 {
     }
 }
 
+/// Many satellites: as many as were allowed before request 6 and more, as fill their
+/// lines and as begin another, and all.
+const MANY: &[usize] = &[85, 86, 238, 255, 256, 272, 273, 986, 987, 998, 999, 999];
+
 /// Mostly few satellites; sometimes as many as fill a line, five lines or all.
 fn choose_number(random: &mut Random) -> usize {
     match random.below(60) {
         0 => *random.pick(&[84, 85, 86, 101, 102, 103]),
-        1 if once_in(random, 4) => *random.pick(&[170, 238, 255, 256, 272, 273, 986, 987, 998, 999]),
+        1 if once_in(random, 4) => *random.pick(MANY),
         1 if once_in(random, 4) => 1 + random.below(MOST_SATELLITES),
         2..=4 => *random.pick(&[15, 16, 17, 18, 19, 33, 34, 35]),
         5..=8 => 6 + random.below(9),
@@ -2265,7 +2272,7 @@ const LARGE_ROWS: usize = 3000;
 /// number of satellites, and as many epochs as give so many rows at most.
 fn choose_large_plan(random: &mut Random) -> Plan {
     let number = match random.below(5) {
-        0 => *random.pick(&[85, 86, 255, 256, 272, 273, 986, 987, 998, 999, 999, 999]),
+        0 => *random.pick(MANY),
         1 => 1 + random.below(9),
         2 => 1 + random.below(MOST_SATELLITES),
         _ => 1 + random.below(255),

@@ -1522,8 +1522,6 @@ const TOO_MANY: &[(usize, u64)] = &[
     (EPOCHS, 2),
     (EPOCHS, 100_000),
     (SATELLITES, 2),
-    (SATELLITES, 255),
-    (SATELLITES, 256),
     (SATELLITES, 999),
     (COMMENTS, 5),
     (COMMENTS, 6),
@@ -1700,6 +1698,9 @@ fn judged_many() -> Vec<Judged> {
     let number = |n| Argument(SATELLITES, n);
     let field = |n| Field(SATELLITES, n);
     vec![
+        (Paper, vec![number(255)], 0, 13),
+        (Paper, vec![number(256)], 0, 13),
+        (Motion, vec![field(256)], 0, 13),
         (Many(255), vec![More(6958), number(256)], 0, 0),
         (Many(255), vec![More(6958), field(256)], 0, 0),
         (Many(255), vec![More(7101), number(256)], 0, 13),
