@@ -745,12 +745,7 @@ const MANY_DIVIDED: &[Divided] = &[
     (&[File(ManyFile(256), &[]), P], 2, [0, 0, 0, 2, 19_327], &[18_112, 1215]),
     (&[File(ManyFile(999), &[]), File(ManyFile(256), &[])], 1, [12, 0, 0, 0, 0], &[]),
     (&[P, File(ManyFile(999), &[Join(1131)])], 2, [1, 1131, 0, 1, 1215], &[1215]),
-    (
-        &[P, File(ManyFile(999), &[Insert(62, "+")]), P],
-        3,
-        [4, 62, 0, 1, 1215],
-        &[1215],
-    ),
+    (&[P, File(ManyFile(999), &[Insert(62, "+")]), P], 3, [4, 62, 0, 1, 1215], &[1215]),
     (&[P, File(ManyFile(999), &[Put(3, 4, "1000")]), P], 3, [5, 3, 7, 1, 1215], &[1215]),
     (&[P, File(ManyFile(998), &[Put(3, 4, "999")]), P], 3, [6, 61, 46, 1, 1215], &[1215]),
     (&[P, File(ManyFile(999), &[Put(61, 46, "G01")]), P], 3, [8, 61, 0, 1, 1215], &[1215]),
@@ -2419,6 +2414,94 @@ const DUE: &[DueFile] = &[
     (Paper, &[Join(25)], 1, &[7107], "stopped 1 line 25 column 0", ["14 12 0 0 0"; 3]),
 ];
 
+/// Identifiers lent for those of 58 `+ ` lines, the last of them this one; the others
+/// are no satellites, but all of them are G01 in the lowest 16 bits.
+const fn lent_before(last: u64) -> [u64; 986] {
+    let mut list = [last; 986];
+    let mut place = 0;
+    while place < 985 {
+        list[place] = 7101 + ((1 + place as u64) << (16 * (1 + place % 3)));
+        place += 1;
+    }
+    list
+}
+
+const NOT_G01: &[u64] = &lent_before(7101 + (1 << 16));
+const THEN_G01: &[u64] = &lent_before(7101);
+const THEN_Z09: &[u64] = &lent_before(9009);
+
+/// Repeats in the last `+ ` line of 999 satellites and in the middle one, by the
+/// identifiers that are lent for those before; these aren't stored.
+const MANY_DUE: &[DueFile] = &[
+    (
+        ManyFile(999),
+        &[Put(61, 46, "G01")],
+        999,
+        NOT_G01,
+        "stopped 8 line 61 column 0",
+        ["3 0 0 0 1", "3 0 0 0 0", "3 0 0 0 1"],
+    ),
+    (
+        ManyFile(999),
+        &[Put(61, 46, "G01")],
+        999,
+        THEN_G01,
+        "stopped 8 line 61 column 0",
+        ["3 0 0 0 1"; 3],
+    ),
+    // Of the file's own identifiers G01 is none that stands before in what is lent.
+    (
+        ManyFile(999),
+        &[Put(61, 46, "G01")],
+        999,
+        THEN_Z09,
+        "stopped 8 line 61 column 0",
+        ["3 0 0 0 1", "3 0 0 0 0", "3 0 0 0 1"],
+    ),
+    (
+        ManyFile(999),
+        &[Put(61, 10, "Z09")],
+        999,
+        NOT_G01,
+        "stopped 8 line 61 column 0",
+        ["3 0 0 0 1"; 3],
+    ),
+    // Line 30: of 459 identifiers before it; with room for these alone.
+    (
+        ManyFile(999),
+        &[Put(30, 58, "G01")],
+        459,
+        NOT_G01,
+        "stopped 8 line 30 column 0",
+        ["3 0 0 0 1", "3 0 0 0 0", "3 0 0 0 1"],
+    ),
+    (
+        ManyBackwards(999),
+        &[Put(61, 46, "Z09")],
+        999,
+        THEN_Z09,
+        "stopped 8 line 61 column 0",
+        ["3 0 0 0 1"; 3],
+    ),
+    (
+        ManyOverLetters(999),
+        &[Put(61, 46, "Z01")],
+        999,
+        THEN_G01,
+        "stopped 8 line 61 column 0",
+        ["3 0 0 0 1", "3 0 0 0 0", "3 0 0 0 1"],
+    ),
+    // At the rows the satellite that must come is the one that is lent.
+    (
+        ManyFile(999),
+        &[Put(132 + 985, 2, "G01")],
+        999,
+        THEN_Z09,
+        "stopped 10 line 1117 column 0",
+        ["10 12 0 7795 0", "10 12 0 9009 0", "10 12 0 7795 0"],
+    ),
+];
+
 // ---------------------------------------------------------------------------
 // Generated cases
 // ---------------------------------------------------------------------------
@@ -2593,9 +2676,12 @@ fn hand_cases() -> Vec<Case> {
 
 /// All of them, stored or not; those read line by line are not.
 fn all_hand_cases() -> Vec<Case> {
-    let many = divided_cases(MANY_DIVIDED).chain(walked_cases(MANY_WALKED));
+    let many_due = MANY_DUE
+        .iter()
+        .map(|&(base, edits, room, identifiers, ..)| walked_case(base, edits, room, identifiers));
+    let many = divided_cases(MANY_DIVIDED).chain(walked_cases(MANY_WALKED)).chain(many_due);
     let read = READ.iter().map(|&(base, edits, room, _)| (base, edits, room));
-    let due = DUE.iter().map(|&(base, edits, room, ..)| (base, edits, room));
+    let due = DUE.iter().chain(MANY_DUE).map(|&(base, edits, room, ..)| (base, edits, room));
     let by_lines = read.chain(due).map(|(base, edits, identifier_room)| Case {
         way: Way::Read,
         ..walked_case(base, edits, identifier_room, &[])
@@ -2669,7 +2755,7 @@ fn test_read(tally: &mut Tally) {
 
 /// What must stand, in a walk and where the lines are read one by one.
 fn test_due(tally: &mut Tally) {
-    for &(base, edits, room, identifiers, end, [all, given, short]) in DUE {
+    for &(base, edits, room, identifiers, end, [all, given, short]) in DUE.iter().chain(MANY_DUE) {
         let case = walked_case(base, edits, room, identifiers);
         let walked = case.show_walked();
         let tells = |line: &&str| line.starts_with("due ") || line.starts_with("given ");

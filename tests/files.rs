@@ -1147,8 +1147,7 @@ fn with_notes(mut draft: Draft) -> Draft {
 /// The first `n` identifiers of G01 to G99, R01 to R99 and so on; those of a letter
 /// are 99, so that 999 satellites have eleven letters.
 fn letter_by_letter(n: usize) -> Vec<String> {
-    let identifier =
-        |place: usize| format!("{}{:02}", LETTERS[place / 99] as char, place % 99 + 1);
+    let identifier = |place: usize| format!("{}{:02}", LETTERS[place / 99] as char, place % 99 + 1);
     (0..n).map(identifier).collect()
 }
 
@@ -5492,12 +5491,7 @@ pub(crate) fn obey<C: Compared>(
 }
 
 /// The same of the cases of a list that has this name.
-pub(crate) fn obey_list<C: Compared + Clone>(
-    name: &str,
-    cases: &[C],
-    words: &[&str],
-    usage: &str,
-) {
+pub(crate) fn obey_list<C: Compared + Clone>(name: &str, cases: &[C], words: &[&str], usage: &str) {
     let case_of = |place: u64| match cases.get((place as usize).wrapping_sub(1)) {
         Some(case) => case.clone(),
         None => fail(&format!("there are {} cases", cases.len())),

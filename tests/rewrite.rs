@@ -74,8 +74,8 @@ fn printed(input: &[u8]) -> Vec<u8> {
 // Inputs that are stored
 // ---------------------------------------------------------------------------
 
-use Base::{Many, ManyBackwards, ManyOverLetters, Motion, MovingNotes, Night, Nothing, Paper};
 use Base::Talkative;
+use Base::{Many, ManyBackwards, ManyOverLetters, Motion, MovingNotes, Night, Nothing, Paper};
 use Edit::{
     After, AfterItself, Byte, CarriageReturns, Double, Drop, Insert, Join, Keep, Line as Whole,
     Put, Swap,
