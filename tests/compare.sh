@@ -4,13 +4,19 @@
 #
 #   tests/compare.sh [SEED [COUNT]]
 #
-# compares the doors for C (tests/doors.c over target/staticlib/libsp3.a) in all four formats; without arguments seed 1 and 20,000 inputs, of which
-# 8,000 are files (`tables`), 5,000 files and tables to be written (`forms`), 6,000 stretches to be divided, walked and read by lines (`divide`)
-# and 1,000 dates, instants and identifiers (`dates`). A seed always makes the same inputs. Prints the seed, how often each number of the paper's
-# table was the answer to each question, and in all. Ends with 1 at a difference, and, for 20,000 inputs or more, where one of the numbers 1 to 13
-# was the answer fewer than 50 times.
+# compares the doors for C (tests/doors.c over target/staticlib/libsp3.a) in all four formats, first on the cases worked out by hand (`hand`, below),
+# then on generated inputs: without arguments seed 1 and 20,000 inputs, of which 8,000 are files (`tables`), 5,000 files and tables to be written
+# (`forms`), 6,000 stretches to be divided, walked and read by lines (`divide`) and 1,000 dates, instants and identifiers (`dates`). A seed always
+# makes the same inputs. Prints the seed, how often each number of the paper's table was the answer to each question, and in all. Ends with 1 at a
+# difference, and, for 20,000 inputs or more, where one of the numbers 1 to 13 was the answer fewer than 50 times.
 #
 #   tests/compare.sh case FORMAT SEED NUMBER       shows one of these inputs and what both sides answer
+#
+#   tests/compare.sh hand
+#   tests/compare.sh case FORMAT hand NUMBER
+#
+# compares the doors on the cases that the oracles of `tables`, `forms` and `divide` have worked out by hand from the documents, also those that are
+# not stored, up to 999 satellites. A difference is shown at once; the second shows any.
 #
 #   tests/compare.sh columns
 #   tests/compare.sh case columns NUMBER
@@ -115,11 +121,26 @@ sum_up() {
         }' "$work/all"
 }
 
+# a format of the doors, on the cases of its oracle that this word names; a difference is shown
+compare_list() {
+    compare_format "$1" "$2" compare && return
+    number=$(sed -n "s/^$2 case \([0-9]*\):.*/\1/p" "$work/said")
+    [ -z "$number" ] || show_case "$1" "$2" case "$number"
+    exit 1
+}
+
+compare_hand() {
+    echo "doors, cases worked out by hand"
+    for format in tables forms divide; do compare_list "$format" hand; done
+    rm "$work/all"
+}
+
 compare_doors() {
     numbers "$@"
     seed=${1:-1}
     count=${2:-20000}
     begin
+    compare_hand
     echo "doors, seed $seed, $count inputs"
     compare_format tables any compare "$seed" $((count * 8 / 20))
     compare_format forms any compare "$seed" $((count * 5 / 20))
@@ -132,10 +153,7 @@ compare_doors() {
 compare_columns() {
     begin
     echo "doors, lines with other bytes in their columns"
-    compare_format tables columns compare && return
-    number=$(sed -n 's/^columns case \([0-9]*\):.*/\1/p' "$work/said")
-    [ -z "$number" ] || show_case tables columns case "$number"
-    exit 1
+    compare_list tables columns
 }
 
 compare_program() {
@@ -169,15 +187,20 @@ case "$# ${1:-} ${2:-}" in
 "2 run "*) run "$2" ;;
 "1 build ") build ;;
 "1 columns ") compare_columns ;;
+"1 hand ")
+    begin
+    compare_hand
+    ;;
 "3 case columns")
     numbers "$3"
     begin
     show_case tables columns case "$3"
     ;;
 "4 case tables" | "4 case forms" | "4 case divide" | "4 case dates")
-    numbers "$3" "$4"
+    [ "$3" = hand ] || numbers "$3"
+    numbers "$4"
     begin
-    show_case "$2" any case "$3" "$4"
+    if [ "$3" = hand ]; then show_case "$2" hand case "$4"; else show_case "$2" any case "$3" "$4"; fi
     ;;
 [1-3]" tables "* | [1-3]" forms "* | [1-3]" divide "*) compare_program "$@" ;;
 [0-2]" "*) compare_doors "$@" ;;

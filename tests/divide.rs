@@ -17,6 +17,9 @@
 //! * `BIN generate SEED COUNT` prints a batch of that many generated cases;
 //! * `BIN case SEED NUMBER`    prints a generated case, counted from 1;
 //! * `BIN any ..`              the same with cases of any size (`any compare 1 9 ..`);
+//! * `BIN hand`                prints the cases worked out by hand, stored and not
+//!   stored; `BIN hand case NUMBER` and `BIN hand compare PROGRAM [ARGS..]` are as
+//!   with the generated ones;
 //! * `BIN cases`               prints the stored batch;
 //! * `BIN check CRATE_DIR`     compares `CRATE_DIR/stdin` with the stored batch
 //!   and `CRATE_DIR/stdout` with the answers to it;
@@ -64,7 +67,7 @@
 //! ```
 //!
 //! At `spot` and `then` K is 0, 1, 3, half of the lines, all (`then` before
-//! `spot`), five more, and there is room for 255 identifiers. AT is the byte,
+//! `spot`), five more, and there is room for 999 identifiers. AT is the byte,
 //! DUE the record that must stand there (1 `#d` to 14 `EOF` in their order),
 //! LEFT how many satellites have their slot, or their rows of this epoch, still
 //! to come, EPOCHS how many epochs are still to come.
@@ -80,7 +83,7 @@
 //! EP and EV are lines like others: they are judged, and a row is met before the
 //! note after it.
 //!
-//! "The paper" is 01-scope.md as requests 1 to 3 of 02-change-requests.md
+//! "The paper" is 01-scope.md as requests 1 to 3 and 6 of 02-change-requests.md
 //! changed it, "000" is the SP3-d document.
 
 #[allow(dead_code)]
@@ -89,7 +92,7 @@ mod files;
 
 use files::lines::{Line, Random, Reader, Tally, SYMBOLS};
 use files::{generated, once_in};
-use files::{Base, Compared, Edit, Refusal, Row, Table, BARE, NOTE, NO_ROOM};
+use files::{Base, Compared, Edit, Refusal, Row, Table, BARE, MOST_SATELLITES, NOTE, NO_ROOM};
 
 // ---------------------------------------------------------------------------
 // Dividing
@@ -165,9 +168,6 @@ struct Walk<'a> {
     bytes: &'a [u8],
     read: files::Followed,
 }
-
-/// "at most 255 satellites": so much room is never too small.
-const MOST_SATELLITES: usize = 255;
 
 fn walk(bytes: &[u8], room: usize) -> Walk<'_> {
     Walk { bytes, read: files::follow_keeping(bytes, room) }
@@ -396,7 +396,7 @@ struct Case {
 
 /// The program under test has lists of these lengths.
 const MOST_LENGTHS: usize = 1000;
-const MOST_IDENTIFIERS: usize = 300;
+const MOST_IDENTIFIERS: usize = 1000;
 
 impl Compared for Case {
     const COUNTED: &'static [&'static str] = &["divide", "begin", "refused", "stopped"];
@@ -545,8 +545,8 @@ enum Part {
     Many(u8, usize),
 }
 
-use Base::{Clocks, Many as ManyFile, Motion, MovingClocks, MovingNotes, MovingRows};
-use Base::{Night, Notes, Nothing, Paper};
+use Base::{Clocks, Many as ManyFile, ManyBackwards, ManyOverLetters, Motion, MovingClocks};
+use Base::{MovingMany, MovingNotes, MovingRows, Night, Notes, Nothing, Paper};
 use Edit::{
     After, AfterItself, Byte, CarriageReturns, Drop, Insert, Join, Keep, Line as Whole, Put, Swap,
 };
@@ -683,7 +683,8 @@ const DIVIDED: &[Divided] = &[
     (&[N, X], 2, [5, 24, 61, 1, 1636], &[1636]),
     (&[N, File(Paper, &[Put(3, 10, "G 7")])], 2, [6, 3, 10, 1, 1636], &[1636]),
     (&[N, File(Paper, &[Put(24, 5, "1000000.000000")])], 2, [7, 24, 5, 1, 1636], &[1636]),
-    (&[N, File(ManyFile(256), &[Keep(40)])], 2, [7, 3, 4, 1, 1636], &[1636]),
+    (&[N, File(Paper, &[Put(3, 4, "000")])], 2, [7, 3, 4, 1, 1636], &[1636]),
+    (&[N, File(ManyFile(256), &[Drop(18), Keep(40)])], 2, [4, 18, 0, 1, 1636], &[1636]),
     (&[N, File(Paper, &[Put(2, 4, "1735")])], 2, [8, 2, 0, 1, 1636], &[1636]),
     (&[P, File(Night, &[Put(26, 18, "15")])], 2, [9, 26, 0, 1, 1215], &[1215]),
     (&[P, File(Night, &[Swap(24, 25)])], 2, [10, 24, 0, 1, 1215], &[1215]),
@@ -735,6 +736,37 @@ const DIVIDED: &[Divided] = &[
     // 255 satellites, of 17,929 bytes.
     (&[File(ManyFile(255), &[]), P], 2, [0, 0, 0, 2, 19144], &[17929, 1215]),
     (&[P, File(ManyFile(255), &[Join(299)])], 2, [1, 299, 0, 1, 1215], &[1215]),
+];
+
+/// Files of more than 255 satellites; these aren't stored. One of 256 has 18,112 bytes,
+/// one of 999 has 68,681, its `+ ` lines being 3 to 61, its rows 132 to 1130.
+const MANY_DIVIDED: &[Divided] = &[
+    (&[P, File(ManyFile(999), &[]), N], 3, [0, 0, 0, 3, 71_532], &[1215, 68_681, 1636]),
+    (&[File(ManyFile(256), &[]), P], 2, [0, 0, 0, 2, 19_327], &[18_112, 1215]),
+    (&[File(ManyFile(999), &[]), File(ManyFile(256), &[])], 1, [12, 0, 0, 0, 0], &[]),
+    (&[P, File(ManyFile(999), &[Join(1131)])], 2, [1, 1131, 0, 1, 1215], &[1215]),
+    (&[P, File(ManyFile(999), &[Insert(62, "+")]), P], 3, [4, 62, 0, 1, 1215], &[1215]),
+    (&[P, File(ManyFile(999), &[Put(3, 4, "1000")]), P], 3, [5, 3, 7, 1, 1215], &[1215]),
+    (&[P, File(ManyFile(998), &[Put(3, 4, "999")]), P], 3, [6, 61, 46, 1, 1215], &[1215]),
+    (&[P, File(ManyFile(999), &[Put(61, 46, "G01")]), P], 3, [8, 61, 0, 1, 1215], &[1215]),
+    (&[P, File(ManyFile(999), &[Put(61, 49, "Z10")]), P], 3, [8, 61, 0, 1, 1215], &[1215]),
+    (
+        &[File(ManyFile(999), &[]), File(ManyFile(999), &[Put(1130, 2, "G01")])],
+        2,
+        [10, 1130, 0, 1, 68_681],
+        &[68_681],
+    ),
+    (
+        &[
+            File(MovingMany(999), &[]),
+            File(ManyBackwards(999), &[]),
+            File(ManyOverLetters(999), &[]),
+            P,
+        ],
+        4,
+        [0, 0, 0, 4, 268_197],
+        &[129_620, 68_681, 68_681, 1215],
+    ),
 ];
 
 /// A file, room for identifiers, identifiers that stand for them where it is refused;
@@ -1541,7 +1573,126 @@ const WALKED: &[Walked] = &[
         &[Put(3, 4, "256")],
         300,
         &[],
-        &["begin 7 3 4 0 0 0", "kept", "refused 7 line 3 column 4"],
+        &["begin 4 18 0 0 0 0", "kept", "refused 4 line 18 column 0"],
+    ),
+    // 255 places are too few for 256 satellites: the line walk stays before line 18,
+    // which brings the last.
+    (
+        ManyFile(256),
+        &[],
+        255,
+        &[],
+        &[
+            "begin 12 0 0 0 0 0",
+            "kept",
+            "refused 10 line 46 column 0",
+            "then 302 18108 14 0 0",
+            "short 302 1037 3 1 1",
+            "identifier E57",
+            "kept",
+        ],
+    ),
+    // 999 satellites. Half of the 1,131 lines are 131 before the rows, of 126 * 61 +
+    // 20 + 32 bytes, and 434 rows.
+    (
+        ManyFile(999),
+        &[],
+        999,
+        &[],
+        &[
+            "begin 0 0 0 68681 999 1",
+            "identifier G01",
+            "identifier E58",
+            "identifier Z09",
+            "kept",
+            "row 0 0 at 1 -500000 0 1000000",
+            "row 0 255 at 255000001 -500000 0 1000000",
+            "row 0 256 at 256000001 -500000 0 1000000",
+            "row 0 998 at 998000001 -500000 0 1000000",
+            "end",
+            "spot 3 183 3 982 1",
+            "spot 565 34212 10 565 0",
+            "then 1131 68677 14 0 0",
+            "short 1131 68677 14 0 0",
+        ],
+    ),
+];
+
+/// Walks over 999 satellites; these aren't stored.
+const MANY_WALKED: &[Walked] = &[
+    (
+        ManyFile(999),
+        &[],
+        998,
+        &[],
+        &[
+            "begin 12 0 0 0 0 0",
+            "kept",
+            "refused 10 line 132 column 0",
+            "then 1131 68677 14 0 0",
+            "short 1131 3660 3 13 1",
+            "identifier M95",
+            "kept",
+        ],
+    ),
+    (ManyFile(999), &[], 1000, &[], &["begin 0 0 0 68681 999 1", "identifier Z09", "kept", "end"]),
+    (ManyFile(999), &[], 985, &[], &["begin 12 0 0 0 0 0", "short 1131 3599 3 30 1"]),
+    (ManyFile(999), &[], 0, &[7101], &["begin 12 0 0 0 0 0", "short 1131 122 3 0 1", "kept"]),
+    // With one identifier lent: its row, and then none that is known.
+    (
+        ManyFile(999),
+        &[],
+        998,
+        &[7101],
+        &["row 0 0 at 1 -500000 0 1000000", "refused 10 line 133 column 0"],
+    ),
+    (
+        ManyBackwards(999),
+        &[],
+        999,
+        &[],
+        &[
+            "begin 0 0 0 68681 999 1",
+            "identifier Z09",
+            "identifier G01",
+            "row 0 0 at 1 -500000 0 1000000",
+            "row 0 998 at 998000001 -500000 0 1000000",
+            "end",
+        ],
+    ),
+    (
+        ManyOverLetters(999),
+        &[],
+        999,
+        &[],
+        &["begin 0 0 0 68681 999 1", "identifier Z01", "identifier G02", "end"],
+    ),
+    (
+        MovingMany(999),
+        &[],
+        999,
+        &[],
+        &[
+            "begin 0 0 0 129620 999 1",
+            "row 0 998 at 998000001 -500000 0 1000000",
+            "end",
+            "then 2130 129616 14 0 0",
+        ],
+    ),
+    // A repeat at the last `+ ` line, and another row at the end.
+    (
+        ManyFile(999),
+        &[Put(61, 46, "G01")],
+        999,
+        &[],
+        &["begin 8 61 0 0 0 0", "kept", "refused 10 line 132 column 0", "then 1131 3660 3 13 1"],
+    ),
+    (
+        ManyFile(999),
+        &[Put(1130, 2, "Z08")],
+        999,
+        &[],
+        &["begin 10 1130 0 0 0 0", "kept", "then 1131 68616 10 1 0"],
     ),
 ];
 
@@ -1681,6 +1832,31 @@ const READ: &[ReadFile] = &[
     (ManyFile(86), &[], 85, &["line 7 427 3 1 1", "stopped 12 line 8 column 0"]),
     (ManyFile(255), &[], 254, &["line 16 976 3 17 1", "stopped 12 line 17 column 0"]),
     (ManyFile(255), &[], 255, &["line 17 1037 4 255 1", "finished 299 17929"]),
+    (ManyFile(256), &[], 255, &["line 17 1037 3 1 1", "stopped 12 line 18 column 0"]),
+    (ManyFile(256), &[], 256, &["line 18 1098 4 256 1", "finished 302 18112"]),
+    (ManyFile(999), &[], 998, &["line 60 3660 3 13 1", "stopped 12 line 61 column 0"]),
+    (
+        ManyFile(999),
+        &[],
+        999,
+        &[
+            "line 3 183 3 982 1",
+            "line 60 3660 3 13 1",
+            "line 61 3721 4 999 1",
+            "line 62 3782 4 982 1",
+            "line 119 7259 4 13 1",
+            "line 131 7738 10 999 0",
+            "line 387 23354 10 743 0",
+            "line 1130 68677 14 0 0",
+            "finished 1131 68681",
+        ],
+    ),
+    (
+        ManyFile(999),
+        &[Put(61, 46, "G01")],
+        986,
+        &["line 60 3660 3 13 1", "stopped 8 line 61 column 0"],
+    ),
     // "12 comes after all other checks": a `+ ` line's own fault comes first.
     (Paper, &[Byte(3, 80, 0x80)], 0, &["stopped 2 line 3 column 80", "identifiers"]),
     (Paper, &[Put(3, 81, " ")], 0, &["stopped 3 line 3 column 81", "identifiers"]),
@@ -2080,10 +2256,36 @@ const DUE: &[DueFile] = &[
     (Night, &[Put(3, 10, "G00G00")], 2, &[7100], "stopped 7 line 3 column 10", ["3 0 0 0 0"; 3]),
     (
         ManyFile(255),
-        &[Put(3, 4, "256"), Put(3, 13, "G01")],
+        &[Put(3, 4, "000"), Put(3, 13, "G01")],
         255,
         &[],
         "stopped 7 line 3 column 4",
+        ["3 0 0 0 0"; 3],
+    ),
+    // The last line of 999: it repeats the first identifier, which is known by what is
+    // lent; a filled slot after the last satellite is no repeat.
+    (
+        ManyFile(999),
+        &[Put(61, 46, "G01")],
+        999,
+        &[7101],
+        "stopped 8 line 61 column 0",
+        ["3 0 0 0 1"; 3],
+    ),
+    (
+        ManyFile(999),
+        &[Put(61, 46, "M95")],
+        999,
+        &[7101],
+        "stopped 8 line 61 column 0",
+        ["3 0 0 0 1", "3 0 0 0 0", "3 0 0 0 1"],
+    ),
+    (
+        ManyFile(999),
+        &[Put(61, 49, "Z10")],
+        999,
+        &[9010],
+        "stopped 8 line 61 column 0",
         ["3 0 0 0 0"; 3],
     ),
     // 8 of other records.
@@ -2210,6 +2412,94 @@ const DUE: &[DueFile] = &[
     ),
     (Paper, &[Keep(23)], 1, &[7107], "stopped 1 line 24 column 0", ["10 0 0 7107 0"; 3]),
     (Paper, &[Join(25)], 1, &[7107], "stopped 1 line 25 column 0", ["14 12 0 0 0"; 3]),
+];
+
+/// Identifiers lent for those of 58 `+ ` lines, the last of them this one; the others
+/// are no satellites, but all of them are G01 in the lowest 16 bits.
+const fn lent_before(last: u64) -> [u64; 986] {
+    let mut list = [last; 986];
+    let mut place = 0;
+    while place < 985 {
+        list[place] = 7101 + ((1 + place as u64) << (16 * (1 + place % 3)));
+        place += 1;
+    }
+    list
+}
+
+const NOT_G01: &[u64] = &lent_before(7101 + (1 << 16));
+const THEN_G01: &[u64] = &lent_before(7101);
+const THEN_Z09: &[u64] = &lent_before(9009);
+
+/// Repeats in the last `+ ` line of 999 satellites and in the middle one, by the
+/// identifiers that are lent for those before; these aren't stored.
+const MANY_DUE: &[DueFile] = &[
+    (
+        ManyFile(999),
+        &[Put(61, 46, "G01")],
+        999,
+        NOT_G01,
+        "stopped 8 line 61 column 0",
+        ["3 0 0 0 1", "3 0 0 0 0", "3 0 0 0 1"],
+    ),
+    (
+        ManyFile(999),
+        &[Put(61, 46, "G01")],
+        999,
+        THEN_G01,
+        "stopped 8 line 61 column 0",
+        ["3 0 0 0 1"; 3],
+    ),
+    // Of the file's own identifiers G01 is none that stands before in what is lent.
+    (
+        ManyFile(999),
+        &[Put(61, 46, "G01")],
+        999,
+        THEN_Z09,
+        "stopped 8 line 61 column 0",
+        ["3 0 0 0 1", "3 0 0 0 0", "3 0 0 0 1"],
+    ),
+    (
+        ManyFile(999),
+        &[Put(61, 10, "Z09")],
+        999,
+        NOT_G01,
+        "stopped 8 line 61 column 0",
+        ["3 0 0 0 1"; 3],
+    ),
+    // Line 30: of 459 identifiers before it; with room for these alone.
+    (
+        ManyFile(999),
+        &[Put(30, 58, "G01")],
+        459,
+        NOT_G01,
+        "stopped 8 line 30 column 0",
+        ["3 0 0 0 1", "3 0 0 0 0", "3 0 0 0 1"],
+    ),
+    (
+        ManyBackwards(999),
+        &[Put(61, 46, "Z09")],
+        999,
+        THEN_Z09,
+        "stopped 8 line 61 column 0",
+        ["3 0 0 0 1"; 3],
+    ),
+    (
+        ManyOverLetters(999),
+        &[Put(61, 46, "Z01")],
+        999,
+        THEN_G01,
+        "stopped 8 line 61 column 0",
+        ["3 0 0 0 1", "3 0 0 0 0", "3 0 0 0 1"],
+    ),
+    // At the rows the satellite that must come is the one that is lent.
+    (
+        ManyFile(999),
+        &[Put(132 + 985, 2, "G01")],
+        999,
+        THEN_Z09,
+        "stopped 10 line 1117 column 0",
+        ["10 12 0 7795 0", "10 12 0 9009 0", "10 12 0 7795 0"],
+    ),
 ];
 
 // ---------------------------------------------------------------------------
@@ -2376,22 +2666,42 @@ fn generate_any_case(random: &mut Random) -> Case {
 /// Those worked out by hand; every fifth of the stretches is walked too, and the
 /// files of which is told what is due end with their fault.
 fn hand_cases() -> Vec<Case> {
-    let divided = DIVIDED.iter().enumerate().map(|(place, &(parts, room, ..))| Case {
-        stretch: joined(parts),
-        room,
-        way: Way::walked(place % 5 == 0),
-        identifier_room: 2,
-        identifiers: vec![7107, 8224],
-    });
-    let walked = WALKED
-        .iter()
-        .map(|&(base, edits, room, identifiers, _)| walked_case(base, edits, room, identifiers));
     let due = DUE.iter().map(|&(base, edits, room, identifiers, ..)| {
         let mut case = walked_case(base, edits, room, identifiers);
         files::cut_after_fault(&mut case.stretch);
         case
     });
-    divided.chain(walked).chain(due).collect()
+    divided_cases(DIVIDED).chain(walked_cases(WALKED)).chain(due).collect()
+}
+
+/// All of them, stored or not; those read line by line are not.
+fn all_hand_cases() -> Vec<Case> {
+    let many_due = MANY_DUE
+        .iter()
+        .map(|&(base, edits, room, identifiers, ..)| walked_case(base, edits, room, identifiers));
+    let many = divided_cases(MANY_DIVIDED).chain(walked_cases(MANY_WALKED)).chain(many_due);
+    let read = READ.iter().map(|&(base, edits, room, _)| (base, edits, room));
+    let due = DUE.iter().chain(MANY_DUE).map(|&(base, edits, room, ..)| (base, edits, room));
+    let by_lines = read.chain(due).map(|(base, edits, identifier_room)| Case {
+        way: Way::Read,
+        ..walked_case(base, edits, identifier_room, &[])
+    });
+    hand_cases().into_iter().chain(many).chain(by_lines).collect()
+}
+
+fn divided_cases(list: &'static [Divided]) -> impl Iterator<Item = Case> {
+    list.iter().enumerate().map(|(place, &(parts, room, ..))| Case {
+        stretch: joined(parts),
+        room,
+        way: Way::walked(place % 5 == 0),
+        identifier_room: 2,
+        identifiers: vec![7107, 8224],
+    })
+}
+
+fn walked_cases(list: &'static [Walked]) -> impl Iterator<Item = Case> {
+    list.iter()
+        .map(|&(base, edits, room, identifiers, _)| walked_case(base, edits, room, identifiers))
 }
 
 fn walked_case(base: Base, edits: &[Edit], identifier_room: usize, identifiers: &[u64]) -> Case {
@@ -2408,7 +2718,7 @@ fn stored_cases() -> Vec<Case> {
 // ---------------------------------------------------------------------------
 
 fn test_divided(tally: &mut Tally) {
-    for &(parts, room, wanted, lengths) in DIVIDED {
+    for &(parts, room, wanted, lengths) in DIVIDED.iter().chain(MANY_DIVIDED) {
         let found = divide_into(&joined(parts), room);
         let Refusal { number, line, column } = found.refusal;
         let numbers = [number.into(), line, column, found.lengths.len(), found.rest];
@@ -2422,7 +2732,7 @@ fn test_divided(tally: &mut Tally) {
 }
 
 fn test_walked(tally: &mut Tally) {
-    for &(base, edits, room, identifiers, wanted) in WALKED {
+    for &(base, edits, room, identifiers, wanted) in WALKED.iter().chain(MANY_WALKED) {
         let answer = walked_case(base, edits, room, identifiers).show_walked();
         let missing = files::missing_line(&answer, wanted);
         tally.holds(missing.is_none(), || {
@@ -2445,7 +2755,7 @@ fn test_read(tally: &mut Tally) {
 
 /// What must stand, in a walk and where the lines are read one by one.
 fn test_due(tally: &mut Tally) {
-    for &(base, edits, room, identifiers, end, [all, given, short]) in DUE {
+    for &(base, edits, room, identifiers, end, [all, given, short]) in DUE.iter().chain(MANY_DUE) {
         let case = walked_case(base, edits, room, identifiers);
         let walked = case.show_walked();
         let tells = |line: &&str| line.starts_with("due ") || line.starts_with("given ");
@@ -2465,9 +2775,10 @@ fn test_due(tally: &mut Tally) {
 /// With less room than satellites a walk stays at the first `+ ` line that the
 /// list is too short for: each brings 17, the last those that are left.
 fn test_rooms(tally: &mut Tally) {
-    for n in [1, 2, 16, 17, 18, 34, 35, 85, 86, 254, 255] {
+    for n in [1, 2, 16, 17, 18, 34, 35, 85, 86, 254, 255, 256, 986, 987, 999] {
         let file = files::hand_made(ManyFile(n), &[]);
-        for room in 0..=n + 1 {
+        // of many satellites the rooms near both ends of each `+ ` line
+        for room in (0..=n + 1).filter(|room| n < 256 || [0, 16].contains(&(room % 17))) {
             let short = room < n;
             let refusal = short.then_some(Refusal { number: 12, line: 3 + room / 17, column: 0 });
             let kept = if short { room / 17 * 17 } else { n };
@@ -2570,9 +2881,11 @@ fn main() {
     let words: Vec<&str> = arguments.iter().map(String::as_str).collect();
     let usage =
         "usage: answer | generate SEED COUNT | case SEED NUMBER | cases | check CRATE_DIR\n\
-         | self-test | count | compare SEED COUNT PROGRAM [ARGS..] | any ..";
+         | self-test | count | compare SEED COUNT PROGRAM [ARGS..] | any ..\n\
+         | hand [case NUMBER | compare PROGRAM [ARGS..]]";
     match words[..] {
         ["self-test"] => self_test(),
+        ["hand", ref rest @ ..] => files::obey_list("hand", &all_hand_cases(), rest, usage),
         ["any", ref rest @ ..] => {
             files::obey(rest, parse_batch, generate_any_case, stored_cases, usage);
         }

@@ -20,6 +20,8 @@
 //! * `BIN columns`             prints a batch of files with other bytes in the
 //!   columns of a line; `BIN columns case NUMBER` and `BIN columns compare
 //!   PROGRAM [ARGS..]` are as below;
+//! * `BIN hand`                the same of the cases worked out by hand, stored
+//!   and not stored (`hand case NUMBER`, `hand compare PROGRAM [ARGS..]`);
 //! * `BIN cases`               prints the stored batch;
 //! * `BIN check CRATE_DIR`     compares `CRATE_DIR/stdin` with the stored batch
 //!   and `CRATE_DIR/stdout` with the answers to it;
@@ -66,7 +68,7 @@
 //! P 0 G07 1 2 3 4 18 18 18 219 .... note 55 large unknown 222 -30 unknown 0 1 2 3
 //! ```
 //!
-//! "The paper" is 01-scope.md as requests 1 to 3 of 02-change-requests.md
+//! "The paper" is 01-scope.md as requests 1 to 3 and 6 of 02-change-requests.md
 //! changed it, "000" is the SP3-d document.
 
 #[allow(dead_code)]
@@ -241,6 +243,8 @@ pub(crate) const UNNOTED: i64 = 100_000_000;
 /// The numbers of a row in the lent list: its own twelve, whether it has a note,
 /// and the ten of the note.
 pub(crate) const ROW_WIDTH: usize = 23;
+/// So many places for identifiers are never too few.
+pub(crate) const MOST_SATELLITES: usize = lines::MOST_SATELLITES as usize;
 
 pub(crate) struct Row {
     pub(crate) letter: char,
@@ -673,9 +677,10 @@ struct Case {
     asked: [usize; 4],
 }
 
-/// The program under test has arrays of these lengths.
-pub(crate) const MOST_BYTES: usize = 40_000;
-pub(crate) const MOST_ROOMS: [usize; 4] = [300, 300, 8000, 8000];
+/// The program under test has arrays of these lengths: one more than there can be
+/// satellites, and 1,000 rows. A file is given to it up to so many bytes.
+pub(crate) const MOST_BYTES: usize = 75_000;
+pub(crate) const MOST_ROOMS: [usize; 4] = [1000, 1000, 8000, 23_000];
 const MOST_NUMBER: usize = 999_999_999;
 
 impl Compared for Case {
@@ -1139,30 +1144,44 @@ fn with_notes(mut draft: Draft) -> Draft {
     draft
 }
 
-/// The paper's file with `n` satellites, of which any number may be asked for.
-fn many_file(n: usize) -> Draft {
-    let identifier =
-        |place: usize| format!("{}{:02}", b"GRECJISL"[place / 99] as char, place % 99 + 1);
-    let slot = |place: usize, text: String| if place < n { text } else { "  0".to_string() };
+/// The first `n` identifiers of G01 to G99, R01 to R99 and so on; those of a letter
+/// are 99, so that 999 satellites have eleven letters.
+fn letter_by_letter(n: usize) -> Vec<String> {
+    let identifier = |place: usize| format!("{}{:02}", LETTERS[place / 99] as char, place % 99 + 1);
+    (0..n).map(identifier).collect()
+}
+
+const LETTERS: &[u8; 11] = b"GRECJISLAMZ";
+
+/// G01, R01, E01 and so on up to Z01, then G02.
+fn over_the_letters(n: usize) -> Vec<String> {
+    let letter = |place: usize| LETTERS[place % LETTERS.len()] as char;
+    (0..n).map(|place| format!("{}{:02}", letter(place), place / LETTERS.len() + 1)).collect()
+}
+
+/// The paper's file with these satellites, of type M.
+fn many_file(identifiers: &[String]) -> Draft {
+    let n = identifiers.len();
+    let filler = || "  0".to_string();
     let mut draft = paper_file();
     let number = satellite_lines(n);
     draft.0.splice(2..12, std::iter::empty());
     for line in 0..number {
         let places = 17 * line..17 * line + 17;
-        let identifiers: String = places.clone().map(|p| slot(p, identifier(p))).collect();
-        let exponents: String = places.map(|p| slot(p, format!("{:3}", p * 7 % 1000))).collect();
-        draft.insert(3 + line, format!("+        {identifiers}").as_bytes());
+        let name = |p: usize| identifiers.get(p).cloned().unwrap_or_else(filler);
+        let exponent = |p| if p < n { format!("{:3}", p * 7 % 1000) } else { filler() };
+        let names: String = places.clone().map(name).collect();
+        let exponents: String = places.map(exponent).collect();
+        draft.insert(3 + line, format!("+        {names}").as_bytes());
         draft.insert(4 + 2 * line, format!("++       {exponents}").as_bytes());
     }
     draft.put(3, 4, format!("{n:3}").as_bytes());
     draft.put(3 + 2 * number, 4, b"M");
     let first_row = 3 + 2 * number + 11;
     draft.drop_line(first_row);
-    for place in 0..n {
-        let text = format!(
-            "P{}{place:7}.000001     -0.500000      0.000000      1.000000",
-            identifier(place)
-        );
+    for (place, identifier) in identifiers.iter().enumerate() {
+        let text =
+            format!("P{identifier}{place:7}.000001     -0.500000      0.000000      1.000000");
         draft.insert(first_row + place, text.as_bytes());
     }
     draft
@@ -1192,7 +1211,12 @@ pub(crate) enum Base {
     /// `Rows` and `MovingRows` with notes: 33 lines, 41 in mode V.
     Notes,
     MovingNotes,
+    /// So many satellites: letter by letter, the same backwards, over the letters,
+    /// and letter by letter in mode V.
     Many(usize),
+    ManyBackwards(usize),
+    ManyOverLetters(usize),
+    MovingMany(usize),
     Talkative(usize),
 }
 
@@ -1229,7 +1253,13 @@ pub(crate) fn base_file(base: Base) -> Draft {
         Base::MovingClocks => moving(clocks_file()),
         Base::Notes => with_notes(rows_file()),
         Base::MovingNotes => with_notes(moving(rows_file())),
-        Base::Many(n) => many_file(n),
+        Base::Many(n) => many_file(&letter_by_letter(n)),
+        Base::ManyBackwards(n) => {
+            let backwards: Vec<String> = letter_by_letter(n).into_iter().rev().collect();
+            many_file(&backwards)
+        }
+        Base::ManyOverLetters(n) => many_file(&over_the_letters(n)),
+        Base::MovingMany(n) => moving(many_file(&letter_by_letter(n))),
         Base::Talkative(count) => talkative_file(count),
     }
 }
@@ -1266,8 +1296,8 @@ pub(crate) fn hand_made(base: Base, edits: &[Edit]) -> Vec<u8> {
 // Answers worked out by hand
 // ---------------------------------------------------------------------------
 
-use Base::{Clocks, Many, Motion, MovingClocks, MovingNotes, MovingRows, Night, Notes};
-use Base::{Nothing, Paper, Rows, Talkative};
+use Base::{Clocks, Many, ManyBackwards, ManyOverLetters, Motion, MovingClocks, MovingMany};
+use Base::{MovingNotes, MovingRows, Night, Notes, Nothing, Paper, Rows, Talkative};
 use Edit::{
     After, AfterItself, AfterMany, Byte, CarriageReturns, Double, Drop, Insert, Join, Keep,
     Line as Whole, Put, Swap,
@@ -1674,7 +1704,7 @@ const HAND: &[Hand] = &[
     (Paper, &[Whole(24, "PG07   5000.000001")], 6, 24, 19),
     (Paper, &[Whole(24, "PG07   5000.0000")], 6, 24, 5),
     (Motion, &[Whole(26, "VG01")], 6, 26, 5),
-    // 7: outside the bounds. "256 satellites (7)"
+    // 7: outside the bounds.
     (Paper, &[Put(1, 33, "      0")], 7, 1, 33),
     (Paper, &[Put(1, 33, " 100001")], 7, 1, 33),
     (Paper, &[Put(1, 33, "9999999")], 7, 1, 33),
@@ -1688,9 +1718,9 @@ const HAND: &[Hand] = &[
     (Paper, &[Put(2, 9, "604800.00000000")], 7, 2, 9),
     (Paper, &[Put(2, 25, "    0.00000000")], 7, 2, 25),
     (Paper, &[Put(2, 4, "9999"), Put(2, 46, "1.0000000000000")], 7, 2, 46),
-    (Many(256), &[Keep(40)], 7, 3, 4),
-    (Many(255), &[Put(3, 4, "256"), Keep(40)], 7, 3, 4),
-    (Many(255), &[Put(3, 4, "999"), Keep(40)], 7, 3, 4),
+    (Many(255), &[Put(3, 4, "000"), Keep(40)], 7, 3, 4),
+    (Many(256), &[Put(3, 10, "G00"), Keep(40)], 7, 3, 10),
+    (Many(256), &[Put(3, 58, "G00"), Keep(40)], 7, 3, 58),
     (Many(256), &[Put(3, 58, "  0"), Keep(40)], 6, 3, 58),
     (Many(256), &[Put(3, 13, "G 2"), Keep(40)], 6, 3, 13),
     (Paper, &[Put(3, 4, "  0")], 7, 3, 4),
@@ -1942,6 +1972,123 @@ const CLOCKS_BY_HAND: &[Hand] = &[
     (Paper, &[Put(24, 2, "G08"), Put(24, 47, " 999999.     0")], 6, 24, 47),
 ];
 
+/// Request 6, up to 999 satellites: files that are refused before their rows. A file of
+/// n has its `+ ` lines from line 3 on, 16 for 256 to 272, 17 for 273, 58 for 986, 59 for
+/// 987 to 999; then as many `++`; then `%c`. Of 999 the `+ ` lines are 3 to 61, `++` 62 to
+/// 120, `%c` 121; line 61 has 13 identifiers, M96 to M99 and Z01 to Z09, the last of them
+/// in column 46.
+const MANY_REFUSED: &[Hand] = &[
+    // "1,000 can't be written in the field": column 7 or 3 isn't blank, or it is 000.
+    (Paper, &[Put(3, 4, "1000")], 5, 3, 7),
+    (Paper, &[Put(3, 3, "1000")], 5, 3, 3),
+    (Paper, &[Put(3, 4, "000")], 7, 3, 4),
+    (Paper, &[Put(3, 4, "999")], 6, 3, 13),
+    (Many(999), &[Put(3, 4, "1000"), Keep(5)], 5, 3, 7),
+    (Many(999), &[Put(3, 3, "1000"), Keep(5)], 5, 3, 3),
+    (Many(999), &[Put(3, 4, "000"), Keep(5)], 7, 3, 4),
+    // Too few lines and too many.
+    (Many(256), &[Drop(18), Keep(18)], 4, 18, 0),
+    (Many(256), &[Insert(19, NO_SATELLITES), Keep(19)], 4, 19, 0),
+    (Many(999), &[Insert(62, NO_SATELLITES), Keep(62)], 4, 62, 0),
+    // A slot after n that is filled, one within n that is not.
+    (Many(999), &[Put(61, 49, "Z10"), Keep(61)], 8, 61, 0),
+    (Many(998), &[Put(3, 4, "999"), Keep(61)], 6, 61, 46),
+    // An identifier repeats: in the first line, of the line before, in the middle, the
+    // last the first.
+    (Many(999), &[Put(3, 58, "G01"), Keep(5)], 8, 3, 0),
+    (Many(999), &[Put(4, 10, "G17"), Keep(5)], 8, 4, 0),
+    (Many(999), &[Put(30, 10, "J63"), Keep(31)], 8, 30, 0),
+    (Many(999), &[Put(61, 46, "G01"), Keep(61)], 8, 61, 0),
+    // Identifiers of one letter are 99 at most: 100 satellites need type M.
+    (Many(100), &[Put(15, 4, "G"), Keep(20)], 8, 15, 0),
+];
+
+/// More of them; these aren't stored.
+const MANY_MORE_REFUSED: &[Hand] = &[
+    // Too few lines and too many.
+    (Many(255), &[Put(3, 4, "256"), Keep(40)], 4, 18, 0),
+    (Many(255), &[Put(3, 4, "999"), Keep(40)], 4, 18, 0),
+    (Many(256), &[Put(3, 4, "255"), Keep(40)], 4, 18, 0),
+    (Many(256), &[Drop(34), Keep(40)], 4, 34, 0),
+    (Many(256), &[Double(34), Keep(40)], 4, 35, 0),
+    (Many(272), &[Drop(18), Keep(40)], 4, 18, 0),
+    (Many(272), &[Insert(19, NO_SATELLITES), Keep(40)], 4, 19, 0),
+    (Many(273), &[Drop(19), Keep(40)], 4, 19, 0),
+    (Many(273), &[Insert(20, NO_SATELLITES), Keep(40)], 4, 20, 0),
+    (Many(986), &[Drop(60), Keep(64)], 4, 60, 0),
+    (Many(986), &[Insert(61, NO_SATELLITES), Keep(64)], 4, 61, 0),
+    (Many(987), &[Drop(61), Keep(64)], 4, 61, 0),
+    (Many(987), &[Insert(62, NO_SATELLITES), Keep(64)], 4, 62, 0),
+    (Many(999), &[Drop(61), Keep(64)], 4, 61, 0),
+    (Many(999), &[Drop(120), Keep(124)], 4, 120, 0),
+    (Many(999), &[Double(120), Keep(124)], 4, 121, 0),
+    // Slots after n that are filled.
+    (Many(256), &[Put(18, 13, "E59"), Keep(40)], 8, 18, 0),
+    (Many(999), &[Put(61, 58, "Z10"), Keep(64)], 8, 61, 0),
+    (Many(999), &[Put(120, 49, "993"), Keep(124)], 8, 120, 0),
+    (Many(999), &[Put(3, 4, "998"), Keep(64)], 8, 61, 0),
+    (Many(999), &[Put(3, 4, " 99"), Keep(64)], 8, 8, 0),
+    // An identifier repeats: of the first, of the line before, of its own line, two in
+    // one line, two in two.
+    (Many(256), &[Put(18, 10, "G01"), Keep(40)], 8, 18, 0),
+    (Many(999), &[Put(30, 34, "G01"), Keep(64)], 8, 30, 0),
+    (Many(999), &[Put(30, 58, "J64"), Keep(64)], 8, 30, 0),
+    (Many(999), &[Put(61, 10, "M95"), Keep(64)], 8, 61, 0),
+    (Many(999), &[Put(61, 46, "Z08"), Keep(64)], 8, 61, 0),
+    (Many(999), &[Put(61, 10, "G01G02"), Keep(64)], 8, 61, 0),
+    (Many(999), &[Put(61, 10, "G01"), Put(61, 46, "G01"), Keep(64)], 8, 61, 0),
+    (Many(999), &[Put(30, 10, "G01"), Put(61, 46, "G01"), Keep(64)], 8, 30, 0),
+    (ManyBackwards(999), &[Put(61, 46, "Z09"), Keep(64)], 8, 61, 0),
+    (ManyOverLetters(999), &[Put(61, 46, "G01"), Keep(64)], 8, 61, 0),
+    // Beside a fault with a lower number.
+    (Many(999), &[Put(61, 10, "G01"), Put(61, 61, "x"), Keep(64)], 5, 61, 61),
+    (Many(999), &[Put(61, 10, "G01"), Put(61, 46, "Z 9"), Keep(64)], 6, 61, 46),
+    (Many(999), &[Put(61, 10, "G01"), Put(61, 46, "Z00"), Keep(64)], 7, 61, 46),
+    // The file type.
+    (Many(99), &[Put(15, 4, "G")], 0, 0, 0),
+    (Many(100), &[Put(8, 52, "G01"), Put(15, 4, "G"), Keep(20)], 8, 8, 0),
+    (Many(999), &[Put(121, 4, "G"), Keep(124)], 8, 121, 0),
+];
+
+/// Files of more than 255 satellites that are accepted, or refused at a row or after
+/// it; these aren't stored. Of 999 the comments are lines 127 to 130, the epoch 131,
+/// the rows 132 to 1130, EOF 1131; in mode V the rows are 132 to 2129.
+const MANY_BY_HAND: &[Hand] = &[
+    (Many(255), &[], 0, 0, 0),
+    (Many(256), &[], 0, 0, 0),
+    (Many(272), &[], 0, 0, 0),
+    (Many(273), &[], 0, 0, 0),
+    (Many(986), &[], 0, 0, 0),
+    (Many(987), &[], 0, 0, 0),
+    (Many(998), &[], 0, 0, 0),
+    (Many(999), &[], 0, 0, 0),
+    (ManyBackwards(256), &[], 0, 0, 0),
+    (ManyBackwards(999), &[], 0, 0, 0),
+    (ManyOverLetters(256), &[], 0, 0, 0),
+    (ManyOverLetters(999), &[], 0, 0, 0),
+    (MovingMany(256), &[], 0, 0, 0),
+    (MovingMany(999), &[], 0, 0, 0),
+    (Many(999), &[Put(3, 4, "999"), Put(121, 4, "M ")], 0, 0, 0),
+    // The rows: the 256th and the last under other names, exchanged, gone, twice.
+    (Many(999), &[Put(387, 2, "E57")], 10, 387, 0),
+    (Many(999), &[Put(387, 2, "G01")], 10, 387, 0),
+    (Many(999), &[Put(1130, 2, "Z10")], 10, 1130, 0),
+    (Many(999), &[Put(1130, 2, "G01")], 10, 1130, 0),
+    (Many(999), &[Swap(1129, 1130)], 10, 1129, 0),
+    (Many(999), &[Drop(1130)], 4, 1130, 0),
+    (Many(999), &[Double(1130)], 4, 1131, 0),
+    (Many(999), &[Put(1130, 5, "1000000.000000")], 7, 1130, 5),
+    (Many(999), &[Insert(1131, "EP"), Insert(1131, "EP")], 4, 1132, 0),
+    (Many(999), &[Insert(1131, "EP")], 0, 0, 0),
+    (MovingMany(999), &[Put(2129, 2, "Z08")], 10, 2129, 0),
+    (MovingMany(999), &[Drop(2129)], 4, 2129, 0),
+    // Its end.
+    (Many(999), &[Drop(1131)], 1, 1131, 0),
+    (Many(999), &[Join(1131)], 1, 1131, 0),
+    (Many(999), &[Put(1131, 4, "x")], 5, 1131, 4),
+    (Many(999), &[After(b"x")], 11, 1132, 0),
+];
+
 /// A note after the row of the paper's file: 000's own, and one of which nothing
 /// is known. The row without place and clock.
 pub(crate) const NOTE: Edit =
@@ -2052,12 +2199,16 @@ pub(crate) fn choose_interval(random: &mut Random) -> i64 {
     }
 }
 
+/// Many satellites: as many as were allowed before request 6 and more, as fill their
+/// lines and as begin another, and all.
+const MANY: &[usize] = &[85, 86, 238, 255, 256, 272, 273, 986, 987, 998, 999, 999];
+
 /// Mostly few satellites; sometimes as many as fill a line, five lines or all.
 fn choose_number(random: &mut Random) -> usize {
     match random.below(60) {
         0 => *random.pick(&[84, 85, 86, 101, 102, 103]),
-        1 if once_in(random, 4) => *random.pick(&[170, 238, 239, 254, 255, 255]),
-        1 if once_in(random, 4) => 1 + random.below(255),
+        1 if once_in(random, 4) => *random.pick(MANY),
+        1 if once_in(random, 4) => 1 + random.below(MOST_SATELLITES),
         2..=4 => *random.pick(&[15, 16, 17, 18, 19, 33, 34, 35]),
         5..=8 => 6 + random.below(9),
         _ => 1 + random.below(5),
@@ -2067,7 +2218,11 @@ fn choose_number(random: &mut Random) -> usize {
 /// So many identifiers, all different; with a letter of their own or several.
 fn choose_identifiers(random: &mut Random, number: usize) -> (Vec<u64>, u8) {
     let one_letter = number < 99 && !once_in(random, 3);
-    let letters: &[u8] = if one_letter { b"GRLSIECJ" } else { b"GRLSIECJGRECAMZ" };
+    let letters: &[u8] = match number {
+        _ if one_letter => b"GRLSIECJ",
+        256.. if once_in(random, 2) => b"ABCDEFGHIJKLMNOPQRSTUVWXYZ",
+        _ => b"GRLSIECJGRECAMZ",
+    };
     let letter = *random.pick(letters);
     let mut identifiers: Vec<u64> = Vec::new();
     while identifiers.len() < number {
@@ -2116,8 +2271,9 @@ const LARGE_ROWS: usize = 3000;
 /// number of satellites, and as many epochs as give so many rows at most.
 fn choose_large_plan(random: &mut Random) -> Plan {
     let number = match random.below(5) {
-        0 => *random.pick(&[85, 86, 254, 255, 255, 255]),
+        0 => *random.pick(MANY),
         1 => 1 + random.below(9),
+        2 => 1 + random.below(MOST_SATELLITES),
         _ => 1 + random.below(255),
     };
     let (identifiers, file_type) = choose_identifiers(random, number);
@@ -2166,7 +2322,8 @@ impl Pen<'_> {
 
     fn integer(&mut self, width: usize, value: i64) -> String {
         let digits = value.to_string();
-        let zeros = self.zeros(width - digits.len());
+        // a number with more digits than the field has columns stands past it
+        let zeros = self.zeros(width.saturating_sub(digits.len()));
         format!("{:>width$}", zeros + &digits)
     }
 
@@ -2831,7 +2988,7 @@ fn counts_disagree(draft: &mut Draft, plan: &Plan, random: &mut Random) {
     match pen.random.below(6) {
         0 => draft.put(3, 4, pen.integer(3, n + shift).as_bytes()),
         1 => {
-            draft.put(3, 4, pen.random.pick(&["  0", "255", "256", "999", " 85", " 86"]).as_bytes())
+            draft.put(3, 4, pen.random.pick(&["  0", "256", "998", "999", " 85", " 86"]).as_bytes())
         }
         2 | 3 => draft.put(1, 33, pen.integer(7, epochs + shift).as_bytes()),
         4 => draft.put(1, 33, pen.random.pick(&[" 100000", " 100001", "9999999"]).as_bytes()),
@@ -3171,7 +3328,7 @@ const FAR: &[usize] = &[
     usize::MAX - 1,
     usize::MAX / 77 + 1,
     usize::MAX / ROW_WIDTH + 1,
-    usize::MAX / 255 + 1,
+    usize::MAX / MOST_SATELLITES + 1,
 ];
 
 fn generate_any_case(random: &mut Random) -> Case {
@@ -3196,7 +3353,8 @@ pub(crate) fn generated<C>(generate: Generate<C>, seed: u64, number: u64) -> C {
 // The stored cases
 // ---------------------------------------------------------------------------
 
-const MOST_BATCH: usize = 695_000;
+/// The program under test has room for 800,000 bytes of input.
+const MOST_BATCH: usize = 795_000;
 pub(crate) const STORED_SEED: u64 = 20_160_221;
 
 /// A file made by hand with rooms that suffice; most refused ones end after
@@ -3210,22 +3368,43 @@ fn hand_case(place: usize, base: Base, edits: &[Edit]) -> Case {
     Case { file, rooms: needed, asked: [place % 5, place / 3 % 2, place / 5 % 2, 7107] }
 }
 
-/// First the files with questions, then those that are only judged.
-fn hand_cases() -> Vec<Case> {
-    let asked = ASKED.iter().map(|&(base, edits, rooms, asked, _)| Case {
+/// First the files with questions, then those that are only judged, each once.
+fn cases_of(asked: &[&[Asked]], judged: &[&[Hand]]) -> Vec<Case> {
+    let asked = asked.iter().copied().flatten().map(|&(base, edits, rooms, asked, _)| Case {
         file: hand_made(base, edits),
         rooms,
         asked,
     });
     let mut cases: Vec<Case> = asked.collect();
     let mut files: HashSet<Vec<u8>> = cases.iter().map(|case| case.file.clone()).collect();
-    for (place, &(base, edits, ..)) in HAND.iter().chain(CLOCKS_BY_HAND).enumerate() {
+    for (place, &(base, edits, ..)) in judged.iter().copied().flatten().enumerate() {
         let case = hand_case(place, base, edits);
         if files.insert(case.file.clone()) {
             cases.push(case);
         }
     }
     cases
+}
+
+/// Those that are stored.
+fn hand_cases() -> Vec<Case> {
+    cases_of(&[ASKED], &[HAND, CLOCKS_BY_HAND, MANY_REFUSED])
+}
+
+/// All of them.
+fn all_hand_cases() -> Vec<Case> {
+    cases_of(
+        &[ASKED, MANY_ASKED, ROWS_ASKED, NOTES_ASKED],
+        &[
+            HAND,
+            CLOCKS_BY_HAND,
+            MANY_REFUSED,
+            MANY_MORE_REFUSED,
+            MANY_BY_HAND,
+            ROWS_BY_HAND,
+            NOTES_BY_HAND,
+        ],
+    )
 }
 
 /// The cases made by hand, and after them small generated ones up to a batch.
@@ -3551,7 +3730,8 @@ fn kinds_of_table(table: &Table, file: &[u8]) -> Vec<String> {
     named.extend(kinds_of_notes(&table.rows));
     let mut kinds: Vec<String> =
         named.iter().filter(|(_, holds)| *holds).map(|(name, _)| name.to_string()).collect();
-    kinds.push(span_of("satellites", &[1, 2, 6, 17, 18, 86, 200, 255, 256], table.satellites()));
+    let least = &[1, 2, 6, 17, 18, 86, 200, 255, 256, 257, 986, 987, 988, 998, 999, 1000];
+    kinds.push(span_of("satellites", least, table.satellites()));
     kinds.push(span_of("epochs", &[1, 2, 4, 7, 100, 1000], table.epochs));
     kinds
 }
@@ -4485,6 +4665,50 @@ const ASKED: &[Asked] = &[
             "row 0 0 0 254000001 -500000 0 1000000",
         ],
     ),
+    // 61 * (2 + 2 * 16 + 6) + 56 bytes before the rows and after them, 61 a row.
+    (
+        Many(256),
+        &[],
+        [256, 256, 308, 5888],
+        [0, 0, 255, 6958],
+        &[
+            "read 0 0 0 18112",
+            "satellites 256",
+            "E58 785",
+            "P 0 E58 255000001 -500000 0 1000000 unknown unknown unknown unknown ....",
+            "rows 256 known 256 absent 0",
+            "satellite 0 0 0 255",
+            "row 0 0 0 255000001 -500000 0 1000000",
+        ],
+    ),
+    // 61 * (2 + 2 * 59 + 6) + 56 + 61 * 999; its last comment is two bytes after 126
+    // lines of 61, one of 11 and two of 3.
+    (
+        Many(999),
+        &[],
+        [999, 999, 308, 22_977],
+        [3, 0, 998, 9009],
+        &[
+            "case 68681",
+            "front 0 0 0 68681",
+            "whole 0 0 0 68681",
+            "read 0 0 0 68681",
+            "type M",
+            "satellites 999",
+            "G01 0",
+            "E57 778",
+            "E58 785",
+            "Z09 986",
+            "P 0 G01 1 -500000 0 1000000 unknown unknown unknown unknown ....",
+            "P 0 E58 255000001 -500000 0 1000000 unknown unknown unknown unknown ....",
+            "P 0 Z09 998000001 -500000 0 1000000 unknown unknown unknown unknown ....",
+            "rows 999 known 999 absent 0",
+            "read_front 0 0 0 68681",
+            "comment 0 0 0 7705 0 ||",
+            "satellite 0 0 0 998",
+            "row 0 0 0 998000001 -500000 0 1000000",
+        ],
+    ),
     (
         Many(18),
         &[],
@@ -4498,6 +4722,121 @@ const ASKED: &[Asked] = &[
         [86, 86, 308, 1978],
         [0, 0, 85, 7186],
         &["satellites 86", "G86 595", "satellite 0 0 0 85", "row 0 0 0 85000001 -500000 0 1000000"],
+    ),
+];
+
+/// What 999 satellites need and a place less in each list; rows and satellites that
+/// are there and that aren't. These aren't stored.
+const MANY_ASKED: &[Asked] = &[
+    (
+        Many(999),
+        &[],
+        [998, 999, 308, 22_977],
+        [4, 0, 999, 9010],
+        &[
+            "whole 0 0 0 68681",
+            "read 12 0 0 0",
+            "read_front 12 0 0 0",
+            "comment 13 0 0 0 0 ||",
+            "satellite 13 0 0 0",
+            "row 13 0 0 absent absent",
+        ],
+    ),
+    (
+        Many(999),
+        &[],
+        [999, 998, 308, 22_977],
+        [0, 0, 255, 6957],
+        &["read 12 0 0 0", "satellite 0 0 0 254", "row 0 0 0 255000001 -500000 0 1000000"],
+    ),
+    (
+        Many(999),
+        &[],
+        [999, 999, 307, 22_977],
+        [0, 0, 256, 6958],
+        &["read 12 0 0 0", "satellite 0 0 0 255", "row 0 0 0 256000001 -500000 0 1000000"],
+    ),
+    (
+        Many(999),
+        &[],
+        [999, 999, 308, 22_976],
+        [0, 1, 0, 6959],
+        &["read 12 0 0 0", "satellite 0 0 0 256", "row 13 0 0 absent absent"],
+    ),
+    (
+        Many(999),
+        &[],
+        [1000, 1001, 400, 23_000],
+        [0, 0, 1000, 9100],
+        &["read 0 0 0 68681", "satellite 13 0 0 0", "row 13 0 0 absent absent"],
+    ),
+    // 255 places, as many as sufficed before.
+    (
+        Many(256),
+        &[],
+        [255, 255, 308, 5888],
+        [0, 0, 256, 6959],
+        &["read 12 0 0 0", "satellite 13 0 0 0", "row 13 0 0 absent absent"],
+    ),
+    // The row of a satellite whose position is 256 more or less.
+    (
+        Many(999),
+        &[],
+        [999, 999, 308, 22_977],
+        [0, 0, 512, 7309],
+        &["read 0 0 0 68681", "satellite 0 0 0 503", "row 0 0 0 512000001 -500000 0 1000000"],
+    ),
+    (
+        ManyBackwards(999),
+        &[],
+        [999, 999, 308, 22_977],
+        [0, 0, 998, 7101],
+        &[
+            "read 0 0 0 68681",
+            "Z09 0",
+            "G01 986",
+            "P 0 Z09 1 -500000 0 1000000 unknown unknown unknown unknown ....",
+            "satellite 0 0 0 998",
+            "row 0 0 0 998000001 -500000 0 1000000",
+        ],
+    ),
+    (
+        ManyOverLetters(999),
+        &[],
+        [999, 999, 308, 22_977],
+        [0, 0, 11, 8291],
+        &[
+            "read 0 0 0 68681",
+            "G01 0",
+            "R01 7",
+            "Z01 70",
+            "G02 77",
+            "satellite 0 0 0 991",
+            "row 0 0 0 11000001 -500000 0 1000000",
+        ],
+    ),
+    // Mode V: twice the rows, of which the question has those of P.
+    (
+        MovingMany(999),
+        &[],
+        [999, 999, 308, 45_954],
+        [0, 0, 998, 9009],
+        &[
+            "read 0 0 0 129620",
+            "mode V",
+            "P 0 Z09 998000001 -500000 0 1000000 unknown unknown unknown unknown ....",
+            "V 0 Z09 998000001 -500000 0 1000000 unknown unknown unknown unknown ....",
+            "rows 1998 known 1998 absent 0",
+            "satellite 0 0 0 998",
+            "row 0 0 0 998000001 -500000 0 1000000",
+        ],
+    ),
+    (
+        MovingMany(999),
+        &[],
+        [999, 999, 308, 45_953],
+        [0, 0, 999, 9009],
+        &["whole 0 0 0 129620", "read 12 0 0 0", "row 13 0 0 absent absent"],
     ),
 ];
 
@@ -5003,6 +5342,12 @@ const KEPT: &[(Base, &[Edit], usize, u8, usize, usize)] = &[
     (Many(20), &[], 16, 12, 3, 0),
     (Many(86), &[], 85, 12, 8, 0),
     (Many(86), &[], 84, 12, 7, 0),
+    (Many(256), &[], 255, 12, 18, 0),
+    (Many(999), &[], 999, 0, 0, 0),
+    (Many(999), &[], 998, 12, 61, 0),
+    (Many(999), &[], 985, 12, 60, 0),
+    (Many(999), &[Put(61, 46, "G01")], 998, 8, 61, 0),
+    (Many(999), &[Put(61, 46, "G01")], 985, 12, 60, 0),
     // "12 comes after all other checks" of its line; a later line isn't read.
     (Many(20), &[Put(4, 10, "G17")], 17, 8, 4, 0),
     (Many(20), &[Put(4, 10, "G17")], 16, 12, 3, 0),
@@ -5074,9 +5419,13 @@ fn self_test() {
     let mut tally = Tally::default();
     test_hand(&mut tally, HAND);
     test_hand(&mut tally, CLOCKS_BY_HAND);
+    test_hand(&mut tally, MANY_REFUSED);
+    test_hand(&mut tally, MANY_MORE_REFUSED);
+    test_hand(&mut tally, MANY_BY_HAND);
     test_hand(&mut tally, ROWS_BY_HAND);
     test_hand(&mut tally, NOTES_BY_HAND);
     test_asked(&mut tally, ASKED);
+    test_asked(&mut tally, MANY_ASKED);
     test_asked(&mut tally, ROWS_ASKED);
     test_asked(&mut tally, NOTES_ASKED);
     test_clocks(&mut tally);
@@ -5141,18 +5490,17 @@ pub(crate) fn obey<C: Compared>(
     }
 }
 
-/// The same of the lines with other bytes.
-fn obey_columns(words: &[&str], usage: &str) {
-    let cases = altered_lines();
+/// The same of the cases of a list that has this name.
+pub(crate) fn obey_list<C: Compared + Clone>(name: &str, cases: &[C], words: &[&str], usage: &str) {
     let case_of = |place: u64| match cases.get((place as usize).wrapping_sub(1)) {
         Some(case) => case.clone(),
         None => fail(&format!("there are {} cases", cases.len())),
     };
     match *words {
-        [] => print(&show_batch(&cases)),
+        [] => print(&show_batch(cases)),
         ["case", place] => print(&case_of(number(place)).show()),
         ["compare", program, ref rest @ ..] => {
-            compare("columns", case_of, cases.len() as u64, program, rest);
+            compare(name, case_of, cases.len() as u64, program, rest);
         }
         _ => fail(usage),
     }
@@ -5165,7 +5513,7 @@ fn main() {
         "usage: answer | generate SEED COUNT | case SEED NUMBER | cases | check CRATE_DIR\n\
          | self-test | count | compare SEED COUNT PROGRAM [ARGS..] | any .. | kinds SEED COUNT\n\
          | file MODE SATELLITES EPOCHS | bytes SEED COUNT\n\
-         | columns [case NUMBER | compare PROGRAM [ARGS..]]";
+         | columns|hand [case NUMBER | compare PROGRAM [ARGS..]]";
     match words[..] {
         ["self-test"] => self_test(),
         ["kinds", seed, count] => tell_kinds(number(seed), number(count)),
@@ -5177,7 +5525,8 @@ fn main() {
             let mut random = Random(number(seed));
             print(&(0..number(count)).map(|_| random.next() as u8).collect::<Vec<u8>>());
         }
-        ["columns", ref rest @ ..] => obey_columns(rest, usage),
+        ["columns", ref rest @ ..] => obey_list("columns", &altered_lines(), rest, usage),
+        ["hand", ref rest @ ..] => obey_list("hand", &all_hand_cases(), rest, usage),
         ["any", ref rest @ ..] => {
             obey(rest, parse_batch, generate_any_case, stored_cases, usage);
         }

@@ -13,6 +13,9 @@
 //! * `BIN generate SEED COUNT` prints a batch of that many generated cases;
 //! * `BIN case SEED NUMBER`    prints a generated case, counted from 1;
 //! * `BIN any ..`              the same with cases of any size (`any compare 1 9 ..`);
+//! * `BIN hand`                prints the cases worked out by hand, stored and not
+//!   stored; `BIN hand case NUMBER` and `BIN hand compare PROGRAM [ARGS..]` are as
+//!   with the generated ones;
 //! * `BIN cases`               prints the stored batch;
 //! * `BIN check CRATE_DIR`     compares `CRATE_DIR/stdin` with the stored batch
 //!   and `CRATE_DIR/stdout` with the answers to it;
@@ -24,8 +27,8 @@
 //! A batch is cases one after the other. A case is a line `KIND ROOM LENGTH`
 //! and directly after its LF so many bytes. ROOM is the output lent, of which
 //! every byte holds a mark before. Of kind 0 the bytes are a file, which is
-//! read into lists with room for 300 identifiers, 300 exponents, 8,000 bytes of
-//! comments and 8,000 numbers of rows, and written again. Of kind 2 they are a
+//! read into lists with room for 1,000 identifiers, 1,000 exponents, 8,000 bytes of
+//! comments and 23,000 numbers of rows, and written again. Of kind 2 they are a
 //! file that is read into lists with just the room that it needs (the program of
 //! crates/ has no such cases). Of kind 1 they are a table. Its numbers each have
 //! one blank or LF after them:
@@ -56,7 +59,7 @@
 //! kept                      every byte past them still holds the mark
 //! ```
 //!
-//! "The paper" is 01-scope.md as requests 1 to 3 of 02-change-requests.md
+//! "The paper" is 01-scope.md as requests 1 to 3 and 6 of 02-change-requests.md
 //! changed it, "000" is the SP3-d document.
 
 #[allow(dead_code)]
@@ -149,12 +152,12 @@ fn most_of(digits: usize) -> u64 {
 }
 
 /// I7 with "1 or more" and "at most 100,000"; F14.8 "above 0", which leaves 13
-/// digits; I3 with 1 to 255; "Four or more comments"; F10.7 and F12.9, which
+/// digits; I3 with 1 to 999; "Four or more comments"; F10.7 and F12.9, which
 /// leave 9 and 11 digits.
 fn numbers_are_bounded(head: &Head) -> bool {
     (1..=100_000).contains(&head.epochs)
         && (1..=most_of(13)).contains(&head.interval)
-        && (1..=255).contains(&head.satellites)
+        && (1..=files::MOST_SATELLITES as u64).contains(&head.satellites)
         && head.comments >= 4
         && head.bases[0] <= most_of(9)
         && head.bases[1] <= most_of(11)
@@ -582,7 +585,7 @@ struct Case {
 }
 
 /// The program under test has an output of this length.
-const MOST_ROOM: usize = 60_000;
+const MOST_ROOM: usize = 75_000;
 
 /// Numbers with one byte after each of them.
 fn show_numbers<T: ToString>(numbers: &[T]) -> String {
@@ -766,12 +769,16 @@ enum Change {
     Length(usize, usize),
     /// The rows once more after themselves.
     Twice,
+    /// One satellite more in the lists of one epoch in mode P, with the exponent and the
+    /// row of the first.
+    More(u64),
 }
 
-use Base::{Many, Motion, MovingNotes, Night, Notes, Paper, Talkative};
+use Base::{Many, ManyBackwards, ManyOverLetters, Motion, MovingMany, MovingNotes, Night, Notes};
+use Base::{Paper, Talkative};
 use Change::{
     Argument, Comment, CommentByte, Epochs, Exponent as Accuracy, Field, Identifier as Name,
-    Length, RowNumber, Start, System, Texts, Twice, Type,
+    Length, More, RowNumber, Start, System, Texts, Twice, Type,
 };
 use Edit::{After, Byte, Drop, Insert, Line as Whole, Put};
 
@@ -815,6 +822,12 @@ fn change(given: &mut Given, change: Change) {
         RowNumber(place, number) => given.lists.rows[place] = number,
         Length(list, length) => set_length(&mut given.lists, list, length),
         Twice => given.lists.rows = given.lists.rows.repeat(2),
+        More(code) => {
+            let lists = &mut given.lists;
+            lists.identifiers.push(code);
+            lists.exponents.push(lists.exponents[0]);
+            lists.rows.extend_from_within(..ROW);
+        }
     }
 }
 
@@ -1115,8 +1128,37 @@ const WRITTEN: &[(Base, &[Edit], Lines)] = &[
     (Many(85), &[], &[]),
     (Many(86), &[], &[]),
     (Many(255), &[], &[]),
+    (Many(256), &[], &[]),
+    (Many(999), &[], &[]),
     (Talkative(5), &[], &[]),
     (Talkative(103), &[], &[]),
+];
+
+/// Files of more than 255 satellites (request 6); these aren't stored. Of 999 the `+ `
+/// lines are 3 to 61, `++` 62 to 120, `%c` 121, the rows 132 to 1130.
+const MANY_WRITTEN: &[(Base, &[Edit], Lines)] = &[
+    (Many(272), &[], &[]),
+    (Many(273), &[], &[]),
+    (Many(986), &[], &[]),
+    (Many(987), &[], &[]),
+    (Many(998), &[], &[]),
+    (ManyBackwards(256), &[], &[]),
+    (ManyBackwards(999), &[], &[]),
+    (ManyOverLetters(256), &[], &[]),
+    (ManyOverLetters(999), &[], &[]),
+    (MovingMany(256), &[], &[]),
+    (MovingMany(999), &[], &[]),
+    // The last satellite's exponent, and its row with zeros before its digits.
+    (
+        Many(999),
+        &[Put(120, 46, "007"), Put(1130, 5, "0000998.000001    -00.500000")],
+        &[(120, "++       902909916923930937944951958965972979  7  0  0  0  0")],
+    ),
+    (
+        Many(999),
+        &[Put(1130, 47, " 999999.      ")],
+        &[(1130, "PZ09    998.000001     -0.500000      0.000000 999999.999999")],
+    ),
 ];
 
 /// What is left of the rows of `motion` without some of its notes.
@@ -1468,7 +1510,7 @@ type Judged = (Base, Vec<Change>, u8, u8);
 const BOUNDS: &[(usize, &[u64], &[u64])] = &[
     (EPOCHS, &[1], &[0, 100_001, u64::MAX]),
     (INTERVAL, &[1, 9_999_999_999_999], &[0, 10_000_000_000_000, u64::MAX]),
-    (SATELLITES, &[1], &[0, 256, 257, u64::MAX]),
+    (SATELLITES, &[1], &[0, 1000, 1001, u64::MAX]),
     (COMMENTS, &[4], &[0, 3]),
     (PLACE_BASE, &[0, 999_999_999], &[1_000_000_000, u64::MAX]),
     (CLOCK_BASE, &[0, 99_999_999_999], &[100_000_000_000, u64::MAX]),
@@ -1480,7 +1522,7 @@ const TOO_MANY: &[(usize, u64)] = &[
     (EPOCHS, 2),
     (EPOCHS, 100_000),
     (SATELLITES, 2),
-    (SATELLITES, 255),
+    (SATELLITES, 999),
     (COMMENTS, 5),
     (COMMENTS, 6),
     (COMMENTS, u64::MAX),
@@ -1567,7 +1609,7 @@ fn judged_letters() -> Vec<Judged> {
     }
     all.extend([32, 126].map(|byte| (Paper, vec![Field(TEXTS + 4, byte)], 0, 0)));
     // "the lowest decides"
-    all.push((Paper, vec![Type(b'X'), Argument(SATELLITES, 256)], 6, 0));
+    all.push((Paper, vec![Type(b'X'), Argument(SATELLITES, 1000)], 6, 0));
     all.push((Paper, vec![Argument(MODE, b'Q'.into()), Start([2100, 1, 1, 0, 0, 0])], 6, 0));
     all
 }
@@ -1648,6 +1690,68 @@ fn judged_satellites() -> Vec<Judged> {
     }
     all.push((Paper, vec![Length(2, 309), CommentByte(308, 0)], 0, 0));
     all
+}
+
+/// Tables of many satellites (request 6); these aren't stored. "1,000 can't be written
+/// in the field": a header of them is 7, a table of them 13, whatever its lists hold.
+fn judged_many() -> Vec<Judged> {
+    let number = |n| Argument(SATELLITES, n);
+    let field = |n| Field(SATELLITES, n);
+    vec![
+        (Paper, vec![number(255)], 0, 13),
+        (Paper, vec![number(256)], 0, 13),
+        (Motion, vec![field(256)], 0, 13),
+        (Many(255), vec![More(6958), number(256)], 0, 0),
+        (Many(255), vec![More(6958), field(256)], 0, 0),
+        (Many(255), vec![More(7101), number(256)], 0, 13),
+        (Many(255), vec![number(256)], 0, 13),
+        (Many(256), vec![number(255)], 0, 0),
+        (Many(998), vec![More(9009), number(999)], 0, 0),
+        (Many(998), vec![More(9009), field(999)], 0, 0),
+        (Many(998), vec![More(9099), number(999)], 0, 0),
+        (Many(998), vec![More(7101), number(999)], 0, 13),
+        (Many(998), vec![number(999)], 0, 13),
+        (Many(999), vec![], 0, 0),
+        (Many(999), vec![number(998)], 0, 0),
+        (Many(999), vec![number(1000)], 7, 0),
+        (Many(999), vec![field(1000)], 0, 13),
+        (Many(999), vec![More(9010), number(1000)], 7, 0),
+        (Many(999), vec![More(9010), field(1000)], 0, 13),
+        (Many(999), vec![More(9010)], 0, 0),
+        (Many(999), vec![More(7101)], 0, 0),
+        // An identifier repeats: the first, the one before, in the middle.
+        (Many(999), vec![Name(998, 7101)], 0, 13),
+        (Many(999), vec![Name(998, 9008)], 0, 13),
+        (Many(999), vec![Name(0, 9009)], 0, 13),
+        (Many(999), vec![Name(500, 7101)], 0, 13),
+        (Many(999), vec![Name(500, 9009)], 0, 13),
+        (Many(999), vec![Name(499, 7302), Name(500, 7301)], 0, 13),
+        (Many(999), vec![Name(998, 6600)], 0, 13),
+        (Many(999), vec![Name(998, 6601)], 0, 0),
+        (Many(999), vec![Name(998, 9101)], 0, 13),
+        (Many(999), vec![Name(998, 72_643)], 0, 13),
+        (Many(999), vec![Name(998, 7101 + 65_536)], 0, 13),
+        (ManyBackwards(999), vec![], 0, 0),
+        (ManyBackwards(999), vec![Name(998, 9009)], 0, 13),
+        (ManyOverLetters(999), vec![], 0, 0),
+        (ManyOverLetters(999), vec![Name(998, 7101)], 0, 13),
+        (MovingMany(999), vec![], 0, 0),
+        (MovingMany(999), vec![Field(MODE, b'P'.into())], 0, 0),
+        (MovingMany(999), vec![Length(3, 45_953)], 0, 13),
+        (MovingMany(999), vec![RowNumber(at(1997, 11), 1)], 0, 13),
+        // Identifiers of one letter are 99 at most.
+        (Many(99), vec![Type(b'G')], 0, 0),
+        (Many(100), vec![Type(b'G')], 0, 13),
+        (Many(100), vec![Type(b'G'), Name(99, 7101)], 0, 13),
+        // The last places, and one place less.
+        (Many(999), vec![Accuracy(998, 999)], 0, 0),
+        (Many(999), vec![Accuracy(998, 1000)], 0, 13),
+        (Many(999), vec![RowNumber(at(998, 11), 2)], 0, 13),
+        (Many(999), vec![Length(0, 998)], 0, 13),
+        (Many(999), vec![Length(1, 998)], 0, 13),
+        (Many(999), vec![Length(3, 22_976)], 0, 13),
+        (Many(999), vec![Length(0, 1000), Length(1, 1000), Length(3, 23_000)], 0, 0),
+    ]
 }
 
 const AMOUNTS: (&[i64], &[i64]) = (
@@ -1827,6 +1931,20 @@ const ROOMS: &[(Base, &[Change], isize, u8)] = &[
     (Paper, &[RowNumber(MARK, 1), RowNumber(22, -1)], -1, 12),
     (Paper, &[RowNumber(MARK, 2)], -1215, 13),
     (Paper, &[RowNumber(13, 5)], -1, 13),
+];
+
+/// The same of 256 and 999 satellites, whose forms have 18,112 and 68,681 bytes; these aren't stored.
+const MANY_ROOMS: &[(Base, &[Change], isize, u8)] = &[
+    (Many(256), &[], 0, 0),
+    (Many(256), &[], -1, 12),
+    (Many(999), &[], 0, 0),
+    (Many(999), &[], -1, 12),
+    (Many(999), &[], -3145, 12),
+    (Many(999), &[], -68_681, 12),
+    (Many(999), &[Name(998, 7101)], -68_681, 13),
+    (Many(999), &[Field(SATELLITES, 1000)], -1, 13),
+    (MovingMany(999), &[], 0, 0),
+    (MovingMany(999), &[], -1, 12),
 ];
 
 // ---------------------------------------------------------------------------
@@ -2177,9 +2295,37 @@ fn longer_case(base: Base, edits: &[Edit], room: usize) -> Case {
     Case { room, body: Body::File(files::hand_made(base, edits)) }
 }
 
-/// Those worked out by hand, the longer of the judged tables in part, and small
-/// generated ones.
-fn stored_cases() -> Vec<Case> {
+/// A table with the room that it needs, and so much more or less.
+fn room_case(base: Base, changes: &[Change], more: isize) -> Case {
+    let given = changed(base, changes);
+    let needed = given.write(usize::MAX).map_or(form_with(base, &[]).len(), |bytes| bytes.len());
+    Case { room: needed.saturating_add_signed(more), body: Body::Table(given) }
+}
+
+/// Those of many satellites: as files, with a byte too little too, and as tables.
+fn many_cases() -> Vec<Case> {
+    let mut cases: Vec<Case> = Vec::new();
+    for &(base, edits, _) in MANY_WRITTEN {
+        let file = files::hand_made(base, edits);
+        cases.push(with_room(Body::Roomy(file.clone()), 0));
+        cases.push(with_room(Body::Roomy(file), -1));
+    }
+    for (base, changes, ..) in judged_many() {
+        cases.push(with_room(Body::Table(changed(base, &changes)), 1));
+    }
+    let rooms = MANY_ROOMS.iter().map(|&(base, changes, more, _)| room_case(base, changes, more));
+    cases.into_iter().chain(rooms).collect()
+}
+
+/// All of them that are worked out by hand, stored or not.
+fn all_hand_cases() -> Vec<Case> {
+    let judged = judged_by_hand().into_iter().map(|(base, changes, ..)| (base, changes));
+    let tables = judged.map(|(base, changes)| with_room(Body::Table(changed(base, &changes)), 1));
+    hand_cases().into_iter().chain(tables).chain(many_cases()).collect()
+}
+
+/// Those worked out by hand, the longer of the judged tables in part.
+fn hand_cases() -> Vec<Case> {
     let mut cases: Vec<Case> = Vec::new();
     for &(base, edits, _) in WRITTEN {
         let file = files::hand_made(base, edits);
@@ -2188,13 +2334,7 @@ fn stored_cases() -> Vec<Case> {
     for &(base, changes, _) in DATED {
         cases.push(with_room(Body::Table(changed(base, changes)), 3));
     }
-    for &(base, changes, more, _) in ROOMS {
-        let needed = form_with(base, &[]).len();
-        let given = changed(base, changes);
-        let needed = given.write(usize::MAX).map_or(needed, |bytes| bytes.len());
-        let room = needed.saturating_add_signed(more);
-        cases.push(Case { room, body: Body::Table(given) });
-    }
+    cases.extend(ROOMS.iter().map(|&(base, changes, more, _)| room_case(base, changes, more)));
     for (place, &(base, edits, more, _)) in ROOMS.iter().enumerate() {
         if edits.is_empty() && place < 13 {
             let file = files::base_file(base).bytes();
@@ -2212,7 +2352,12 @@ fn stored_cases() -> Vec<Case> {
     }
     cases.extend(REFUSED.iter().map(|&(base, edits, _)| refused_case(base, edits)));
     cases.extend(LONGER.iter().map(|&(base, edits, room, _)| longer_case(base, edits, room)));
-    files::filled_up(cases, generate_case, |case| case.bytes().len() < 3000)
+    cases
+}
+
+/// And after them small generated ones.
+fn stored_cases() -> Vec<Case> {
+    files::filled_up(hand_cases(), generate_case, |case| case.bytes().len() < 3000)
 }
 
 // ---------------------------------------------------------------------------
@@ -2229,7 +2374,7 @@ fn same(tally: &mut Tally, given: Result<Vec<u8>, u8>, wanted: &[u8], name: &str
 
 /// What is written of files and tables, line by line.
 fn test_forms(tally: &mut Tally) {
-    for &(base, edits, lines) in WRITTEN {
+    for &(base, edits, lines) in WRITTEN.iter().chain(MANY_WRITTEN) {
         let file = files::hand_made(base, edits);
         let written = given_of(&file).map_or(Err(0), |given| given.write(usize::MAX));
         same(tally, written, &form_with(base, lines), &format!("{base:?} {edits:?}"));
@@ -2249,16 +2394,16 @@ fn numbers_of(given: &Given, room: usize) -> (u8, u8) {
 }
 
 fn test_judged(tally: &mut Tally) {
-    for (base, changes, new, written) in [judged_by_hand(), judged_clocks()].concat() {
+    let judged = [judged_by_hand(), judged_clocks(), judged_many()].concat();
+    for (base, changes, new, written) in judged {
         let found = numbers_of(&changed(base, &changes), usize::MAX);
         tally.holds(found == (new, written), || {
             format!("{base:?} {changes:?}: wanted {new} {written}, found {found:?}")
         });
     }
-    for &(base, changes, more, number) in ROOMS {
+    for &(base, changes, more, number) in ROOMS.iter().chain(MANY_ROOMS) {
         let given = changed(base, changes);
-        let needed = given.write(usize::MAX).map_or(form_with(base, &[]).len(), |b| b.len());
-        let found = numbers_of(&given, needed.saturating_add_signed(more));
+        let found = numbers_of(&given, room_case(base, changes, more).room);
         tally.holds(found == (0, number), || format!("{base:?} {changes:?} {more}: {found:?}"));
     }
 }
@@ -2384,7 +2529,8 @@ fn main() {
     let arguments: Vec<String> = std::env::args().skip(1).collect();
     let words: Vec<&str> = arguments.iter().map(String::as_str).collect();
     let usage = "usage: answer | answer-tables | generate SEED COUNT | case SEED NUMBER | cases\n\
-         | check CRATE_DIR | self-test | count | compare SEED COUNT PROGRAM [ARGS..] | any ..";
+         | check CRATE_DIR | self-test | count | compare SEED COUNT PROGRAM [ARGS..] | any ..\n\
+         | hand [case NUMBER | compare PROGRAM [ARGS..]]";
     match words[..] {
         ["answer-tables"] => {
             let mut cases = parse_batch(&files::standard_input());
@@ -2392,6 +2538,7 @@ fn main() {
             files::print(answers(&cases).as_bytes());
         }
         ["self-test"] => self_test(),
+        ["hand", ref rest @ ..] => files::obey_list("hand", &all_hand_cases(), rest, usage),
         ["any", ref rest @ ..] => {
             files::obey(rest, parse_batch, generate_any_case, stored_cases, usage);
         }

@@ -5,13 +5,14 @@
 #   tests/large.sh [SEED]
 #
 # The inputs: a file of 100,000 epochs (accepted), the same with its last epoch a second late (9), a file of 100,001 epochs (7 at line 1, column 33),
-# one of 255 satellites with velocities, 8,000 files laid end to end, one line of 50 MB with and without its LF and with a wrong byte (3, 1, 2 at
+# one of 999 satellites with velocities, 8,000 files laid end to end, one line of 50 MB with and without its LF and with a wrong byte (3, 1, 2 at
 # line 1; column 81, none, 50,000,000), a comment of 50 MB (3 at line 20, column 81), 10 MB of random bytes made by the seed (1 where none is given).
 # Ends with 1 at a difference, and where a file is not judged as said here.
 set -eu
 
 root=$(cd "$(dirname "$0")/.." && pwd -P)
 seed=${1:-1}
+most_satellites=$(sed -n 's/^#define SP3_MOST_SATELLITES //p' "$root/include/sp3.h")
 "$root/tests/compare.sh" build
 made=$root/target/compare
 work=$(mktemp -d)
@@ -57,7 +58,7 @@ compare_input() {
     { echo "2 $bytes $bytes"; cat input; } >batch
     both forms forms
     answered write
-    { echo "8000 1 255 1 $bytes $name"; cat input; } >batch
+    { echo "8000 1 $most_satellites 1 $bytes $name"; cat input; } >batch
     both divide divide
     answered 'divide|begin|refused'
 }
@@ -82,8 +83,8 @@ compare_input "the last of 100,000 epochs a second late" "9 $last 0" 1
 "$made/files" file P 1 100001 >input
 compare_input "100,001 epochs" "7 1 33" 1
 
-"$made/files" file V 255 96 >input
-compare_input "255 satellites with velocities" "0 0 0" 255
+"$made/files" file V "$most_satellites" 24 >input
+compare_input "$most_satellites satellites with velocities" "0 0 0" "$most_satellites"
 
 yes one | head -n 8000 | xargs cat >input
 compare_input "8,000 files laid end to end" "11 $(($(wc -l <one) + 1)) 0" 1

@@ -28,7 +28,7 @@
 //! any other record does: `0 0 EP    55               222`, and `0 0 EP` where
 //! all of them are unknown.
 //!
-//! "The paper" is 01-scope.md as requests 1 to 3 of 02-change-requests.md
+//! "The paper" is 01-scope.md as requests 1 to 3 and 6 of 02-change-requests.md
 //! changed it, "000" is the SP3-d document; the words beside the columns below
 //! are those of its column-by-column description.
 
@@ -516,7 +516,8 @@ enum Record {
 // ---------------------------------------------------------------------------
 
 pub(crate) const SLOTS: usize = 17;
-pub(crate) const MOST_SATELLITES: i64 = 255;
+/// Request 6: "Take 999, as document 000 does": as many as its I3 shows.
+pub(crate) const MOST_SATELLITES: i64 = 999;
 pub(crate) const MOST_EPOCHS: i64 = 100_000;
 /// Of x, y and z, and of a clock or rate below zero: "with magnitude at most
 /// 999,999,999,999".
@@ -1282,7 +1283,7 @@ const SPOILED: &[(u8, usize, &str, u8, usize)] = &[
     (b'c', 2, "+", 4, 0),
     (b'c', 3, "x", 5, 3),
     (b'c', 4, "  x", 6, 4),
-    (b'c', 4, "256", 7, 4),
+    (b'c', 4, "000", 7, 4),
     (b'c', 4, "   ", 6, 4),
     (b'c', 8, "0", 5, 8),
     (b'c', 10, "g01", 6, 10),
@@ -1699,7 +1700,7 @@ pub(crate) const SPELLINGS: &[(&str, &[usize], &[&str])] = &[
         "c",
         &[4],
         &[
-            "  0", "000", "  1", " 16", " 17", "017", " 18", "255", "256", "257", "999", "099",
+            "  0", "000", "  1", " 16", " 17", "017", " 18", "255", "256", "998", "999", "099",
             "17 ", "1 7", " -1", "-01", "   ", "1.0", " x1", "100", "101", "116", "117", "200",
             "x17",
         ],
@@ -1890,7 +1891,7 @@ const OUTSIDE: &[(u8, &[(usize, &str)])] = &[
         b'b',
         &[(9, "604800.00000000"), (25, "    0.00000000"), (46, "1.0000000000000")],
     ),
-    (b'c', &[(4, "256"), (10, "A00"), (31, "B00"), (58, "C00")]),
+    (b'c', &[(4, "000"), (10, "A00"), (31, "B00"), (58, "C00")]),
     (b'd', &[(10, "A00"), (13, "B00"), (34, "C00"), (58, "Z00")]),
     (b'l', &[(12, "31"), (15, "99"), (18, "99"), (21, "99.99999999")]),
     (
@@ -2135,7 +2136,7 @@ fn slot_line(letter: u8, count: usize) -> Case {
 /// Wrong and odd slots among the satellites and after them.
 fn add_slots(cases: &mut Cases) {
     for letter in [b'c', b'd', b'e'] {
-        for count in [0, 1, 2, 16, 17, 18, 34, 255] {
+        for count in [0, 1, 2, 16, 17, 18, 34, 255, 999] {
             let base = slot_line(letter, count);
             cases.add(base.clone());
             let within = count.min(SLOTS);
@@ -2452,16 +2453,47 @@ const BY_HAND: &[(&str, &str)] = &[
     ("m000P", "6 2"),
     ("m000", "4 0"),
     ("m000VG07      0.000000      0.000000      0.000000      0.000000", "4 0"),
-    // Slots: n = 0, above the bound, malformed; after n.
+    // Slots: n = 0, malformed; after n. Up to 999 satellites (request 6).
     ("c000+    0     0  0  0  0  0  0  0  0  0  0  0  0  0  0  0  0  0", "7 4"),
     ("c000+    0   G01  0  0  0  0  0  0  0  0  0  0  0  0  0  0  0  0", "7 4"),
-    ("c000+  256   G01G02G03G04G05G06G07G08G09G10G11G12G13G14G15G16G17", "7 4"),
-    ("c000+  256   G01G02G03G04G05G06G07G08G09G10G11G12G13G14G15G16  0", "6 58"),
-    ("c000+  256   G00G02G03G04G05G06G07G08G09G10G11G12G13G14G15G16G17", "7 4"),
+    ("c000+  000   G07  0  0  0  0  0  0  0  0  0  0  0  0  0  0  0  0", "7 4"),
     (
         "c000+  255   G01G02G03G04G05G06G07G08G09G10G11G12G13G14G15G16G17",
         "0 0 +  255   G01G02G03G04G05G06G07G08G09G10G11G12G13G14G15G16G17",
     ),
+    (
+        "c000+  256   G01G02G03G04G05G06G07G08G09G10G11G12G13G14G15G16G17",
+        "0 0 +  256   G01G02G03G04G05G06G07G08G09G10G11G12G13G14G15G16G17",
+    ),
+    ("c000+  256   G01G02G03G04G05G06G07G08G09G10G11G12G13G14G15G16  0", "6 58"),
+    ("c000+  256   G00G02G03G04G05G06G07G08G09G10G11G12G13G14G15G16G17", "7 10"),
+    (
+        "c000+  999   G01G02G03G04G05G06G07G08G09G10G11G12G13G14G15G16G17",
+        "0 0 +  999   G01G02G03G04G05G06G07G08G09G10G11G12G13G14G15G16G17",
+    ),
+    ("c000+  999   G07  0  0  0  0  0  0  0  0  0  0  0  0  0  0  0  0", "6 13"),
+    // "1,000 can't be written in the field"
+    ("c000+  1000  G01G02G03G04G05G06G07G08G09G10G11G12G13G14G15G16G17", "5 7"),
+    ("c000+ 1000   G01G02G03G04G05G06G07G08G09G10G11G12G13G14G15G16G17", "5 3"),
+    ("c000+ 1000   G07  0  0  0  0  0  0  0  0  0  0  0  0  0  0  0  0", "5 3"),
+    ("c000+ 1256   G01G02G03G04G05G06G07G08G09G10G11G12G13G14G15G16G17", "5 3"),
+    // The second and the last line of 999.
+    (
+        "d982+        G18G19G20G21G22G23G24G25G26G27G28G29G30G31G32G33G34",
+        "0 0 +        G18G19G20G21G22G23G24G25G26G27G28G29G30G31G32G33G34",
+    ),
+    ("d982+        G18G19G20G21G22G23G24G25G26G27G28G29G30G31G32G33  0", "6 58"),
+    (
+        "d013+        M96M97M98M99Z01Z02Z03Z04Z05Z06Z07Z08Z09  0  0  0  0",
+        "0 0 +        M96M97M98M99Z01Z02Z03Z04Z05Z06Z07Z08Z09  0  0  0  0",
+    ),
+    ("d013+        M96M97M98M99Z01Z02Z03Z04Z05Z06Z07Z08Z09Z10  0  0  0", "8 0"),
+    ("d013+        M96M97M98M99Z01Z02Z03Z04Z05Z06Z07Z08  0  0  0  0  0", "6 46"),
+    (
+        "e013++       902909916923930937944951958965972979986  0  0  0  0",
+        "0 0 ++       902909916923930937944951958965972979986  0  0  0  0",
+    ),
+    ("e013++       902909916923930937944951958965972979986993  0  0  0", "8 0"),
     ("c000+    x    xxxxx", "6 4"),
     ("c000+    x x  xxxxx", "5 8"),
     ("c000+    2   G01  0  0  0  0  0  0  0  0  0  0  0  0  0  0  0  0", "6 13"),

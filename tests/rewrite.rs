@@ -16,8 +16,8 @@
 //!
 //! 13 is no answer of `rewrite`: what was read from a file is a valid table.
 //!
-//! "The paper" is 01-scope.md as requests 1 to 3 of 02-change-requests.md changed
-//! it.
+//! "The paper" is 01-scope.md as requests 1 to 3 and 6 of 02-change-requests.md
+//! changed it.
 
 #[allow(dead_code)]
 #[path = "forms.rs"]
@@ -25,7 +25,7 @@ mod forms;
 
 use forms::files;
 use forms::files::lines::{fail, Tally};
-use forms::files::{Base, Draft, Edit, BARE, NOTE};
+use forms::files::{Base, Draft, Edit, BARE, MOST_SATELLITES, NOTE};
 use std::collections::BTreeMap;
 use std::path::Path;
 use std::process::exit;
@@ -74,7 +74,8 @@ fn printed(input: &[u8]) -> Vec<u8> {
 // Inputs that are stored
 // ---------------------------------------------------------------------------
 
-use Base::{Many, Motion, MovingNotes, Night, Nothing, Paper, Talkative};
+use Base::Talkative;
+use Base::{Many, ManyBackwards, ManyOverLetters, Motion, MovingNotes, Night, Nothing, Paper};
 use Edit::{
     After, AfterItself, Byte, CarriageReturns, Double, Drop, Insert, Join, Keep, Line as Whole,
     Put, Swap,
@@ -313,6 +314,9 @@ const REFUSED: &[(&str, Base, Edits, u8, usize, usize)] = &[
     ("04-sp3-c", Paper, &[Put(1, 2, "c")], 4, 1, 0),
     ("04-slots-too-few", Paper, &[Drop(7)], 4, 7, 0),
     ("04-slots-too-many", Paper, &[Double(7)], 4, 8, 0),
+    ("04-256-satellites-in-15-lines", Many(256), &[Drop(18), Keep(40)], 4, 18, 0),
+    ("04-999-satellites-in-58-lines", Many(999), &[Drop(61), Keep(64)], 4, 61, 0),
+    ("04-999-satellites-in-60-lines", Many(999), &[Insert(62, "+"), Keep(64)], 4, 62, 0),
     ("04-capital-c", Paper, &[Put(13, 2, "C")], 4, 13, 0),
     ("04-eof-too-early", Paper, &[Put(1, 39, "2")], 4, 25, 0),
     ("04-epoch-too-many", Paper, &[Insert(25, "*  2013  4  3  0 15  0.00000000")], 4, 25, 0),
@@ -322,6 +326,8 @@ const REFUSED: &[(&str, Base, Edits, u8, usize, usize)] = &[
     ("04-ep-after-v", Motion, &[Swap(25, 26)], 4, 26, 0),
     ("04-mode-v-without-v", Motion, &[Drop(26)], 4, 26, 0),
     ("05-unused-column", Paper, &[Put(1, 32, "x")], 5, 1, 32),
+    ("05-1000-satellites", Many(999), &[Put(3, 4, "1000"), Keep(64)], 5, 3, 7),
+    ("05-1000-satellites-from-column-3", Many(999), &[Put(3, 3, "1000"), Keep(64)], 5, 3, 3),
     ("05-placeholder-of-letters", Paper, &[Put(14, 4, "G ")], 5, 14, 4),
     ("05-placeholder-at-56", Paper, &[Put(14, 58, "x")], 5, 14, 56),
     ("05-leftmost", Paper, &[Put(24, 70, "x"), Put(24, 61, "x")], 5, 24, 61),
@@ -374,7 +380,9 @@ const REFUSED: &[(&str, Base, Edits, u8, usize, usize)] = &[
     ("06-small-e", Paper, &[Put(24, 75, "e")], 6, 24, 75),
     ("06-day", Paper, &[Put(1, 12, "3 ")], 6, 1, 4),
     ("06-hour-before-7", Paper, &[Put(23, 9, "13"), Put(23, 15, "2x")], 6, 23, 15),
-    ("06-slot-before-7", Many(256), &[Put(3, 13, "G 2"), Keep(40)], 6, 3, 13),
+    ("06-slot-before-7", Many(256), &[Put(3, 10, "G00G 2"), Keep(40)], 6, 3, 13),
+    ("06-999-of-one-satellite", Paper, &[Put(3, 4, "999")], 6, 3, 13),
+    ("06-999-of-998-satellites", Many(998), &[Put(3, 4, "999"), Keep(64)], 6, 61, 46),
     ("06-identifier-in-a-row", Paper, &[Put(24, 2, "G 7")], 6, 24, 2),
     ("06-file-type-of-two", Paper, &[Put(13, 4, "Gx")], 6, 13, 4),
     ("06-identifier", Paper, &[Put(3, 10, "G 7")], 6, 3, 10),
@@ -390,8 +398,8 @@ const REFUSED: &[(&str, Base, Edits, u8, usize, usize)] = &[
     ("07-ep-99999999", Paper, &[BARE, Put(25, 28, "99999999")], 7, 25, 28),
     ("07-ep-10000000", Paper, &[BARE, Put(25, 28, "10000000")], 7, 25, 28),
     ("07-ev-10000000", Motion, &[Put(27, 73, "10000000")], 7, 27, 73),
-    ("07-256-satellites", Many(256), &[Keep(40)], 7, 3, 4),
     ("07-no-satellite", Paper, &[Put(3, 4, "  0")], 7, 3, 4),
+    ("07-000-satellites", Many(999), &[Put(3, 4, "000"), Keep(64)], 7, 3, 4),
     ("07-100001-epochs", Paper, &[Put(1, 33, " 100001")], 7, 1, 33),
     ("07-2001-02-29", Paper, &[Put(1, 4, "2001  2 29")], 7, 1, 4),
     ("07-month-and-hour", Paper, &[Put(23, 9, "13"), Put(23, 15, "24")], 7, 23, 4),
@@ -421,7 +429,11 @@ const REFUSED: &[(&str, Base, Edits, u8, usize, usize)] = &[
     ("08-slot-after-n", Paper, &[Put(3, 13, "G08")], 8, 3, 0),
     ("08-exponent-after-n", Paper, &[Put(8, 13, "000")], 8, 8, 0),
     ("08-identifier-repeats", Night, &[Put(3, 13, "G07")], 8, 3, 0),
+    ("08-999th-is-the-first", Many(999), &[Put(61, 46, "G01"), Keep(64)], 8, 61, 0),
+    ("08-459th-is-the-458th", Many(999), &[Put(30, 10, "J63"), Keep(64)], 8, 30, 0),
+    ("08-1000th-slot", Many(999), &[Put(61, 49, "Z10"), Keep(64)], 8, 61, 0),
     ("08-file-type", Paper, &[Put(13, 4, "R ")], 8, 13, 0),
+    ("08-file-type-of-100", Many(100), &[Put(15, 4, "G "), Keep(20)], 8, 15, 0),
     ("09-wrong-instant", Paper, &[Put(23, 15, " 0 15")], 9, 23, 0),
     ("09-late-after-midnight", Night, &[Put(26, 18, "15"), Put(29, 18, "30")], 9, 26, 0),
     ("10-another-satellite", Paper, &[Put(24, 2, "G08")], 10, 24, 0),
@@ -471,15 +483,26 @@ fn filled_to(bytes: usize, mut draft: Draft) -> Vec<u8> {
     draft.bytes()
 }
 
-/// The most rows that a file of at most 65,536 bytes has whose rows have so many:
-/// line 1 has at least 40 bytes, other lines before the comments 61, a comment 3,
-/// an epoch line 32 and EOF 4.
+/// The bytes of a file beside its epochs, at least: line 1 has at least 40 bytes, other
+/// lines before the comments 61, a comment 3 and EOF 4.
+fn bytes_beside_epochs(satellites: usize) -> usize {
+    40 + 61 * (2 * files::satellite_lines(satellites) + 7) + 4 * 3 + 4
+}
+
+/// The most rows that a file of at most 65,536 bytes has whose rows have so many; an
+/// epoch line has 32.
 fn most_rows(row: usize) -> Option<usize> {
     let rows = |n: usize, modes: usize| {
-        let others = 40 + 61 * (2 * files::satellite_lines(n) + 7) + 4 * 3 + 4;
-        n * modes * ((MOST_BYTES - others) / (32 + row * n * modes))
+        let epochs = MOST_BYTES.saturating_sub(bytes_beside_epochs(n)) / (32 + row * n * modes);
+        n * modes * epochs
     };
-    (1..=255).flat_map(|n| [rows(n, 1), rows(n, 2)]).max()
+    (1..=MOST_SATELLITES).flat_map(|n| [rows(n, 1), rows(n, 2)]).max()
+}
+
+/// The most satellites that such a file has.
+fn most_satellites(row: usize) -> Option<usize> {
+    let fits = |&n: &usize| bytes_beside_epochs(n) + 32 + row * n <= MOST_BYTES;
+    (1..=MOST_SATELLITES).rev().find(fits)
 }
 
 /// The one epoch of a draft so many times, a minute apart on the paper's day; in
@@ -616,6 +639,53 @@ fn bare_rows() -> Vec<Case> {
     ]
 }
 
+/// A file of so many satellites of which no clock is known: with the comments and texts
+/// of the paper's file it has 61 * (2 * lines + 8) + 56 bytes and 61 for each row.
+fn without_clocks(base: Base) -> Vec<u8> {
+    let mut draft = files::base_file(base);
+    for row in draft.0.iter_mut().filter(|line| is_row(line)) {
+        row.splice(46.., *b" 999999.999999\n");
+    }
+    draft.bytes()
+}
+
+/// Request 6. 65,536 bytes hold 952 satellites whose rows have 61 bytes: 56 lines of
+/// each kind and 952 rows make 65,448 with the paper's texts, and 953 need 57 lines.
+/// Where every row ends in column 54 they hold 999, in 61 * 126 + 56 + 55 * 999 bytes;
+/// the form of more than 952 is too long.
+fn many_satellites() -> Vec<Case> {
+    let many = |n| files::base_file(Many(n)).bytes();
+    let bare = |n| cut_rows(&without_clocks(Many(n)));
+    let filled = |bytes| filled_to(bytes, files::base_file(Many(952)));
+    let mut other_row = bare(999);
+    // before the last row's LF and `EOF`: `Z09` and 50 columns more
+    let name = other_row.len() - "EOF\n".len() - 54;
+    other_row[name..name + 3].copy_from_slice(b"Z10");
+    vec![
+        same_form("255-satellites", many(255)),
+        same_form("256-satellites", many(256)),
+        same_form("272-satellites", many(272)),
+        same_form("273-satellites", many(273)),
+        same_form("952-satellites-backwards", files::base_file(ManyBackwards(952)).bytes()),
+        same_form("952-satellites-over-letters", files::base_file(ManyOverLetters(952)).bytes()),
+        same_form("65448-bytes-of-952-satellites", many(952)),
+        same_form("65536-bytes-of-952-satellites", filled(MOST_BYTES)),
+        Case::new("65537-bytes-of-952-satellites", filled(MOST_BYTES + 1), too_long()),
+        Case::new("65631-bytes-of-953-satellites", many(953), too_long()),
+        Case::new("68681-bytes-of-999-satellites", many(999), too_long()),
+        Case::new("59736-bytes-of-952-satellites", bare(952), without_clocks(Many(952))),
+        Case::new("59913-bytes-of-953-satellites", bare(953), refused(12, 0, 0)),
+        Case::new("62687-bytes-of-999-satellites", bare(999), refused(12, 0, 0)),
+        Case::new("62686-bytes-no-last-lf", cut(bare(999)), refused(1, 1131, 0)),
+        Case::new("62687-bytes-last-row-of-z10", other_row, refused(10, 1130, 0)),
+        Case::new(
+            "62688-bytes-one-past-eof",
+            [bare(999), b"x".to_vec()].concat(),
+            refused(11, 1132, 0),
+        ),
+    ]
+}
+
 /// Every P row of a draft with this EP after it.
 fn with_notes(draft: &Draft, note: &str) -> Draft {
     let with_note = |line: &Vec<u8>| match line[0] {
@@ -673,8 +743,6 @@ fn large() -> Vec<Case> {
         Case::new("21444-comments", many_comments.bytes(), refused(12, 0, 0)),
         same_form("85-satellites", files::base_file(Many(85)).bytes()),
         same_form("86-satellites", files::base_file(Many(86)).bytes()),
-        same_form("255-satellites", files::base_file(Many(255)).bytes()),
-        Case::new("256-satellites", files::base_file(Many(256)).bytes(), refused(7, 3, 4)),
         same_form("65535-bytes", paper(MOST_BYTES - 1)),
         same_form("65536-bytes", paper(MOST_BYTES)),
         same_form("65536-bytes-of-1050-rows", rows.clone()),
@@ -698,7 +766,7 @@ fn large() -> Vec<Case> {
         Case::new("65537-lf", b"\n".repeat(MOST_BYTES + 1), too_long()),
         Case::new("1000000-bytes-zero", vec![0; 1_000_000], too_long()),
     ];
-    [others, bare_cases(), bare_faults(), bare_at_the_bound(), bare_rows()]
+    [others, many_satellites(), bare_cases(), bare_faults(), bare_at_the_bound(), bare_rows()]
         .into_iter()
         .flatten()
         .collect()
@@ -788,7 +856,7 @@ fn number_in(text: &[u8]) -> Option<u8> {
 }
 
 /// The sizes that were worked out: of the files with bare clocks and of their forms,
-/// and of the most rows that a file and a form have.
+/// and of the most rows and satellites that a file and a form have.
 fn test_sizes(tally: &mut Tally) {
     for &(name, mode, epochs, comment, file, form) in BARE_CLOCKS {
         let made = bare_form(mode, epochs, comment);
@@ -799,6 +867,10 @@ fn test_sizes(tally: &mut Tally) {
         let file = many_rows(satellites, epochs).bytes();
         let rows = files::judge(&file).map_or(0, |(table, _)| table.rows.len());
         tally.holds(most_rows(row) == Some(wanted) && rows == wanted, || format!("{rows} rows"));
+    }
+    for (row, wanted) in [(61, 952), (55, 999)] {
+        let found = most_satellites(row);
+        tally.holds(found == Some(wanted), || format!("{found:?} satellites"));
     }
 }
 

@@ -1,6 +1,6 @@
 #!/bin/sh
 # Runs the program of crates/rewrite on the inputs of tests/rewrite, on large ones that are made by rule (800 and 801 comments, 65,536 and 65,537
-# bytes, of the file and of its form, 255 and 256 satellites, as many rows as there can be, ..) and on generated ones, and compares what it prints,
+# bytes, of the file and of its form, 952 and 999 satellites, as many rows as there can be, ..) and on generated ones, and compares what it prints,
 # byte for byte, with what tests/rewrite.rs says:
 #
 #   tests/rewrite.sh [SEED [COUNT]]

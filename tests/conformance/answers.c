@@ -14,7 +14,7 @@
 #include <stdlib.h>
 #include <string.h>
 
-enum { MOST_SATELLITES = 255, LONGEST_PATH = 4096 };
+enum { LONGEST_PATH = 4096 };
 
 static void stop(const char *what, const char *which)
 {
@@ -58,10 +58,10 @@ stretch_t load(const char *path)
 /* Whether the line reader finds the same refusal at the same line and column; bytes after EOF are none of its concern. */
 static bool same_by_lines(stretch_t file, sp3_reading_t judged)
 {
-    uint64_t identifiers[MOST_SATELLITES] = {0};
+    uint64_t identifiers[SP3_MOST_SATELLITES] = {0};
     sp3_spot_t spot = sp3_first_spot();
     for (uint64_t line = 1;; line++) {
-        sp3_line_answer_t answer = sp3_read_line(file.bytes, file.length, spot, identifiers, MOST_SATELLITES);
+        sp3_line_answer_t answer = sp3_read_line(file.bytes, file.length, spot, identifiers, SP3_MOST_SATELLITES);
         if (answer.finished)
             return judged.refusal == 11 && judged.line == line + 1 && judged.column == 0;
         if (answer.refusal != 0)

@@ -1,9 +1,9 @@
 # Grows samples/paper.sp3 (25 lines, one satellite, one epoch): a file in its canonical form by other numbers, written from the paper. Settings, each
 # of which may be left out: n, epochs, interval (s), mode, comments, date (YYYY-MM-DD), mjd, second, notes. Epochs stay within the month of the start.
 
-# the identifier of satellite i, from 1 on: G01 to G99, R01 to R99, E01 and so on
+# the identifier of satellite i, from 1 on: G01 to G99, R01 to R99, E01 and so on; eleven letters for 999
 function name(i) {
-    return n == "" ? "G07" : sprintf("%s%02d", substr("GRE", int((i - 1) / 99) + 1, 1), (i - 1) % 99 + 1)
+    return n == "" ? "G07" : sprintf("%s%02d", substr("GRECJISLAMZ", int((i - 1) / 99) + 1, 1), (i - 1) % 99 + 1)
 }
 
 # the slots of line l, from 0 on, 17 to a line: identifiers, or `  0` for accuracies and after the last satellite

@@ -5,9 +5,6 @@
 
 #include "doors.h"
 
-/* So much room for identifiers is never too small. */
-enum { MOST_SATELLITES = 255 };
-
 /* The identifiers of a header, or others instead of them. */
 typedef struct {
     const uint64_t *list;
@@ -91,34 +88,34 @@ static size_t line_count(bytes_t bytes) {
 
 /* The spot after so many lines, with a list of the walker's own. */
 static void after_out(bytes_t file, size_t lines) {
-    uint64_t *identifiers = lent_numbers(MOST_SATELLITES, NUMBER_MARK);
-    spot_out("spot", lines, sp3_after_lines(file.bytes, file.length, identifiers, MOST_SATELLITES, sp3_first_spot(), lines));
+    uint64_t *identifiers = lent_numbers(SP3_MOST_SATELLITES, NUMBER_MARK);
+    spot_out("spot", lines, sp3_after_lines(file.bytes, file.length, identifiers, SP3_MOST_SATELLITES, sp3_first_spot(), lines));
 }
 
 /* The spots after half of the lines and after the others, with the same list; gives it. */
 static const uint64_t *halves_out(bytes_t file, size_t all) {
-    uint64_t *identifiers = lent_numbers(MOST_SATELLITES, NUMBER_MARK);
-    sp3_spot_t half = sp3_after_lines(file.bytes, file.length, identifiers, MOST_SATELLITES, sp3_first_spot(), all / 2);
+    uint64_t *identifiers = lent_numbers(SP3_MOST_SATELLITES, NUMBER_MARK);
+    sp3_spot_t half = sp3_after_lines(file.bytes, file.length, identifiers, SP3_MOST_SATELLITES, sp3_first_spot(), all / 2);
     spot_out("spot", all / 2, half);
-    spot_out("then", all, sp3_after_lines(file.bytes, file.length, identifiers, MOST_SATELLITES, half, all - all / 2));
+    spot_out("then", all, sp3_after_lines(file.bytes, file.length, identifiers, SP3_MOST_SATELLITES, half, all - all / 2));
     return identifiers;
 }
 
 /* A walk that is refused stays before the line that the file at the front is refused at. */
 static void check_stays(bytes_t file, sp3_spot_t last) {
-    uint64_t *identifiers = lent_numbers(MOST_SATELLITES, NUMBER_MARK);
+    uint64_t *identifiers = lent_numbers(SP3_MOST_SATELLITES, NUMBER_MARK);
     sp3_reading_t front = sp3_judge_front(file.bytes, file.length);
     if (front.refusal == 0) return;
-    sp3_spot_t before = sp3_after_lines(file.bytes, file.length, identifiers, MOST_SATELLITES, sp3_first_spot(), front.line - 1);
+    sp3_spot_t before = sp3_after_lines(file.bytes, file.length, identifiers, SP3_MOST_SATELLITES, sp3_first_spot(), front.line - 1);
     check(same_spot(before, last), "the spot before a line that is refused");
 }
 
 /* The spot after so many lines, more than there are, and what must stand there: with the identifiers that the lines brought, and with those given. */
 static void last_out(bytes_t file, size_t lines, identifiers_t given) {
-    uint64_t *identifiers = lent_numbers(MOST_SATELLITES, NUMBER_MARK);
-    sp3_spot_t last = sp3_after_lines(file.bytes, file.length, identifiers, MOST_SATELLITES, sp3_first_spot(), lines);
+    uint64_t *identifiers = lent_numbers(SP3_MOST_SATELLITES, NUMBER_MARK);
+    sp3_spot_t last = sp3_after_lines(file.bytes, file.length, identifiers, SP3_MOST_SATELLITES, sp3_first_spot(), lines);
     spot_out("spot", lines, last);
-    due_out("due", file, identifiers, MOST_SATELLITES, last);
+    due_out("due", file, identifiers, SP3_MOST_SATELLITES, last);
     due_out("given", file, given.list, given.count, last);
     check_stays(file, last);
 }

@@ -127,6 +127,12 @@ static void file_out(bytes_t file, lists_t lists, size_t room) {
     if (reading.refusal == 0) write_out(reading.header, lists, room);
 }
 
+/* Lists with the room that the format says: for a satellite more than there can be, for 1,000 rows. */
+static lists_t roomy_lists(void) {
+    const size_t identifiers = SP3_MOST_SATELLITES + 1, rows = 1000 * SP3_ROW_WIDTH, comments = 8000;
+    return lent_lists(identifiers, identifiers, comments, rows);
+}
+
 /* Lists with just the room that a file needs. */
 static lists_t needed_lists(bytes_t file) {
     sp3_header_t header = sp3_judge(file.bytes, file.length).header;
@@ -170,5 +176,5 @@ void forms_case(bytes_t *batch) {
         return;
     }
     bytes_t file = shown_bytes(bytes);
-    file_out(file, kind == 0 ? lent_lists(300, 300, 8000, 8000) : needed_lists(file), room);
+    file_out(file, kind == 0 ? roomy_lists() : needed_lists(file), room);
 }

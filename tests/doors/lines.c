@@ -137,8 +137,8 @@ static void check_walk(bytes_t file, size_t lines, sp3_spot_t spot, const uint64
     check(same_spot(at, spot) && same_identifiers(twice, identifiers, room), "lines walked in two parts and read");
 }
 
-/* Whether the walk over so many lines is held to the lines read one by one: the header's, and some of the others. */
-static bool is_walked(uint64_t lines) { return lines <= 25 || lines % 50 == 0; }
+/* Whether the walk over so many lines is held to the lines read one by one: the first ones, all `+ ` lines among them, and some of the others. */
+static bool is_walked(uint64_t lines) { return lines <= 62 || lines % 50 == 0; }
 
 static void identifiers_out(const uint64_t *identifiers, size_t count) {
     fputs("identifiers", stdout);
@@ -169,7 +169,7 @@ void lines_shown(bytes_t file, size_t room) {
     uint64_t k = each_line(file, identifiers, room, &last);
     identifiers_out(identifiers, room);
     check_known(file, identifiers, room);
-    if (room >= 255) check_judged(file, k, last);
+    if (room >= SP3_MOST_SATELLITES) check_judged(file, k, last);
     check_no_line(file, file.length, identifiers, room);
     check_no_line(file, SIZE_MAX, identifiers, room);
 }

@@ -97,8 +97,8 @@ fn case(input: &[u8], at: usize) -> usize
     let room = number(input, at);
     let mut front = [0u64; 4];
     let second = numbers(input, room.next, &mut front);
-    let mut identifiers = [0u64; 300];
-    let n = at_most(front[2], 300);
+    let mut identifiers = [0u64; 1000];
+    let n = at_most(front[2], 1000);
     named(input, room.value, &front, second, &mut identifiers[0..n])
 }
 
@@ -116,8 +116,8 @@ fn taken(room: &mut [u8]) {
     batch(&room[..n]);
 }
 
-// Standard input, of at most 700,000 bytes.
+// Standard input, of at most 800,000 bytes.
 pub(crate) fn all() {
-    let mut room = [0u8; 700_000];
+    let mut room = [0u8; 800_000];
     taken(&mut room);
 }

@@ -253,11 +253,11 @@ fn into<'a>(file: &'a [u8], identifiers: &mut [u64], given: &'a [u64]) {
     spots(file, given);
 }
 
-// A file walked with room for `size` identifiers, 300 at most.
+// A file walked with room for `size` identifiers, 1,000 at most.
 pub(crate) fn shown<'a>(file: &'a [u8], size: u64, given: &'a [u64]) {
-    let mut identifiers = [lent::MARK; 300];
-    let n = at_most(size, 300);
+    let mut identifiers = [lent::MARK; 1000];
+    let n = at_most(size, 1000);
     into(file, &mut identifiers[0..n], given);
-    let mut identifiers = [lent::MARK; 300];
+    let mut identifiers = [lent::MARK; 1000];
     short(file, &mut identifiers[0..n]);
 }

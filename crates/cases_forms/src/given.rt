@@ -48,14 +48,14 @@ fn body(h: Header, text: &[u8], at: usize, lengths: &[u64], size: u64)
     requires { ⌜ at ≤ length (now text) ⌝ }
     requires { ⌜ length (now lengths) ≡ 4 ⌝ }
 {
-    let mut identifiers = [0u64; 300];
-    let mut exponents = [0u64; 300];
+    let mut identifiers = [0u64; 1000];
+    let mut exponents = [0u64; 1000];
     let mut comments = [b' '; 8000];
-    let mut rows = [0i64; 8000];
-    let i = at_most(lengths[0], 300);
-    let x = at_most(lengths[1], 300);
+    let mut rows = [0i64; 23_000];
+    let i = at_most(lengths[0], 1000);
+    let x = at_most(lengths[1], 1000);
     let c = at_most(lengths[2], 8000);
-    let r = at_most(lengths[3], 8000);
+    let r = at_most(lengths[3], 23_000);
     lists(
         h,
         text,

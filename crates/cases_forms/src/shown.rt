@@ -41,7 +41,7 @@ fn into(
     left(answer.length, room);
 }
 
-// A table written into a room of `size` bytes, 60,000 at most.
+// A table written into a room of `size` bytes, 75,000 at most.
 pub(crate) fn table(
     h: Header,
     identifiers: &[u64],
@@ -50,7 +50,7 @@ pub(crate) fn table(
     rows: &[i64],
     size: u64,
 ) {
-    let mut room = [7u8; 60_000];
+    let mut room = [7u8; 75_000];
     let n = at_most(size, room.len());
     into(h, identifiers, exponents, comments, rows, &mut room[0..n]);
 }
@@ -94,10 +94,10 @@ fn read(
 
 // A file read into lists of marks.
 pub(crate) fn file(bytes: &[u8], size: u64) {
-    let mut identifiers = [7777u64; 300];
-    let mut exponents = [7777u64; 300];
+    let mut identifiers = [7777u64; 1000];
+    let mut exponents = [7777u64; 1000];
     let mut comments = [b'#'; 8000];
-    let mut rows = [-7i64; 8000];
+    let mut rows = [-7i64; 23_000];
     read(
         bytes,
         &mut identifiers,

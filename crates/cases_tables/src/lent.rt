@@ -135,10 +135,10 @@ fn into_parts(
 
 // A reading into lists that hold marks alone.
 pub(crate) fn read(case: Case, file: &[u8], front: bool) {
-    let mut identifiers = [7777u64; 300];
-    let mut exponents = [7777u64; 300];
+    let mut identifiers = [7777u64; 1000];
+    let mut exponents = [7777u64; 1000];
     let mut comments = [b'#'; 8000];
-    let mut rows = [-7i64; 8000];
+    let mut rows = [-7i64; 23_000];
     into_parts(
         case,
         file,
