@@ -7,6 +7,8 @@
 # most is the number of satellites that a file has at most.
 # Instructions are counted, not timed: on x86-64 by valgrind (callgrind), on another processor by Debian's qemu-user with the plugin insns.c. Both
 # count the same; COUNTER=qemu takes the second on x86-64 too. What is missing is installed where apt-get can do so.
+# The C library fills a long stretch by one repeated instruction, which both count once a byte: it is told to fill by vector stores.
+export GLIBC_TUNABLES=glibc.cpu.x86_rep_stosb_threshold=1000000000
 bench=$(cd "$(dirname "$0")" && pwd -P)
 root=$(dirname "$bench")
 most=$(sed -n 's/^#define SP3_MOST_SATELLITES //p' "$root/include/sp3.h")

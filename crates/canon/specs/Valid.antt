@@ -19,6 +19,7 @@ use Rattle.header.specs.Letters.{fileTypes, timeSystems}
 use Rattle.record.specs.Absence.{largestExponent}
 use Rattle.record.specs.Agrees.{repeats, typeAgrees}
 use Rattle.record.specs.Plain.{commentWidth}
+use Rattle.record.specs.SlotLines.{maxAccuracy}
 use Rattle.record.specs.Rows.{bareWidth, rowWidth}
 use Rattle.record.specs.Notes.{largestDeviation, largestCorrelation}
 use Rattle.header.specs.declared.types.Rules.{Rules}
@@ -70,9 +71,9 @@ listsLong h i x c r =
 unfoldable pub identifiersValid : ℕ → List ℕ → Bool
 identifiersValid fileType identifiers = every isIdentifier identifiers && (not (repeats [] identifiers) && typeAgrees fileType identifiers)
 
--- exponents of the header, 0 to 999
+-- exponents of the header, within their bound
 unfoldable pub exponentsValid : List ℕ → Bool
-exponentsValid exponents = every (λ n. leb n 999) exponents
+exponentsValid exponents = every (λ n. leb n maxAccuracy) exponents
 
 -- the columns that the text of a comment may have in the version, from column 4 on
 abbrev pub commentColumns : Rules → ℕ

@@ -13,6 +13,7 @@ use crate::types::Spent;
 use header::Rules;
 use laws::within;
 use record::plain::COMMENT_WIDTH;
+use record::slots::MAX_ACCURACY;
 
 // Whether a number is an identifier: 7107 is G07, 7100 is none.
 fn is_identifier(code: u64) -> bool
@@ -45,14 +46,14 @@ pub(crate) fn identifiers_valid(file_type: u8, identifiers: &[u64]) -> bool
     different & machine::type_agrees(file_type, identifiers)
 }
 
-// Whether every exponent is 0 to 999.
+// Whether every exponent of a header is within its bound.
 pub(crate) fn exponents_valid(exponents: &[u64]) -> bool
     ensures { λ r. ⌜ r ≡ exponentsValid (now (exponents .entry)) ⌝ }
 {
     let mut all = true;
     let mut i = 0;
     while i < exponents.len() {
-        all = all & (exponents[i] <= 999);
+        all = all & (exponents[i] <= MAX_ACCURACY);
         i += 1;
     }
     all

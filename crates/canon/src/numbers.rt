@@ -17,6 +17,8 @@ use crate::types::Spent;
 use field::sign::LARGEST;
 use field::sign::LARGEST_CLOCK;
 use field::sign::magnitude_of;
+use record::absence::LARGEST_CLOCK_EXPONENT;
+use record::absence::LARGEST_EXPONENT;
 use record::rows::BARE_WIDTH;
 use record::rows::BOTH_WIDTH;
 use record::rows::ROW_WIDTH;
@@ -97,8 +99,10 @@ fn exponents_valid(row: &[i64]) -> bool
     requires { ⌜ length (now row) ≡ rowWidth ⌝ }
     ensures { λ r. ⌜ r ≡ fourValid (exponentValid false) (exponentValid true) 4 (now (row .entry)) ⌝ }
 {
-    (known_valid(row, 4, 99, UNKNOWN) & known_valid(row, 5, 99, UNKNOWN))
-        & (known_valid(row, 6, 99, UNKNOWN) & known_valid(row, 7, 999, UNKNOWN))
+    (known_valid(row, 4, LARGEST_EXPONENT, UNKNOWN)
+        & known_valid(row, 5, LARGEST_EXPONENT, UNKNOWN))
+        & (known_valid(row, 6, LARGEST_EXPONENT, UNKNOWN)
+            & known_valid(row, 7, LARGEST_CLOCK_EXPONENT, UNKNOWN))
 }
 
 // Whether the four after them are flags.

@@ -1,6 +1,6 @@
 -- The rules of a version as one record, which what is defined over a version takes as an argument. The base has one value, `d`.
--- 01, "Bounds: .. at most 100,000 epochs, at least one of each"; 02, request 6: "Take 999, as document 000 does"; "Records in order": "Four or more comments"; "Lines":
--- "It has at most 80 characters".
+-- 01, "Bounds: .. at most 100,000 epochs, at least one of each"; 02, Ask 6: "Take 999, as document 000 does"; 01, "Records in order": "Four or
+-- more comments"; "Lines": "It has at most 80 characters".
 use Prim.Native.Nat.{ℕ, _+_, _/_, max}
 use Rattle.header.specs.declared.types.Rules.{Rules}
 

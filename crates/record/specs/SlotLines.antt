@@ -12,9 +12,13 @@ use Rattle.header.specs.declared.types.Rules.{Rules}
 use Rattle.record.specs.declared.types.Satellites.{Satellites}
 use Rattle.record.specs.declared.types.Slots.{Slots}
 
+-- the largest accuracy exponent of a header: three columns hold no more
+abbrev pub maxAccuracy : ℕ
+maxAccuracy = 999
+
 -- a slot of a satellite: its accuracy exponent, I3, or its identifier, A1,I2.2
 abbrev pub slotKind : Bool → Kind
-slotKind true = whole 0 999
+slotKind true = whole 0 maxAccuracy
 slotKind false = identifier
 
 -- columns 10 to 60: 17 slots, of which the first `left` are of satellites

@@ -3,6 +3,11 @@ ghost use mathlib.Core.Path.{_≡_};
 ghost use Rattle.record.specs.Absence.{placeAbsent, clockAbsent, isUnknown, isTooLarge};
 use crate::rows::UNKNOWN;
 
+// The largest exponents of a row, of x, y and z and of the clock: the deviation is too large for them.
+pub const LARGEST_EXPONENT: u64 = 99;
+
+pub const LARGEST_CLOCK_EXPONENT: u64 = 999;
+
 // Whether a place or velocity of these magnitudes is absent: all three are zero. z alone zero is a place.
 pub fn place_absent(x: u64, y: u64, z: u64) -> bool
     ensures result { λ r. ⌜ r ≡ placeAbsent x y z ⌝ }
@@ -24,13 +29,13 @@ pub fn is_unknown(exponent: u64) -> bool
     exponent == UNKNOWN
 }
 
-// Whether a deviation is too large for its exponent: 99, or 999 of the clock.
+// Whether a deviation is too large for its exponent.
 pub fn is_too_large(clock: bool, exponent: u64) -> bool
     ensures result { λ r. ⌜ r ≡ isTooLarge clock exponent ⌝ }
 {
     if clock {
-        exponent == 999
+        exponent == LARGEST_CLOCK_EXPONENT
     } else {
-        exponent == 99
+        exponent == LARGEST_EXPONENT
     }
 }

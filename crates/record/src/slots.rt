@@ -10,6 +10,9 @@ use crate::types::Satellites;
 use crate::types::Slots;
 use header::Rules;
 
+// The largest accuracy exponent of a header.
+pub const MAX_ACCURACY: u64 = 999;
+
 // A slot of a satellite, an accuracy or an identifier, or one after the last satellite, which holds `  0`.
 fn slot_in(lowest: usize, line: &[u8; 80], accuracies: bool, used: bool, first: usize) -> Judged
     requires { ⌜ (1 ≤ first) × (first + 2 ≤ 80) ⌝ }
@@ -22,7 +25,7 @@ fn slot_in(lowest: usize, line: &[u8; 80], accuracies: bool, used: bool, first: 
         };
     }
     if accuracies {
-        return fields::whole_in(lowest, line, 0, 999, first, first, first + 2);
+        return fields::whole_in(lowest, line, 0, MAX_ACCURACY, first, first, first + 2);
     }
     fields::identifier_in(lowest, line, first, first + 2)
 }
