@@ -59,6 +59,8 @@ extern "C" {
  * SP3_NO_CLOCK is above 999,998,999,999. */
 enum { SP3_ROW_WIDTH = 23, SP3_COMMENT_WIDTH = 77, SP3_UNKNOWN = 1000, SP3_UNNOTED = 100000000 };
 #define SP3_NO_CLOCK INT64_C(999999999999)
+
+/* So many satellites a file has at most: room for as many identifiers always suffices. */
 #define SP3_MOST_SATELLITES 999
 
 /* A date and a time of day, the seconds in 10^-8 s. */
