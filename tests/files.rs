@@ -3157,6 +3157,9 @@ const FURTHER_DAMAGES: Damages = &[
     (4, "line: a note, spoilt or not", note_spoilt),
 ];
 
+/// What many satellites are damaged by more often than few.
+const REPEATS: Damages = &[(1, "field: an identifier twice", identifier_repeats)];
+
 fn damage(draft: &mut Draft, plan: &Plan, random: &mut Random, damages: Damages) -> Done {
     let all: usize = damages.iter().map(|(weight, ..)| weight).sum();
     let mut number = random.below(all);
@@ -3225,7 +3228,11 @@ pub(crate) fn generate_any_file(random: &mut Random) -> (Plan, Vec<u8>) {
     let mut draft = write_plan(&mut Pen { random, odd: plan.odd }, &plan);
     let damages = *random.pick(&[0, 0, 0, 0, 1, 1, 1, 1, 2, 2]);
     for _ in 0..damages {
-        let list = if once_in(random, 2) { FURTHER_DAMAGES } else { DAMAGES };
+        let list = match random.below(2) {
+            _ if plan.identifiers.len() > 255 && once_in(random, 4) => REPEATS,
+            0 => FURTHER_DAMAGES,
+            _ => DAMAGES,
+        };
         let done = damage(&mut draft, &plan, random, list);
         plan.done.push(done);
     }
@@ -4665,18 +4672,17 @@ const ASKED: &[Asked] = &[
             "row 0 0 0 254000001 -500000 0 1000000",
         ],
     ),
-    // 61 * (2 + 2 * 16 + 6) + 56 bytes before the rows and after them, 61 a row.
+    // 61 * (2 + 2 * 16 + 6) + 56 bytes before the rows and after them, 61 a row; 255
+    // places, as many as sufficed before request 6.
     (
         Many(256),
         &[],
-        [256, 256, 308, 5888],
+        [255, 256, 308, 5888],
         [0, 0, 255, 6958],
         &[
-            "read 0 0 0 18112",
-            "satellites 256",
-            "E58 785",
-            "P 0 E58 255000001 -500000 0 1000000 unknown unknown unknown unknown ....",
-            "rows 256 known 256 absent 0",
+            "whole 0 0 0 18112",
+            "read 12 0 0 0",
+            "read_front 12 0 0 0",
             "satellite 0 0 0 255",
             "row 0 0 0 255000001 -500000 0 1000000",
         ],
@@ -4770,13 +4776,27 @@ const MANY_ASKED: &[Asked] = &[
         [0, 0, 1000, 9100],
         &["read 0 0 0 68681", "satellite 13 0 0 0", "row 13 0 0 absent absent"],
     ),
-    // 255 places, as many as sufficed before.
     (
         Many(256),
         &[],
-        [255, 255, 308, 5888],
+        [256, 256, 308, 5888],
         [0, 0, 256, 6959],
-        &["read 12 0 0 0", "satellite 13 0 0 0", "row 13 0 0 absent absent"],
+        &[
+            "read 0 0 0 18112",
+            "satellites 256",
+            "E58 785",
+            "P 0 E58 255000001 -500000 0 1000000 unknown unknown unknown unknown ....",
+            "rows 256 known 256 absent 0",
+            "satellite 13 0 0 0",
+            "row 13 0 0 absent absent",
+        ],
+    ),
+    (
+        Many(256),
+        &[],
+        [256, 255, 308, 5888],
+        [0, 0, 254, 6957],
+        &["read 12 0 0 0", "satellite 0 0 0 254", "row 0 0 0 254000001 -500000 0 1000000"],
     ),
     // The row of a satellite whose position is 256 more or less.
     (

@@ -2047,6 +2047,13 @@ fn spoil_identifier(given: &mut Given, random: &mut Random) {
     };
 }
 
+/// One identifier twice, or once more the same.
+fn repeat_identifier(given: &mut Given, random: &mut Random) {
+    let list = &mut given.lists.identifiers;
+    let (place, other) = (random.below(list.len()), random.below(list.len()));
+    list[place] = list[other];
+}
+
 fn spoil_exponent(given: &mut Given, random: &mut Random) {
     if given.lists.exponents.is_empty() {
         return;
@@ -2216,8 +2223,12 @@ fn generate_table(random: &mut Random, file: MakeFile, most: [usize; 4]) -> Give
             continue;
         }
         vary(&mut given, random);
+        let many = given.lists.identifiers.len() > 255;
         for _ in 0..*random.pick(&[0, 0, 1, 1, 1, 2]) {
-            random.pick(SPOILS)(&mut given, random);
+            match many && files::once_in(random, 4) {
+                true => repeat_identifier(&mut given, random),
+                false => random.pick(SPOILS)(&mut given, random),
+            }
         }
         return given;
     }
