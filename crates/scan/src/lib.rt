@@ -20,6 +20,9 @@ use record::kind::POSITION_KIND;
 use record::kind::SATELLITES_KIND;
 use record::kind::VELOCITY_KIND;
 
+// So few satellites are compared in less time than their lines are read once more to be marked.
+const FEW: u64 = 51;
+
 // What has been read so far: lines, bytes, comments, and rows of both kinds.
 pub struct Tally {
     pub lines: u64,
@@ -98,7 +101,7 @@ fn refused(number: usize, line: u64, column: usize) -> Front
 }
 
 // How many of the identifiers must be looked at to judge the line at a byte, where a `+ ` line is due and the known ones are marked: none where its own
-// have marks that were not set before. They are marked too.
+// have marks that were not set before. They are marked too. A few satellites are compared.
 fn looked_at(
     rules: Rules,
     bytes: &[u8],
@@ -111,11 +114,14 @@ fn looked_at(
     ensures result { λ r. ⌜ Enough rules (now (bytes .entry)) at state (now (identifiers .entry)) r ⌝ }
     ensures lent { λ _. ⌜ Covers (knownIdentifiers state (now (identifiers .entry))) (now (marks .exit)) ⌝ }
 {
-    let end = lines::line_end(bytes, at);
-    if end >= bytes.len() {
+    if state.satellites <= FEW {
         return identifiers.len();
     }
     if state.also != NO_KIND {
+        return identifiers.len();
+    }
+    let end = lines::line_end(bytes, at);
+    if end >= bytes.len() {
         return identifiers.len();
     }
     if machine::mark_brought(rules, state, marks, &bytes[at..end]) {
