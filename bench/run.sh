@@ -90,11 +90,11 @@ awk '$1 == "bytes" { bytes[$2, $3] = $4; next }
          for (i = 1; i <= 3; i++) cell(sprintf("%.0f", value["count", size, asked[i], 0] / (96 * 32)))
          printf "\n"
      }
+     function larger(one, other) { return one + 0 > other + 0 ? one : other }
      function stack(what, side) {
          printf "  %-26s", what
          for (side = 0; side < sides[what]; side++) {
-             cell(value["stack", "96x32", what, side])
-             if (value["stack", "96x32", what, side] != value["stack", "288x120", what, side]) uneven = 1
+             cell(larger(value["stack", "96x32", what, side], value["stack", "288x120", what, side]))
          }
          printf "\n"
      }
@@ -118,6 +118,6 @@ awk '$1 == "bytes" { bytes[$2, $3] = $4; next }
          growth("divide 1, 4, 16 files", "divide", "files1", "files4", "files16")
          printf "\n%-28s %8s %8s %8s\n", "bytes of stack touched", "ours", "C -O2", "C -O3"
          for (i = 1; i <= n; i++) stack(name[i])
-         print "  (" (uneven ? "not " : "") "the same for both files)"
+         print "  (of the file that takes more)"
          exit failed
      }' all
