@@ -678,9 +678,9 @@ pub never-too-many : (line : List ℕ)
     → (satellitesOf d line .count ≤ maxSatellites) × (faultAt (countItem d) line ≡ keyed 7 4 → satellitesOf d line .count ≡ 0)
 never-too-many line = (most.never-too-many line, most.seven-is-none line)
 
--- The program `rewrite` lends room for 999 satellites, 800 comments and 1,191 rows, and 65,536 bytes of output. Rows are never short in a file of at most
--- 65,536 bytes; reading it answers 12 exactly where it has more than 800 comments, and writing what was read exactly where the form has more than 65,536
--- bytes, which it may have: a row of 55 bytes is written in 61.
+-- The program `rewrite` lends room for as many satellites as a file may name, 800 comments and 1,191 rows, and 65,536 bytes of output. Rows are never short
+-- in a file of at most 65,536 bytes; reading it answers 12 exactly where it has more than 800 comments, and writing what was read exactly where the form
+-- has more than 65,536 bytes, which it may have: a row of 55 bytes is written in 61.
 pub rewrite-rows : (bytes : List ℕ) → IsFile d bytes → length bytes ≤ mostBytes → rowsNeeded (header bytes) ≤ mostRows * rowWidth
 rewrite-rows bytes accepted short = rewriteRoom.rows-fit bytes accepted short
 

@@ -1,23 +1,19 @@
 -- What a line must agree with: one step of each loop over bytes or identifiers, and the answers of the calendar.
 -- Assumes nothing.
-use mathlib.Core.Path.{_≡_, refl, sym, ap, _∙_}
-use mathlib.Core.Bool.{Bool, true, false, _&&_, _||_, or-assoc, false≢true}
-use mathlib.Core.List.{List, [], _∷_, _++_, append-nil, append-assoc}
+use mathlib.Core.Path.{_≡_, refl, sym}
+use mathlib.Core.Bool.{Bool, true, false, _&&_, _||_, false≢true}
+use mathlib.Core.List.{List, [], _∷_}
 use Prim.Native.Nat.{ℕ, _+_, _-_, _*_, _/_, _%_, _<_, _≤_}
-use native.Mathlib.Nat.{sub-zero}
-use native.Mathlib.Numerals.{add-one}
 use native.Mathlib.Omega.{arith}
 use borrow.Author.Tests.{ltb-true, ltb-false, eqb-true, eq-eqb, ne-eqb}
 use lib.Dec.{lit≤, eqb, ltb}
-use lib.ListN.{length, getD, take, drop}
-use lib.Seq.{take-suc}
+use lib.ListN.{length, getD, drop}
 use Rattle.laws.specs.Tests.{within}
 use Rattle.laws.specs.Texts.{every, isPrintable}
 use Rattle.calendar.specs.Clock.{dayUnits, weekAnswer}
 use Rattle.calendar.specs.Fraction.{agrees}
-use Rattle.layout.specs.Kind.{isOneOf}
 use Rattle.record.specs.declared.types.Second.{Second}
-use Rattle.record.specs.Agrees.{secondAgrees, repeats}
+use Rattle.record.specs.Agrees.{secondAgrees}
 use Rattle.machine.specs.Faults.{firstUnprintable}
 use Rattle.laws.proofs.Bools.{same-truth}
 use Rattle.laws.proofs.Bounds.{true-within, below-within, above-within}

@@ -1,15 +1,13 @@
 -- A `+ ` line that names none of the known identifiers again does the same where none is known: so they need not be looked at one by one.
 -- Assumes nothing.
 use mathlib.Core.Path.{_≡_, refl, sym, ap, ap₂, _∙_}
-use mathlib.Core.Bool.{Bool, true, false, _||_, not, cond, false≢true}
+use mathlib.Core.Bool.{Bool, true, false, _||_, false≢true}
 use mathlib.Core.List.{List, [], _∷_, _++_}
 use Prim.Native.Nat.{ℕ, _+_}
 use lib.ListN.{length}
 use lib.Seq.{take-nil}
-use Rattle.layout.specs.Kind.{isOneOf, unless}
-use Rattle.layout.specs.Fault.{lower}
+use Rattle.layout.specs.Kind.{isOneOf}
 use Rattle.layout.specs.Line.{padded}
-use Rattle.lines.specs.Lines.{linesOf}
 use Rattle.marks.proofs.Comparing.{among-append}
 use Rattle.record.specs.Agrees.{repeats}
 use Rattle.record.specs.LineKinds.{kindOf, satellitesKind, noKind}
@@ -17,12 +15,10 @@ use Rattle.header.specs.declared.types.Rules.{Rules}
 use Rattle.record.specs.declared.types.LineKind.{LineKind}
 use Rattle.record.specs.declared.types.LineKind.the-variants as kind
 use Rattle.machine.specs.State.{seen, knownIdentifiers, identifiersIn}
-use Rattle.machine.specs.Faults.{slotsFault, satellitesFault, standingFault}
-use Rattle.machine.specs.Next.{nextOf}
-use Rattle.machine.specs.Step.{onKey, judgedLine, printedLine, stepOf, readFirst, readAs, lineKnown}
+use Rattle.machine.specs.Faults.{satellitesFault, standingFault}
+use Rattle.machine.specs.Step.{judgedLine, printedLine, stepOf, readFirst, readAs}
 use Rattle.machine.specs.declared.types.State.{State}
 use Rattle.machine.specs.declared.types.Verdict.{Verdict}
-use Rattle.machine.specs.declared.types.LineRead.{LineRead}
 
 -- what repeats none of some numbers repeats none of fewer
 fewer : (new more less : List ℕ) → ((n : ℕ) → isOneOf n less ≡ true → isOneOf n more ≡ true) → repeats more new ≡ false → repeats less new ≡ false

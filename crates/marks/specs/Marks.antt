@@ -19,6 +19,7 @@ lastMarked = 9099
 abbrev pub marksMany : ℕ
 marksMany = 2600
 
+-- a number from the first to the last
 abbrev pub isMarkable : ℕ → Bool
 isMarkable n = within firstMarked lastMarked n
 

@@ -2,10 +2,10 @@
 -- Assumes nothing.
 use mathlib.Core.Path.{_≡_, refl, sym, ap, _∙_, subst}
 use mathlib.Core.Bool.{Bool, true, false}
-use mathlib.Core.List.{List, [], _∷_}
-use Prim.Native.Nat.{ℕ, _+_, _-_, _≤_, _<_, zero-le}
+use mathlib.Core.List.{List}
+use Prim.Native.Nat.{ℕ, _+_, _-_, _<_, zero-le}
 use native.Mathlib.Omega.{arith}
-use borrow.Author.Tests.{eqb-true, eq-eqb, ne-eqb}
+use borrow.Author.Tests.{eqb-true}
 use lib.Dec.{eqb}
 use lib.ListN.{length, take, drop}
 use lib.Seq.{take-all}
@@ -15,11 +15,10 @@ use Rattle.lines.proofs.Ends.{first-line}
 use Rattle.record.specs.LineKinds.{satellitesKind, noKind}
 use Rattle.header.specs.declared.types.Rules.{Rules}
 use Rattle.marks.specs.Marks.{allNew, markedAll, Covers}
-use Rattle.marks.proofs.Marking.{new-alone, covers-all, covers-fewer, covers-front}
+use Rattle.marks.proofs.Marking.{new-alone, covers-all, covers-fewer}
 use Rattle.machine.specs.State.{seen, knownIdentifiers, identifiersIn}
-use Rattle.machine.specs.Step.{stepOf, identifiersBrought, readFirst, lineKnown}
+use Rattle.machine.specs.Step.{identifiersBrought, lineKnown}
 use Rattle.machine.specs.declared.types.State.{State}
-use Rattle.machine.specs.declared.types.LineRead.{LineRead}
 use Rattle.machine.proofs.Stepping.{brought-front}
 use Rattle.machine.proofs.Unlooked.{reads-same}
 use Rattle.scan.specs.Looking.{Enough}
