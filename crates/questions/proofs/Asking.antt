@@ -17,10 +17,10 @@ use Rattle.layout.specs.Line.{trimmed}
 use Rattle.lines.specs.Lent.{laid}
 use Rattle.lines.proofs.Laying.{laid-fits}
 use Rattle.lines.specs.Lines.{linesOf, nth, beginsFrom}
-use Rattle.header.specs.Rules.{d, maxSatellites, maxEpochs}
+use Rattle.header.specs.Rules.{maxSatellites, maxEpochs}
 use Rattle.record.specs.LineKinds.{commentKind, positionKind}
 use Rattle.file.specs.Kinds.{isKind, ofKind}
-use Rattle.file.specs.Plain.{Plain}
+use Rattle.file.specs.Plain.{Plain, Sound}
 use Rattle.file.specs.Table.{firstIn, countOf, slotsIn}
 use Rattle.file.proofs.Finding.{line-within}
 use Rattle.scan.specs.Run.{scanOf, wholeFront}
@@ -37,7 +37,7 @@ use Rattle.questions.specs.declared.types.SatelliteAnswer.{SatelliteAnsw
 use Rattle.laws.proofs.Bools.{both-true}
 use Rattle.laws.proofs.Lists.{rest-step, rest-none, rest-part}
 use Rattle.layout.proofs.Lines.{trimmed-front, trimmed-shorter}
-use Rattle.scan_laws.proofs.Files.{front-plain}
+use Rattle.scan_laws.proofs.Files.{plain-front}
 use Rattle.scan_laws.proofs.Local.{whole-ends}
 use Rattle.file_laws.proofs.Selected.{satellites, epochs, kind-first}
 use Rattle.file_laws.proofs.Counts.{count-is, satellites-bounds, epochs-bounds, identifiers-room}
@@ -83,26 +83,26 @@ unfolding nth
 epochs-are p = rw (kind-first p)
 
 -- an accepted file has at most so many epochs and satellites as the bounds say
-module _ (bytes : List ℕ) (t : Tally) (e : wholeFront (length bytes) (scanOf d bytes) ≡ front.File t) where
-  pub whole-plain : Plain d (linesTo (t .end) bytes)
-  whole-plain = front-plain bytes t (whole-ends d bytes t e .0)
+module _ {rules : Rules} (sound : Sound rules) (bytes : List ℕ) (t : Tally) (e : wholeFront (length bytes) (scanOf rules bytes) ≡ front.File t) where
+  pub whole-plain : Plain rules (linesTo (t .end) bytes)
+  whole-plain = plain-front rules sound bytes t (whole-ends rules bytes t e .0)
 
-  pub bounded : (epochsOf d (linesTo (t .end) bytes) ≤ maxEpochs) × (countOf d (linesTo (t .end) bytes) ≤ maxSatellites)
+  pub bounded : (epochsOf rules (linesTo (t .end) bytes) ≤ maxEpochs) × (countOf rules (linesTo (t .end) bytes) ≤ maxSatellites)
   bounded =
       let p = whole-plain in
       (omega (arith, epochs-are p, epochs-bounds p .1), omega (arith, count-is p, satellites-bounds p .1))
 
   -- as many identifiers as the file says
-  pub identifiers-counted : length (identifiersOf d (linesTo (t .end) bytes)) ≡ countOf d (linesTo (t .end) bytes)
+  pub identifiers-counted : length (identifiersOf rules (linesTo (t .end) bytes)) ≡ countOf rules (linesTo (t .end) bytes)
   identifiers-counted =
       let p = whole-plain in
-      ap (λ (n : ℕ). length (slotsIn d false n (linesTo (t .end) bytes))) (count-is p) ∙ identifiers-room p ∙ sym (count-is p)
+      ap (λ (n : ℕ). length (slotsIn rules false n (linesTo (t .end) bytes))) (count-is p) ∙ identifiers-room p ∙ sym (count-is p)
 
-  pub identifiers-bounded : length (identifiersOf d (linesTo (t .end) bytes)) ≤ maxSatellites
+  pub identifiers-bounded : length (identifiersOf rules (linesTo (t .end) bytes)) ≤ maxSatellites
   identifiers-bounded =
       let p = whole-plain in
-      let many : length (identifiersOf d (linesTo (t .end) bytes)) ≡ satellites p =
-      ap (λ (n : ℕ). length (slotsIn d false n (linesTo (t .end) bytes))) (count-is p) ∙ identifiers-room p in
+      let many : length (identifiersOf rules (linesTo (t .end) bytes)) ≡ satellites p =
+      ap (λ (n : ℕ). length (slotsIn rules false n (linesTo (t .end) bytes))) (count-is p) ∙ identifiers-room p in
       omega (arith, many, satellites-bounds p .1)
 
 -- a number of a P line that is far from overflowing
@@ -128,75 +128,75 @@ module _ (rules : Rules) (lines : List (List ℕ)) (epoch satellite : ℕ) (f : 
   row-missing has = rw (has-row false has)
 
 -- what was found, under the rules that were asked for
-pub found-as : (rules : Rules) (bytes : List ℕ) (f g : Front) → rules ≡ d → f ≡ wholeFront (length bytes) (scanOf rules bytes) → f ≡ g → fileOf d bytes ≡ g
-found-as rules bytes f g r e is = ap (λ (x : Rules). wholeFront (length bytes) (scanOf x bytes)) (sym r) ∙ sym e ∙ is
+pub found-as : (given : Rules) {rules : Rules} (bytes : List ℕ) (f g : Front) → given ≡ rules → f ≡ wholeFront (length bytes) (scanOf given bytes) → f ≡ g → fileOf rules bytes ≡ g
+found-as given bytes f g r e is = ap (λ (x : Rules). wholeFront (length bytes) (scanOf x bytes)) (sym r) ∙ sym e ∙ is
 
 -- the answers about what was found
-module _ (bytes : List ℕ) (f : Front) (e : fileOf d bytes ≡ f) where
-  pub comment-as : (k : ℕ) (a : CommentAnswer) → a ≡ commentAnswer d bytes f k → a ≡ commentAnswer d bytes (fileOf d bytes) k
-  comment-as k a is = is ∙ ap (λ (x : Front). commentAnswer d bytes x k) (sym e)
+module _ (rules : Rules) (bytes : List ℕ) (f : Front) (e : fileOf rules bytes ≡ f) where
+  pub comment-as : (k : ℕ) (a : CommentAnswer) → a ≡ commentAnswer rules bytes f k → a ≡ commentAnswer rules bytes (fileOf rules bytes) k
+  comment-as k a is = is ∙ ap (λ (x : Front). commentAnswer rules bytes x k) (sym e)
 
-  pub words-as : (k : ℕ) (s : List ℕ) → s ≡ commentWords d bytes f k → s ≡ commentWords d bytes (fileOf d bytes) k
-  words-as k s is = is ∙ ap (λ (x : Front). commentWords d bytes x k) (sym e)
+  pub words-as : (k : ℕ) (s : List ℕ) → s ≡ commentWords rules bytes f k → s ≡ commentWords rules bytes (fileOf rules bytes) k
+  words-as k s is = is ∙ ap (λ (x : Front). commentWords rules bytes x k) (sym e)
 
-  pub satellite-as : (identifier : ℕ) (a : SatelliteAnswer) → a ≡ satelliteAnswer d bytes f identifier → a ≡ satelliteAnswer d bytes (fileOf d bytes) identifier
-  satellite-as identifier a is = is ∙ ap (λ (x : Front). satelliteAnswer d bytes x identifier) (sym e)
+  pub satellite-as : (identifier : ℕ) (a : SatelliteAnswer) → a ≡ satelliteAnswer rules bytes f identifier → a ≡ satelliteAnswer rules bytes (fileOf rules bytes) identifier
+  satellite-as identifier a is = is ∙ ap (λ (x : Front). satelliteAnswer rules bytes x identifier) (sym e)
 
-  pub row-as : (epoch satellite : ℕ) (a : RowBegins) → a ≡ rowBegins d bytes f epoch satellite → a ≡ rowBegins d bytes (fileOf d bytes) epoch satellite
-  row-as epoch satellite a is = is ∙ ap (λ (x : Front). rowBegins d bytes x epoch satellite) (sym e)
+  pub row-as : (epoch satellite : ℕ) (a : RowBegins) → a ≡ rowBegins rules bytes f epoch satellite → a ≡ rowBegins rules bytes (fileOf rules bytes) epoch satellite
+  row-as epoch satellite a is = is ∙ ap (λ (x : Front). rowBegins rules bytes x epoch satellite) (sym e)
 
 -- the answers where a file was found, of its lines
-module _ (rules : Rules) (r : rules ≡ d) (bytes : List ℕ) (t : Tally) where
+module _ (given : Rules) {rules : Rules} (r : given ≡ rules) (bytes : List ℕ) (t : Tally) where
   lines-as : linesTo (t .end - 0) bytes ≡ linesTo (t .end) bytes
   lines-as = ap (λ (n : ℕ). linesTo n bytes) (sub-zero (t .end))
 
-  pub comment-there : (k : ℕ) (a : CommentAnswer) → k < t .comments → a ≡ commentAt rules (linesTo (t .end - 0) bytes) k → a ≡ commentAnswer d bytes (front.File t) k
+  pub comment-there : (k : ℕ) (a : CommentAnswer) → k < t .comments → a ≡ commentAt given (linesTo (t .end - 0) bytes) k → a ≡ commentAnswer rules bytes (front.File t) k
   unfolding commentAnswer
   comment-there k a h is = is ∙ rw (r, lines-as, lt-ltb k (t .comments) h)
 
-  pub words-there : (k : ℕ) (s l : List ℕ) → k < t .comments → s ≡ textIn l → l ≡ nth k (ofKind rules commentKind (linesTo (t .end - 0) bytes)) → s ≡ commentWords d bytes (front.File t) k
+  pub words-there : (k : ℕ) (s l : List ℕ) → k < t .comments → s ≡ textIn l → l ≡ nth k (ofKind given commentKind (linesTo (t .end - 0) bytes)) → s ≡ commentWords rules bytes (front.File t) k
   unfolding commentWords
   words-there k s l h is line = is ∙ rw (line, r, lines-as, lt-ltb k (t .comments) h)
 
-  pub row-found : (epoch satellite : ℕ) (a : RowBegins) → a ≡ rowAt rules (linesTo (t .end - 0) bytes) epoch satellite → a ≡ rowBegins d bytes (front.File t) epoch satellite
+  pub row-found : (epoch satellite : ℕ) (a : RowBegins) → a ≡ rowAt given (linesTo (t .end - 0) bytes) epoch satellite → a ≡ rowBegins rules bytes (front.File t) epoch satellite
   unfolding rowBegins
   row-found epoch satellite a is = is ∙ rw (r, lines-as)
 
-  pub satellite-found : (identifier : ℕ) (a : SatelliteAnswer) → a ≡ satelliteIn identifier (identifiersOf rules (linesTo (t .end - 0) bytes)) → a ≡ satelliteAnswer d bytes (front.File t) identifier
+  pub satellite-found : (identifier : ℕ) (a : SatelliteAnswer) → a ≡ satelliteIn identifier (identifiersOf given (linesTo (t .end - 0) bytes)) → a ≡ satelliteAnswer rules bytes (front.File t) identifier
   unfolding satelliteAnswer
   satellite-found identifier a is = is ∙ rw (r, lines-as)
 
-  pub counted-as : fileOf d bytes ≡ front.File t
-      → (length (identifiersOf rules (linesTo (t .end - 0) bytes)) ≡ countOf rules (linesTo (t .end - 0) bytes)) × (countOf rules (linesTo (t .end - 0) bytes) ≤ maxSatellites)
-  counted-as e = rw (r, lines-as) (identifiers-counted bytes t e, bounded bytes t e .1)
+  pub counted-as : Sound rules → fileOf rules bytes ≡ front.File t
+      → (length (identifiersOf given (linesTo (t .end - 0) bytes)) ≡ countOf given (linesTo (t .end - 0) bytes)) × (countOf given (linesTo (t .end - 0) bytes) ≤ maxSatellites)
+  counted-as sound e = rw (r, lines-as) (identifiers-counted sound bytes t e, bounded sound bytes t e .1)
 
-  pub bounded-as : fileOf d bytes ≡ front.File t → (epochsOf rules (linesTo (t .end - 0) bytes) ≤ maxEpochs) × (countOf rules (linesTo (t .end - 0) bytes) ≤ maxSatellites)
-  bounded-as e = rw (r, lines-as) (bounded bytes t e)
+  pub bounded-as : Sound rules → fileOf rules bytes ≡ front.File t → (epochsOf given (linesTo (t .end - 0) bytes) ≤ maxEpochs) × (countOf given (linesTo (t .end - 0) bytes) ≤ maxSatellites)
+  bounded-as sound e = rw (r, lines-as) (bounded sound bytes t e)
 
-pub no-comment-there : (bytes : List ℕ) (t : Tally) (k : ℕ) (a : CommentAnswer) → t .comments ≤ k → a ≡ noComment 13 0 0 → a ≡ commentAnswer d bytes (front.File t) k
+pub no-comment-there : (rules : Rules) (bytes : List ℕ) (t : Tally) (k : ℕ) (a : CommentAnswer) → t .comments ≤ k → a ≡ noComment 13 0 0 → a ≡ commentAnswer rules bytes (front.File t) k
 unfolding commentAnswer
-no-comment-there bytes t k a h is = is ∙ rw (le-ltb k (t .comments) h)
+no-comment-there rules bytes t k a h is = is ∙ rw (le-ltb k (t .comments) h)
 
-pub no-words-there : (bytes : List ℕ) (t : Tally) (k : ℕ) → t .comments ≤ k → [] ≡ commentWords d bytes (front.File t) k
+pub no-words-there : (rules : Rules) (bytes : List ℕ) (t : Tally) (k : ℕ) → t .comments ≤ k → [] ≡ commentWords rules bytes (front.File t) k
 unfolding commentWords
-no-words-there bytes t k h = rw (le-ltb k (t .comments) h)
+no-words-there rules bytes t k h = rw (le-ltb k (t .comments) h)
 
 -- the text of a comment lies where the answer says
-pub at-comment : (rules : Rules) → rules ≡ d → (file : RefT (List ℕ)) (t : Tally) → fileOf d (now file) ≡ front.File t → (k : ℕ) (line text : RefT (List ℕ)) → k < t .comments
-    → now line ≡ commentLine rules (linesTo (t .end - 0) (now file)) k
-    → line .ptr ≡ (file .ptr .0, commentBegins rules (linesTo (t .end - 0) (now file)) k + (0 + file .ptr .1))
+pub at-comment : (given : Rules) {rules : Rules} → given ≡ rules → (file : RefT (List ℕ)) (t : Tally) → fileOf rules (now file) ≡ front.File t → (k : ℕ) (line text : RefT (List ℕ)) → k < t .comments
+    → now line ≡ commentLine given (linesTo (t .end - 0) (now file)) k
+    → line .ptr ≡ (file .ptr .0, commentBegins given (linesTo (t .end - 0) (now file)) k + (0 + file .ptr .1))
     → now text ≡ textIn (now line) → text .ptr ≡ byteOf line (min 3 (length (now line)))
-    → text .ptr ≡ byteOf file (commentAnswer d (now file) (fileOf d (now file)) k .at)
-at-comment rules r file t e k line text h is-line at-line is-text at-text =
+    → text .ptr ≡ byteOf file (commentAnswer rules (now file) (fileOf rules (now file)) k .at)
+at-comment given {rules} r file t e k line text h is-line at-line is-text at-text =
     let lines = linesTo (t .end - 0) (now file) in
-    let place = commentBegins rules lines k in
-    let told = comment-told rules lines k place (min 3 (length (now line))) (now line) (now text) refl is-line refl is-text in
+    let place = commentBegins given lines k in
+    let told = comment-told given lines k place (min 3 (length (now line))) (now line) (now text) refl is-line refl is-text in
     in-part file line text place (min 3 (length (now line))) (at-line ∙ in-front file place) at-text
-    ∙ ap (λ (a : CommentAnswer). byteOf file (a .at)) (comment-as (now file) (front.File t) e k _ (comment-there rules r (now file) t k _ h told))
+    ∙ ap (λ (a : CommentAnswer). byteOf file (a .at)) (comment-as rules (now file) (front.File t) e k _ (comment-there given r (now file) t k _ h told))
 
 -- an accepted file ends within its bytes
-pub file-within : (bytes : List ℕ) (t : Tally) → fileOf d bytes ≡ front.File t → t .end ≤ length bytes
-file-within bytes t e = omega (arith, whole-ends d bytes t e .1)
+pub file-within : (rules : Rules) (bytes : List ℕ) (t : Tally) → fileOf rules bytes ≡ front.File t → t .end ≤ length bytes
+file-within rules bytes t e = omega (arith, whole-ends rules bytes t e .1)
 
 -- identifiers laid over the front of others, as many as there are or fewer
 module _ (identifiers old now : List ℕ) (is : now ≡ laid identifiers old) (fits : length identifiers ≤ length old) where

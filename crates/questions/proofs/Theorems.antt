@@ -16,10 +16,11 @@ use Rattle.lines.specs.Lines.{linesOf, nth, beginsFrom}
 use Rattle.header.specs.Rules.{d}
 use Rattle.record.specs.LineKinds.{commentKind, positionKind}
 use Rattle.file.specs.Kinds.{isKind, ofKind}
-use Rattle.file.specs.Plain.{isRowLine}
+use Rattle.file.specs.Plain.{isRowLine, Sound}
 use Rattle.file.specs.Table.{countOf}
 use Rattle.reader.specs.Reading.{fileOf, identifiersOf}
 use Rattle.questions.specs.Questions.{textIn, commentLine, commentBegins, commentAnswer, commentWords, epochsOf, rowIndex, rowBegins}
+use Rattle.header.specs.declared.types.Rules.{Rules}
 use Rattle.scan.specs.declared.Tally.{Tally}
 use Rattle.scan.specs.declared.Front.{Front}
 use Rattle.scan.specs.declared.Front.the-variants as front
@@ -28,7 +29,7 @@ use Rattle.layout.proofs.Lines.{trimmed-front, trimmed-shorter}
 use Rattle.lines.proofs.Picking.{placed}
 use Rattle.lines.proofs.Split.{first}
 use Rattle.file.proofs.Finding.{line-at-place}
-use Rattle.scan_laws.proofs.Files.{whole-taken, file-plain}
+use Rattle.scan_laws.proofs.Files.{whole-taken, file-plain, d-sound}
 use Rattle.scan_laws.proofs.Used.{accepted-front}
 use Rattle.scan_laws.proofs.Local.{whole-ends}
 use Rattle.file_laws.proofs.Selected.{satellites}
@@ -51,86 +52,88 @@ text-in-line line rest =
     go (yes h) = let three : min 3 (length line) ≡ 3 = omega arith in ap (λ (n : ℕ). drop n line) three
     go (no h) = rest-none line (min 3 (length line)) (omega arith) ∙ sym (rest-none line 3 (omega arith))
 
--- an accepted file: its lines are those of its bytes
-module _ (bytes : List ℕ) (t : Tally) (e : fileOf d bytes ≡ front.File t) where
-  all-bytes : take (t .end) bytes ≡ bytes
-  all-bytes = whole-taken bytes t e
+module _ {rules : Rules} (sound : Sound rules) where
+  -- an accepted file: its lines are those of its bytes
+  module _ (bytes : List ℕ) (t : Tally) (e : fileOf rules bytes ≡ front.File t) where
+    all-bytes : take (t .end) bytes ≡ bytes
+    all-bytes = whole-taken rules bytes t e
 
-  -- THE STRETCH: a comment's text is the bytes from the place that is told on, as many as are told.
-  module _ (k : ℕ) (h : k < t .comments) where
-    stretch : take (length (textIn (commentLine d (linesOf bytes) k))) (drop (commentBegins d (linesOf bytes) k + min 3 (length (commentLine d (linesOf bytes) k))) bytes)
-        ≡ textIn (commentLine d (linesOf bytes) k)
-    stretch =
-        let place = commentBegins d (linesOf bytes) k in
-        let line = commentLine d (linesOf bytes) k in
-        let many = subst (λ (b : List ℕ). t .comments ≡ length (ofKind d commentKind (linesOf b))) all-bytes (accepted-front d bytes t (whole-ends d bytes t e .0) .comments) in
-        let p = placed (isKind d commentKind) k bytes (omega arith) in
-        let f = first (drop place bytes) line (p .more) (p .there) in
-        ap (take (length (textIn line))) (sym (drop-drop (min 3 (length line)) place bytes) ∙ ap (drop (min 3 (length line))) (f .bytes-are))
-        ∙ text-in-line line (10 ∷ f .rest)
+    -- THE STRETCH: a comment's text is the bytes from the place that is told on, as many as are told.
+    module _ (k : ℕ) (h : k < t .comments) where
+      stretch : take (length (textIn (commentLine rules (linesOf bytes) k))) (drop (commentBegins rules (linesOf bytes) k + min 3 (length (commentLine rules (linesOf bytes) k))) bytes)
+          ≡ textIn (commentLine rules (linesOf bytes) k)
+      stretch =
+          let place = commentBegins rules (linesOf bytes) k in
+          let line = commentLine rules (linesOf bytes) k in
+          let many = subst (λ (b : List ℕ). t .comments ≡ length (ofKind rules commentKind (linesOf b))) all-bytes (accepted-front rules bytes t (whole-ends rules bytes t e .0) .comments) in
+          let p = placed (isKind rules commentKind) k bytes (omega arith) in
+          let f = first (drop place bytes) line (p .more) (p .there) in
+          ap (take (length (textIn line))) (sym (drop-drop (min 3 (length line)) place bytes) ∙ ap (drop (min 3 (length line))) (f .bytes-are))
+          ∙ text-in-line line (10 ∷ f .rest)
 
-    pub comment-stretch : take (commentAnswer d bytes (fileOf d bytes) k .length) (drop (commentAnswer d bytes (fileOf d bytes) k .at) bytes)
-        ≡ commentWords d bytes (fileOf d bytes) k
-    unfolding commentAnswer commentWords
-    comment-stretch = rw (e, lt-ltb k (t .comments) h, all-bytes) stretch
+      pub comment-stretch : take (commentAnswer rules bytes (fileOf rules bytes) k .length) (drop (commentAnswer rules bytes (fileOf rules bytes) k .at) bytes)
+          ≡ commentWords rules bytes (fileOf rules bytes) k
+      unfolding commentAnswer commentWords
+      comment-stretch = rw (e, lt-ltb k (t .comments) h, all-bytes) stretch
 
-  -- THE ROW: at the place that is told begins the P line numbered epoch * n + satellite. It stands among the lines of that epoch and names
-  -- that satellite of the header.
-  module _ (epoch satellite : ℕ) (some : epoch < epochsOf d (linesOf bytes)) (one : satellite < countOf d (linesOf bytes)) where
-    abbrev pub told : ℕ
-    told = rowBegins d bytes (fileOf d bytes) epoch satellite .at
+    -- THE ROW: at the place that is told begins the P line numbered epoch * n + satellite. It stands among the lines of that epoch and names
+    -- that satellite of the header.
+    module _ (epoch satellite : ℕ) (some : epoch < epochsOf rules (linesOf bytes)) (one : satellite < countOf rules (linesOf bytes)) where
+      abbrev pub told : ℕ
+      told = rowBegins rules bytes (fileOf rules bytes) epoch satellite .at
 
-    place-told : told ≡ beginsFrom (isKind d positionKind) (rowIndex d (linesOf bytes) epoch satellite) 0 (linesOf bytes)
-    unfolding rowBegins
-    place-told =
-        ap (λ (f : Front). rowBegins d bytes f epoch satellite .at) e
-        ∙ rw (all-bytes, lt-ltb epoch (epochsOf d (linesOf bytes)) some, lt-ltb satellite (countOf d (linesOf bytes)) one)
+      place-told : told ≡ beginsFrom (isKind rules positionKind) (rowIndex rules (linesOf bytes) epoch satellite) 0 (linesOf bytes)
+      unfolding rowBegins
+      place-told =
+          ap (λ (f : Front). rowBegins rules bytes f epoch satellite .at) e
+          ∙ rw (all-bytes, lt-ltb epoch (epochsOf rules (linesOf bytes)) some, lt-ltb satellite (countOf rules (linesOf bytes)) one)
 
-    pub row-not-refused : rowBegins d bytes (fileOf d bytes) epoch satellite .refusal ≡ 0
-    unfolding rowBegins
-    row-not-refused = rw (e, all-bytes, lt-ltb epoch (epochsOf d (linesOf bytes)) some, lt-ltb satellite (countOf d (linesOf bytes)) one)
+      pub row-not-refused : rowBegins rules bytes (fileOf rules bytes) epoch satellite .refusal ≡ 0
+      unfolding rowBegins
+      row-not-refused = rw (e, all-bytes, lt-ltb epoch (epochsOf rules (linesOf bytes)) some, lt-ltb satellite (countOf rules (linesOf bytes)) one)
 
-    pub row-numbered : nth 0 (linesOf (drop told bytes)) ≡ nth (epoch * countOf d (linesOf bytes) + satellite) (ofKind d positionKind (linesOf bytes))
-    row-numbered =
-        ap (λ (n : ℕ). nth 0 (linesOf (drop n bytes))) place-told
-        ∙ line-at-place (isKind d positionKind) (rowIndex d (linesOf bytes) epoch satellite) bytes
+      pub row-numbered : nth 0 (linesOf (drop told bytes)) ≡ nth (epoch * countOf rules (linesOf bytes) + satellite) (ofKind rules positionKind (linesOf bytes))
+      row-numbered =
+          ap (λ (n : ℕ). nth 0 (linesOf (drop n bytes))) place-told
+          ∙ line-at-place (isKind rules positionKind) (rowIndex rules (linesOf bytes) epoch satellite) bytes
 
-    pub record RowThere : Type 0 where
-      pub numbered : nth 0 (linesOf (drop told bytes)) ≡ nth (epoch * countOf d (linesOf bytes) + satellite) (ofKind d positionKind (linesOf bytes))
-      pub named : isRowLine d false (getD (identifiersOf d (linesOf bytes)) satellite 0) (nth 0 (linesOf (drop told bytes))) ≡ true
-      pub at-epoch : EpochAt (file-plain bytes (t, e)) epoch
-      pub among : nth 0 (linesOf (drop told bytes)) ≡ nth satellite (ofKind d positionKind (at-epoch .epoch ∷ at-epoch .rows))
+      pub record RowThere : Type 0 where
+        pub numbered : nth 0 (linesOf (drop told bytes)) ≡ nth (epoch * countOf rules (linesOf bytes) + satellite) (ofKind rules positionKind (linesOf bytes))
+        pub named : isRowLine rules false (getD (identifiersOf rules (linesOf bytes)) satellite 0) (nth 0 (linesOf (drop told bytes))) ≡ true
+        pub at-epoch : EpochAt (file-plain rules sound bytes (t, e)) epoch
+        pub among : nth 0 (linesOf (drop told bytes)) ≡ nth satellite (ofKind rules positionKind (at-epoch .epoch ∷ at-epoch .rows))
 
-    pub row-there : RowThere
-    row-there =
-        let p = file-plain bytes (t, e) in
-        let count : countOf d (linesOf bytes) ≡ satellites p = count-is p in
-        let in-time = subst (λ (n : ℕ). epoch < n) (epochs-are p) some in
-        let in-header = subst (λ (n : ℕ). satellite < n) count one in
-        let by-header : nth 0 (linesOf (drop told bytes)) ≡ nth (epoch * satellites p + satellite) (ofKind d positionKind (linesOf bytes)) =
-        row-numbered ∙ ap (λ (n : ℕ). nth (epoch * n + satellite) (ofKind d positionKind (linesOf bytes))) count in
-        record {
-          numbered = row-numbered;
-          named = rw (identifiers-are p, by-header) (place-at p epoch satellite in-time in-header);
-          at-epoch = the-rule p epoch in-time;
-          among = by-header ∙ the-rule p epoch in-time .places .numbered satellite in-header;
-        }
+      pub row-there : RowThere
+      row-there =
+          let p = file-plain rules sound bytes (t, e) in
+          let count : countOf rules (linesOf bytes) ≡ satellites p = count-is p in
+          let in-time = subst (λ (n : ℕ). epoch < n) (epochs-are p) some in
+          let in-header = subst (λ (n : ℕ). satellite < n) count one in
+          let by-header : nth 0 (linesOf (drop told bytes)) ≡ nth (epoch * satellites p + satellite) (ofKind rules positionKind (linesOf bytes)) =
+          row-numbered ∙ ap (λ (n : ℕ). nth (epoch * n + satellite) (ofKind rules positionKind (linesOf bytes))) count in
+          record {
+            numbered = row-numbered;
+            named = rw (identifiers-are p, by-header) (place-at p epoch satellite in-time in-header);
+            at-epoch = the-rule p epoch in-time;
+            among = by-header ∙ the-rule p epoch in-time .places .numbered satellite in-header;
+          }
+
+  -- so it is whatever was found
+  handed : (bytes : List ℕ) (k : ℕ) (f : Front) → fileOf rules bytes ≡ f
+      → take (commentAnswer rules bytes (fileOf rules bytes) k .length) (drop (commentAnswer rules bytes (fileOf rules bytes) k .at) bytes) ≡ commentWords rules bytes (fileOf rules bytes) k
+  unfolding commentAnswer commentWords
+  handed bytes k (front.File t) e = go (decLt k (t .comments))
+    where
+      go : Dec (k < t .comments) → take (commentAnswer rules bytes (fileOf rules bytes) k .length) (drop (commentAnswer rules bytes (fileOf rules bytes) k .at) bytes) ≡ commentWords rules bytes (fileOf rules bytes) k
+      go (yes h) = comment-stretch bytes t e k h
+      go (no h) = rw (e, le-ltb k (t .comments) (omega arith))
+  handed bytes k (front.Refused number line column) e = rw e
 
 -- what the contract of `comment` promises of a result r
 abbrev pub CommentPost : Out 1 kinds.ps kinds.r
 CommentPost = comment.Post
 
 -- THE TEXT HANDED BACK is the part of the lent file that `comment_answer` names, for every file and every number.
-handed : (bytes : List ℕ) (k : ℕ) (f : Front) → fileOf d bytes ≡ f
-    → take (commentAnswer d bytes (fileOf d bytes) k .length) (drop (commentAnswer d bytes (fileOf d bytes) k .at) bytes) ≡ commentWords d bytes (fileOf d bytes) k
-unfolding commentAnswer commentWords
-handed bytes k (front.File t) e = go (decLt k (t .comments))
-  where
-    go : Dec (k < t .comments) → take (commentAnswer d bytes (fileOf d bytes) k .length) (drop (commentAnswer d bytes (fileOf d bytes) k .at) bytes) ≡ commentWords d bytes (fileOf d bytes) k
-    go (yes h) = comment-stretch bytes t e k h
-    go (no h) = rw (e, le-ltb k (t .comments) (omega arith))
-handed bytes k (front.Refused number line column) e = rw e
-
 pub comment-part : (κs : _) (a : _) (r : _) (s : _) → CommentPost κs a r s
     → PartAt (a .0) (commentAnswer d (now (a .0)) (fileOf d (now (a .0))) (a .1 .0) .at) (commentAnswer d (now (a .0)) (fileOf d (now (a .0))) (a .1 .0) .length) r
-comment-part κs a r s p = (p .0 ∙ sym (handed (now (a .0)) (a .1 .0) (fileOf d (now (a .0))) refl), p .1)
+comment-part κs a r s p = (p .0 ∙ sym (handed d-sound (now (a .0)) (a .1 .0) (fileOf d (now (a .0))) refl), p .1)

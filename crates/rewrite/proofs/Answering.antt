@@ -36,6 +36,7 @@ use Rattle.rewrite.specs.Printed.{mostBytes, mostComments, tooLong, refu
 use Rattle.rewrite.specs.Rewriting.{asWritten, reading, tableRead, rewriteAnswer, outRewritten}
 use Rattle.rewrite.specs.declared.types.Rewritten.{Rewritten}
 use Rattle.rewrite.proofs.Digits.{digits-few}
+use Rattle.canon_laws.proofs.Versions.{d-proper}
 
 -- a refusal in words has 83 bytes at most
 pub few-words : (number line column : ℕ) → length (refusedText number line column) ≤ 83
@@ -79,7 +80,7 @@ module _ (bytes identifiers exponents comments : List ℕ) (rows : List ℤ) (ou
   form = rewritten d bytes
 
   -- the lists are the program's room
-  read-is : read ≡ rewriteReading bytes
+  read-is : read ≡ rewriteReading d bytes
   read-is = rw (named, weighed, noted, placed)
 
   -- a reading that is refused
@@ -99,8 +100,8 @@ module _ (bytes identifiers exponents comments : List ℕ) (rows : List ℤ) (ou
     fitting : length form ≤ mostBytes → Outcome form out answer left
     fitting fits =
         let enough : length form ≤ length out = omega arith in
-        let told = lent-answer bytes (t, file) identifiers exponents comments rows zero out enough in
-        let laid = lent-written bytes (t, file) identifiers exponents comments rows zero out enough in
+        let told = lent-answer d-proper bytes (t, file) identifiers exponents comments rows zero out enough in
+        let laid = lent-written d-proper bytes (t, file) identifiers exponents comments rows zero out enough in
         let done = accepted (record { refusal = 0; length = length form }) zero told in
         inl (
           ap (λ (r : Rewritten). r .refusal) (done .0),
@@ -112,28 +113,28 @@ module _ (bytes identifiers exponents comments : List ℕ) (rows : List ℤ) (ou
 
     too-large : mostBytes < length form → Outcome (refusedText 12 0 0) out answer left
     too-large over =
-        let less : length out < length (canonical d table) = rw (lent-form bytes (t, file) identifiers exponents comments rows zero) (omega arith) in
-        let twelve = too-small-12 table out (lent-valid bytes (t, file) identifiers exponents comments rows zero) less in
-        let kept = refusal-keeps-out table out (λ none. omega (arith, ap (λ (m : Measured). m .refusal) twelve)) in
+        let less : length out < length (canonical d table) = rw (lent-form d-proper bytes (t, file) identifiers exponents comments rows zero) (omega arith) in
+        let twelve = too-small-12 d-proper table out (lent-valid d-proper bytes (t, file) identifiers exponents comments rows zero) less in
+        let kept = refusal-keeps-out d-proper table out (λ none. omega (arith, ap (λ (m : Measured). m .refusal) twelve)) in
         let done = accepted (refusedAs 12) zero twelve in
         rw (done .0) (inr (λ none. omega arith, refl, done .1 ∙ kept))
 
   -- a file that is accepted
   filed : (t : Tally) → fileOf d bytes ≡ front.File t → Outcome (answered bytes (front.File t)) out answer left
   unfolding answered
-  filed t file = by (leb (header bytes .comments) mostComments) (leb (length form) mostBytes) refl refl
+  filed t file = by (leb (header d bytes .comments) mostComments) (leb (length form) mostBytes) refl refl
     where
-      some-0 : leb (header bytes .comments) mostComments ≡ true → read .refusal ≡ 0
+      some-0 : leb (header d bytes .comments) mostComments ≡ true → read .refusal ≡ 0
       some-0 few =
-          let answers = few-comments bytes (t, file) short (leb-true (header bytes .comments) mostComments few) in
+          let answers = few-comments d-proper bytes (t, file) short (leb-true (header d bytes .comments) mostComments few) in
           ap (λ (r : Reading). r .refusal) (read-is ∙ answers)
 
-      by : (few fits : Bool) → leb (header bytes .comments) mostComments ≡ few → leb (length form) mostBytes ≡ fits
+      by : (few fits : Bool) → leb (header d bytes .comments) mostComments ≡ few → leb (length form) mostBytes ≡ fits
           → Outcome (cond (few && fits) form (refusedText 12 0 0)) out answer left
       by true true p q = fitting t file (some-0 p) (leb-true (length form) mostBytes q)
       by true false p q = too-large t file (some-0 p) (leb-false (length form) mostBytes q)
       by false fits p q =
-          let answers = many-comments bytes (t, file) short (leb-false (header bytes .comments) mostComments p) in
+          let answers = many-comments d-proper bytes (t, file) short (leb-false (header d bytes .comments) mostComments p) in
           refused 12 0 0 (omega arith) (read-is ∙ answers)
 
   -- THE OUTCOME: what the paper says is laid, or is a refusal that is still to be said.
@@ -143,7 +144,7 @@ module _ (bytes identifiers exponents comments : List ℕ) (rows : List ℤ) (ou
     where
       go : (f : Front) → fileOf d bytes ≡ f → Outcome (answered bytes f) out answer left
       go (front.File t) e = filed t e
-      go (front.Refused number line column) e = refused number line column (found-numbered true bytes number line column e) (rw e)
+      go (front.Refused number line column) e = refused number line column (found-numbered d-proper true bytes number line column e) (rw e)
 
   -- so it is of what the function answers and leaves
   pub outcome-of : {done : Rewritten} {now : List ℕ} → done ≡ answer → now ≡ left → Outcome (answered bytes (fileOf d bytes)) out done now
@@ -163,7 +164,7 @@ outcome-laid done (inr (apart, words, same)) none = absurd (apart none)
 pub answer-fits : (bytes : List ℕ) (f : Front) → length (answered bytes f) ≤ mostBytes
 unfolding answered
 answer-fits bytes (front.Refused number line column) = omega (arith, few-words number line column)
-answer-fits bytes (front.File t) = go (leb (header bytes .comments) mostComments) (leb (length (rewritten d bytes)) mostBytes) refl
+answer-fits bytes (front.File t) = go (leb (header d bytes .comments) mostComments) (leb (length (rewritten d bytes)) mostBytes) refl
   where
     go : (few fits : Bool) → leb (length (rewritten d bytes)) mostBytes ≡ fits
         → length (cond (few && fits) (rewritten d bytes) (refusedText 12 0 0)) ≤ mostBytes

@@ -10,7 +10,6 @@ use lib.ListN.{length, length-take}
 use Rattle.lines.specs.Lent.{laid}
 use Rattle.lines.specs.Lines.{linesOf}
 use Rattle.lines.proofs.Laying.{laid-fits}
-use Rattle.header.specs.Rules.{d}
 use Rattle.record.specs.Rows.{rowOf}
 use Rattle.file.specs.Table.{slotsIn}
 use Rattle.machine.specs.Step.{lineKnown}
@@ -72,29 +71,29 @@ module _ (rules : Rules) (file identifiers : List ℕ) (from : RowWalk) (p : Spo
       ∙ from-there)
 
 -- the judgement of a file, and room for its identifiers
-module _ (r : Reading) (file old : List ℕ) where
-  pub refused-begins : (r .refusal ≡ 0 → ⊥) → (r ≡ begunAs r (length old)) × (old ≡ identifiersBegun r file old)
+module _ (rules : Rules) (r : Reading) (file old : List ℕ) where
+  pub refused-begins : (r .refusal ≡ 0 → ⊥) → (r ≡ begunAs r (length old)) × (old ≡ identifiersBegun rules r file old)
   unfolding begunAs identifiersBegun
   refused-begins some = let no = ne-eqb (r .refusal) 0 some in (rw no, rw no)
 
   module _ (zero : r .refusal ≡ 0) where
-    pub short-begins : length old < r .header .satellites → (refusedWith 12 0 0 ≡ begunAs r (length old)) × (old ≡ identifiersBegun r file old)
+    pub short-begins : length old < r .header .satellites → (refusedWith 12 0 0 ≡ begunAs r (length old)) × (old ≡ identifiersBegun rules r file old)
     unfolding begunAs identifiersBegun
     short-begins h =
         let yes = eq-eqb (r .refusal) 0 zero in
         let short = lt-leb (r .header .satellites) (length old) h in
         (rw (yes, short), rw (yes, short))
 
-    slots-fit : r .header .satellites ≤ length old → length (slotsIn d false (r .header .satellites) (linesOf file)) ≤ length old
+    slots-fit : r .header .satellites ≤ length old → length (slotsIn rules false (r .header .satellites) (linesOf file)) ≤ length old
     unfolding slotsIn
     slots-fit h = simp length-take (omega arith)
 
-    pub begins-so : (now : List ℕ) → r .header .satellites ≤ length old → now ≡ laid (slotsIn d false (r .header .satellites) (linesOf file)) old
-        → (r ≡ begunAs r (length old)) × (now ≡ identifiersBegun r file old)
+    pub begins-so : (now : List ℕ) → r .header .satellites ≤ length old → now ≡ laid (slotsIn rules false (r .header .satellites) (linesOf file)) old
+        → (r ≡ begunAs r (length old)) × (now ≡ identifiersBegun rules r file old)
     unfolding begunAs identifiersBegun
     begins-so now h e =
         let yes = eq-eqb (r .refusal) 0 zero in
         let room = le-leb (r .header .satellites) (length old) h in (
           rw (yes, room),
-          rw (yes, room) (e ∙ laid-fits (slotsIn d false (r .header .satellites) (linesOf file)) old (slots-fit h)),
+          rw (yes, room) (e ∙ laid-fits (slotsIn rules false (r .header .satellites) (linesOf file)) old (slots-fit h)),
         )

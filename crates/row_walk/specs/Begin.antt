@@ -7,7 +7,7 @@ use lib.Dec.{eqb, leb}
 use lib.ListN.{length}
 use Rattle.lines.specs.Lent.{over}
 use Rattle.lines.specs.Lines.{linesOf}
-use Rattle.header.specs.Rules.{d}
+use Rattle.header.specs.declared.types.Rules.{Rules}
 use Rattle.file.specs.Table.{slotsIn}
 use Rattle.reader.specs.Reading.{refusedWith}
 use Rattle.reader.specs.declared.types.Reading.{Reading}
@@ -21,5 +21,5 @@ abbrev pub begins : Reading → ℕ → Bool
 begins r room = eqb (r .refusal) 0 && leb (r .header .satellites) room
 
 -- the list afterwards: the identifiers from its first place on, or as it was
-unfoldable pub identifiersBegun : Reading → List ℕ → List ℕ → List ℕ
-identifiersBegun r file old = cond (begins r (length old)) (over (slotsIn d false (r .header .satellites) (linesOf file)) old) old
+unfoldable pub identifiersBegun : Rules → Reading → List ℕ → List ℕ → List ℕ
+identifiersBegun rules r file old = cond (begins r (length old)) (over (slotsIn rules false (r .header .satellites) (linesOf file)) old) old

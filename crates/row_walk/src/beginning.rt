@@ -25,7 +25,7 @@ fn no_room() -> Reading
 // line 0 where there is less room than satellites. On every refusal the list is as it was.
 pub fn begin(file: &[u8], identifiers: &mut [u64]) -> Reading
     ensures result { λ r. ⌜ r ≡ begunAs (judged d (now (file .entry)) (fileOf d (now (file .entry)))) (length (now (identifiers .entry))) ⌝ }
-    ensures lent { λ _. ⌜ now (identifiers .exit) ≡ identifiersBegun (judged d (now (file .entry)) (fileOf d (now (file .entry)))) (now (file .entry)) (now (identifiers .entry)) ⌝ }
+    ensures lent { λ _. ⌜ now (identifiers .exit) ≡ identifiersBegun d (judged d (now (file .entry)) (fileOf d (now (file .entry)))) (now (file .entry)) (now (identifiers .entry)) ⌝ }
 {
     let reading = reader::judge(file);
     if reading.refusal != 0 {

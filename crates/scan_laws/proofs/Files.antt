@@ -120,9 +120,6 @@ accepts-exactly rules sound bytes = (accepts-plain rules sound bytes, plain-acce
 pub d-sound : Sound d
 d-sound = record { identifiers-fit = omega arith; comments-fit = omega arith }
 
-pub d-exactly : (bytes : List ℕ) → IsFile d bytes ↔ Accepted d bytes
-d-exactly bytes = accepts-exactly d d-sound bytes
-
 -- The lines of a file at the front of some bytes are those of a plain file.
 pub plain-front : (rules : Rules) → Sound rules → (bytes : List ℕ) (t : Tally) → scanOf rules bytes ≡ front.File t → Plain rules (linesOf (take (t .end) bytes))
 plain-front rules sound bytes t e =
@@ -132,14 +129,12 @@ plain-front rules sound bytes t e =
     let lines : linesOf (take (t .end) bytes) ≡ p .used = ap (λ (n : ℕ). linesOf (take n bytes)) end ∙ ap linesOf (parts .front) ∙ parts .front-lines in
     rw lines (p .plain)
 
-pub front-plain : (bytes : List ℕ) (t : Tally) → scanOf d bytes ≡ front.File t → Plain d (linesOf (take (t .end) bytes))
-front-plain bytes t e = plain-front d d-sound bytes t e
-
 -- a whole file takes up all of its bytes
-pub whole-taken : (bytes : List ℕ) (t : Tally) → wholeFront (length bytes) (scanOf d bytes) ≡ front.File t → take (t .end) bytes ≡ bytes
-whole-taken bytes t e = take-all (t .end) bytes (whole-ends (length bytes) (scanOf d bytes) t e .1)
+pub whole-taken : (rules : Rules) (bytes : List ℕ) (t : Tally) → wholeFront (length bytes) (scanOf rules bytes) ≡ front.File t → take (t .end) bytes ≡ bytes
+whole-taken rules bytes t e = take-all (t .end) bytes (whole-ends (length bytes) (scanOf rules bytes) t e .1)
 
 -- and its lines are those of a plain file
-pub file-plain : (bytes : List ℕ) → IsFile d bytes → Plain d (linesOf bytes)
-file-plain bytes (t, e) =
-    subst (λ (s : List ℕ). Plain d (linesOf s)) (whole-taken bytes t e) (front-plain bytes t (whole-ends (length bytes) (scanOf d bytes) t e .0))
+pub file-plain : (rules : Rules) → Sound rules → (bytes : List ℕ) → IsFile rules bytes → Plain rules (linesOf bytes)
+file-plain rules sound bytes (t, e) =
+    subst (λ (s : List ℕ). Plain rules (linesOf s)) (whole-taken rules bytes t e)
+    (plain-front rules sound bytes t (whole-ends (length bytes) (scanOf rules bytes) t e .0))

@@ -105,7 +105,7 @@ pub extern "C" fn sp3_after_lines(
 #[no_mangle]
 pub extern "C" fn sp3_begin(file: &[u8], identifiers: &mut [u64]) -> Reading
     ensures result { λ r. ⌜ r ≡ begunAs (judged d (now (file .entry)) (fileOf d (now (file .entry)))) (length (now (identifiers .entry))) ⌝ }
-    ensures lent { λ _. ⌜ now (identifiers .exit) ≡ identifiersBegun (judged d (now (file .entry)) (fileOf d (now (file .entry)))) (now (file .entry)) (now (identifiers .entry)) ⌝ }
+    ensures lent { λ _. ⌜ now (identifiers .exit) ≡ identifiersBegun d (judged d (now (file .entry)) (fileOf d (now (file .entry)))) (now (file .entry)) (now (identifiers .entry)) ⌝ }
 {
     row_walk::begin(file, identifiers)
 }

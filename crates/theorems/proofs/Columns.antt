@@ -1,11 +1,11 @@
 -- The column of a refusal, by its number. 02: "the byte for 2, column 81 for 3, for 5 the unused column or the placeholder's first, the field's first column
 -- for 6 and 7 (column 4 for any fault of year, month or day), otherwise 0. Several faults of the deciding number: the leftmost."
 -- Assumes nothing.
-use mathlib.Core.Path.{_≡_, refl, subst}
+use mathlib.Core.Path.{_≡_, refl, subst, ap, _∙_}
 use mathlib.Core.Logic.{_⊎_, inl, inr}
-use mathlib.Core.Bool.{Bool, true, false}
+use mathlib.Core.Bool.{Bool, true, false, cond}
 use mathlib.Core.List.{List}
-use Prim.Native.Nat.{ℕ, _+_, _-_, _≤_, _<_}
+use Prim.Native.Nat.{ℕ, _+_, _-_, _≤_, _<_, min}
 use native.Mathlib.Omega.{arith}
 use lib.Dec.{eqb}
 use lib.ListN.{length}
@@ -15,7 +15,8 @@ use Rattle.layout.specs.Layout.{Item, faultAt}
 use Rattle.lines.specs.Lines.{linesOf, nth}
 use Rattle.header.specs.Rules.{d}
 use Rattle.header.specs.declared.types.Rules.{Rules}
-use Rattle.record.specs.LineKinds.{longest}
+use Rattle.record.specs.LineKinds.{commentKind, toldKind, longest}
+use Rattle.file.specs.Kinds.{isKind}
 use Rattle.record.specs.declared.types.LineKind.{LineKind}
 use Rattle.record.specs.declared.types.LineKind.the-variants as kind
 use Rattle.reader.specs.Reading.{frontOf}
@@ -29,115 +30,127 @@ use Rattle.scan_laws.proofs.Lowest.{two-column, three-column, field-column, no-
 use Rattle.theorems.specs.Faults.{after, Earned, Decided, FirstFault, refusedLine, Outside, InColumns}
 use Rattle.theorems.specs.Room.{foundIn}
 use Rattle.theorems.proofs.Judging.{refused-first, Followed, whole-refused}
+use Rattle.canon_laws.specs.Held.{Proper}
+use Rattle.canon_laws.proofs.Versions.{d-proper}
 
--- a line of SP3-d may have 80 characters, of every kind
-longest-d : (k : LineKind) → longest d k ≡ 80
-longest-d kind.Other = refl
-longest-d kind.First = refl
-longest-d kind.Second = refl
-longest-d kind.Satellites = refl
-longest-d kind.Accuracies = refl
-longest-d kind.Characters = refl
-longest-d kind.Floats = refl
-longest-d kind.Integers = refl
-longest-d kind.Comment = refl
-longest-d kind.Epoch = refl
-longest-d kind.Position = refl
-longest-d kind.Velocity = refl
-longest-d kind.PositionCorrelation = refl
-longest-d kind.VelocityCorrelation = refl
-longest-d kind.EndOfFile = refl
+-- a line may have 80 characters, a comment the columns that its version allows
+longest-told : (rules : Rules) (k : LineKind) → longest rules k ≡ cond (eqb (toldKind k) commentKind) (min 80 (rules .«comment_columns»)) 80
+longest-told rules kind.Other = refl
+longest-told rules kind.First = refl
+longest-told rules kind.Second = refl
+longest-told rules kind.Satellites = refl
+longest-told rules kind.Accuracies = refl
+longest-told rules kind.Characters = refl
+longest-told rules kind.Floats = refl
+longest-told rules kind.Integers = refl
+longest-told rules kind.Comment = refl
+longest-told rules kind.Epoch = refl
+longest-told rules kind.Position = refl
+longest-told rules kind.Velocity = refl
+longest-told rules kind.PositionCorrelation = refl
+longest-told rules kind.VelocityCorrelation = refl
+longest-told rules kind.EndOfFile = refl
 
-module _ (bytes : List ℕ) (number line column : ℕ) where
-  -- it is decided by this fault, or the lines have run out
-  abbrev Why : Type 0
-  Why = ((number ≡ 1) × (column ≡ 0)) ⊎ Decided bytes (line - 1) number column
+module _ {rules : Rules} (proper : Proper rules) where
+  module _ (bytes : List ℕ) (number line column : ℕ) where
+    -- it is decided by this fault, or the lines have run out
+    abbrev Why : Type 0
+    Why = ((number ≡ 1) × (column ≡ 0)) ⊎ Decided rules bytes (line - 1) number column
 
-  why : frontOf d bytes ≡ front.Refused number line column → Why
-  why e = go (refused-first bytes number line column e)
-    where
-      go : FirstFault bytes number line column → Why
-      go f = by (f .why)
+    why : frontOf rules bytes ≡ front.Refused number line column → Why
+    why e = go (refused-first proper bytes number line column e)
+      where
+        go : FirstFault rules bytes number line column → Why
+        go f = by (f .why)
+          where
+            place : f .k ≡ line - 1
+            place = omega (arith, f .line-is)
+
+            by : ((f .k ≡ length (linesOf bytes)) × (number ≡ 1) × (column ≡ 0)) ⊎ ((f .k < length (linesOf bytes)) × Decided rules bytes (f .k) number column) → Why
+            by (inl (_, n, c)) = inl (n, c)
+            by (inr (_, decided)) = inr (subst (λ (k : ℕ). (Decided rules) bytes k number column) place decided)
+
+    -- of a whole file it is that of its front, or 11 and no column
+    why-found : (whole : Bool) → foundIn rules whole bytes ≡ front.Refused number line column → Why ⊎ ((number ≡ 11) × (column ≡ 0))
+    why-found false e = inl (why e)
+    why-found true e = go (whole-refused proper bytes number line column e)
+      where
+        go : (frontOf rules bytes ≡ front.Refused number line column)
+            ⊎ Followed rules bytes number line column
+            → Why ⊎ ((number ≡ 11) × (column ≡ 0))
+        go (inl f) = inl (why f)
+        go (inr (t, _, _, n, _, c)) = inr (n, c)
+
+    module _ (whole : Bool) (found : foundIn rules whole bytes ≡ front.Refused number line column) where
+      abbrev text : List ℕ
+      text = refusedLine bytes line
+
+      abbrev g : Going
+      g = after rules bytes (line - 1)
+
+      -- a number other than 1 and 11 is that of the fault which decides the line
+      by-line : (number ≡ 1 → ⊥) → (number ≡ 11 → ⊥) → Decided rules bytes (line - 1) number column
+      by-line not-one not-eleven = go (why-found whole found)
         where
-          place : f .k ≡ line - 1
-          place = omega (arith, f .line-is)
+          go : Why ⊎ ((number ≡ 11) × (column ≡ 0)) → Decided rules bytes (line - 1) number column
+          go (inl (inl (one, _))) = absurd (not-one one)
+          go (inl (inr decided)) = decided
+          go (inr (eleven, _)) = absurd (not-eleven eleven)
 
-          by : ((f .k ≡ length (linesOf bytes)) × (number ≡ 1) × (column ≡ 0)) ⊎ ((f .k < length (linesOf bytes)) × Decided bytes (f .k) number column) → Why
-          by (inl (_, n, c)) = inl (n, c)
-          by (inr (_, decided)) = inr (subst (λ (k : ℕ). Decided bytes k number column) place decided)
+      -- 2: the first byte of the line that is outside 32 to 126,
+      pub two-byte : number ≡ 2 → Outside text column × ((e : ℕ) → Outside text e → column ≤ e)
+      two-byte n = (
+        two-column rules (g .state) (g .identifiers) text column (subst (λ (m : ℕ). (Earned rules) bytes (line - 1) m column) n (decided .earned)),
+        λ e outside. left e (decided .before 2 e (by-byte (outside .0) (outside .1) (outside .2) refl)),
+      )
+        where
+          decided : Decided rules bytes (line - 1) number column
+          decided = by-line (λ one. omega arith) (λ eleven. omega arith)
 
-  -- of a whole file it is that of its front, or 11 and no column
-  why-found : (whole : Bool) → foundIn whole bytes ≡ front.Refused number line column → Why ⊎ ((number ≡ 11) × (column ≡ 0))
-  why-found false e = inl (why e)
-  why-found true e = go (whole-refused bytes number line column e)
-    where
-      go : (frontOf d bytes ≡ front.Refused number line column)
-          ⊎ Followed bytes number line column
-          → Why ⊎ ((number ≡ 11) × (column ≡ 0))
-      go (inl f) = inl (why f)
-      go (inr (t, _, _, n, _, c)) = inr (n, c)
+          left : (e : ℕ) → Before number column 2 e → column ≤ e
+          left e (inl less) = absurd (omega arith)
+          left e (inr (_, so)) = so
 
-  module _ (whole : Bool) (found : foundIn whole bytes ≡ front.Refused number line column) where
-    abbrev text : List ℕ
-    text = refusedLine bytes line
+      -- 3: column 81, or of a `/*` line the first after those that its version allows,
+      pub three-after : number ≡ 3 → column ≡ cond (isKind rules commentKind text) (min 80 (rules .«comment_columns»)) 80 + 1
+      three-after n =
+          let decided = by-line (λ one. omega arith) (λ eleven. omega arith) in
+          three-column rules (g .state) (g .identifiers) text column (subst (λ (m : ℕ). Earned rules bytes (line - 1) m column) n (decided .earned))
+          ∙ ap (λ (m : ℕ). m + 1) (longest-told rules (kindAt rules text))
 
-    abbrev g : Going
-    g = after bytes (line - 1)
+      -- 5, 6 and 7: one of the 80 columns, by what stands in them,
+      pub field-80 : 5 ≤ number → number ≤ 7 → (1 ≤ column) × (column ≤ 80) × InColumns rules bytes (line - 1) number column
+      field-80 p q =
+          let decided = by-line (λ one. omega arith) (λ eleven. omega arith) in
+          let columns = field-column rules (g .state) (g .identifiers) text number column p q (decided .earned) in
+          (columns .0, columns .1, by (decided .earned))
+        where
+          by : Earned rules bytes (line - 1) number column → InColumns rules bytes (line - 1) number column
+          by (by-byte _ _ _ n) = absurd (omega arith)
+          by (by-length _ n _) = absurd (omega arith)
+          by (by-kind _ n _) = absurd (omega arith)
+          by (by-unused b n) = inl (b, n)
+          by (by-field w) = inr (inl w)
+          by (by-check f) = inr (inr f)
 
-    -- a number other than 1 and 11 is that of the fault which decides the line
-    by-line : (number ≡ 1 → ⊥) → (number ≡ 11 → ⊥) → Decided bytes (line - 1) number column
-    by-line not-one not-eleven = go (why-found whole found)
-      where
-        go : Why ⊎ ((number ≡ 11) × (column ≡ 0)) → Decided bytes (line - 1) number column
-        go (inl (inl (one, _))) = absurd (not-one one)
-        go (inl (inr decided)) = decided
-        go (inr (eleven, _)) = absurd (not-eleven eleven)
+      -- every other number: none.
+      pub others-none : (number ≡ 1) ⊎ ((number ≡ 4) ⊎ (8 ≤ number)) → column ≡ 0
+      others-none other = go other (why-found whole found)
+        where
+          go : (number ≡ 1) ⊎ ((number ≡ 4) ⊎ (8 ≤ number)) → Why ⊎ ((number ≡ 11) × (column ≡ 0)) → column ≡ 0
+          go _ (inl (inl (_, c))) = c
+          go _ (inr (_, c)) = c
+          go (inr h) (inl (inr decided)) = no-column rules (g .state) (g .identifiers) text number column h (decided .earned)
+          go (inl one) (inl (inr decided)) = absurd (omega (arith, earned-numbered rules (g .state) (g .identifiers) text number column (decided .earned) .0))
 
-    -- 2: the first byte of the line that is outside 32 to 126,
-    pub two-byte : number ≡ 2 → Outside text column × ((e : ℕ) → Outside text e → column ≤ e)
-    two-byte n = (
-      two-column d (g .state) (g .identifiers) text column (subst (λ (m : ℕ). Earned bytes (line - 1) m column) n (decided .earned)),
-      λ e outside. left e (decided .before 2 e (by-byte (outside .0) (outside .1) (outside .2) refl)),
-    )
-      where
-        decided : Decided bytes (line - 1) number column
-        decided = by-line (λ one. omega arith) (λ eleven. omega arith)
-
-        left : (e : ℕ) → Before number column 2 e → column ≤ e
-        left e (inl less) = absurd (omega arith)
-        left e (inr (_, so)) = so
-
-    -- 3: column 81,
-    pub three-81 : number ≡ 3 → column ≡ 81
-    three-81 n =
-        let decided = by-line (λ one. omega arith) (λ eleven. omega arith) in
-        let is = three-column d (g .state) (g .identifiers) text column (subst (λ (m : ℕ). Earned bytes (line - 1) m column) n (decided .earned)) in
-        omega (arith, is, longest-d (kindAt d text))
-
-    -- 5, 6 and 7: one of the 80 columns, by what stands in them,
-    pub field-80 : 5 ≤ number → number ≤ 7 → (1 ≤ column) × (column ≤ 80) × InColumns bytes (line - 1) number column
-    field-80 p q =
-        let decided = by-line (λ one. omega arith) (λ eleven. omega arith) in
-        let columns = field-column d (g .state) (g .identifiers) text number column p q (decided .earned) in
-        (columns .0, columns .1, by (decided .earned))
-      where
-        by : Earned bytes (line - 1) number column → InColumns bytes (line - 1) number column
-        by (by-byte _ _ _ n) = absurd (omega arith)
-        by (by-length _ n _) = absurd (omega arith)
-        by (by-kind _ n _) = absurd (omega arith)
-        by (by-unused b n) = inl (b, n)
-        by (by-field w) = inr (inl w)
-        by (by-check f) = inr (inr f)
-
-    -- every other number: none.
-    pub others-none : (number ≡ 1) ⊎ ((number ≡ 4) ⊎ (8 ≤ number)) → column ≡ 0
-    others-none other = go other (why-found whole found)
-      where
-        go : (number ≡ 1) ⊎ ((number ≡ 4) ⊎ (8 ≤ number)) → Why ⊎ ((number ≡ 11) × (column ≡ 0)) → column ≡ 0
-        go _ (inl (inl (_, c))) = c
-        go _ (inr (_, c)) = c
-        go (inr h) (inl (inr decided)) = no-column d (g .state) (g .identifiers) text number column h (decided .earned)
-        go (inl one) (inl (inr decided)) = absurd (omega (arith, earned-numbered d (g .state) (g .identifiers) text number column (decided .earned) .0))
+-- so that in SP3-d it is column 81 of every line.
+pub three-81 : (bytes : List ℕ) (number line column : ℕ) (whole : Bool) → foundIn d whole bytes ≡ front.Refused number line column → number ≡ 3 → column ≡ 81
+three-81 bytes number line column whole found n =
+    three-after d-proper bytes number line column whole found n ∙ either (isKind d commentKind (refusedLine bytes line))
+  where
+    either : (t : Bool) → cond t 80 80 + 1 ≡ 81
+    either true = refl
+    either false = refl
 
 -- WHICH COLUMN EACH FIELD BLAMES, over every layout: an unused column the one that is not blank, any other field the one that 02 gives its number.
 module _ (k : LineKind) (rules : Rules) (s : State) (line : List ℕ) (item : Item) (listed : Among item (itemsAt k rules s line)) where

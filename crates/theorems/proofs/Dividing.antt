@@ -21,6 +21,7 @@ use Rattle.divide.specs.declared.Division.{Division}
 use Rattle.theorems.proofs.EndToEnd.{files-first, divided, lengths-sum, lengths-some, file-numbered, parts}
 use Rattle.theorems.proofs.Judging.{refused-numbers}
 use Rattle.theorems.specs.Divided.{Left, AtFront, TooMany}
+use Rattle.canon_laws.proofs.Versions.{d-proper}
 
 -- the lengths of the accepted files at the front
 abbrev found : List ℕ → List ℕ
@@ -112,7 +113,7 @@ OfRest number = (number ≡ 0) ⊎ ((1 ≤ number) × (number ≤ 10))
 
 left-numbered : (rest : List ℕ) (refusal line column : ℕ) → Left d rest refusal line column → OfRest refusal
 left-numbered rest refusal line column (inl (empty, zero, l, c)) = inl zero
-left-numbered rest refusal line column (inr (some, e)) = inr (refused-numbers rest refusal line column e)
+left-numbered rest refusal line column (inr (some, e)) = inr (refused-numbers d-proper rest refusal line column e)
 
 found-numbered : (bytes : List ℕ) → OfRest (cutsOf d bytes .refusal)
 found-numbered bytes = let p = parts d bytes in left-numbered (p .rest) (cutsOf d bytes .refusal) (cutsOf d bytes .line) (cutsOf d bytes .column) (p .left)
@@ -201,7 +202,7 @@ divide-only bytes old e = go (front-found bytes old (λ twelve. omega arith))
         whole : Left d (f .rest) (divideOf d bytes (length old) .refusal) (divideOf d bytes (length old) .line) (divideOf d bytes (length old) .column) → bytes ≡ f .files
         whole (inl (empty, zero, l, c)) = f .bytes-are ∙ ap (λ (s : List ℕ). f .files ++ s) empty ∙ append-nil (f .files)
         whole (inr (some, refused)) =
-            absurd (omega (arith, refused-numbers (f .rest) (divideOf d bytes (length old) .refusal) (divideOf d bytes (length old) .line) (divideOf d bytes (length old) .column) refused .0))
+            absurd (omega (arith, refused-numbers d-proper (f .rest) (divideOf d bytes (length old) .refusal) (divideOf d bytes (length old) .line) (divideOf d bytes (length old) .column) refused .0))
 
 -- Both at once: with room, a division is answered and written exactly when it is one.
 pub divides-exactly : (bytes old ls : List ℕ) → length ls ≤ length old

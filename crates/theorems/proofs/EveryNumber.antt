@@ -27,6 +27,7 @@ use Rattle.header.specs.declared.types.Header.{Header}
 use Rattle.theorems.specs.Files as file
 use Rattle.theorems.proofs.Exist.{header}
 use Rattle.theorems.proofs.Rewritten.{valid-exactly}
+use Rattle.canon_laws.proofs.Versions.{d-proper}
 
 -- the identifier of number k, by letter and then number: A01 to A99, B01 and so on
 unfoldable pub nthIdentifier : ℕ → ℕ
@@ -174,7 +175,7 @@ module _ (n : ℕ) (some : 1 ≤ n) (few : n ≤ maxSatellites) where
       rw (header-valid, lists-long, i, identifiers-valid, x, zeros-valid n, comments-valid, r, rows-valid)
 
   -- and so an accepted file.
-  pub every-number : (bytes : List ℕ) × IsFile d bytes × Holds d (linesOf bytes) (tableOfMany n) × (file.header bytes .satellites ≡ n)
+  pub every-number : (bytes : List ℕ) × IsFile d bytes × Holds d (linesOf bytes) (tableOfMany n) × (file.header d bytes .satellites ≡ n)
   every-number =
-      let f = valid-exactly (tableOfMany n) .0 many-valid in
+      let f = valid-exactly d-proper (tableOfMany n) .0 many-valid in
       (f .0, f .1, f .2, ap (λ (h : Header). h .satellites) (f .2 .header-is))

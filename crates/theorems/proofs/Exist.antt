@@ -18,6 +18,7 @@ use Rattle.layout.specs.Kind.{unnoted}
 use Rattle.canon_laws.specs.Held.{Holds}
 use Rattle.theorems.proofs.Rewritten.{valid-exactly}
 use Rattle.header.specs.declared.types.Header.{Header}
+use Rattle.canon_laws.proofs.Versions.{d-proper}
 
 -- the header of the paper's own file: mode P, 2013-04-03, one epoch, 900 s, one satellite, four comments, type G, GPS
 unfoldable pub header : Header
@@ -59,14 +60,14 @@ valid-noted = refl
 
 -- A FILE IS ACCEPTED that has this table,
 pub accepted-one : (bytes : List ℕ) × IsFile d bytes × Holds d (linesOf bytes) (oneRow (pos 1) (pos 0))
-accepted-one = valid-exactly (oneRow (pos 1) (pos 0)) .0 valid-one
+accepted-one = valid-exactly d-proper (oneRow (pos 1) (pos 0)) .0 valid-one
 
 pub accepted-two : (bytes : List ℕ) × IsFile d bytes × Holds d (linesOf bytes) (oneRow (pos 2) (pos 0))
-accepted-two = valid-exactly (oneRow (pos 2) (pos 0)) .0 valid-two
+accepted-two = valid-exactly d-proper (oneRow (pos 2) (pos 0)) .0 valid-two
 
 -- and one with `EP` alone after its row.
 pub accepted-noted : (bytes : List ℕ) × IsFile d bytes × Holds d (linesOf bytes) (oneRow (pos 1) (pos 1))
-accepted-noted = valid-exactly (oneRow (pos 1) (pos 1)) .0 valid-noted
+accepted-noted = valid-exactly d-proper (oneRow (pos 1) (pos 1)) .0 valid-noted
 
 -- the first number of the rows
 firstOf : List ℤ → ℤ

@@ -6,7 +6,7 @@ use mathlib.Core.List.{List, []}
 use Prim.Native.Nat.{ℕ}
 use lib.IntN.{ℤ}
 use lib.ListN.{length}
-use Rattle.header.specs.Rules.{d}
+use Rattle.header.specs.declared.types.Rules.{Rules}
 use Rattle.lines.specs.Lent.{over}
 use Rattle.lines.specs.Lines.{linesOf}
 use Rattle.file.specs.Table.{headerIn, commentsIn, rowsIn}
@@ -16,39 +16,41 @@ use Rattle.scan_laws.proofs.Files.{whole-taken}
 use Rattle.theorems.proofs.Judging.{file-then-anything}
 use Rattle.theorems.proofs.Room.{answer-decides, fills-exactly, room-accepted}
 use Rattle.reader.specs.declared.types.Reading.{Reading}
+use Rattle.canon_laws.specs.Held.{Proper}
 
-module _ (bytes : List ℕ) (accepted : IsFile d bytes) (identifiers exponents comments : List ℕ) (rows : List ℤ)
-    (success : readAnswer d bytes (fileOf d bytes) identifiers exponents comments rows .refusal ≡ 0) where
-  filling : fills d bytes (fileOf d bytes) identifiers exponents comments rows ≡ true
-  filling = answer-decides true bytes (length identifiers) (length exponents) (length comments) (length rows) .0 success
+module _ {rules : Rules} (proper : Proper rules) where
+  module _ (bytes : List ℕ) (accepted : IsFile rules bytes) (identifiers exponents comments : List ℕ) (rows : List ℤ)
+      (success : readAnswer rules bytes (fileOf rules bytes) identifiers exponents comments rows .refusal ≡ 0) where
+    filling : fills rules bytes (fileOf rules bytes) identifiers exponents comments rows ≡ true
+    filling = answer-decides proper true bytes (length identifiers) (length exponents) (length comments) (length rows) .0 success
 
-  lines-are : linesIn bytes (fileOf d bytes) ≡ linesOf bytes
-  lines-are = rw (accepted .1, whole-taken bytes (accepted .0) (accepted .1))
+    lines-are : linesIn bytes (fileOf rules bytes) ≡ linesOf bytes
+    lines-are = rw (accepted .1, whole-taken rules bytes (accepted .0) (accepted .1))
 
-  list-filled : {A : Type 0} (list : List (List ℕ) → List A) (old : List A)
-      → filled (fills d bytes (fileOf d bytes) identifiers exponents comments rows) (list (linesIn bytes (fileOf d bytes))) old ≡ over (list (linesOf bytes)) old
-  list-filled list old = ap₂ (λ (b : Bool) (ls : List (List ℕ)). filled b (list ls) old) filling lines-are
+    list-filled : {A : Type 0} (list : List (List ℕ) → List A) (old : List A)
+        → filled (fills rules bytes (fileOf rules bytes) identifiers exponents comments rows) (list (linesIn bytes (fileOf rules bytes))) old ≡ over (list (linesOf bytes)) old
+    list-filled list old = ap₂ (λ (b : Bool) (ls : List (List ℕ)). filled b (list ls) old) filling lines-are
 
-  pub identifiers-filled : identifiersAfter d bytes (fileOf d bytes) identifiers exponents comments rows ≡ over (identifiersOf d (linesOf bytes)) identifiers
-  identifiers-filled = list-filled (identifiersOf d) identifiers
+    pub identifiers-filled : identifiersAfter rules bytes (fileOf rules bytes) identifiers exponents comments rows ≡ over (identifiersOf rules (linesOf bytes)) identifiers
+    identifiers-filled = list-filled (identifiersOf rules) identifiers
 
-  pub exponents-filled : exponentsAfter d bytes (fileOf d bytes) identifiers exponents comments rows ≡ over (exponentsOf d (linesOf bytes)) exponents
-  exponents-filled = list-filled (exponentsOf d) exponents
+    pub exponents-filled : exponentsAfter rules bytes (fileOf rules bytes) identifiers exponents comments rows ≡ over (exponentsOf rules (linesOf bytes)) exponents
+    exponents-filled = list-filled (exponentsOf rules) exponents
 
-  pub comments-filled : commentsAfter d bytes (fileOf d bytes) identifiers exponents comments rows ≡ over (commentsIn d (linesOf bytes)) comments
-  comments-filled = list-filled (commentsIn d) comments
+    pub comments-filled : commentsAfter rules bytes (fileOf rules bytes) identifiers exponents comments rows ≡ over (commentsIn rules (linesOf bytes)) comments
+    comments-filled = list-filled (commentsIn rules) comments
 
-  pub rows-filled : rowsAfter d bytes (fileOf d bytes) identifiers exponents comments rows ≡ over (rowsIn d (linesOf bytes)) rows
-  rows-filled = list-filled (rowsIn d) rows
+    pub rows-filled : rowsAfter rules bytes (fileOf rules bytes) identifiers exponents comments rows ≡ over (rowsIn rules (linesOf bytes)) rows
+    rows-filled = list-filled (rowsIn rules) rows
 
-  answer-is : readAnswer d bytes (fileOf d bytes) identifiers exponents comments rows ≡ acceptedAs d bytes (accepted .0)
-  answer-is =
-      let t = accepted .0 in
-      room-accepted true bytes t (accepted .1) (length identifiers) (length exponents) (length comments) (length rows)
-      (fills-exactly true bytes t (accepted .1) (length identifiers) (length exponents) (length comments) (length rows) .0 filling)
+    answer-is : readAnswer rules bytes (fileOf rules bytes) identifiers exponents comments rows ≡ acceptedAs rules bytes (accepted .0)
+    answer-is =
+        let t = accepted .0 in
+        room-accepted proper true bytes t (accepted .1) (length identifiers) (length exponents) (length comments) (length rows)
+        (fills-exactly proper true bytes t (accepted .1) (length identifiers) (length exponents) (length comments) (length rows) .0 filling)
 
-  pub header-told : readAnswer d bytes (fileOf d bytes) identifiers exponents comments rows .header ≡ headerIn d (linesOf bytes)
-  header-told = ap (λ (r : Reading). r .header) answer-is ∙ ap (λ (s : List ℕ). headerIn d (linesOf s)) (whole-taken bytes (accepted .0) (accepted .1))
+    pub header-told : readAnswer rules bytes (fileOf rules bytes) identifiers exponents comments rows .header ≡ headerIn rules (linesOf bytes)
+    header-told = ap (λ (r : Reading). r .header) answer-is ∙ ap (λ (s : List ℕ). headerIn rules (linesOf s)) (whole-taken rules bytes (accepted .0) (accepted .1))
 
-  pub length-told : readAnswer d bytes (fileOf d bytes) identifiers exponents comments rows .length ≡ length bytes
-  length-told = ap (λ (r : Reading). r .length) answer-is ∙ file-then-anything bytes [] (accepted .0) (accepted .1) .1
+    pub length-told : readAnswer rules bytes (fileOf rules bytes) identifiers exponents comments rows .length ≡ length bytes
+    length-told = ap (λ (r : Reading). r .length) answer-is ∙ file-then-anything proper bytes [] (accepted .0) (accepted .1) .1

@@ -35,7 +35,8 @@ use Rattle.canon_laws.proofs.WiderFiles.{file-wider}
 use Rattle.canon_laws.proofs.Versions.{d-proper}
 use Rattle.canon_laws.proofs.Trips.{form-accepted}
 use Rattle.canon_laws.proofs.Rewriting.{form-again}
-use Rattle.scan_laws.proofs.Files.{d-sound, d-exactly}
+use Rattle.scan_laws.proofs.Files.{d-sound}
+use Rattle.scan_laws.proofs.Files as files
 use Rattle.scan.specs.declared.Front.{Front}
 use Rattle.scan.specs.declared.Front.the-variants as front
 use Rattle.divide.specs.Dividing.{Divides}
@@ -90,9 +91,9 @@ pub writing-stays : (t : Table) → valid before t ≡ true → (out : List ℕ)
 writing-stays t ok out room =
     let now = valid-stays t ok in
     let enough-now : length (canonical d t) ≤ length out = subst (λ (s : List ℕ). length s ≤ length out) (sym (forms-stay t)) room in
-    let told = written-0 t out now enough-now in (
+    let told = written-0 d-proper t out now enough-now in (
       told ∙ ap (λ (s : List ℕ). record { refusal = 0; length = length s }) (forms-stay t),
-      out-is t out (ap (λ (m : Measured). m .refusal) told) ∙ ap (λ (s : List ℕ). over s out) (forms-stay t),
+      out-is d-proper t out (ap (λ (m : Measured). m .refusal) told) ∙ ap (λ (s : List ℕ). over s out) (forms-stay t),
     )
 
 -- CANONICAL FILES STAY BYTE FOR BYTE AS THEY ARE: each is its own rewriting,
@@ -102,15 +103,15 @@ files-stay t ok = ap (rewritten d) (sym (forms-stay t)) ∙ form-again d d-prope
 -- accepted,
 pub canonical-accepted : (t : Table) → valid before t ≡ true → IsFile d (canonical before t)
 canonical-accepted t ok =
-    subst (λ (s : List ℕ). IsFile d s) (forms-stay t) (d-exactly (canonical d t) .1 (form-accepted d d-proper t (valid-stays t ok)))
+    subst (λ (s : List ℕ). IsFile d s) (forms-stay t) (files.accepts-exactly d d-sound (canonical d t) .1 (form-accepted d d-proper t (valid-stays t ok)))
 
 -- and read and written it comes back: 0, its length, and its bytes.
 pub bytes-stay : (t : Table) → valid before t ≡ true → (identifiers exponents comments : List ℕ) (rows : List ℤ) → let bytes = canonical before t in
     readAnswer d bytes (fileOf d bytes) identifiers exponents comments rows .refusal ≡ 0 → (out : List ℕ) → length bytes ≤ length out
-    → (measured d (lentTable true bytes identifiers exponents comments rows) (length out) ≡ record { refusal = 0; length = length bytes })
-    × (outAfter d (lentTable true bytes identifiers exponents comments rows) out ≡ over bytes out)
+    → (measured d (lentTable d true bytes identifiers exponents comments rows) (length out) ≡ record { refusal = 0; length = length bytes })
+    × (outAfter d (lentTable d true bytes identifiers exponents comments rows) out ≡ over bytes out)
 bytes-stay t ok identifiers exponents comments rows read out room =
-    canonical-again (canonical before t) (canonical-accepted t ok) identifiers exponents comments rows read t (valid-stays t ok) (sym (forms-stay t)) out room
+    canonical-again d-proper (canonical before t) (canonical-accepted t ok) identifiers exponents comments rows read t (valid-stays t ok) (sym (forms-stay t)) out room
 
 -- THE LINES OF ANY BYTES HAVE THE TABLE THAT THEY HAD.
 pub table-stays : (bytes : List ℕ) → tableIn d (linesOf bytes) ≡ tableIn before (linesOf bytes)
@@ -125,7 +126,7 @@ module _ (bytes : List ℕ) (accepted : IsFile before bytes) where
   accepted-stays = (accepted .0, found)
 
   pub judge-stays : judged d bytes (fileOf d bytes) .refusal ≡ 0
-  judge-stays = judge-accepts bytes .1 accepted-stays
+  judge-stays = judge-accepts d-proper bytes .1 accepted-stays
 
   -- what is made of the file now is what was made of it,
   as-before : {X : Type 0} (now then : Front → X) → now (front.File (accepted .0)) ≡ then (front.File (accepted .0)) → now (fileOf d bytes) ≡ then (fileOf before bytes)
@@ -161,11 +162,11 @@ module _ (bytes : List ℕ) where
   same-answer (front.File t) = refl
   same-answer (front.Refused number line column) = refl
 
-  found-either : (whole : Bool) → Found d satellitesBefore (omega arith) bytes (foundBefore whole bytes) (foundIn whole bytes)
+  found-either : (whole : Bool) → Found d satellitesBefore (omega arith) bytes (foundBefore whole bytes) (foundIn d whole bytes)
   found-either true = file-either d satellitesBefore (omega arith) bytes
   found-either false = front-either d satellitesBefore (omega arith) bytes
 
-  pub nothing-else : (whole : Bool) → (judged d bytes (foundIn whole bytes) ≡ judged before bytes (foundBefore whole bytes))
+  pub nothing-else : (whole : Bool) → (judged d bytes (foundIn d whole bytes) ≡ judged before bytes (foundBefore whole bytes))
       ⊎ ((line : ℕ)
       × (judged before bytes (foundBefore whole bytes) ≡ refusedWith 7 line 4)
       × (kindIn d (refusedLine bytes line) ≡ satellitesKind)
@@ -173,8 +174,8 @@ module _ (bytes : List ℕ) where
   unfolding judged
   nothing-else whole = go (found-either whole)
     where
-      go : Found d satellitesBefore (omega arith) bytes (foundBefore whole bytes) (foundIn whole bytes)
-          → (judged d bytes (foundIn whole bytes) ≡ judged before bytes (foundBefore whole bytes))
+      go : Found d satellitesBefore (omega arith) bytes (foundBefore whole bytes) (foundIn d whole bytes)
+          → (judged d bytes (foundIn d whole bytes) ≡ judged before bytes (foundBefore whole bytes))
           ⊎ ((line : ℕ)
           × (judged before bytes (foundBefore whole bytes) ≡ refusedWith 7 line 4)
           × (kindIn d (refusedLine bytes line) ≡ satellitesKind)

@@ -9,13 +9,11 @@ use native.Mathlib.Omega.{arith}
 use borrow.Author.Tests.{eq-eqb, eqb-true}
 use lib.Dec.{eqb}
 use lib.ListN.{length, drop}
-use Rattle.header.specs.Rules.{d}
 use Rattle.layout.specs.Line.{padded}
 use Rattle.lines.specs.Lines.{linesOf}
 use Rattle.machine.specs.State.{hasRoom}
 use Rattle.machine.specs.Step.{stepOf, ifRoom, stepWithin, readAs, readFirst, identifiersFirst, lineKnown, lineRead, lineIdentifiers, Overfull}
 use Rattle.machine.proofs.Stepping.{kept-within}
-use Rattle.scan_laws.proofs.Files.{d-sound}
 use Rattle.scan_laws.proofs.Lowest.{step-numbered}
 use Rattle.scan_laws.proofs.Room.{ready-first, never-short}
 use Rattle.scan_laws.proofs.Stepping.{ready-behind}
@@ -26,6 +24,7 @@ use Rattle.machine.specs.declared.types.State.{State}
 use Rattle.machine.specs.declared.types.Verdict.{Verdict}
 use Rattle.machine.specs.declared.types.Verdict.the-variants as verdict
 use Rattle.machine.specs.declared.types.LineRead.the-variants as found
+use Rattle.canon_laws.specs.Held.{Proper}
 
 module _ (rules : Rules) (bytes : List ℕ) (at : ℕ) (s : State) (identifiers : List ℕ) where
   -- what the line reader makes of such a line
@@ -91,12 +90,13 @@ module _ (rules : Rules) (bytes : List ℕ) (at : ℕ) (s : State) (identifiers 
       go [] is = refl
       go (l ∷ ls) is = same-there l ls is (stepOf rules s identifiers l) (eqb (s .due) 3) (hasRoom rules s identifiers (padded l)) (refl, refl, refl) none
 
--- THE JUDGE'S LIST IS NEVER SHORT: at no line that its run reaches are more identifiers brought than fit.
-pub judge-room : (bytes : List ℕ) (k : ℕ) → AllGoOn bytes k → k ≤ length (linesOf bytes)
-    → let g = after bytes k in Overfull d bytes (g .at) (g .state) (g .identifiers) → ⊥
-judge-room bytes k goes h o =
-    let g = after bytes k in
-    let same = never-short d d-sound g (ready-behind d k (linesOf bytes) atFirst (ready-first d) goes h) (o .line) in
-    let said : verdict.Fault 12 0 ≡ verdict.Next (o .next) = sym (overfull-twelve d bytes (g .at) (g .state) (g .identifiers) o) ∙ same ∙ o .good in
-    let z : _≡_ {A = ℕ} 0 1 = cc in
-    absurd (omega arith)
+module _ {rules : Rules} (proper : Proper rules) where
+  -- THE JUDGE'S LIST IS NEVER SHORT: at no line that its run reaches are more identifiers brought than fit.
+  pub judge-room : (bytes : List ℕ) (k : ℕ) → AllGoOn rules bytes k → k ≤ length (linesOf bytes)
+      → let g = after rules bytes k in Overfull rules bytes (g .at) (g .state) (g .identifiers) → ⊥
+  judge-room bytes k goes h o =
+      let g = after rules bytes k in
+      let same = never-short rules (proper .sound) g (ready-behind rules k (linesOf bytes) atFirst (ready-first rules) goes h) (o .line) in
+      let said : verdict.Fault 12 0 ≡ verdict.Next (o .next) = sym (overfull-twelve rules bytes (g .at) (g .state) (g .identifiers) o) ∙ same ∙ o .good in
+      let z : _≡_ {A = ℕ} 0 1 = cc in
+      absurd (omega arith)

@@ -35,21 +35,24 @@ use Rattle.canon.proofs.Parts.{parts}
 use Rattle.scan_laws.proofs.Files.{file-plain}
 use Rattle.theorems.specs.Files.{header}
 use Rattle.theorems.proofs.Accepting.{says-satellites}
+use Rattle.canon_laws.specs.Held.{Proper}
+use Rattle.header.specs.declared.types.Rules.{Rules}
 
--- A FILE HAS SO MANY LINES OF EACH KIND as its number of satellites asks for, and 59 at the most.
-module _ (bytes : List ℕ) (accepted : IsFile d bytes) where
-  pub lines-of-each : (length (ofKind d satellitesKind (linesOf bytes)) ≡ slotLines (header bytes .satellites))
-      × (length (ofKind d accuraciesKind (linesOf bytes)) ≡ slotLines (header bytes .satellites))
-  lines-of-each =
-      let p = file-plain bytes accepted in
-      let says = sym (ap slotLines (says-satellites p)) in
-      (ap length (kind-satellites p) ∙ p .slots-many ∙ says, ap length (kind-accuracies p) ∙ p .accuracies-many ∙ says)
+module _ {rules : Rules} (proper : Proper rules) where
+  -- A FILE HAS SO MANY LINES OF EACH KIND as its number of satellites asks for, and 59 at the most.
+  module _ (bytes : List ℕ) (accepted : IsFile rules bytes) where
+    pub lines-of-each : (length (ofKind rules satellitesKind (linesOf bytes)) ≡ slotLines (header rules bytes .satellites))
+        × (length (ofKind rules accuraciesKind (linesOf bytes)) ≡ slotLines (header rules bytes .satellites))
+    lines-of-each =
+        let p = file-plain rules (proper .sound) bytes accepted in
+        let says = sym (ap slotLines (says-satellites p)) in
+        (ap length (kind-satellites p) ∙ p .slots-many ∙ says, ap length (kind-accuracies p) ∙ p .accuracies-many ∙ says)
 
-  pub lines-most : header bytes .satellites ≡ maxSatellites
-      → (length (ofKind d satellitesKind (linesOf bytes)) ≡ 59) × (length (ofKind d accuraciesKind (linesOf bytes)) ≡ 59)
-  lines-most e =
-      let each = ap slotLines e ∙ slots-most in
-      (lines-of-each .0 ∙ each, lines-of-each .1 ∙ each)
+    pub lines-most : header rules bytes .satellites ≡ maxSatellites
+        → (length (ofKind rules satellitesKind (linesOf bytes)) ≡ 59) × (length (ofKind rules accuraciesKind (linesOf bytes)) ≡ 59)
+    lines-most e =
+        let each = ap slotLines e ∙ slots-most in
+        (lines-of-each .0 ∙ each, lines-of-each .1 ∙ each)
 
 -- A TABLE OF MORE IS 13, whatever the room,
 pub too-many-13 : (t : Table) → maxSatellites < t .header .satellites → (room : ℕ) → measured d t room ≡ refusedAs 13

@@ -19,7 +19,6 @@ use Rattle.scan.specs.Run.{Going, stepped, steppedOver, atFirst}
 use Rattle.reader.specs.Reading.{frontOf}
 use Rattle.line_walk.specs.Spots.{firstSpot, spotAfter, spotsAfter, identifiersPast}
 use Rattle.line_walk.proofs.Promised.{Begins, Moves}
-use Rattle.scan_laws.proofs.Files.{d-sound}
 use Rattle.scan_laws.proofs.Refused.{EndsAfter, accepted-steps}
 use Rattle.scan_laws.proofs.Room.{Ready, ready-first, ready-next, never-short}
 use Rattle.scan_laws.proofs.Stepping.{next-line, go-first, go-later, stepped-on, ready-behind}
@@ -35,6 +34,8 @@ use Rattle.scan.specs.declared.Front.the-variants as front
 use Rattle.line_walk.specs.declared.Spot.{Spot}
 use Rattle.line_walk.specs.declared.Walker.{Walker}
 use Rattle.theorems.specs.Walked.{spotOf, goingAt, read, onFrom, past, overLines, walkedFrom}
+use Rattle.canon_laws.specs.Held.{Proper}
+use Rattle.canon_laws.proofs.Versions.{d-proper}
 
 no-fault : (m c : ℕ) (s : State) → verdict.Fault m c ≡ verdict.Next s → ⊥
 no-fault m c s x = let z : _≡_ {A = ℕ} 0 1 = cc in absurd (omega arith)
@@ -143,42 +144,43 @@ module _ (rules : Rules) (sound : Sound rules) where
       (ap (λ (x : Going). overLines rules x (take (k + m) ls)) (sym (stepped-on rules g l (here .0) (here .1)))
       ∙ over-behind k ls (stepped rules g l) m (ready-next rules g l (here .0) ready (here .1)) (go-later rules k l ls g goes) (le-of-suc-le-suc h))
 
--- ANY BYTES: from the first line, with room for the identifiers as the judge has it.
-module _ (bytes : List ℕ) where
-  abbrev pub walkedTo : ℕ → Going
-  walkedTo k = walkedFrom d bytes atFirst k
+module _ {rules : Rules} (proper : Proper rules) where
+  -- ANY BYTES: from the first line, with room for the identifiers as the judge has it.
+  module _ (bytes : List ℕ) where
+    abbrev pub walkedTo : ℕ → Going
+    walkedTo k = walkedFrom rules bytes atFirst k
 
-  walked : (k m : ℕ) → GoOn d atFirst (linesOf bytes) k → k ≤ length (linesOf bytes) → walkedTo (k + m) ≡ overLines d (after bytes k) (take m (drop k (linesOf bytes)))
-  walked k m goes h = walks d bytes (k + m) atFirst ∙ over-behind d d-sound k (linesOf bytes) atFirst m (ready-first d) goes h
+    walked : (k m : ℕ) → GoOn rules atFirst (linesOf bytes) k → k ≤ length (linesOf bytes) → walkedTo (k + m) ≡ overLines rules (after rules bytes k) (take m (drop k (linesOf bytes)))
+    walked k m goes h = walks rules bytes (k + m) atFirst ∙ over-behind rules (proper .sound) k (linesOf bytes) atFirst m (ready-first rules) goes h
 
-  -- STEPPING BY THE WALKER: after k steps over lines that go on, spot, state and identifiers are those of the judge's run after the first k lines.
-  pub walker-steps : (k : ℕ) → GoOn d atFirst (linesOf bytes) k → k ≤ length (linesOf bytes) → walkedTo k ≡ after bytes k
-  unfolding overLines
-  walker-steps k goes h = ap walkedTo (sym (add-zero k)) ∙ walked k 0 goes h
+    -- STEPPING BY THE WALKER: after k steps over lines that go on, spot, state and identifiers are those of the judge's run after the first k lines.
+    pub walker-steps : (k : ℕ) → GoOn rules atFirst (linesOf bytes) k → k ≤ length (linesOf bytes) → walkedTo k ≡ after rules bytes k
+    unfolding overLines
+    walker-steps k goes h = ap walkedTo (sym (add-zero k)) ∙ walked k 0 goes h
 
-  -- At the first line that does not go on, refused or the last, it stays.
-  pub walker-stays : (k : ℕ) → GoOn d atFirst (linesOf bytes) k → k < length (linesOf bytes)
-      → ((s : State) → judged d (after bytes k) (nth k (linesOf bytes)) ≡ verdict.Next s → ⊥) → (m : ℕ) → walkedTo (k + m) ≡ after bytes k
-  walker-stays k goes h stay m =
-      let ready = ready-behind d k (linesOf bytes) atFirst (ready-first d) goes (omega arith) in
-      let same = never-short d d-sound (after bytes k) ready (nth k (linesOf bytes)) in
-      walked k m goes (omega arith)
-      ∙ ap (λ (ls : List (List ℕ)). overLines d (after bytes k) (take m ls)) (next-line k (linesOf bytes) h)
-      ∙ stays-at d bytes (after bytes k) (nth k (linesOf bytes)) (drop (suc k) (linesOf bytes)) (λ s on. stay s (sym same ∙ on)) m
+    -- At the first line that does not go on, refused or the last, it stays.
+    pub walker-stays : (k : ℕ) → GoOn rules atFirst (linesOf bytes) k → k < length (linesOf bytes)
+        → ((s : State) → judged rules (after rules bytes k) (nth k (linesOf bytes)) ≡ verdict.Next s → ⊥) → (m : ℕ) → walkedTo (k + m) ≡ after rules bytes k
+    walker-stays k goes h stay m =
+        let ready = ready-behind rules k (linesOf bytes) atFirst (ready-first rules) goes (omega arith) in
+        let same = never-short rules (proper .sound) (after rules bytes k) ready (nth k (linesOf bytes)) in
+        walked k m goes (omega arith)
+        ∙ ap (λ (ls : List (List ℕ)). overLines rules (after rules bytes k) (take m ls)) (next-line k (linesOf bytes) h)
+        ∙ stays-at rules bytes (after rules bytes k) (nth k (linesOf bytes)) (drop (suc k) (linesOf bytes)) (λ s on. stay s (sym same ∙ on)) m
 
--- An accepted file: each of its lines is reached, and the walker stays before the EOF line.
-module _ (bytes : List ℕ) (t : Tally) (accepted : frontOf d bytes ≡ front.File t) where
-  ends : EndsAfter d bytes t (t .lines - 1)
-  ends = accepted-steps d bytes t accepted
+  -- An accepted file: each of its lines is reached, and the walker stays before the EOF line.
+  module _ (bytes : List ℕ) (t : Tally) (accepted : frontOf rules bytes ≡ front.File t) where
+    ends : EndsAfter rules bytes t (t .lines - 1)
+    ends = accepted-steps rules bytes t accepted
 
-  pub file-steps : (k : ℕ) → k < t .lines → walkedTo bytes k ≡ after bytes k
-  file-steps k h = walker-steps bytes k (λ i below. ends .goes i (omega arith)) (omega (arith, ends .within))
+    pub file-steps : (k : ℕ) → k < t .lines → walkedTo bytes k ≡ after rules bytes k
+    file-steps k h = walker-steps bytes k (λ i below. ends .goes i (omega arith)) (omega (arith, ends .within))
 
-  pub file-stays : (k : ℕ) → t .lines ≤ k + 1 → walkedTo bytes k ≡ after bytes (t .lines - 1)
-  file-stays k h =
-      let last = t .lines - 1 in
-      let sum : k ≡ last + (k - last) = omega (arith, ends .lines) in
-      ap (walkedTo bytes) sum ∙ walker-stays bytes last (λ i below. ends .goes i below) (ends .within) (λ s on. no-end s (sym (ends .last) ∙ on)) (k - last)
+    pub file-stays : (k : ℕ) → t .lines ≤ k + 1 → walkedTo bytes k ≡ after rules bytes (t .lines - 1)
+    file-stays k h =
+        let last = t .lines - 1 in
+        let sum : k ≡ last + (k - last) = omega (arith, ends .lines) in
+        ap (walkedTo bytes) sum ∙ walker-stays bytes last (λ i below. ends .goes i below) (ends .within) (λ s on. no-end s (sym (ends .last) ∙ on)) (k - last)
 
 -- one step more at the end
 last-step : (rules : Rules) (bytes : List ℕ) (k : ℕ) (identifiers : List ℕ) (p : Spot)
@@ -227,9 +229,9 @@ after-moves from first (more {k} {w} {v} {identifiers} {kept} steps move) =
 
 -- so from `new` at the first line of any bytes, over lines that go on, they are those of its first k lines.
 pub walker-walks : (file : RefT (List ℕ)) (from : Walker) → Begins file firstSpot from → (k : ℕ) (w : Walker) (identifiers : List ℕ) → After from noIdentifiers k w identifiers
-    → GoOn d atFirst (linesOf (now file)) k → k ≤ length (linesOf (now file)) → goingAt (w .spot) identifiers ≡ after (now file) k
+    → GoOn d atFirst (linesOf (now file)) k → k ≤ length (linesOf (now file)) → goingAt (w .spot) identifiers ≡ after d (now file) k
 walker-walks file from begins k w identifiers steps goes h =
     let far = after-moves from noIdentifiers steps in
     ap₂ goingAt (far .spot) (far .identifiers-are)
     ∙ ap₂ (λ (f : RefT (List ℕ)) (p : Spot). goingAt (spotsAfter d (now f) noIdentifiers p k) (identifiersPast d (now f) noIdentifiers p k)) (begins .file-is) (begins .spot-is)
-    ∙ walker-steps (now file) k goes h
+    ∙ walker-steps d-proper (now file) k goes h

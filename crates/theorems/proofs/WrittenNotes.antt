@@ -9,7 +9,7 @@ use native.Mathlib.Omega.{arith}
 use lib.IntN.{ℤ, pos}
 use lib.ListN.{length, replicate}
 use lib.Seq.{drop-length}
-use Rattle.header.specs.Rules.{d}
+use Rattle.header.specs.declared.types.Rules.{Rules}
 use Rattle.layout.specs.Kind.{unnoted}
 use Rattle.layout.specs.Line.{ended}
 use Rattle.record.specs.Rows.{rowWidth}
@@ -27,6 +27,7 @@ use Rattle.theorems.specs.Room.{Room}
 use Rattle.theorems.proofs.Writing.{valid-table}
 use Rattle.theorems.proofs.Rewritten.{written-accepted, room-reads, rows-back}
 use Rattle.theorems.proofs.LentNotes.{the-note}
+use Rattle.canon_laws.specs.Held.{Proper}
 
 -- a record of which nothing is known is its symbol alone
 pub bare-note : (v : Bool) (mark : ℤ) → noteLine v (noteShown (mark ∷ replicate 10 (pos unnoted))) ≡ ended (correlationSymbol v)
@@ -34,41 +35,42 @@ unfolding noteLine noteShown
 bare-note true mark = refl
 bare-note false mark = refl
 
-module _ (t : Table) (out : List ℕ) (success : measured d t (length out) .refusal ≡ 0) where
-  abbrev again : List ℕ
-  again = writtenBytes t out
+module _ {rules : Rules} (proper : Proper rules) where
+  module _ (t : Table) (out : List ℕ) (success : measured rules t (length out) .refusal ≡ 0) where
+    abbrev again : List ℕ
+    again = writtenBytes rules t out
 
-  long : Parts d t
-  long = parts d t (valid-table t out success)
+    long : Parts rules t
+    long = parts rules t (valid-table proper t out success)
 
-  -- the lists of the table are room for what was written,
-  own-room : Room (t .header) (length (tableIdentifiers t)) (length (exponentsOf t)) (length (commentsOf t)) (length (rowsOf t))
-  own-room = record {
-    identifiers = omega (arith, long .identifiers-many);
-    exponents = omega (arith, long .exponents-many);
-    comments = omega (arith, long .comments-many);
-    rows = go (t .header .velocity) (cellsIn (t .header)) (length (rowsOf t)) (long .rows-many);
-  }
-    where
-      go : (v : Bool) (cells n : ℕ) → n ≡ cells * cellWidth v → cond v (2 * rowWidth * cells) (rowWidth * cells) ≤ n
-      go true cells n many = omega (arith, many)
-      go false cells n many = omega (arith, many)
+    -- the lists of the table are room for what was written,
+    own-room : Room (t .header) (length (tableIdentifiers t)) (length (exponentsOf t)) (length (commentsOf t)) (length (rowsOf t))
+    own-room = record {
+      identifiers = omega (arith, long .identifiers-many);
+      exponents = omega (arith, long .exponents-many);
+      comments = omega (arith, long .comments-many);
+      rows = go (t .header .velocity) (cellsIn (t .header)) (length (rowsOf t)) (long .rows-many);
+    }
+      where
+        go : (v : Bool) (cells n : ℕ) → n ≡ cells * cellWidth v → cond v (2 * rowWidth * cells) (rowWidth * cells) ≤ n
+        go true cells n many = omega (arith, many)
+        go false cells n many = omega (arith, many)
 
-  own-read : readAnswer d again (fileOf d again) (tableIdentifiers t) (exponentsOf t) (commentsOf t) (rowsOf t) .refusal ≡ 0
-  own-read = room-reads t out success (tableIdentifiers t) (exponentsOf t) (commentsOf t) (rowsOf t) own-room
+    own-read : readAnswer rules again (fileOf rules again) (tableIdentifiers t) (exponentsOf t) (commentsOf t) (rowsOf t) .refusal ≡ 0
+    own-read = room-reads proper t out success (tableIdentifiers t) (exponentsOf t) (commentsOf t) (rowsOf t) own-room
 
-  -- and are left as they are
-  rows-kept : rowsAfter d again (fileOf d again) (tableIdentifiers t) (exponentsOf t) (commentsOf t) (rowsOf t) ≡ rowsOf t
-  rows-kept =
-      rows-back t out success (tableIdentifiers t) (exponentsOf t) (commentsOf t) (rowsOf t) own-read
-      ∙ ap (λ (s : List ℤ). rowsOf t ++ s) (drop-length (rowsOf t))
-      ∙ append-nil (rowsOf t)
+    -- and are left as they are
+    rows-kept : rowsAfter rules again (fileOf rules again) (tableIdentifiers t) (exponentsOf t) (commentsOf t) (rowsOf t) ≡ rowsOf t
+    rows-kept =
+        rows-back proper t out success (tableIdentifiers t) (exponentsOf t) (commentsOf t) (rowsOf t) own-read
+        ∙ ap (λ (s : List ℤ). rowsOf t ++ s) (drop-length (rowsOf t))
+        ∙ append-nil (rowsOf t)
 
-  -- A RECORD IS WRITTEN EXACTLY WHERE THE TABLE HAS ONE: EP after a P row, EV after a V row.
-  pub note-written : (k j : ℕ) → There again k j → (v : Bool) → (v ≡ true → header again .velocity ≡ true)
-      → (noteIn (rowsOf t) (tableRow v again k j) ≡ noteMark.Stands) ↔ ((l : List ℕ) × HasNote v again k j l)
-  note-written k j there v mode =
-      subst
-      (λ (s : List ℤ). (noteIn s (tableRow v again k j) ≡ noteMark.Stands) ↔ ((l : List ℕ) × HasNote v again k j l))
-      rows-kept
-      (the-note again (written-accepted t out success) (tableIdentifiers t) (exponentsOf t) (commentsOf t) (rowsOf t) own-read k j there v mode)
+    -- A RECORD IS WRITTEN EXACTLY WHERE THE TABLE HAS ONE: EP after a P row, EV after a V row.
+    pub note-written : (k j : ℕ) → There rules again k j → (v : Bool) → (v ≡ true → header rules again .velocity ≡ true)
+        → (noteIn (rowsOf t) (tableRow rules v again k j) ≡ noteMark.Stands) ↔ ((l : List ℕ) × HasNote rules v again k j l)
+    note-written k j there v mode =
+        subst
+        (λ (s : List ℤ). (noteIn s (tableRow rules v again k j) ≡ noteMark.Stands) ↔ ((l : List ℕ) × HasNote rules v again k j l))
+        rows-kept
+        (the-note proper again (written-accepted proper t out success) (tableIdentifiers t) (exponentsOf t) (commentsOf t) (rowsOf t) own-read k j there v mode)

@@ -3,7 +3,7 @@ use mathlib.Core.List.{List}
 use Prim.Native.Nat.{ℕ}
 use lib.IntN.{ℤ}
 use lib.ListN.{length, take}
-use Rattle.header.specs.Rules.{d}
+use Rattle.header.specs.declared.types.Rules.{Rules}
 use Rattle.reader.specs.Reading.{readAnswer, identifiersAfter, exponentsAfter, commentsAfter, rowsAfter}
 use Rattle.canon.specs.Table.{Table, tableOf}
 use Rattle.canon.specs.Measured.{measured}
@@ -12,15 +12,15 @@ use Rattle.theorems.specs.Room.{foundIn}
 use mathlib.Core.Bool.{Bool}
 
 -- the header that a reading answered and the four lists as it left them, for a whole file (true) or one at the front (false)
-abbrev pub lentTable : Bool → List ℕ → List ℕ → List ℕ → List ℕ → List ℤ → Table
-lentTable whole bytes identifiers exponents comments rows =
-    let found = foundIn whole bytes in
-    tableOf (readAnswer d bytes found identifiers exponents comments rows .header)
-    (identifiersAfter d bytes found identifiers exponents comments rows)
-    (exponentsAfter d bytes found identifiers exponents comments rows)
-    (commentsAfter d bytes found identifiers exponents comments rows)
-    (rowsAfter d bytes found identifiers exponents comments rows)
+abbrev pub lentTable : Rules → Bool → List ℕ → List ℕ → List ℕ → List ℕ → List ℤ → Table
+lentTable rules whole bytes identifiers exponents comments rows =
+    let found = foundIn rules whole bytes in
+    tableOf (readAnswer rules bytes found identifiers exponents comments rows .header)
+    (identifiersAfter rules bytes found identifiers exponents comments rows)
+    (exponentsAfter rules bytes found identifiers exponents comments rows)
+    (commentsAfter rules bytes found identifiers exponents comments rows)
+    (rowsAfter rules bytes found identifiers exponents comments rows)
 
 -- the first bytes of the output after a writing, as many as it answered
-abbrev pub writtenBytes : Table → List ℕ → List ℕ
-writtenBytes t out = take (measured d t (length out) .length) (outAfter d t out)
+abbrev pub writtenBytes : Rules → Table → List ℕ → List ℕ
+writtenBytes rules t out = take (measured rules t (length out) .length) (outAfter rules t out)

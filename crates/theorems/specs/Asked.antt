@@ -2,7 +2,7 @@
 -- f64 in the same units, exactly, or the word absent in place of either".
 use mathlib.Core.List.{List}
 use Prim.Native.Nat.{ℕ}
-use Rattle.header.specs.Rules.{d}
+use Rattle.header.specs.declared.types.Rules.{Rules}
 use Rattle.reader.specs.Reading.{fileOf}
 use Rattle.questions.specs.Questions.{rowBegins, rowAnswer}
 use Rattle.float_row.specs.Floats.{absentRow}
@@ -10,8 +10,8 @@ use Rattle.float_row.specs.declared.FloatRow.{FloatRow}
 use Rattle.questions.specs.declared.types.RowAnswer.{RowAnswer}
 
 -- what `row` answers for epoch k and satellite j of some bytes
-abbrev pub asked : List ℕ → ℕ → ℕ → RowAnswer
-asked bytes k j = rowAnswer bytes (rowBegins d bytes (fileOf d bytes) k j)
+abbrev pub asked : Rules → List ℕ → ℕ → ℕ → RowAnswer
+asked rules bytes k j = rowAnswer bytes (rowBegins rules bytes (fileOf rules bytes) k j)
 
 -- a row found, and a refusal, beside which place and clock are absent
 abbrev pub rowFound : FloatRow → RowAnswer

@@ -5,7 +5,7 @@ use mathlib.Core.Bool.{Bool, true, false, cond}
 use mathlib.Core.List.{List, _∷_, _++_, []}
 use Prim.Native.Nat.{ℕ, _+_, _*_, _<_}
 use lib.ListN.{length, getD}
-use Rattle.header.specs.Rules.{d}
+use Rattle.header.specs.declared.types.Rules.{Rules}
 use Rattle.lines.specs.Lines.{linesOf, nth, afterNth}
 use Rattle.record.specs.LineKinds.{epochKind}
 use Rattle.layout.specs.Line.{padded}
@@ -18,46 +18,46 @@ use Rattle.header.specs.declared.types.Header.{Header}
 use Rattle.record.specs.declared.types.Row.{Row}
 
 -- the header of its table, and its j-th identifier
-abbrev pub header : List ℕ → Header
-header bytes = headerIn d (linesOf bytes)
+abbrev pub header : Rules → List ℕ → Header
+header rules bytes = headerIn rules (linesOf bytes)
 
-abbrev pub identifier : List ℕ → ℕ → ℕ
-identifier bytes j = getD (identifiersOf d (linesOf bytes)) j 0
+abbrev pub identifier : Rules → List ℕ → ℕ → ℕ
+identifier rules bytes j = getD (identifiersOf rules (linesOf bytes)) j 0
 
 -- its P lines (false), or its V lines (true), in file order
-abbrev pub rowLinesOf : Bool → List ℕ → List (List ℕ)
-rowLinesOf velocity bytes = ofKind d (rowNumber velocity) (linesOf bytes)
+abbrev pub rowLinesOf : Rules → Bool → List ℕ → List (List ℕ)
+rowLinesOf rules velocity bytes = ofKind rules (rowNumber velocity) (linesOf bytes)
 
 -- the number of the row of epoch k and satellite j among them
-abbrev pub rowAt : List ℕ → ℕ → ℕ → ℕ
-rowAt bytes k j = k * header bytes .satellites + j
+abbrev pub rowAt : Rules → List ℕ → ℕ → ℕ → ℕ
+rowAt rules bytes k j = k * header rules bytes .satellites + j
 
 -- the file has that epoch and that satellite
-pub record There (bytes : List ℕ) (k j : ℕ) : Type 0 where
-  pub epoch : k < header bytes .epochs
-  pub satellite : j < header bytes .satellites
+pub record There (rules : Rules) (bytes : List ℕ) (k j : ℕ) : Type 0 where
+  pub epoch : k < header rules bytes .epochs
+  pub satellite : j < header rules bytes .satellites
 
 -- the line of that row, and the row that its columns hold
-abbrev pub lineAsked : Bool → List ℕ → ℕ → ℕ → List ℕ
-lineAsked velocity bytes k j = nth (rowAt bytes k j) (rowLinesOf velocity bytes)
+abbrev pub lineAsked : Rules → Bool → List ℕ → ℕ → ℕ → List ℕ
+lineAsked rules velocity bytes k j = nth (rowAt rules bytes k j) (rowLinesOf rules velocity bytes)
 
-abbrev pub held : Bool → List ℕ → ℕ → ℕ → Row
-held velocity bytes k j = rowOf velocity (lineAsked velocity bytes k j)
+abbrev pub held : Rules → Bool → List ℕ → ℕ → ℕ → Row
+held rules velocity bytes k j = rowOf velocity (lineAsked rules velocity bytes k j)
 
 -- its number among all rows of the table: in mode V each V row stands after its P row
-abbrev pub tableRow : Bool → List ℕ → ℕ → ℕ → ℕ
-tableRow true bytes k j = 2 * rowAt bytes k j + 1
-tableRow false bytes k j = cond (header bytes .velocity) (2 * rowAt bytes k j) (rowAt bytes k j)
+abbrev pub tableRow : Rules → Bool → List ℕ → ℕ → ℕ → ℕ
+tableRow rules true bytes k j = 2 * rowAt rules bytes k j + 1
+tableRow rules false bytes k j = cond (header rules bytes .velocity) (2 * rowAt rules bytes k j) (rowAt rules bytes k j)
 
 -- the lines after that row's line; the first of them is the line directly after it
-abbrev pub linesAfter : Bool → List ℕ → ℕ → ℕ → List (List ℕ)
-linesAfter velocity bytes k j = afterNth (isRow d) (tableRow velocity bytes k j) (linesOf bytes)
+abbrev pub linesAfter : Rules → Bool → List ℕ → ℕ → ℕ → List (List ℕ)
+linesAfter rules velocity bytes k j = afterNth (isRow rules) (tableRow rules velocity bytes k j) (linesOf bytes)
 
 -- this line stands directly after it, and is an EP line (an EV line after a V row)
-pub record HasNote (velocity : Bool) (bytes : List ℕ) (k j : ℕ) (line : List ℕ) : Type 0 where
+pub record HasNote (rules : Rules) (velocity : Bool) (bytes : List ℕ) (k j : ℕ) (line : List ℕ) : Type 0 where
   pub others : List (List ℕ)
-  pub stands : linesAfter velocity bytes k j ≡ line ∷ others
-  pub is-note : isNoteLine d velocity line ≡ true
+  pub stands : linesAfter rules velocity bytes k j ≡ line ∷ others
+  pub is-note : isNoteLine rules velocity line ≡ true
 
 -- the columns of its deviations by 0 to 3 (x, y, z, clock), and of its correlations by 0 to 5 (xy, xz, xc, yz, yc, zc)
 abbrev pub deviationField : ℕ → List ℕ → List ℕ
@@ -79,19 +79,19 @@ correlationField which line =
 -- Row k * n + j of the P lines, or of the V lines, is the line of epoch k that names identifier j: epoch k is the epoch line with k epoch lines before it
 -- and the lines that follow it up to the next; it stands at the start plus k times the interval; and of its rows the j-th names identifier j, and no
 -- other does.
-pub record RowOf (velocity : Bool) (bytes : List ℕ) (k j : ℕ) : Type 0 where
+pub record RowOf (rules : Rules) (velocity : Bool) (bytes : List ℕ) (k j : ℕ) : Type 0 where
   pub earlier : List (List ℕ)
   pub epoch : List ℕ
   pub rows : List (List ℕ)
   pub later : List (List ℕ)
   pub lines-are : linesOf bytes ≡ earlier ++ ((epoch ∷ rows) ++ later)
-  pub earlier-epochs : length (ofKind d epochKind earlier) ≡ k
-  pub no-other-epoch : ofKind d epochKind rows ≡ []
-  pub at-instant : isEpochLine d (header bytes .start8 + k * header bytes .interval8) epoch ≡ true
-  pub its-row : lineAsked velocity bytes k j ≡ nth j (ofKind d (rowNumber velocity) (epoch ∷ rows))
-  pub names-it : isRowLine d velocity (identifier bytes j) (lineAsked velocity bytes k j) ≡ true
+  pub earlier-epochs : length (ofKind rules epochKind earlier) ≡ k
+  pub no-other-epoch : ofKind rules epochKind rows ≡ []
+  pub at-instant : isEpochLine rules (header rules bytes .start8 + k * header rules bytes .interval8) epoch ≡ true
+  pub its-row : lineAsked rules velocity bytes k j ≡ nth j (ofKind rules (rowNumber velocity) (epoch ∷ rows))
+  pub names-it : isRowLine rules velocity (identifier rules bytes j) (lineAsked rules velocity bytes k j) ≡ true
   pub no-other :
       (i : ℕ)
-      → i < header bytes .satellites
-      → isRowLine d velocity (identifier bytes j) (nth i (ofKind d (rowNumber velocity) (epoch ∷ rows))) ≡ true
+      → i < header rules bytes .satellites
+      → isRowLine rules velocity (identifier rules bytes j) (nth i (ofKind rules (rowNumber velocity) (epoch ∷ rows))) ≡ true
       → i ≡ j

@@ -4,7 +4,7 @@ use mathlib.Core.Bool.{Bool, true, false, cond}
 use mathlib.Core.Logic.{_⊎_}
 use mathlib.Core.List.{List}
 use Prim.Native.Nat.{ℕ, _*_, _≤_, _<_}
-use Rattle.header.specs.Rules.{d}
+use Rattle.header.specs.declared.types.Rules.{Rules}
 use Rattle.record.specs.Plain.{commentWidth}
 use Rattle.record.specs.Rows.{rowWidth}
 use Rattle.reader.specs.Reading.{frontOf, fileOf, delivered, enough}
@@ -13,16 +13,16 @@ use Rattle.reader.specs.declared.types.Reading.{Reading}
 use Rattle.scan.specs.declared.Front.{Front}
 
 -- what is found in some bytes
-abbrev pub foundIn : Bool → List ℕ → Front
-foundIn true bytes = fileOf d bytes
-foundIn false bytes = frontOf d bytes
+abbrev pub foundIn : Rules → Bool → List ℕ → Front
+foundIn rules true bytes = fileOf rules bytes
+foundIn rules false bytes = frontOf rules bytes
 
 -- what a reading answers where so many identifiers, exponents, bytes of comments and numbers of rows are lent, and whether it fills them
-abbrev pub answer : Bool → List ℕ → ℕ → ℕ → ℕ → ℕ → Reading
-answer whole bytes i x c r = delivered d bytes (foundIn whole bytes) i x c r
+abbrev pub answer : Rules → Bool → List ℕ → ℕ → ℕ → ℕ → ℕ → Reading
+answer rules whole bytes i x c r = delivered rules bytes (foundIn rules whole bytes) i x c r
 
-abbrev pub fills : Bool → List ℕ → ℕ → ℕ → ℕ → ℕ → Bool
-fills whole bytes i x c r = enough d bytes (foundIn whole bytes) i x c r
+abbrev pub fills : Rules → Bool → List ℕ → ℕ → ℕ → ℕ → ℕ → Bool
+fills rules whole bytes i x c r = enough rules bytes (foundIn rules whole bytes) i x c r
 
 -- the numbers of all rows
 abbrev pub rowsNeeded : Header → ℕ

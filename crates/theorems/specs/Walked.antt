@@ -3,7 +3,6 @@ use mathlib.Core.Path.{_≡_}
 use mathlib.Core.List.{List, [], _∷_}
 use Prim.Native.Nat.{ℕ, zero, suc, _+_}
 use lib.ListN.{length, take}
-use Rattle.header.specs.Rules.{d}
 use Rattle.lines.specs.Lines.{linesOf}
 use Rattle.machine.specs.Step.{stepWithin, identifiersBrought}
 use Rattle.scan.specs.Run.{Going}
@@ -53,15 +52,15 @@ abbrev pub walkedFrom : Rules → List ℕ → Going → ℕ → Going
 walkedFrom rules bytes g k = goingAt (spotsAfter rules bytes (g .identifiers) (spotOf g) k) (identifiersPast rules bytes (g .identifiers) (spotOf g) k)
 
 -- what `begin` answers where so much room is lent, and the list afterwards
-abbrev pub begun : List ℕ → ℕ → Reading
-begun bytes room = begunAs (judged d bytes (fileOf d bytes)) room
+abbrev pub begun : Rules → List ℕ → ℕ → Reading
+begun rules bytes room = begunAs (judged rules bytes (fileOf rules bytes)) room
 
-abbrev pub begunList : List ℕ → List ℕ → List ℕ
-begunList bytes old = identifiersBegun (judged d bytes (fileOf d bytes)) bytes old
+abbrev pub begunList : Rules → List ℕ → List ℕ → List ℕ
+begunList rules bytes old = identifiersBegun rules (judged rules bytes (fileOf rules bytes)) bytes old
 
 -- a list begins with the identifiers of a file
-abbrev pub Identified : List ℕ → List ℕ → Type 0
-Identified bytes identifiers = take (header bytes .satellites) identifiers ≡ identifiersOf d (linesOf bytes)
+abbrev pub Identified : Rules → List ℕ → List ℕ → Type 0
+Identified rules bytes identifiers = take (header rules bytes .satellites) identifiers ≡ identifiersOf rules (linesOf bytes)
 
 -- the answer of step i of a walk over the rows of some bytes with these identifiers, counted from 0: a step at a row leads to the next
 abbrev pub onRow : RowStep → (RowWalk → RowStep) → RowStep
@@ -70,13 +69,13 @@ onRow (step.Absent epoch satellite row next) more = more next
 onRow step.End more = step.End
 onRow (step.Refused number line column) more = step.Refused number line column
 
-unfoldable pub stepsFrom : List ℕ → List ℕ → RowWalk → ℕ → RowStep
-stepsFrom bytes identifiers w zero = rowStep d bytes identifiers w
-stepsFrom bytes identifiers w (suc i) = onRow (rowStep d bytes identifiers w) (λ next. stepsFrom bytes identifiers next i)
+unfoldable pub stepsFrom : Rules → List ℕ → List ℕ → RowWalk → ℕ → RowStep
+stepsFrom rules bytes identifiers w zero = rowStep rules bytes identifiers w
+stepsFrom rules bytes identifiers w (suc i) = onRow (rowStep rules bytes identifiers w) (λ next. stepsFrom rules bytes identifiers next i)
 
-abbrev pub walkStep : List ℕ → List ℕ → ℕ → RowStep
-walkStep bytes identifiers i = stepsFrom bytes identifiers firstWalk i
+abbrev pub walkStep : Rules → List ℕ → List ℕ → ℕ → RowStep
+walkStep rules bytes identifiers i = stepsFrom rules bytes identifiers firstWalk i
 
 -- the spot at which the next step of a walk is decided: that of the next P line, or of the line before it that is refused or ends the file
-abbrev pub spotAhead : List ℕ → List ℕ → RowWalk → Spot
-spotAhead bytes identifiers w = rowAhead d bytes identifiers (w .spot)
+abbrev pub spotAhead : Rules → List ℕ → List ℕ → RowWalk → Spot
+spotAhead rules bytes identifiers w = rowAhead rules bytes identifiers (w .spot)

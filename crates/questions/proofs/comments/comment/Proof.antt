@@ -28,14 +28,14 @@ found-file c =
 part-line-of-end : tie.Need-part-line-of-end
 part-line-of-end c =
     let known = c .before .before .before in
-    omega (arith, file-within (known .before .before .before .before .before .args .file .now) (known .tally .given .0 .0) (found-file known))
+    omega (arith, file-within d (known .before .before .before .before .before .args .file .now) (known .tally .given .0 .0) (found-file known))
 
 returns : tie.Need-returns
 returns c =
     let known = c .before .before .before .before .before .before in
     let start = known .before .before .before .before .before in
     let t = known .tally .given .0 .0 in (
-      words-as (start .args .file .now) (front.File t) (found-file known) (start .args .k) (now (c .text-of .result))
+      words-as d (start .args .file .now) (front.File t) (found-file known) (start .args .k) (now (c .text-of .result))
           (words-there (known .before .before .before .d .result) (known .before .before .before .d .ensures) (start .args .file .now) t (start .args .k) (now (c .text-of .result))
           (now (c .before .line-of .result)) (c .before .before .before .if1 .taken) (c .text-of .ensures .0) (c .before .line-of .ensures .0)),
       at-comment (known .before .before .before .d .result) (known .before .before .before .d .ensures) (start .args .file) t (found-file known) (start .args .k)
@@ -53,11 +53,11 @@ returns-2 c =
     let known = c .before in
     let ran = known .before .before in
     let start = ran .before .before .before in (
-      words-as (start .args .file .now) _
+      words-as d (start .args .file .now) _
           (found-as (ran .before .d .result) (start .args .file .now) (ran .scan-whole .result) _ (ran .before .d .ensures) (toldFront-one _ _ (ran .scan-whole .ensures)) (known .enum-told .given .1))
           (start .args .k) (now (c .nothing-at .result)) (c .nothing-at .ensures .0),
       c .nothing-at .ensures .1 ∙ ap (byteOf (start .args .file)) (first-byte (start .args .file .now)) ∙ ap (λ (a : CommentAnswer). byteOf (start .args .file) (a .at))
-          (comment-as (start .args .file .now) _
+          (comment-as d (start .args .file .now) _
           (found-as (ran .before .d .result) (start .args .file .now) (ran .scan-whole .result) _ (ran .before .d .ensures) (toldFront-one _ _ (ran .scan-whole .ensures)) (known .enum-told .given .1))
           (start .args .k) (noComment _ _ _) refl),
     )
@@ -67,11 +67,11 @@ returns-3 c =
     let known = c .before .before .before .before in
     let start = known .before .before .before .before .before in
     let t = known .tally .given .0 .0 in (
-      words-as (start .args .file .now) (front.File t) (found-file known) (start .args .k) (now (c .nothing-at2 .result))
-          (c .nothing-at2 .ensures .0 ∙ no-words-there (start .args .file .now) t (start .args .k) (c .before .if1 .left)),
+      words-as d (start .args .file .now) (front.File t) (found-file known) (start .args .k) (now (c .nothing-at2 .result))
+          (c .nothing-at2 .ensures .0 ∙ no-words-there d (start .args .file .now) t (start .args .k) (c .before .if1 .left)),
       c .nothing-at2 .ensures .1 ∙ ap (byteOf (start .args .file)) (first-byte (start .args .file .now)) ∙ ap (λ (a : CommentAnswer). byteOf (start .args .file) (a .at))
-          (comment-as (start .args .file .now) (front.File t) (found-file known) (start .args .k) (noComment 13 0 0)
-          (no-comment-there (start .args .file .now) t (start .args .k) (noComment 13 0 0) (c .before .if1 .left) refl)),
+          (comment-as d (start .args .file .now) (front.File t) (found-file known) (start .args .k) (noComment 13 0 0)
+          (no-comment-there d (start .args .file .now) t (start .args .k) (noComment 13 0 0) (c .before .if1 .left) refl)),
     )
 
 pub comment-spec : {M : Type 1} → statement M

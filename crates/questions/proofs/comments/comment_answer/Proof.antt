@@ -22,14 +22,14 @@ found-file c =
 part-comment-at-end : tie.Need-part-comment-at-end
 part-comment-at-end c =
     let known = c .before .before .before in
-    omega (arith, file-within (known .before .before .before .before .before .args .file .now) (known .tally .given .0 .0) (found-file known))
+    omega (arith, file-within d (known .before .before .before .before .before .args .file .now) (known .tally .given .0 .0) (found-file known))
 
 returns : tie.Need-returns
 returns c =
     let known = c .before .before .before .before .before in
     let start = known .before .before .before .before .before in
     let t = known .tally .given .0 .0 in
-    comment-as (start .args .file .now) (front.File t) (found-file known) (start .args .k) (c .comment-at .result)
+    comment-as d (start .args .file .now) (front.File t) (found-file known) (start .args .k) (c .comment-at .result)
     (comment-there (known .before .before .before .d .result) (known .before .before .before .d .ensures) (start .args .file .now) t (start .args .k) (c .comment-at .result)
     (c .before .before .if1 .taken) (c .comment-at .ensures))
 
@@ -39,7 +39,7 @@ returns-2 c =
     let known = c .before .before in
     let ran = known .before .before in
     let start = ran .before .before .before in
-    comment-as (start .args .file .now) _
+    comment-as d (start .args .file .now) _
     (found-as (ran .before .d .result) (start .args .file .now) (ran .scan-whole .result) _ (ran .before .d .ensures) (toldFront-one _ _ (ran .scan-whole .ensures)) (known .number .given .1))
     (start .args .k) (c .no-comment .result) (c .no-comment .ensures)
 
@@ -48,8 +48,8 @@ returns-3 c =
     let known = c .before .before .before .before in
     let start = known .before .before .before .before .before in
     let t = known .tally .given .0 .0 in
-    comment-as (start .args .file .now) (front.File t) (found-file known) (start .args .k) (c .no-comment2 .result)
-    (no-comment-there (start .args .file .now) t (start .args .k) (c .no-comment2 .result) (c .before .if1 .left) (c .no-comment2 .ensures))
+    comment-as d (start .args .file .now) (front.File t) (found-file known) (start .args .k) (c .no-comment2 .result)
+    (no-comment-there d (start .args .file .now) t (start .args .k) (c .no-comment2 .result) (c .before .if1 .left) (c .no-comment2 .ensures))
 
 pub comment-answer-spec : {M : Type 1} → statement M
 comment-answer-spec =

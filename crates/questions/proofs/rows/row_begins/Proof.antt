@@ -6,6 +6,7 @@ use borrow.Author.Needs.{needs}
 use Rattle.scan.proofs.Told.{toldFront-one}
 use Rattle.header.specs.Rules.{d}
 use Rattle.reader.specs.Reading.{fileOf}
+use Rattle.scan_laws.proofs.Files.{d-sound}
 use Rattle.questions.specs.Questions.{rowBegins}
 use Rattle.scan.specs.declared.Front.the-variants as front
 use Rattle.questions.proofs.Asking.{found-as, row-as, row-found, bounded-as, file-within}
@@ -22,13 +23,13 @@ found-file c =
 part-row-at-end : tie.Need-part-row-at-end
 part-row-at-end c =
     let known = c .before in
-    omega (arith, file-within (known .before .before .before .before .before .args .file .now) (known .tally .given .0 .0) (found-file known))
+    omega (arith, file-within d (known .before .before .before .before .before .args .file .now) (known .tally .given .0 .0) (found-file known))
 
 row-at-requires : tie.Need-row-at-requires
 row-at-requires c κs =
     let known = c .before .before in
     let started = known .before .before .before in
-    bounded-as (started .d .result) (started .d .ensures) (started .before .before .args .file .now) (known .tally .given .0 .0) (found-file known)
+    bounded-as (started .d .result) (started .d .ensures) (started .before .before .args .file .now) (known .tally .given .0 .0) d-sound (found-file known)
 
 returns : tie.Need-returns
 unfolding rowBegins
@@ -36,7 +37,7 @@ returns c =
     let known = c .before .before in
     let ran = known .before .before in
     let start = ran .before .before .before in
-    row-as (start .args .file .now) _
+    row-as d (start .args .file .now) _
     (found-as (ran .before .d .result) (start .args .file .now) (ran .scan-whole .result) _ (ran .before .d .ensures) (toldFront-one _ _ (ran .scan-whole .ensures)) (known .number .given .1))
     (start .args .epoch) (start .args .satellite) (c .no-row .result) (c .no-row .ensures)
 
@@ -46,7 +47,7 @@ returns-2 c =
     let started = known .before .before .before in
     let start = started .before .before in
     let t = known .tally .given .0 .0 in
-    row-as (start .args .file .now) (front.File t) (found-file known) (start .args .epoch) (start .args .satellite) (c .row-at .result)
+    row-as d (start .args .file .now) (front.File t) (found-file known) (start .args .epoch) (start .args .satellite) (c .row-at .result)
     (row-found (started .d .result) (started .d .ensures) (start .args .file .now) t (start .args .epoch) (start .args .satellite) (c .row-at .result) (c .row-at .ensures))
 
 pub row-begins-spec : {M : Type 1} → statement M
