@@ -1,6 +1,6 @@
 -- The length of a canonical form, and the answer of a writing, which is known before any byte is written. 01, "Numbers of the answers": 12 "lent
 -- room is too small", 13 "the table to be written isn't valid"; "12 comes after all other checks ..; so does 13, but before 12".
-use mathlib.Core.Bool.{Bool, true, false, cond}
+use mathlib.Core.Bool.{Bool, true, false, cond, not, _&&_}
 use mathlib.Core.List.{List}
 use Prim.Native.Nat.{ℕ, zero, suc, _+_, _*_}
 use lib.Dec.{eqb, leb}
@@ -8,7 +8,7 @@ use lib.IntN.{ℤ, natAbs}
 use lib.ListN.{length, take, drop}
 use Rattle.layout.specs.Kind.{unknown, unnoted}
 use Rattle.layout.specs.Line.{trimmed}
-use Rattle.header.specs.Rules.{slotLines}
+use Rattle.header.specs.Rules.{d, slotLines}
 use Rattle.record.specs.Plain.{commentWidth}
 use Rattle.record.specs.Rows.{bareWidth, rowWidth}
 use Rattle.header.specs.declared.types.Rules.{Rules}
@@ -105,3 +105,8 @@ fitted bytes room = cond (leb bytes room) (record { refusal = 0; length = bytes 
 -- the answer of writing a table into so much room
 unfoldable pub measured : Rules → Table → ℕ → Measured
 measured rules t room = cond (valid rules t) (fitted (length (canonical rules t)) room) (refusedAs 13)
+
+-- the answer of writing it in a version. 02, Ask 9: "a table outside c's bounds gives 17, after 13 and before 12": it is valid in SP3-d, but not by
+-- the rules of the version
+unfoldable pub measuredIn : Rules → Table → ℕ → Measured
+measuredIn rules t room = cond (valid d t && not (valid rules t)) (refusedAs 17) (measured rules t room)

@@ -4,10 +4,11 @@ ghost use mathlib.Core.Bool.{_&&_};
 ghost use Prim.Native.Nat.{_+_, _-_, _*_, _≤_};
 ghost use lib.ListN.{length, take};
 ghost use Rattle.header.specs.Rules.{maxEpochs};
+ghost use Rattle.header.specs.Versions.{rulesOf};
 ghost use Rattle.record.specs.Plain.{commentWidth};
 ghost use Rattle.canon.specs.Table.{cellWidth, cellsIn, tableOf};
 ghost use Rattle.canon.specs.Valid.{headerValid, listsLong, commentsValid, rowsValid};
-ghost use Rattle.canon.specs.Measured.{textEnd, firstLength, openingLength, commentsLength, rowsLength, refusedAs, measured};
+ghost use Rattle.canon.specs.Measured.{textEnd, firstLength, openingLength, commentsLength, rowsLength, refusedAs, measured, measuredIn};
 use crate::bounds;
 use crate::lists;
 use crate::numbers;
@@ -16,6 +17,7 @@ use crate::types::Spent;
 use header::Header;
 use header::Rules;
 use header::Texts;
+use header::Version;
 use record::plain::COMMENT_WIDTH;
 
 // A refusal beside no length.
@@ -137,9 +139,34 @@ fn measure_within(
     }
 }
 
-// What writing this table into `out` answers, which stays as it is.
+// The same in a version: 17 where the table is valid, but not within the bounds of the version; those of SP3-d are the widest.
+fn measure_in(
+    version: Version,
+    h: Header,
+    identifiers: &[u64],
+    exponents: &[u64],
+    comments: &[u8],
+    rows: &[i64],
+    most: usize,
+) -> Measured
+    requires { ⌜ most ≤ 9_223_372_036_854_775_807 ⌝ }
+    ensures { λ r. ⌜ r ≡ measuredIn (rulesOf version) (tableOf h (now (identifiers .entry)) (now (exponents .entry)) (now (comments .entry)) (now (rows .entry))) most ⌝ }
+{
+    let rules = Rules::of(version);
+    let answer = measure_within(rules, h, identifiers, exponents, comments, rows, most);
+    if (answer.refusal != 13) | (rules.letter == b'd') {
+        return answer;
+    }
+    let widest = measure_within(Rules::d(), h, identifiers, exponents, comments, rows, most);
+    if widest.refusal == 13 {
+        return answer;
+    }
+    refuse(17)
+}
+
+// What writing this table in a version into `out` answers, which stays as it is.
 pub fn measure(
-    rules: Rules,
+    version: Version,
     h: Header,
     identifiers: &[u64],
     exponents: &[u64],
@@ -147,24 +174,32 @@ pub fn measure(
     rows: &[i64],
     out: &[u8],
 ) -> Measured
-    ensures result { λ r. ⌜ r ≡ measured rules (tableOf h (now (identifiers .entry)) (now (exponents .entry)) (now (comments .entry)) (now (rows .entry))) (length (now (out .entry))) ⌝ }
+    ensures result { λ r. ⌜ r ≡ measuredIn (rulesOf version) (tableOf h (now (identifiers .entry)) (now (exponents .entry)) (now (comments .entry)) (now (rows .entry))) (length (now (out .entry))) ⌝ }
 {
-    measure_within(rules, h, identifiers, exponents, comments, rows, out.len())
+    measure_in(
+        version,
+        h,
+        identifiers,
+        exponents,
+        comments,
+        rows,
+        out.len(),
+    )
 }
 
-// How long the form of a table is, so that just so much can be lent: what writing it into the longest slice that there can be answers.
+// How long the form of a table in a version is, so that just so much can be lent: what writing it into the longest slice that there can be answers.
 pub fn form_length(
-    rules: Rules,
+    version: Version,
     h: Header,
     identifiers: &[u64],
     exponents: &[u64],
     comments: &[u8],
     rows: &[i64],
 ) -> Measured
-    ensures result { λ r. ⌜ r ≡ measured rules (tableOf h (now (identifiers .entry)) (now (exponents .entry)) (now (comments .entry)) (now (rows .entry))) 9_223_372_036_854_775_807 ⌝ }
+    ensures result { λ r. ⌜ r ≡ measuredIn (rulesOf version) (tableOf h (now (identifiers .entry)) (now (exponents .entry)) (now (comments .entry)) (now (rows .entry))) 9_223_372_036_854_775_807 ⌝ }
 {
-    measure_within(
-        rules,
+    measure_in(
+        version,
         h,
         identifiers,
         exponents,

@@ -1,4 +1,4 @@
-// The answer of a writing: the refusal (0 written, 12 too little room, 13 no valid table) and the length of the form in bytes, 0 beside a refusal.
+// The answer of a writing: the refusal (0 written, 12 too little room, 13 no valid table, 17 a table outside the bounds of the version) and the length of the form in bytes, 0 beside a refusal.
 #[repr(C)]
 pub struct Measured {
     pub refusal: usize,

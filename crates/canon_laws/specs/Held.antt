@@ -7,11 +7,13 @@ use Prim.Native.Nat.{ℕ, _≤_}
 use lib.Dec.{eqb}
 use Rattle.laws.specs.Texts.{isPrintable}
 use Rattle.lines.specs.Lines.{linesOf}
+use Rattle.header.specs.Rules.{d}
 use Rattle.header.specs.declared.types.Rules.{Rules}
 use Rattle.file.specs.Table.{countOf, headerIn, slotsIn, commentsIn, rowsIn}
 use Rattle.file.specs.Plain.{Sound}
 use Rattle.canon.specs.Table.{Table, tableOf, tableIdentifiers, exponentsOf, commentsOf, rowsOf}
 use Rattle.canon.specs.Canonical.{canonical}
+use Rattle.canon_laws.specs.Within.{Within}
 
 -- the lines have the table: its header, and of its lists so many first places as its counts say
 pub record Holds (rules : Rules) (lines : List (List ℕ)) (t : Table) : Type 0 where
@@ -31,10 +33,11 @@ tableIn rules lines =
 abbrev pub rewritten : Rules → List ℕ → List ℕ
 rewritten rules bytes = canonical rules (tableIn rules (linesOf bytes))
 
--- rules that a version can have whose tables are to be written: its letter may stand in a line and is not the `#` of line 2, and a comment's
--- symbol fits its line
+-- rules that a version can have whose tables are to be written: its letter may stand in a line and is not the `#` of line 2, a comment's symbol
+-- fits its line, and its bounds lie within those of SP3-d, by which a table that is not valid is told from one that is outside its version's bounds
 pub record Proper (rules : Rules) : Type 0 where
   pub sound : Sound rules
   pub letter-printable : isPrintable (rules .letter) ≡ true
   pub letter-own : eqb (rules .letter) 35 ≡ false
   pub symbol-fits : 2 ≤ rules .«comment_columns»
+  pub within-d : Within rules d

@@ -1,7 +1,8 @@
 -- The division of a stretch. 01, "The canonical form": "Dividing writes the lengths of the accepted files at the front and gives their number,
 -- the byte where the rest begins, and the refusal and line there, counted from that byte. A rest that is refused is part of this result, and
 -- the lengths are written all the same. When nothing is left, as with an empty stretch, refusal and line are both 0. 11 never occurs in it. If
--- there are more lengths than room, it gives 12 only, every other part of its answer being 0, and nothing is written."
+-- there are more lengths than room, it gives 12 only, every other part of its answer being 0, and nothing is written." 02, Ask 9: "Demand 3 then
+-- reads accepted files of both versions mixed."
 use mathlib.Core.Bool.{cond}
 use mathlib.Core.List.{List, [], _∷_, _++_}
 use mathlib.Core.Path.{_≡_}
@@ -9,17 +10,17 @@ use Prim.Native.Nat.{ℕ, zero, suc, _+_}
 use lib.Dec.{leb}
 use lib.ListN.{length, drop}
 use Rattle.lines.specs.Lent.{over}
-use Rattle.header.specs.declared.types.Rules.{Rules}
-use Rattle.scan.specs.Run.{scanOf, IsFile}
+use Rattle.header.specs.Versions.{rulesIn}
+use Rattle.scan.specs.Run.{scanOf}
 use Rattle.scan.specs.declared.Tally.{Tally}
 use Rattle.scan.specs.declared.Front.{Front}
 use Rattle.scan.specs.declared.Front.the-variants as front
 use Rattle.divide.specs.declared.Division.{Division}
 
--- a stretch divides into accepted files laid end to end, by their lengths
-pub data Divides (rules : Rules) : List ℕ → List ℕ → Type 0 where
-  none : Divides rules [] []
-  one : (a : List ℕ) {b ls : List ℕ} → IsFile rules a → Divides rules b ls → Divides rules (a ++ b) (length a ∷ ls)
+-- a stretch divides into files of some kind laid end to end, by their lengths; the accepted files of both versions are `AnyFile`
+pub data Divides (File : List ℕ → Type 0) : List ℕ → List ℕ → Type 0 where
+  none : Divides File [] []
+  one : (a : List ℕ) {b ls : List ℕ} → File a → Divides File b ls → Divides File (a ++ b) (length a ∷ ls)
 
 -- the lengths of the accepted files at the front, and the refusal, line and column of the rest
 pub record Cuts : Type 0 where
@@ -49,14 +50,14 @@ abbrev pub unlessEmpty : List ℕ → Cuts → Cuts
 unlessEmpty [] c = noCuts
 unlessEmpty (b ∷ bs) c = c
 
--- at most so many files
-unfoldable pub cuts : Rules → ℕ → List ℕ → Cuts
-cuts rules zero bytes = noCuts
-cuts rules (suc most) bytes = unlessEmpty bytes (cutFront (scanOf rules bytes) (λ end. cuts rules most (drop end bytes)))
+-- at most so many files, each judged by the rules that its own first bytes tell
+unfoldable pub cuts : ℕ → List ℕ → Cuts
+cuts zero bytes = noCuts
+cuts (suc most) bytes = unlessEmpty bytes (cutFront (scanOf (rulesIn bytes) bytes) (λ end. cuts most (drop end bytes)))
 
 -- a file takes a byte at least, so a stretch has no more files than bytes
-abbrev pub cutsOf : Rules → List ℕ → Cuts
-cutsOf rules bytes = cuts rules (length bytes) bytes
+abbrev pub cutsOf : List ℕ → Cuts
+cutsOf bytes = cuts (length bytes) bytes
 
 unfoldable pub sum : List ℕ → ℕ
 sum [] = 0
@@ -73,18 +74,18 @@ divisionFrom count rest c = division (count + length (c .lengths)) (rest + sum (
 abbrev pub noRoom : Division
 noRoom = division 0 0 12 0 0
 
-unfoldable pub divideOf : Rules → List ℕ → ℕ → Division
-divideOf rules bytes room =
-    cond (leb (length (cutsOf rules bytes .lengths)) room) (divisionFrom 0 0 (cutsOf rules bytes)) noRoom
+unfoldable pub divideOf : List ℕ → ℕ → Division
+divideOf bytes room =
+    cond (leb (length (cutsOf bytes .lengths)) room) (divisionFrom 0 0 (cutsOf bytes)) noRoom
 
 -- the lengths over what was lent; nothing is written where there are more than room
-unfoldable pub lengthsAfter : Rules → List ℕ → List ℕ → List ℕ
-lengthsAfter rules bytes old =
-    cond (leb (length (cutsOf rules bytes .lengths)) (length old)) (over (cutsOf rules bytes .lengths) old) old
+unfoldable pub lengthsAfter : List ℕ → List ℕ → List ℕ
+lengthsAfter bytes old =
+    cond (leb (length (cutsOf bytes .lengths)) (length old)) (over (cutsOf bytes .lengths) old) old
 
 -- an accepted file stands at the front, and where it ends
-abbrev pub FileHere : Rules → List ℕ → Type 0
-FileHere rules bytes = (t : Tally) × (scanOf rules bytes ≡ front.File t)
+abbrev pub FileHere : List ℕ → Type 0
+FileHere bytes = (t : Tally) × (scanOf (rulesIn bytes) bytes ≡ front.File t)
 
 abbrev pub endOf : Front → ℕ
 endOf (front.File t) = t .end

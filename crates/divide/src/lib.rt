@@ -1,9 +1,9 @@
-// A stretch divided into the accepted files that stand at its front, one after another.
+// A stretch divided into the accepted files that stand at its front, one after another, each of the version that its first bytes tell.
 ghost use mathlib.Core.Path.{_≡_};
 ghost use Prim.Native.Nat.{_≤_};
 ghost use lib.ListN.{length, take};
 ghost use Rattle.lines.specs.Lent.{over};
-ghost use Rattle.header.specs.Rules.{d};
+ghost use Rattle.header.specs.Versions.{rulesIn};
 ghost use Rattle.scan.specs.Run.{scanOf};
 ghost use Rattle.divide.specs.Dividing.{FileHere, endOf, cutsOf, division, divideOf, lengthsAfter};
 use header::Rules;
@@ -35,13 +35,14 @@ fn answer(count: u64, rest: usize, refusal: usize, line: u64, column: usize) -> 
 }
 
 // Counts the files at the front, as many as there is room for: one more is 12 alone.
-fn count_files(rules: Rules, stretch: &[u8], room: u64) -> Division
-    ensures { λ r. ⌜ r ≡ divideOf rules (now (stretch .entry)) room ⌝ }
+fn count_files(stretch: &[u8], room: u64) -> Division
+    ensures { λ r. ⌜ r ≡ divideOf (now (stretch .entry)) room ⌝ }
 {
     let mut count: u64 = 0;
     let mut rest: usize = 0;
     while rest < stretch.len() {
-        match scan::scan_front(rules, &stretch[rest..]) {
+        let left = &stretch[rest..];
+        match scan::scan_front(Rules::told_by(left), left) {
             Front::Refused {
                 number,
                 line,
@@ -62,23 +63,23 @@ fn count_files(rules: Rules, stretch: &[u8], room: u64) -> Division
 }
 
 // The length of the file at the front, which is known to be accepted: it ends with its first EOF line.
-fn file_length(rules: Rules, bytes: &[u8]) -> usize
-    requires { ⌜ FileHere rules (now bytes) ⌝ }
-    ensures { λ r. ⌜ r ≡ endOf (scanOf rules (now (bytes .entry))) ⌝ }
+fn file_length(bytes: &[u8]) -> usize
+    requires { ⌜ FileHere (now bytes) ⌝ }
+    ensures { λ r. ⌜ r ≡ endOf (scanOf (rulesIn (now (bytes .entry))) (now (bytes .entry))) ⌝ }
 {
-    let last = file::line_begins(rules, bytes, END_KIND, 0);
+    let last = file::line_begins(Rules::told_by(bytes), bytes, END_KIND, 0);
     lines::line_end(bytes, last) + 1
 }
 
 // Stores the lengths of the first files in the first places of `lengths`. The files have been judged, and are not judged again.
-fn store_lengths(rules: Rules, stretch: &[u8], count: usize, lengths: &mut [u64])
-    requires { ⌜ (count ≤ length (cutsOf rules (now stretch) .lengths)) × (count ≤ length (now lengths)) ⌝ }
-    ensures { λ _. ⌜ now (lengths .exit) ≡ over (take count (cutsOf rules (now (stretch .entry)) .lengths)) (now (lengths .entry)) ⌝ }
+fn store_lengths(stretch: &[u8], count: usize, lengths: &mut [u64])
+    requires { ⌜ (count ≤ length (cutsOf (now stretch) .lengths)) × (count ≤ length (now lengths)) ⌝ }
+    ensures { λ _. ⌜ now (lengths .exit) ≡ over (take count (cutsOf (now (stretch .entry)) .lengths)) (now (lengths .entry)) ⌝ }
 {
     let mut stored: usize = 0;
     let mut rest: usize = 0;
     while stored < count {
-        let size = file_length(rules, &stretch[rest..]);
+        let size = file_length(&stretch[rest..]);
         lengths[stored] = size as u64;
         stored += 1;
         rest += size;
@@ -88,11 +89,10 @@ fn store_lengths(rules: Rules, stretch: &[u8], count: usize, lengths: &mut [u64]
 // Divides a stretch into the accepted files at its front: their lengths go to the first places of `lengths`. More lengths than places are 12
 // alone, and nothing is written.
 pub fn divide(stretch: &[u8], lengths: &mut [u64]) -> Division
-    ensures result { λ r. ⌜ r ≡ divideOf d (now (stretch .entry)) (length (now (lengths .entry))) ⌝ }
-    ensures lent { λ _. ⌜ now (lengths .exit) ≡ lengthsAfter d (now (stretch .entry)) (now (lengths .entry)) ⌝ }
+    ensures result { λ r. ⌜ r ≡ divideOf (now (stretch .entry)) (length (now (lengths .entry))) ⌝ }
+    ensures lent { λ _. ⌜ now (lengths .exit) ≡ lengthsAfter (now (stretch .entry)) (now (lengths .entry)) ⌝ }
 {
-    let rules = Rules::d();
-    let division = count_files(rules, stretch, lengths.len() as u64);
-    store_lengths(rules, stretch, division.count as usize, lengths);
+    let division = count_files(stretch, lengths.len() as u64);
+    store_lengths(stretch, division.count as usize, lengths);
     division
 }

@@ -1,7 +1,7 @@
 -- THE FRONT PAGE: what is proved of the reader and writer, in the order of its three demands. Each statement has its sentence above it, and each proof
--- is one citation. `rules` are the rules of a version, any that is `Proper`, as those of SP3-d are (`d`). An accepted file of it is `IsFile rules bytes`;
--- it is exactly one with the paper's records in their order (`accepted-files`). Where each word is defined stands in FrontPage/Words, in reading order
--- in docs/READING.md. Assumes nothing.
+-- is one citation. `rules` are the rules of a version, any that is `Proper`, as those of SP3-c (`c`) and SP3-d (`d`) are. An accepted file of it is
+-- `IsFile rules bytes`; it is exactly one with the paper's records in their order (`accepted-files`). Where each word is defined stands in
+-- FrontPage/Words, in reading order in docs/READING.md. Assumes nothing.
 mod Words
 mod Once
 mod Determined
@@ -9,17 +9,38 @@ use Words.*
 pub use Once.*
 pub use Determined.*
 
-module _ {rules : Rules} (proper : Proper rules) where
-  -- THE FIRST DEMAND. Bytes of every kind and length, every table, room of every size are answered, since no public function asks anything of its caller. A
-  -- refusal has a number, a refused reading its line too, and changes nothing that was lent.
+-- THE VERSIONS. The rules of SP3-c and those of SP3-d are proper, and so are those that some bytes tell by their first two, `#c` or any other.
+pub c-is-proper : Proper c
+c-is-proper = c-proper
 
+pub d-is-proper : Proper d
+d-is-proper = d-proper
+
+pub told-is-proper : (bytes : List ℕ) → Proper (rulesIn bytes)
+told-is-proper bytes = told-proper bytes
+
+-- No file is of both, and what is accepted by the rules that it tells (`AnyFile`) is a file of one of them.
+pub not-both : (bytes : List ℕ) → IsFile c bytes → IsFile d bytes → ⊥
+not-both bytes of-c of-d = which.not-both bytes of-c of-d
+
+pub either : (bytes : List ℕ) → AnyFile bytes ↔ (IsFile c bytes ⊎ IsFile d bytes)
+either bytes = which.either bytes
+
+-- What follows an accepted file does not change the rules that it tells.
+pub told-after : (a b : List ℕ) → AnyFile a → rulesIn (a ++ b) ≡ rulesIn a
+told-after a b file = which.told-after a b file
+
+-- THE FIRST DEMAND. Bytes of every kind and length, every table, room of every size are answered, since no public function asks anything of its caller. A
+-- refusal has a number, a refused reading its line too, and changes nothing that was lent.
+
+module _ {rules : Rules} (proper : Proper rules) where
   -- A reading that is refused leaves each list as it was, whatever it was to be filled with; whole files and files at the front at once.
   pub reading-keeps : (whole : Bool) (bytes : List ℕ) {A : Type 0} (i x c r : ℕ) (new old : List A) → (answer rules whole bytes i x c r .refusal ≡ 0 → ⊥)
       → filled (fills rules whole bytes i x c r) new old ≡ old
   reading-keeps whole bytes i x c r new old refused = room.refusal-keeps proper whole bytes i x c r new old refused
 
   -- A writing that is refused changes no byte.
-  pub writing-keeps : (t : Table) (out : List ℕ) → (measured rules t (length out) .refusal ≡ 0 → ⊥) → outAfter rules t out ≡ out
+  pub writing-keeps : (t : Table) (out : List ℕ) → (measuredIn rules t (length out) .refusal ≡ 0 → ⊥) → outAfter rules t out ≡ out
   writing-keeps t out refused = writing.refusal-keeps-out proper t out refused
 
   -- The beginning of a walk that is refused, by the file's own refusal or by 12, leaves the identifiers as they were.
@@ -40,7 +61,7 @@ module _ {rules : Rules} (proper : Proper rules) where
   beginning-rest bytes t accepted old enough = beginning.begin-keeps-rest proper bytes t accepted old enough
 
 -- A division without room writes no length.
-pub dividing-keeps : (bytes old : List ℕ) → divideOf d bytes (length old) .refusal ≡ 12 → lengthsAfter d bytes old ≡ old
+pub dividing-keeps : (bytes old : List ℕ) → divideOf bytes (length old) .refusal ≡ 12 → lengthsAfter bytes old ≡ old
 dividing-keeps bytes old twelve = dividing.refusal-keeps bytes old twelve
 
 -- DEMAND 2, READING. Given room, reading gives exactly the table that the format gives to the file, and refuses exactly the files that break its rules.
@@ -50,16 +71,17 @@ module _ {rules : Rules} (proper : Proper rules) where
   pub accepted-files : (bytes : List ℕ) → IsFile rules bytes ↔ Accepted rules bytes
   accepted-files bytes = judging.accepts-exactly proper bytes
 
--- Accepted files exist: one has the paper's own header and one row, one has `EP` alone after that row,
-pub accepted-one : (bytes : List ℕ) × IsFile d bytes × Holds d (linesOf bytes) (oneRow (pos 1) (pos 0))
-accepted-one = exist.accepted-one
+-- Accepted files of each version exist: one has the paper's own header and one row, one has `EP` alone after that row,
+pub accepted-one : (v : Version) → (bytes : List ℕ) × IsFile (rulesOf v) bytes × Holds (rulesOf v) (linesOf bytes) (oneRow (pos 1) (pos 0))
+accepted-one v = exist.accepted-one v
 
-pub accepted-noted : (bytes : List ℕ) × IsFile d bytes × Holds d (linesOf bytes) (oneRow (pos 1) (pos 1))
-accepted-noted = exist.accepted-noted
+pub accepted-noted : (v : Version) → (bytes : List ℕ) × IsFile (rulesOf v) bytes × Holds (rulesOf v) (linesOf bytes) (oneRow (pos 1) (pos 1))
+accepted-noted v = exist.accepted-noted v
 
 -- and the tables of two of them differ.
-pub tables-differ : (a : List ℕ) × (b : List ℕ) × IsFile d a × IsFile d b × (rowsIn d (linesOf a) ≡ rowsIn d (linesOf b) → ⊥)
-tables-differ = exist.tables-differ
+pub tables-differ : (v : Version)
+    → (a : List ℕ) × (b : List ℕ) × IsFile (rulesOf v) a × IsFile (rulesOf v) b × (rowsIn (rulesOf v) (linesOf a) ≡ rowsIn (rulesOf v) (linesOf b) → ⊥)
+tables-differ v = exist.tables-differ v
 
 module _ {rules : Rules} (proper : Proper rules) where
   -- Judging answers 0 exactly for an accepted file.
@@ -405,13 +427,13 @@ module _ {rules : Rules} (proper : Proper rules) where
 -- A comment's text is handed back as that stretch of the lent file: for every file and every number it is the part that `comment_answer` names, those
 -- bytes at that address. So any two outcomes are one machine value, a pointer and a count.
 pub comment-part : (κs : _) (a : _) (r : _) (s : _) → CommentPost κs a r s
-    → let answer = commentAnswer d (now (a .0)) (fileOf d (now (a .0))) (a .1 .0) in PartAt (a .0) (answer .at) (answer .length) r
+    → let file = now (a .0) in let answer = commentAnswer (rulesIn file) file (fileOf (rulesIn file) file) (a .1 .0) in PartAt (a .0) (answer .at) (answer .length) r
 comment-part κs a r s promised = asking.comment-part κs a r s promised
 
 -- Of an accepted file these bytes are columns 4 on of that comment's line, without trailing blanks.
-pub comment-says : (κs : _) (a : _) (r : _) (s : _) → CommentPost κs a r s → IsFile d (now (a .0)) → a .1 .0 < header d (now (a .0)) .comments
-    → now r ≡ textIn (commentLine d (linesOf (now (a .0))) (a .1 .0))
-comment-says κs a r s promised accepted there = promised .0 ∙ answers.comment-text d-proper (now (a .0)) accepted (a .1 .0) there
+pub comment-says : (κs : _) (a : _) (r : _) (s : _) → CommentPost κs a r s → let file = now (a .0) in AnyFile file → a .1 .0 < header (rulesIn file) file .comments
+    → now r ≡ textIn (commentLine (rulesIn file) (linesOf file) (a .1 .0))
+comment-says κs a r s promised accepted there = promised .0 ∙ answers.comment-text (told-proper (now (a .0))) (now (a .0)) accepted (a .1 .0) there
 
 pub comment-one : (κs : _) (a : _) (r r′ : _) (s s′ : _) → CommentPost κs a r s → CommentPost κs a r′ s′ → slice-vals r ≡ slice-vals r′
 comment-one κs a r r′ s s′ p q = places.same-value r r′ (comment-determined κs a r r′ s s′ p q)
@@ -471,7 +493,7 @@ module _ {rules : Rules} (proper : Proper rules) where
 
 -- By the promises of `new` and `moved`: k moves after a new walker at the first line it is where the judge's run is,
 pub walker-walks : (file : RefT (List ℕ)) (from : Walker) → Begins file firstSpot from → (k : ℕ) (w : Walker) (identifiers : List ℕ) → After from noIdentifiers k w identifiers
-    → AllGoOn d (now file) k → k ≤ length (linesOf (now file)) → goingAt (w .spot) identifiers ≡ after d (now file) k
+    → let rules = rulesIn (now file) in AllGoOn rules (now file) k → k ≤ length (linesOf (now file)) → goingAt (w .spot) identifiers ≡ after rules (now file) k
 walker-walks file from begins k w identifiers steps goes h = walks.walker-walks file from begins k w identifiers steps goes h
 
 -- and the clauses of their contracts say just that of every outcome: that a walker begins so, and that it moves so.
@@ -531,35 +553,39 @@ module _ {rules : Rules} (proper : Proper rules) where
   pub valid-exactly : (t : Table) → (valid rules t ≡ true) ↔ ((bytes : List ℕ) × IsFile rules bytes × Holds rules (linesOf bytes) t)
   valid-exactly t = rewritten.valid-exactly proper t
 
-  -- Writing answers 0 exactly when the table is valid and its form has room, and then the form stands in the output.
-  pub writes-exactly : (t : Table) (out : List ℕ) → (measured rules t (length out) .refusal ≡ 0) ↔ ((valid rules t ≡ true) × (length (canonical rules t) ≤ length out))
+  -- Writing in a version answers 0 exactly when the table is valid there and its form has room, and then the form stands in the output.
+  pub writes-exactly : (t : Table) (out : List ℕ) → (measuredIn rules t (length out) .refusal ≡ 0) ↔ ((valid rules t ≡ true) × (length (canonical rules t) ≤ length out))
   writes-exactly t out = writing.writes-exactly proper t out
 
-  -- 13 exactly when the table is not valid, whatever the room; 12 exactly when it is and its form is longer than the output.
-  pub writing-thirteen : (t : Table) (out : List ℕ) → (measured rules t (length out) .refusal ≡ 13) ↔ (valid rules t ≡ false)
+  -- 13 exactly when the table is not valid in SP3-d, whatever the room; 17 exactly when it is and is not valid in the version, whatever the room; 12 exactly
+  -- when it is valid in the version and its form is longer than the output.
+  pub writing-thirteen : (t : Table) (out : List ℕ) → (measuredIn rules t (length out) .refusal ≡ 13) ↔ (valid d t ≡ false)
   writing-thirteen t out = writing.thirteen-exactly proper t out
 
-  pub writing-twelve : (t : Table) (out : List ℕ) → (measured rules t (length out) .refusal ≡ 12) ↔ ((valid rules t ≡ true) × (length out < length (canonical rules t)))
+  pub writing-seventeen : (t : Table) (out : List ℕ) → (measuredIn rules t (length out) .refusal ≡ 17) ↔ ((valid d t ≡ true) × (valid rules t ≡ false))
+  writing-seventeen t out = writing.seventeen-exactly proper t out
+
+  pub writing-twelve : (t : Table) (out : List ℕ) → (measuredIn rules t (length out) .refusal ≡ 12) ↔ ((valid rules t ≡ true) × (length out < length (canonical rules t)))
   writing-twelve t out = writing.twelve-exactly proper t out
 
-  pub written-form : (t : Table) (out : List ℕ) → measured rules t (length out) .refusal ≡ 0
-      → take (measured rules t (length out) .length) (outAfter rules t out) ≡ canonical rules t
+  pub written-form : (t : Table) (out : List ℕ) → measuredIn rules t (length out) .refusal ≡ 0
+      → take (measuredIn rules t (length out) .length) (outAfter rules t out) ≡ canonical rules t
   written-form t out success = writing.written-form proper t out success
 
   -- Past the form no byte changes.
-  pub written-rest : (t : Table) (out : List ℕ) → measured rules t (length out) .refusal ≡ 0
-      → drop (measured rules t (length out) .length) (outAfter rules t out) ≡ drop (measured rules t (length out) .length) out
+  pub written-rest : (t : Table) (out : List ℕ) → measuredIn rules t (length out) .refusal ≡ 0
+      → drop (measuredIn rules t (length out) .length) (outAfter rules t out) ≡ drop (measuredIn rules t (length out) .length) out
   written-rest t out success = writing.rest-kept proper t out success
 
   -- What was written is one accepted file that has exactly the table;
-  pub written-accepted : (t : Table) (out : List ℕ) (success : measured rules t (length out) .refusal ≡ 0) → IsFile rules (writtenBytes rules t out)
+  pub written-accepted : (t : Table) (out : List ℕ) (success : measuredIn rules t (length out) .refusal ≡ 0) → IsFile rules (writtenBytes rules t out)
   written-accepted t out success = rewritten.written-accepted proper t out success
 
-  pub written-holds : (t : Table) (out : List ℕ) (success : measured rules t (length out) .refusal ≡ 0) → Holds rules (linesOf (writtenBytes rules t out)) t
+  pub written-holds : (t : Table) (out : List ℕ) (success : measuredIn rules t (length out) .refusal ≡ 0) → Holds rules (linesOf (writtenBytes rules t out)) t
   written-holds t out success = rewritten.written-holds proper t out success
 
   -- with EP or EV written directly after a row exactly where the table says that one stood there,
-  pub written-note : (t : Table) (out : List ℕ) (success : measured rules t (length out) .refusal ≡ 0) → let bytes = writtenBytes rules t out in
+  pub written-note : (t : Table) (out : List ℕ) (success : measuredIn rules t (length out) .refusal ≡ 0) → let bytes = writtenBytes rules t out in
       (k j : ℕ) → There rules bytes k j → (v : Bool) → (v ≡ true → header rules bytes .velocity ≡ true)
       → (noteIn (rowsOf t) (tableRow rules v bytes k j) ≡ noteMark.Stands) ↔ ((line : List ℕ) × HasNote rules v bytes k j line)
   written-note t out success k j there v mode = written-notes.note-written proper t out success k j there v mode
@@ -575,14 +601,14 @@ written-nines v p absent = clocks.nines-written v p absent
 module _ {rules : Rules} (proper : Proper rules) where
   -- A table with a clock above 999,998,999,999 that is not twelve nines is 13, whatever the room.
   pub clock-thirteen : (t : Table) (out : List ℕ) (r n : ℕ) → isThere (rowsOf t) r ≡ true → numberAt (rowsOf t) r 3 ≡ pos n
-      → 999_998_999_999 < n → (n ≡ 999_999_999_999 → ⊥) → measured rules t (length out) .refusal ≡ 13
+      → 999_998_999_999 < n → (n ≡ 999_999_999_999 → ⊥) → measuredIn rules t (length out) .refusal ≡ 13
   clock-thirteen t out r n there is more other = clocks.clock-thirteen proper t out r n there is more other
 
   module _ (bytes : List ℕ) (accepted : IsFile rules bytes) (identifiers exponents comments : List ℕ) (rows : List ℤ)
       (read : readAnswer rules bytes (fileOf rules bytes) identifiers exponents comments rows .refusal ≡ 0) where
     -- what was read is written as the form of the file, answered by 0 and its length,
     pub read-written : (out : List ℕ) → length (formOf rules bytes) ≤ length out
-        → (measured rules (lentTable rules true bytes identifiers exponents comments rows) (length out) ≡ record { refusal = 0; length = length (formOf rules bytes) })
+        → (measuredIn rules (lentTable rules true bytes identifiers exponents comments rows) (length out) ≡ record { refusal = 0; length = length (formOf rules bytes) })
         × (outAfter rules (lentTable rules true bytes identifiers exponents comments rows) out ≡ over (formOf rules bytes) out)
     read-written out enough = (
       rewritten.lent-answer proper bytes accepted identifiers exponents comments rows read out enough,
@@ -591,12 +617,12 @@ module _ {rules : Rules} (proper : Proper rules) where
 
     -- by 12 exactly where the output is shorter than the form,
     pub read-written-twelve : (out : List ℕ)
-        → (measured rules (lentTable rules true bytes identifiers exponents comments rows) (length out) .refusal ≡ 12) ↔ (length out < length (formOf rules bytes))
+        → (measuredIn rules (lentTable rules true bytes identifiers exponents comments rows) (length out) .refusal ≡ 12) ↔ (length out < length (formOf rules bytes))
     read-written-twelve out = rewritten.lent-twelve proper bytes accepted identifiers exponents comments rows read out
 
     -- and canonical bytes, read and written, come back: 0, their length, and those bytes.
     pub canonical-again : (t : Table) → valid rules t ≡ true → bytes ≡ canonical rules t → (out : List ℕ) → length bytes ≤ length out
-        → (measured rules (lentTable rules true bytes identifiers exponents comments rows) (length out) ≡ record { refusal = 0; length = length bytes })
+        → (measuredIn rules (lentTable rules true bytes identifiers exponents comments rows) (length out) ≡ record { refusal = 0; length = length bytes })
         × (outAfter rules (lentTable rules true bytes identifiers exponents comments rows) out ≡ over bytes out)
     canonical-again t ok is out enough = rewritten.canonical-again proper bytes accepted identifiers exponents comments rows read t ok is out enough
 
@@ -606,12 +632,12 @@ forms-stay t = larger.forms-stay t
 
 -- one of up to 255 satellites, valid or not, is answered as it was, whatever the room, and leaves the same output;
 pub writing-stays : (t : Table) → t .header .satellites ≤ satellitesBefore → (out : List ℕ)
-    → (measured d t (length out) ≡ measured before t (length out)) × (outAfter d t out ≡ outAfter before t out)
+    → (measuredIn d t (length out) ≡ measured before t (length out)) × (outAfter d t out ≡ outAfter before t out)
 writing-stays t few out = (larger.answer-stays t few (length out), larger.output-stays t few out)
 
 -- so one that was valid, with room, by 0 and the length of the form of before, which stands from the first byte of the output on.
 pub written-as-before : (t : Table) → valid before t ≡ true → (out : List ℕ) → length (canonical before t) ≤ length out
-    → (measured d t (length out) ≡ record { refusal = 0; length = length (canonical before t) }) × (outAfter d t out ≡ over (canonical before t) out)
+    → (measuredIn d t (length out) ≡ record { refusal = 0; length = length (canonical before t) }) × (outAfter d t out ≡ over (canonical before t) out)
 written-as-before t ok out enough = larger.writing-stays t ok out enough
 
 -- A file that was canonical is accepted, is its own form,
@@ -621,7 +647,7 @@ files-stay t ok = (larger.canonical-accepted t ok, larger.files-stay t ok)
 -- and read and written it comes back: 0, its length, and its bytes.
 pub files-come-back : (t : Table) → valid before t ≡ true → (identifiers exponents comments : List ℕ) (rows : List ℤ) → let bytes = canonical before t in
     readAnswer d bytes (fileOf d bytes) identifiers exponents comments rows .refusal ≡ 0 → (out : List ℕ) → length bytes ≤ length out
-    → (measured d (lentTable d true bytes identifiers exponents comments rows) (length out) ≡ record { refusal = 0; length = length bytes })
+    → (measuredIn d (lentTable d true bytes identifiers exponents comments rows) (length out) ≡ record { refusal = 0; length = length bytes })
     × (outAfter d (lentTable d true bytes identifiers exponents comments rows) out ≡ over bytes out)
 files-come-back t ok identifiers exponents comments rows read out enough = larger.bytes-stay t ok identifiers exponents comments rows read out enough
 
@@ -650,7 +676,7 @@ module _ (bytes : List ℕ) (accepted : IsFile before bytes) (identifiers expone
   lists-stay = larger.lists-stay bytes accepted identifiers exponents comments rows
 
 -- A stretch that was divided is divided in the same way.
-pub division-stays : {bytes lengths : List ℕ} → Divides before bytes lengths → Divides d bytes lengths
+pub division-stays : {bytes lengths : List ℕ} → Divides (IsFile before) bytes lengths → Divides AnyFile bytes lengths
 division-stays divides = larger.division-stays divides
 
 -- NOTHING ELSE CHANGES: any bytes are judged as they were, by number, line, column, length and header, whole files (true) and files at the front (false) at
@@ -668,7 +694,7 @@ pub every-number : (n : ℕ) → 1 ≤ n → n ≤ maxSatellites
 every-number n some few = (everyNumber.many-valid n some few, everyNumber.every-number n some few)
 
 -- a table of more is 13, whatever the room,
-pub too-many-13 : (t : Table) → maxSatellites < t .header .satellites → (room : ℕ) → measured d t room ≡ refusedAs 13
+pub too-many-13 : (t : Table) → maxSatellites < t .header .satellites → (room : ℕ) → measuredIn d t room ≡ refusedAs 13
 too-many-13 t more room = most.too-many-13 t more room
 
 -- and `Header::new` with more is 7, where its letters are listed.
@@ -692,6 +718,126 @@ pub never-too-many : (line : List ℕ)
     → (satellitesOf d line .count ≤ maxSatellites) × (faultAt (countItem d) line ≡ keyed 7 4 → satellitesOf d line .count ≡ 0)
 never-too-many line = (most.never-too-many line, most.seven-is-none line)
 
+-- FILES FOR THE OLDER STATIONS (02, Ask 9). An accepted file of SP3-c has at most 85 satellites, five lines of each kind, four comments, and comment lines
+-- of at most 60 characters.
+pub file-c : (bytes : List ℕ) → IsFile c bytes
+    → (header c bytes .satellites ≤ 85)
+    × (length (ofKind c satellitesKind (linesOf bytes)) ≡ 5)
+    × (length (ofKind c accuraciesKind (linesOf bytes)) ≡ 5)
+    × (header c bytes .comments ≡ 4)
+    × ((i : ℕ) → i < 4 → length (nth i (ofKind c commentKind (linesOf bytes))) ≤ 60)
+file-c bytes accepted = inVersion.file-c bytes accepted
+
+-- In such a file 3 names column 61 of a `/*` line and column 81 of any other,
+pub column-61 : (whole : Bool) (bytes : List ℕ) (number line column : ℕ) → foundIn c whole bytes ≡ front.Refused number line column → number ≡ 3
+    → column ≡ cond (isKind c commentKind (refusedLine bytes line)) 61 81
+column-61 whole bytes number line column refused n = told-columns.three-61 bytes number line column whole refused n
+
+-- any `/*` line of more than 60 characters earns 3 with column 61, wherever it stands,
+pub long-comment : (s : State) (identifiers line : List ℕ) → isKind c commentKind line ≡ true → 60 < length line → Earns c s identifiers line 3 61
+long-comment s identifiers line is long = comment-faults.long-comment s identifiers line is long
+
+-- and more than 85 satellites are 7 with column 4.
+pub more-than-85 : (line : List ℕ) (n : ℕ) → wholeOf (partOf (countItem c) line) ≡ wholes.Value n → 85 < n → faultAt (countItem c) line ≡ keyed 7 4
+more-than-85 line n is more = inVersion.more-satellites-7 c line n is more
+
+-- One comment more than the version has earns 4, in SP3-c the fifth: a `/*` line behind lines without fault that have as many comments among them;
+module _ {rules : Rules} (proper : Proper rules) (bytes : List ℕ) (k : ℕ) (goes : AllGoOn rules bytes k) where
+  pub fifth-comment : rules .«most_comments» ≤ length (ofKind rules commentKind (take k (linesOf bytes)))
+      → isKind rules commentKind (nth k (linesOf bytes)) ≡ true → Earned rules bytes k 4 0
+  fifth-comment all is = comment-faults.fifth-comment proper bytes k goes all is
+
+  -- and so does an epoch before which one is missing, in SP3-c after three: a `* ` line behind lines that have fewer comments among them than the version wants.
+  pub missing-comment : length (ofKind rules commentKind (take k (linesOf bytes))) < rules .«fewest_comments»
+      → isKind rules epochKind (nth k (linesOf bytes)) ≡ true → Earned rules bytes k 4 0
+  missing-comment few is = comment-faults.missing-comment proper bytes k goes few is
+
+  -- Where that line has no byte outside 32 to 126 this is the answer of judging, whole files (true) and files at the front (false) at once: 3 for a comment
+  -- longer than the version allows,
+  module _ (whole : Bool) (there : k < length (linesOf bytes)) (printed : every isPrintable (nth k (linesOf bytes)) ≡ true) where
+    pub long-refused : isKind rules commentKind (nth k (linesOf bytes)) ≡ true → min 80 (rules .«comment_columns») < length (nth k (linesOf bytes))
+        → judged rules bytes (foundIn rules whole bytes) ≡ refusedWith 3 (k + 1) (min 80 (rules .«comment_columns») + 1)
+    long-refused is long = comment-faults.long-refused proper bytes k goes whole there printed is long
+
+    -- else 4 for one too many,
+    pub fifth-refused : rules .«most_comments» ≤ length (ofKind rules commentKind (take k (linesOf bytes)))
+        → isKind rules commentKind (nth k (linesOf bytes)) ≡ true → length (nth k (linesOf bytes)) ≤ min 80 (rules .«comment_columns»)
+        → judged rules bytes (foundIn rules whole bytes) ≡ refusedWith 4 (k + 1) 0
+    fifth-refused all is short = comment-faults.fifth-refused proper bytes k goes whole there printed all is short
+
+    -- and 4 where one is missing.
+    pub missing-refused : length (ofKind rules commentKind (take k (linesOf bytes))) < rules .«fewest_comments»
+        → isKind rules epochKind (nth k (linesOf bytes)) ≡ true → length (nth k (linesOf bytes)) ≤ 80
+        → judged rules bytes (foundIn rules whole bytes) ≡ refusedWith 4 (k + 1) 0
+    missing-refused few is short = comment-faults.missing-refused proper bytes k goes whole there printed few is short
+
+-- A table is valid in a version exactly when it is valid in SP3-d and keeps the bounds of the version,
+pub keeps-exactly : {rules : Rules} → Proper rules → (t : Table) → (valid rules t ≡ true) ↔ ((valid d t ≡ true) × Keeps rules t)
+keeps-exactly proper t = inVersion.keeps-exactly proper t
+
+-- in SP3-c when it has at most 85 satellites, four comments, and texts of at most 57 bytes.
+pub valid-c : (t : Table) → (valid c t ≡ true)
+    ↔ ((valid d t ≡ true) × (t .header .satellites ≤ 85) × (t .header .comments ≡ 4) × ((i : ℕ) → i < 4 → length (trimmed (commentOf t i)) ≤ 57))
+valid-c t = inVersion.valid-c t
+
+-- Its form there is the form in SP3-d but for its second byte. 17 is never the answer of a writing in SP3-d.
+pub form-c : (t : Table) → canonical c t ≡ 35 ∷ 99 ∷ drop 2 (canonical d t)
+form-c t = inVersion.form-c t
+
+pub never-17 : (t : Table) (out : List ℕ) → measuredIn d t (length out) .refusal ≡ 17 → ⊥
+never-17 t out e = writing.never-17 t out e
+
+-- The table of an accepted file of SP3-c is valid in SP3-d too, and its form there is an accepted file that holds it;
+pub c-in-d : (bytes : List ℕ) → IsFile c bytes → let t = tableIn c (linesOf bytes) in
+    (valid d t ≡ true) × IsFile d (canonical d t) × Holds d (linesOf (canonical d t)) t
+c-in-d bytes accepted = inVersion.c-in-d bytes accepted
+
+-- read from the file and written in SP3-d, with room for that form, it gives 0, the length and the bytes of it.
+pub c-written-in-d : (bytes : List ℕ) → IsFile c bytes → (identifiers exponents comments : List ℕ) (rows : List ℤ)
+    → readAnswer c bytes (fileOf c bytes) identifiers exponents comments rows .refusal ≡ 0
+    → (out : List ℕ) → let form = canonical d (tableIn c (linesOf bytes)) in let lent = lentTable c true bytes identifiers exponents comments rows in
+    length form ≤ length out → (measuredIn d lent (length out) ≡ record { refusal = 0; length = length form }) × (outAfter d lent out ≡ over form out)
+c-written-in-d bytes accepted identifiers exponents comments rows read out enough =
+    inVersion.c-written-in-d bytes accepted identifiers exponents comments rows read out enough
+
+-- Reading tells the version: a file is judged and read by the rules of its own, and the answer has its letter,
+pub tells : (v : Version) (bytes : List ℕ) → IsFile (rulesOf v) bytes → rulesIn bytes ≡ rulesOf v
+tells v bytes file = inVersion.tells v bytes file
+
+pub judge-tells : (v : Version) (bytes : List ℕ) → IsFile (rulesOf v) bytes → judged (rulesIn bytes) bytes (fileOf (rulesIn bytes) bytes) .version ≡ toldVersion v
+judge-tells v bytes file = inVersion.judge-tells v bytes file
+
+pub read-tells : (v : Version) (bytes : List ℕ) → IsFile (rulesOf v) bytes → (identifiers exponents comments : List ℕ) (rows : List ℤ)
+    → let answered = readAnswer (rulesIn bytes) bytes (fileOf (rulesIn bytes) bytes) identifiers exponents comments rows in
+    answered .refusal ≡ 0 → answered .version ≡ toldVersion v
+read-tells v bytes file identifiers exponents comments rows read = inVersion.read-tells v bytes file identifiers exponents comments rows read
+
+-- and beside a refusal, also of a reading without room, a blank, whole files (true) and files at the front (false) at once.
+pub refused-tells-none : (rules : Rules) (whole : Bool) (bytes : List ℕ) → (judged rules bytes (foundIn rules whole bytes) .refusal ≡ 0 → ⊥)
+    → judged rules bytes (foundIn rules whole bytes) .version ≡ 32
+refused-tells-none rules whole bytes refused = inVersion.refused-tells-none rules whole bytes refused
+
+pub unread-tells-none : (rules : Rules) (whole : Bool) (bytes : List ℕ) (i x c r : ℕ) → (answer rules whole bytes i x c r .refusal ≡ 0 → ⊥)
+    → answer rules whole bytes i x c r .version ≡ 32
+unread-tells-none rules whole bytes i x c r refused = inVersion.unread-tells-none rules whole bytes i x c r refused
+
+-- What was written in a version tells that version,
+pub written-tells : (v : Version) (t : Table) (out : List ℕ) → measuredIn (rulesOf v) t (length out) .refusal ≡ 0
+    → rulesIn (writtenBytes (rulesOf v) t out) ≡ rulesOf v
+written-tells v t out success = inVersion.written-tells v t out success
+
+-- and read by the rules that it tells, with room for the table, it gives that version, its own length and the table back.
+pub written-reads-back : (v : Version) (t : Table) (out : List ℕ) → measuredIn (rulesOf v) t (length out) .refusal ≡ 0
+    → (identifiers exponents comments : List ℕ) (rows : List ℤ) → Room (t .header) (length identifiers) (length exponents) (length comments) (length rows)
+    → let again = writtenBytes (rulesOf v) t out in let rules = rulesIn again in
+    (readAnswer rules again (fileOf rules again) identifiers exponents comments rows ≡ toldFile (toldVersion v) (length again) (t .header))
+    × (identifiersAfter rules again (fileOf rules again) identifiers exponents comments rows ≡ over (table.tableIdentifiers t) identifiers)
+    × (exponentsAfter rules again (fileOf rules again) identifiers exponents comments rows ≡ over (table.exponentsOf t) exponents)
+    × (commentsAfter rules again (fileOf rules again) identifiers exponents comments rows ≡ over (table.commentsOf t) comments)
+    × (rowsAfter rules again (fileOf rules again) identifiers exponents comments rows ≡ over (rowsOf t) rows)
+written-reads-back v t out success identifiers exponents comments rows enough =
+    inVersion.written-reads-back v t out success identifiers exponents comments rows enough
+
 module _ {rules : Rules} (proper : Proper rules) where
   -- The program `rewrite` lends room for as many satellites as a file may name, 800 comments and 1,191 rows, and 65,536 bytes of output. Rows are never short
   -- in a file of at most 65,536 bytes; reading it answers 12 exactly where it has more than 800 comments, and writing what was read exactly where the form
@@ -704,55 +850,54 @@ module _ {rules : Rules} (proper : Proper rules) where
 
   pub rewrite-output-12 : (bytes : List ℕ) (accepted : IsFile rules bytes) (identifiers exponents comments : List ℕ) (rows : List ℤ)
       → readAnswer rules bytes (fileOf rules bytes) identifiers exponents comments rows .refusal ≡ 0 → (out : List ℕ) → length out ≡ mostBytes
-      → (measured rules (lentTable rules true bytes identifiers exponents comments rows) (length out) .refusal ≡ 12) ↔ (mostBytes < length (formOf rules bytes))
+      → (measuredIn rules (lentTable rules true bytes identifiers exponents comments rows) (length out) .refusal ≡ 12) ↔ (mostBytes < length (formOf rules bytes))
   rewrite-output-12 bytes accepted identifiers exponents comments rows read out room =
       rewriteRoom.output-twelve proper bytes accepted identifiers exponents comments rows read out room
 
--- DEMAND 3. No accepted file is the beginning of a longer accepted file, so a stretch divides into files in at most one way; that division is given
--- exactly when there is one, else the accepted files at the front and the refusal after them.
+-- DEMAND 3, over accepted files of both versions mixed. No accepted file is the beginning of a longer accepted file, so a stretch divides into files in at
+-- most one way; that division is given exactly when there is one, else the accepted files at the front and the refusal after them.
 
-module _ {rules : Rules} (proper : Proper rules) where
-  -- An accepted file followed by anything is read from the front as it is read whole, and its length is told.
-  pub then-anything : (a b : List ℕ) (t : Tally) → fileOf rules a ≡ front.File t → (frontOf rules (a ++ b) ≡ front.File t) × (t .end ≡ length a)
-  then-anything a b t accepted = judging.file-then-anything proper a b t accepted
+-- An accepted file followed by anything is read from the front, by the rules that it tells, as it is read whole, and its length is told.
+pub then-anything : (a b : List ℕ) (t : Tally) → fileOf (rulesIn a) a ≡ front.File t → (frontOf (rulesIn (a ++ b)) (a ++ b) ≡ front.File t) × (t .end ≡ length a)
+then-anything a b t accepted = dividing.file-then-anything a b t accepted
 
-  pub not-longer : (a b : List ℕ) → IsFile rules a → IsFile rules (a ++ b) → b ≡ []
-  not-longer a b f g = judging.not-longer proper a b f g
+pub not-longer : (a b : List ℕ) → AnyFile a → AnyFile (a ++ b) → b ≡ []
+not-longer a b f g = dividing.not-longer a b f g
 
-pub one-way : {bytes ls ks : List ℕ} → Divides d bytes ls → Divides d bytes ks → ls ≡ ks
+pub one-way : {bytes ls ks : List ℕ} → Divides AnyFile bytes ls → Divides AnyFile bytes ks → ls ≡ ks
 one-way x y = dividing.one-way x y
 
 -- With room the answer is a division and its lengths are written exactly when it is one.
 pub divides-exactly : (bytes old ls : List ℕ) → length ls ≤ length old
-    → Divides d bytes ls ↔ ((divideOf d bytes (length old) ≡ division (length ls) (length bytes) 0 0 0) × (lengthsAfter d bytes old ≡ over ls old))
+    → Divides AnyFile bytes ls ↔ ((divideOf bytes (length old) ≡ division (length ls) (length bytes) 0 0 0) × (lengthsAfter bytes old ≡ over ls old))
 divides-exactly bytes old ls enough = dividing.divides-exactly bytes old ls enough
 
 -- Wherever the answer is not 12 it tells the accepted files at the front, as many as there are, with their lengths written;
-pub files-at-front : (bytes old : List ℕ) → (divideOf d bytes (length old) .refusal ≡ 12 → ⊥) → AtFront bytes old (divideOf d bytes (length old))
+pub files-at-front : (bytes old : List ℕ) → (divideOf bytes (length old) .refusal ≡ 12 → ⊥) → AtFront bytes old (divideOf bytes (length old))
 files-at-front bytes old enough = dividing.front-found bytes old enough
 
--- what is left after them, if anything is, is refused with the number, line and column of the answer.
+-- what is left after them, if anything is, is refused, by the rules that it tells, with the number, line and column of the answer.
 pub rest-refused : {bytes old : List ℕ} {answer : Division} (f : AtFront bytes old answer) → (answer .refusal ≡ 0 → ⊥)
-    → (0 < length (f .rest)) × (frontOf d (f .rest) ≡ front.Refused (answer .refusal) (answer .line) (answer .column))
+    → (0 < length (f .rest)) × (frontOf (rulesIn (f .rest)) (f .rest) ≡ front.Refused (answer .refusal) (answer .line) (answer .column))
 rest-refused f some = dividing.rest-refused f some
 
 -- 12 comes exactly where more accepted files stand at the front than there is room for, 11 and 13 never.
-pub no-room : (bytes : List ℕ) (room : ℕ) → (divideOf d bytes room .refusal ≡ 12) ↔ TooMany bytes room
+pub no-room : (bytes : List ℕ) (room : ℕ) → (divideOf bytes room .refusal ≡ 12) ↔ TooMany bytes room
 no-room bytes room = dividing.twelve-exactly bytes room
 
 -- With 12 every other part of the answer is 0.
-pub twelve-alone : (bytes : List ℕ) (room : ℕ) → divideOf d bytes room .refusal ≡ 12 → divideOf d bytes room ≡ division 0 0 12 0 0
+pub twelve-alone : (bytes : List ℕ) (room : ℕ) → divideOf bytes room .refusal ≡ 12 → divideOf bytes room ≡ division 0 0 12 0 0
 twelve-alone bytes room e = dividing.twelve-alone bytes room e
 
-pub never-11 : (bytes : List ℕ) (room : ℕ) → divideOf d bytes room .refusal ≡ 11 → ⊥
+pub never-11 : (bytes : List ℕ) (room : ℕ) → divideOf bytes room .refusal ≡ 11 → ⊥
 never-11 bytes room e = dividing.never-11 bytes room e
 
-pub never-13 : (bytes : List ℕ) (room : ℕ) → divideOf d bytes room .refusal ≡ 13 → ⊥
+pub never-13 : (bytes : List ℕ) (room : ℕ) → divideOf bytes room .refusal ≡ 13 → ⊥
 never-13 bytes room e = dividing.never-13 bytes room e
 
 -- The file of number i begins at the sum of the first i lengths, and is an accepted file of the length of number i.
-pub file-at-sum : (bytes old : List ℕ) (i : ℕ) → i < divideOf d bytes (length old) .count
-    → IsFile d (take (getD (lengthsAfter d bytes old) i 0) (drop (sum (take i (lengthsAfter d bytes old))) bytes))
+pub file-at-sum : (bytes old : List ℕ) (i : ℕ) → i < divideOf bytes (length old) .count
+    → AnyFile (take (getD (lengthsAfter bytes old) i 0) (drop (sum (take i (lengthsAfter bytes old))) bytes))
 file-at-sum bytes old i h = dividing.file-at-sum bytes old i h
 
 -- THE PAPER'S TWELVE CASES, one table.

@@ -1,3 +1,4 @@
 pub mod Rules
+pub mod Versions
 pub mod Letters
 pub mod Header

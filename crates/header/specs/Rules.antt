@@ -1,4 +1,4 @@
--- The rules of a version as one record, which what is defined over a version takes as an argument. The base has one value, `d`.
+-- The rules of a version as one record, which what is defined over a version takes as an argument: `c` and `d`.
 -- 01, "Bounds: .. at most 100,000 epochs, at least one of each"; 02, Ask 6: "Take 999, as document 000 does"; 01, "Records in order": "Four or
 -- more comments"; "Lines": "It has at most 80 characters".
 use Prim.Native.Nat.{ℕ, _+_, _/_, max}
@@ -23,6 +23,23 @@ d = record {
   «fewest_comments» = minComments;
   «most_comments» = 18_446_744_073_709_551_615;
   «comment_columns» = 80;
+}
+
+-- SP3-c. 02, Ask 9: "`#c`, at most 85 satellites, exactly five lines of each kind, exactly four comments, comment lines of at most 60 characters, all
+-- else as in 01"; 85 satellites have five lines of each kind
+abbrev pub maxSatellitesC : ℕ
+maxSatellitesC = 85
+
+abbrev pub commentColumnsC : ℕ
+commentColumnsC = 60
+
+abbrev pub c : Rules
+c = record {
+  letter = 99;
+  «most_satellites» = maxSatellitesC;
+  «fewest_comments» = minComments;
+  «most_comments» = minComments;
+  «comment_columns» = commentColumnsC;
 }
 
 -- `+ ` lines: "exactly n / 17 rounded up, or five where that is less than five"; as many `++` lines

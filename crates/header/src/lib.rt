@@ -7,6 +7,7 @@ ghost use Rattle.header.specs.Letters.{modes, fileTypes, timeSystems};
 
 mod making;
 mod types;
+mod versions;
 
 pub use making::texts_printable;
 pub use types::Bases;
@@ -15,6 +16,7 @@ pub use types::HeaderAnswer;
 pub use types::Moment;
 pub use types::Rules;
 pub use types::Texts;
+pub use types::Version;
 
 // Whether a byte is the letter of a mode: P or V.
 pub fn is_mode(b: u8) -> bool

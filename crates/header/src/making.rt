@@ -1,32 +1,16 @@
-// The rules of the version, the bounds of a header, and its making out of numbers, letters and texts.
+// The bounds of a header, and its making out of numbers, letters and texts.
 ghost use mathlib.Core.Path.{_≡_};
 ghost use mathlib.Core.Bool.{true};
 ghost use Rattle.calendar.specs.Clock.{toldInstant, instantAnswer};
-ghost use Rattle.header.specs.Rules.{d, maxSatellites, maxEpochs, minComments};
+ghost use Rattle.header.specs.Rules.{maxSatellites, maxEpochs, minComments};
 ghost use Rattle.header.specs.Header.{maxInterval, maxPlaceBase, maxClockBase, textsPrintable, lettersListed, numbersBounded, headerMade, noHeader, refused, headerOf};
 use crate::types::Bases;
 use crate::types::Header;
 use crate::types::HeaderAnswer;
 use crate::types::Moment;
-use crate::types::Rules;
 use crate::types::Texts;
 use calendar::Instant;
 use laws::within;
-
-impl Rules {
-    // The rules of SP3-d.
-    pub fn d() -> Rules
-        ensures result { λ r. ⌜ r ≡ d ⌝ }
-    {
-        Rules {
-            letter: b'd',
-            most_satellites: Header::MAX_SATELLITES,
-            fewest_comments: Header::MIN_COMMENTS,
-            most_comments: 18_446_744_073_709_551_615,
-            comment_columns: 80,
-        }
-    }
-}
 
 // Whether the four texts have bytes 32 to 126 alone: a tab in the agency is none.
 pub fn texts_printable(texts: Texts) -> bool

@@ -47,6 +47,12 @@ pub struct HeaderAnswer {
     pub header: Header,
 }
 
+// A version of the format that is read and written: SP3-c or SP3-d.
+pub enum Version {
+    C,
+    D,
+}
+
 // The rules of a version: its letter in column 2, its most satellites, its fewest and most comments, the columns of a comment line.
 pub struct Rules {
     pub letter: u8,

@@ -15,7 +15,7 @@ use ghost.Atoms.{Atoms}
 use prog.Memory.{Memory}
 use prog.Routine.{Routine}
 use prog.Wp.{Heap}
-use Rattle.header.specs.Rules.{d}
+use Rattle.header.specs.Versions.{rulesIn}
 use Rattle.machine.specs.Step.{lineIdentifiers}
 use Rattle.line_walk.specs.Spots.{spotAfter}
 use Rattle.line_walk.specs.declared.Spot.{Spot}
@@ -32,8 +32,8 @@ pub record Begins (file : RefT (List ℕ)) (spot : Spot) (w : Walker) : Type 0 w
 -- a walker v, moved from w with these identifiers, which are then `kept`: the same file, the spot after the line, the list after it
 pub record Moves (w : Walker) (identifiers : List ℕ) (v : Walker) (kept : List ℕ) : Type 0 where
   pub file : v .file ≡ w .file
-  pub spot : v .spot ≡ spotAfter d (now (w .file)) identifiers (w .spot)
-  pub identifiers-are : kept ≡ lineIdentifiers d (now (w .file)) (w .spot .at) (w .spot .state) identifiers
+  pub spot : v .spot ≡ spotAfter (rulesIn (now (w .file))) (now (w .file)) identifiers (w .spot)
+  pub identifiers-are : kept ≡ lineIdentifiers (rulesIn (now (w .file))) (now (w .file)) (w .spot .at) (w .spot .state) identifiers
 
 module _ {M : Type 1} (𝓤 : URA M) (H : Heap 𝓤) (A : Atoms 𝓤) (mem : Memory → SProp 𝓤) (run : Routine → Fun 𝓤) where
   -- THE CONTRACT OF `new`: of every outcome that it allows this is so

@@ -13,7 +13,7 @@ use borrow.Fn.Kinds.{Out}
 use denote.Ref.{now}
 use Rattle.laws.specs.Places.{PartAt}
 use Rattle.lines.specs.Lines.{linesOf, nth, beginsFrom}
-use Rattle.header.specs.Rules.{d}
+use Rattle.header.specs.Versions.{rulesIn}
 use Rattle.record.specs.LineKinds.{commentKind, positionKind}
 use Rattle.file.specs.Kinds.{isKind, ofKind}
 use Rattle.file.specs.Plain.{isRowLine, Sound}
@@ -29,7 +29,8 @@ use Rattle.layout.proofs.Lines.{trimmed-front, trimmed-shorter}
 use Rattle.lines.proofs.Picking.{placed}
 use Rattle.lines.proofs.Split.{first}
 use Rattle.file.proofs.Finding.{line-at-place}
-use Rattle.scan_laws.proofs.Files.{whole-taken, file-plain, d-sound}
+use Rattle.scan_laws.proofs.Files.{whole-taken, file-plain}
+use Rattle.scan_laws.proofs.Which.{told-sound}
 use Rattle.scan_laws.proofs.Used.{accepted-front}
 use Rattle.scan_laws.proofs.Local.{whole-ends}
 use Rattle.file_laws.proofs.Selected.{satellites}
@@ -135,5 +136,5 @@ CommentPost = comment.Post
 
 -- THE TEXT HANDED BACK is the part of the lent file that `comment_answer` names, for every file and every number.
 pub comment-part : (κs : _) (a : _) (r : _) (s : _) → CommentPost κs a r s
-    → PartAt (a .0) (commentAnswer d (now (a .0)) (fileOf d (now (a .0))) (a .1 .0) .at) (commentAnswer d (now (a .0)) (fileOf d (now (a .0))) (a .1 .0) .length) r
-comment-part κs a r s p = (p .0 ∙ sym (handed d-sound (now (a .0)) (a .1 .0) (fileOf d (now (a .0))) refl), p .1)
+    → PartAt (a .0) (commentAnswer (rulesIn (now (a .0))) (now (a .0)) (fileOf (rulesIn (now (a .0))) (now (a .0))) (a .1 .0) .at) (commentAnswer (rulesIn (now (a .0))) (now (a .0)) (fileOf (rulesIn (now (a .0))) (now (a .0))) (a .1 .0) .length) r
+comment-part κs a r s p = (p .0 ∙ sym (handed (told-sound (now (a .0))) (now (a .0)) (a .1 .0) (fileOf (rulesIn (now (a .0))) (now (a .0))) refl), p .1)

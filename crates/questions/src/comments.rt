@@ -5,7 +5,7 @@ ghost use lib.ListN.{length};
 ghost use denote.Ref.{ptr};
 ghost use Rattle.laws.specs.Places.{byteOf};
 ghost use Rattle.lines.specs.Lines.{linesOf};
-ghost use Rattle.header.specs.Rules.{d};
+ghost use Rattle.header.specs.Versions.{rulesIn};
 ghost use Rattle.reader.specs.Reading.{fileOf};
 ghost use Rattle.questions.specs.Questions.{textIn, noComment, commentAt, commentAnswer, commentWords};
 use crate::types::CommentAnswer;
@@ -58,9 +58,9 @@ fn comment_at(rules: Rules, bytes: &[u8], k: u64) -> CommentAnswer
 
 // Where the text of the k-th comment of a file lies, counted from 0: 13 where it has no such comment.
 pub fn comment_answer(file: &[u8], k: u64) -> CommentAnswer
-    ensures result { λ r. ⌜ r ≡ commentAnswer d (now (file .entry)) (fileOf d (now (file .entry))) k ⌝ }
+    ensures result { λ r. ⌜ r ≡ commentAnswer (rulesIn (now (file .entry))) (now (file .entry)) (fileOf (rulesIn (now (file .entry))) (now (file .entry))) k ⌝ }
 {
-    let rules = Rules::d();
+    let rules = Rules::told_by(file);
     match scan::scan_whole(rules, file) {
         Front::Refused {
             number,
@@ -79,10 +79,10 @@ pub fn comment_answer(file: &[u8], k: u64) -> CommentAnswer
 
 // The text of the k-th comment of a file, that stretch of it: it lies where `comment_answer` says. Empty, at the file's first byte, on a refusal.
 pub fn comment(file: &[u8], k: u64) -> &[u8]
-    ensures result { λ r. ⌜ now r ≡ commentWords d (now (file .entry)) (fileOf d (now (file .entry))) k ⌝ }
-    ensures lies { λ r. ⌜ ptr r ≡ byteOf (file .entry) (commentAnswer d (now (file .entry)) (fileOf d (now (file .entry))) k .at) ⌝ }
+    ensures result { λ r. ⌜ now r ≡ commentWords (rulesIn (now (file .entry))) (now (file .entry)) (fileOf (rulesIn (now (file .entry))) (now (file .entry))) k ⌝ }
+    ensures lies { λ r. ⌜ ptr r ≡ byteOf (file .entry) (commentAnswer (rulesIn (now (file .entry))) (now (file .entry)) (fileOf (rulesIn (now (file .entry))) (now (file .entry))) k .at) ⌝ }
 {
-    let rules = Rules::d();
+    let rules = Rules::told_by(file);
     match scan::scan_whole(rules, file) {
         Front::Refused {
             number: _,

@@ -2,7 +2,8 @@
 ghost use mathlib.Core.Path.{_≡_};
 ghost use Prim.Native.Nat.{_≤_};
 ghost use Rattle.lines.specs.Lines.{linesOf};
-ghost use Rattle.header.specs.Rules.{d, maxSatellites, maxEpochs};
+ghost use Rattle.header.specs.Rules.{maxSatellites, maxEpochs};
+ghost use Rattle.header.specs.Versions.{rulesIn};
 ghost use Rattle.file.specs.Table.{countOf};
 ghost use Rattle.reader.specs.Reading.{fileOf};
 ghost use Rattle.questions.specs.Questions.{epochsOf, noRow, rowAt, rowBegins, rowAnswer};
@@ -44,9 +45,9 @@ fn row_at(rules: Rules, bytes: &[u8], epoch: u64, satellite: u64) -> RowBegins
 
 // Where the P line of an epoch and a satellite begins in a file, each counted from 0, in mode V too: 13 where it has no such row.
 pub fn row_begins(file: &[u8], epoch: u64, satellite: u64) -> RowBegins
-    ensures result { λ r. ⌜ r ≡ rowBegins d (now (file .entry)) (fileOf d (now (file .entry))) epoch satellite ⌝ }
+    ensures result { λ r. ⌜ r ≡ rowBegins (rulesIn (now (file .entry))) (now (file .entry)) (fileOf (rulesIn (now (file .entry))) (now (file .entry))) epoch satellite ⌝ }
 {
-    let rules = Rules::d();
+    let rules = Rules::told_by(file);
     match scan::scan_whole(rules, file) {
         Front::Refused {
             number,
@@ -62,7 +63,7 @@ pub fn row_begins(file: &[u8], epoch: u64, satellite: u64) -> RowBegins
 
 // The P row of an epoch and a satellite of a file as floats: the file's own refusal, then 13 with line 0 where it has no such row.
 pub fn row(file: &[u8], epoch: u64, satellite: u64) -> RowAnswer
-    ensures result { λ r. ⌜ r ≡ rowAnswer (now (file .entry)) (rowBegins d (now (file .entry)) (fileOf d (now (file .entry))) epoch satellite) ⌝ }
+    ensures result { λ r. ⌜ r ≡ rowAnswer (now (file .entry)) (rowBegins (rulesIn (now (file .entry))) (now (file .entry)) (fileOf (rulesIn (now (file .entry))) (now (file .entry))) epoch satellite) ⌝ }
 {
     let found = row_begins(file, epoch, satellite);
     if found.refusal != 0 {

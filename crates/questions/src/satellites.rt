@@ -6,7 +6,8 @@ ghost use Rattle.laws.specs.Tests.{within};
 ghost use Rattle.field.specs.Digits.{isDigit};
 ghost use lib.ListN.{length};
 ghost use Rattle.lines.specs.Lines.{linesOf};
-ghost use Rattle.header.specs.Rules.{d, maxSatellites};
+ghost use Rattle.header.specs.Rules.{maxSatellites};
+ghost use Rattle.header.specs.Versions.{rulesIn};
 ghost use Rattle.file.specs.Table.{countOf};
 ghost use Rattle.reader.specs.Reading.{fileOf, identifiersOf};
 ghost use Rattle.questions.specs.Questions.{identifierNamed, indexOf, noSatellite, satelliteIn, satelliteAnswer};
@@ -123,9 +124,9 @@ pub fn identifier_of(text: &[u8]) -> u64
 // The number in the header of the satellite with this identifier, held as its letter's byte times 100 and its number (7107 for G07): 13 where
 // the header has none such.
 pub fn satellite_of(file: &[u8], identifier: u64) -> SatelliteAnswer
-    ensures result { λ r. ⌜ r ≡ satelliteAnswer d (now (file .entry)) (fileOf d (now (file .entry))) identifier ⌝ }
+    ensures result { λ r. ⌜ r ≡ satelliteAnswer (rulesIn (now (file .entry))) (now (file .entry)) (fileOf (rulesIn (now (file .entry))) (now (file .entry))) identifier ⌝ }
 {
-    let rules = Rules::d();
+    let rules = Rules::told_by(file);
     match scan::scan_whole(rules, file) {
         Front::Refused {
             number,

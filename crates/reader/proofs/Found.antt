@@ -44,8 +44,8 @@ pub front-part : (n : ℕ) (bytes : List ℕ) → take (n - 0) bytes ≡ take n 
 front-part n bytes = ap (λ (k : ℕ). take k bytes) (sub-zero n)
 
 -- an answer that accepts
-abbrev accepted : ℕ → Header → Reading
-accepted length h = record { refusal = 0; line = 0; column = 0; length = length; header = h }
+abbrev accepted : ℕ → ℕ → Header → Reading
+accepted letter length h = record { refusal = 0; line = 0; column = 0; length = length; header = h; version = letter }
 
 module _ (rules : Rules) (bytes : List ℕ) where
   -- a refusal that was found
@@ -69,6 +69,6 @@ module _ (rules : Rules) (bytes : List ℕ) where
         ∙ ap (headerWith rules (linesTo (t .end) bytes)) (file-accounted .1)
 
     pub file-judged : (h : Header) → h ≡ headerWith rules (linesOf (take (t .end - 0) bytes)) (t .comments)
-        → accepted (t .end) h ≡ judged rules bytes f
+        → accepted (rules .letter) (t .end) h ≡ judged rules bytes f
     unfolding judged
-    file-judged h e = ap (accepted (t .end)) (header-read h e) ∙ rw is
+    file-judged h e = ap (accepted (rules .letter) (t .end)) (header-read h e) ∙ rw is

@@ -23,17 +23,21 @@ use Rattle.scan.specs.declared.Front.{Front}
 use Rattle.scan.specs.declared.Front.the-variants as front
 use Rattle.reader.specs.declared.types.Reading.{Reading}
 
+-- what stands for no version: a blank
+abbrev blank : ℕ
+blank = 32
+
 -- a refusal beside nothing
 abbrev pub refusedWith : ℕ → ℕ → ℕ → Reading
-refusedWith number line column = record { refusal = number; line = line; column = column; length = 0; header = noHeader }
+refusedWith number line column = record { refusal = number; line = line; column = column; length = 0; header = noHeader; version = blank }
 
 -- the lines of the file at the front of some bytes, which ends at this byte
 abbrev pub linesTo : ℕ → List ℕ → List (List ℕ)
 linesTo end bytes = linesOf (take end bytes)
 
--- a file: its length and the header that its lines hold
+-- a file: its length, the header that its lines hold and the letter of its version
 abbrev pub acceptedAs : Rules → List ℕ → Tally → Reading
-acceptedAs rules bytes t = record { refusal = 0; line = 0; column = 0; length = t .end; header = headerIn rules (linesTo (t .end) bytes) }
+acceptedAs rules bytes t = record { refusal = 0; line = 0; column = 0; length = t .end; header = headerIn rules (linesTo (t .end) bytes); version = rules .letter }
 
 -- what was found at the front of some bytes, as an answer
 unfoldable pub judged : Rules → List ℕ → Front → Reading

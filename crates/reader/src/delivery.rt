@@ -6,7 +6,7 @@ ghost use Prim.Native.Nat.{_/_};
 ghost use lib.ListN.{length, take};
 ghost use Rattle.lines.specs.Lent.{flat};
 ghost use Rattle.lines.specs.Lines.{linesOf};
-ghost use Rattle.header.specs.Rules.{d};
+ghost use Rattle.header.specs.Versions.{rulesIn};
 ghost use Rattle.record.specs.LineKinds.{commentKind};
 ghost use Rattle.record.specs.Rows.{rowWidth};
 ghost use Rattle.file.specs.Kinds.{ofKind};
@@ -117,13 +117,13 @@ pub fn read(
     comments: &mut [u8],
     rows: &mut [i64],
 ) -> Reading
-    ensures result { λ r. ⌜ r ≡ readAnswer d (now (file .entry)) (fileOf d (now (file .entry))) (now (identifiers .entry)) (now (exponents .entry)) (now (comments .entry)) (now (rows .entry)) ⌝ }
-    ensures identifiers { λ _. ⌜ now (identifiers .exit) ≡ identifiersAfter d (now (file .entry)) (fileOf d (now (file .entry))) (now (identifiers .entry)) (now (exponents .entry)) (now (comments .entry)) (now (rows .entry)) ⌝ }
-    ensures exponents { λ _. ⌜ now (exponents .exit) ≡ exponentsAfter d (now (file .entry)) (fileOf d (now (file .entry))) (now (identifiers .entry)) (now (exponents .entry)) (now (comments .entry)) (now (rows .entry)) ⌝ }
-    ensures comments { λ _. ⌜ now (comments .exit) ≡ commentsAfter d (now (file .entry)) (fileOf d (now (file .entry))) (now (identifiers .entry)) (now (exponents .entry)) (now (comments .entry)) (now (rows .entry)) ⌝ }
-    ensures rows { λ _. ⌜ now (rows .exit) ≡ rowsAfter d (now (file .entry)) (fileOf d (now (file .entry))) (now (identifiers .entry)) (now (exponents .entry)) (now (comments .entry)) (now (rows .entry)) ⌝ }
+    ensures result { λ r. ⌜ r ≡ readAnswer (rulesIn (now (file .entry))) (now (file .entry)) (fileOf (rulesIn (now (file .entry))) (now (file .entry))) (now (identifiers .entry)) (now (exponents .entry)) (now (comments .entry)) (now (rows .entry)) ⌝ }
+    ensures identifiers { λ _. ⌜ now (identifiers .exit) ≡ identifiersAfter (rulesIn (now (file .entry))) (now (file .entry)) (fileOf (rulesIn (now (file .entry))) (now (file .entry))) (now (identifiers .entry)) (now (exponents .entry)) (now (comments .entry)) (now (rows .entry)) ⌝ }
+    ensures exponents { λ _. ⌜ now (exponents .exit) ≡ exponentsAfter (rulesIn (now (file .entry))) (now (file .entry)) (fileOf (rulesIn (now (file .entry))) (now (file .entry))) (now (identifiers .entry)) (now (exponents .entry)) (now (comments .entry)) (now (rows .entry)) ⌝ }
+    ensures comments { λ _. ⌜ now (comments .exit) ≡ commentsAfter (rulesIn (now (file .entry))) (now (file .entry)) (fileOf (rulesIn (now (file .entry))) (now (file .entry))) (now (identifiers .entry)) (now (exponents .entry)) (now (comments .entry)) (now (rows .entry)) ⌝ }
+    ensures rows { λ _. ⌜ now (rows .exit) ≡ rowsAfter (rulesIn (now (file .entry))) (now (file .entry)) (fileOf (rulesIn (now (file .entry))) (now (file .entry))) (now (identifiers .entry)) (now (exponents .entry)) (now (comments .entry)) (now (rows .entry)) ⌝ }
 {
-    let rules = Rules::d();
+    let rules = Rules::told_by(file);
     let found = judging::found_in(true, rules, file);
     deliver(rules, file, found, identifiers, exponents, comments, rows)
 }
@@ -136,13 +136,13 @@ pub fn read_front(
     comments: &mut [u8],
     rows: &mut [i64],
 ) -> Reading
-    ensures result { λ r. ⌜ r ≡ readAnswer d (now (stretch .entry)) (frontOf d (now (stretch .entry))) (now (identifiers .entry)) (now (exponents .entry)) (now (comments .entry)) (now (rows .entry)) ⌝ }
-    ensures identifiers { λ _. ⌜ now (identifiers .exit) ≡ identifiersAfter d (now (stretch .entry)) (frontOf d (now (stretch .entry))) (now (identifiers .entry)) (now (exponents .entry)) (now (comments .entry)) (now (rows .entry)) ⌝ }
-    ensures exponents { λ _. ⌜ now (exponents .exit) ≡ exponentsAfter d (now (stretch .entry)) (frontOf d (now (stretch .entry))) (now (identifiers .entry)) (now (exponents .entry)) (now (comments .entry)) (now (rows .entry)) ⌝ }
-    ensures comments { λ _. ⌜ now (comments .exit) ≡ commentsAfter d (now (stretch .entry)) (frontOf d (now (stretch .entry))) (now (identifiers .entry)) (now (exponents .entry)) (now (comments .entry)) (now (rows .entry)) ⌝ }
-    ensures rows { λ _. ⌜ now (rows .exit) ≡ rowsAfter d (now (stretch .entry)) (frontOf d (now (stretch .entry))) (now (identifiers .entry)) (now (exponents .entry)) (now (comments .entry)) (now (rows .entry)) ⌝ }
+    ensures result { λ r. ⌜ r ≡ readAnswer (rulesIn (now (stretch .entry))) (now (stretch .entry)) (frontOf (rulesIn (now (stretch .entry))) (now (stretch .entry))) (now (identifiers .entry)) (now (exponents .entry)) (now (comments .entry)) (now (rows .entry)) ⌝ }
+    ensures identifiers { λ _. ⌜ now (identifiers .exit) ≡ identifiersAfter (rulesIn (now (stretch .entry))) (now (stretch .entry)) (frontOf (rulesIn (now (stretch .entry))) (now (stretch .entry))) (now (identifiers .entry)) (now (exponents .entry)) (now (comments .entry)) (now (rows .entry)) ⌝ }
+    ensures exponents { λ _. ⌜ now (exponents .exit) ≡ exponentsAfter (rulesIn (now (stretch .entry))) (now (stretch .entry)) (frontOf (rulesIn (now (stretch .entry))) (now (stretch .entry))) (now (identifiers .entry)) (now (exponents .entry)) (now (comments .entry)) (now (rows .entry)) ⌝ }
+    ensures comments { λ _. ⌜ now (comments .exit) ≡ commentsAfter (rulesIn (now (stretch .entry))) (now (stretch .entry)) (frontOf (rulesIn (now (stretch .entry))) (now (stretch .entry))) (now (identifiers .entry)) (now (exponents .entry)) (now (comments .entry)) (now (rows .entry)) ⌝ }
+    ensures rows { λ _. ⌜ now (rows .exit) ≡ rowsAfter (rulesIn (now (stretch .entry))) (now (stretch .entry)) (frontOf (rulesIn (now (stretch .entry))) (now (stretch .entry))) (now (identifiers .entry)) (now (exponents .entry)) (now (comments .entry)) (now (rows .entry)) ⌝ }
 {
-    let rules = Rules::d();
+    let rules = Rules::told_by(stretch);
     let found = judging::found_in(false, rules, stretch);
     deliver(
         rules,

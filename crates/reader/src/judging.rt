@@ -2,7 +2,7 @@
 ghost use mathlib.Core.Path.{_≡_};
 ghost use mathlib.Core.Bool.{cond};
 ghost use Rattle.lines.specs.Lines.{linesOf};
-ghost use Rattle.header.specs.Rules.{d};
+ghost use Rattle.header.specs.Versions.{rulesIn};
 ghost use Rattle.file.specs.Table.{headerWith};
 ghost use Rattle.reader.specs.Reading.{refusedWith, judged, frontOf, fileOf, Accounted};
 use crate::types::Reading;
@@ -23,6 +23,7 @@ pub(crate) fn refused(number: usize, line: u64, column: usize) -> Reading
         column,
         length: 0,
         header: Header::none(),
+        version: b' ',
     }
 }
 
@@ -85,6 +86,7 @@ pub(crate) fn answer(rules: Rules, bytes: &[u8], found: Front) -> Reading
                 column: 0,
                 length: end,
                 header: header_of(rules, &bytes[0..end], tally.comments),
+                version: rules.letter,
             }
         }
     }
@@ -92,16 +94,16 @@ pub(crate) fn answer(rules: Rules, bytes: &[u8], found: Front) -> Reading
 
 // One whole file: 0, its header and its length, or the first refusal with its line. No bytes are 1 at line 1.
 pub fn judge(file: &[u8]) -> Reading
-    ensures result { λ r. ⌜ r ≡ judged d (now (file .entry)) (fileOf d (now (file .entry))) ⌝ }
+    ensures result { λ r. ⌜ r ≡ judged (rulesIn (now (file .entry))) (now (file .entry)) (fileOf (rulesIn (now (file .entry))) (now (file .entry))) ⌝ }
 {
-    let rules = Rules::d();
+    let rules = Rules::told_by(file);
     answer(rules, file, found_in(true, rules, file))
 }
 
 // One file at the front of a stretch: 11 never occurs.
 pub fn judge_front(stretch: &[u8]) -> Reading
-    ensures result { λ r. ⌜ r ≡ judged d (now (stretch .entry)) (frontOf d (now (stretch .entry))) ⌝ }
+    ensures result { λ r. ⌜ r ≡ judged (rulesIn (now (stretch .entry))) (now (stretch .entry)) (frontOf (rulesIn (now (stretch .entry))) (now (stretch .entry))) ⌝ }
 {
-    let rules = Rules::d();
+    let rules = Rules::told_by(stretch);
     answer(rules, stretch, found_in(false, rules, stretch))
 }

@@ -11,16 +11,16 @@ use borrow.Author.Tests.{leb-true, leb-false, le-leb, lt-leb, eq-eqb, ne-eqb}
 use lib.Dec.{eqb, leb}
 use lib.IntN.{ℤ}
 use lib.ListN.{length, length-append}
-use Rattle.header.specs.Rules.{d, maxSatellites}
+use Rattle.header.specs.Rules.{maxSatellites}
+use Rattle.header.specs.Versions.{versionBy, rulesOf, rulesIn}
 use Rattle.layout.specs.Line.{Lays}
 use Rattle.record.specs.Plain.{commentWidth}
 use Rattle.record.specs.Rows.{rowWidth}
-use Rattle.reader.specs.Reading.{refusedWith, fileOf, delivered}
+use Rattle.reader.specs.Reading.{refusedWith, acceptedAs, fileOf, delivered}
 use Rattle.canon.specs.Table.{Table}
 use Rattle.canon.specs.Canonical.{canonical}
-use Rattle.canon.specs.Measured.{measured, refusedAs}
+use Rattle.canon.specs.Measured.{measuredIn, refusedAs}
 use Rattle.writer.specs.Writing.{outAfter}
-use Rattle.canon_laws.specs.Held.{rewritten}
 use Rattle.theorems.specs.Files.{header}
 use Rattle.theorems.specs.Room.{mostRows}
 use Rattle.theorems.proofs.Room.{found-numbered}
@@ -36,7 +36,10 @@ use Rattle.rewrite.specs.Printed.{mostBytes, mostComments, tooLong, refu
 use Rattle.rewrite.specs.Rewriting.{asWritten, reading, tableRead, rewriteAnswer, outRewritten}
 use Rattle.rewrite.specs.declared.types.Rewritten.{Rewritten}
 use Rattle.rewrite.proofs.Digits.{digits-few}
-use Rattle.canon_laws.proofs.Versions.{d-proper}
+use Rattle.canon_laws.specs.Held.{Proper, rewritten}
+use Rattle.canon_laws.proofs.Versions.{told-proper}
+use Rattle.scan_laws.proofs.Which.{told-back}
+use Rattle.header.specs.declared.types.Rules.{Rules}
 
 -- a refusal in words has 83 bytes at most
 pub few-words : (number line column : ℕ) → length (refusedText number line column) ≤ 83
@@ -64,6 +67,13 @@ Outcome text out done now =
 -- Of a file of at most 65,536 bytes, with the lists and the output of the program.
 module _ (bytes identifiers exponents comments : List ℕ) (rows : List ℤ) (out : List ℕ) (short : length bytes ≤ mostBytes) (room : length out ≡ mostBytes)
     (named : length identifiers ≡ maxSatellites) (weighed : length exponents ≡ maxSatellites) (noted : length comments ≡ mostComments * commentWidth) (placed : length rows ≡ mostRows * rowWidth) where
+  -- the rules that the bytes tell
+  abbrev rules : Rules
+  rules = rulesIn bytes
+
+  proper : Proper rules
+  proper = told-proper bytes
+
   abbrev read : Reading
   read = reading bytes identifiers exponents comments rows
 
@@ -77,10 +87,10 @@ module _ (bytes identifiers exponents comments : List ℕ) (rows : List ℤ) (ou
   left = outRewritten bytes identifiers exponents comments rows out
 
   abbrev form : List ℕ
-  form = rewritten d bytes
+  form = rewritten rules bytes
 
   -- the lists are the program's room
-  read-is : read ≡ rewriteReading d bytes
+  read-is : read ≡ rewriteReading rules bytes
   read-is = rw (named, weighed, noted, placed)
 
   -- a reading that is refused
@@ -91,18 +101,29 @@ module _ (bytes identifiers exponents comments : List ℕ) (rows : List ℤ) (ou
       rw (e, apart) (inr (λ zero. omega arith, refl, refl))
 
   -- a reading that is accepted leaves the answer to the writing
-  accepted : (m : Measured) → read .refusal ≡ 0 → measured d table (length out) ≡ m → (answer ≡ asWritten m) × (left ≡ outAfter d table out)
-  unfolding rewriteAnswer outRewritten
-  accepted m zero is = let test = eq-eqb (read .refusal) 0 zero in (rw test (ap asWritten is), rw test)
+  module _ (t : Tally) (zero : read ≡ acceptedAs rules bytes t) where
+    version-is : rulesOf (versionBy (read .version)) ≡ rules
+    version-is = ap (λ (r : Reading). rulesOf (versionBy (r .version))) zero ∙ told-back bytes
+
+    accepted : (m : Measured) → measuredIn rules table (length out) ≡ m → (answer ≡ asWritten m) × (left ≡ outAfter rules table out)
+    unfolding rewriteAnswer outRewritten
+    accepted m is =
+        let test = eq-eqb (read .refusal) 0 (ap (λ (r : Reading). r .refusal) zero) in (
+          rw test (ap asWritten (ap (λ (k : Rules). measuredIn k table (length out)) version-is ∙ is)),
+          rw test (ap (λ (k : Rules). outAfter k table out) version-is),
+        )
 
   -- a form that fits is laid; for one that does not the output stays as it was
-  module _ (t : Tally) (file : fileOf d bytes ≡ front.File t) (zero : read .refusal ≡ 0) where
+  module _ (t : Tally) (file : fileOf rules bytes ≡ front.File t) (whole : read ≡ acceptedAs rules bytes t) where
+    zero : read .refusal ≡ 0
+    zero = ap (λ (r : Reading). r .refusal) whole
+
     fitting : length form ≤ mostBytes → Outcome form out answer left
     fitting fits =
         let enough : length form ≤ length out = omega arith in
-        let told = lent-answer d-proper bytes (t, file) identifiers exponents comments rows zero out enough in
-        let laid = lent-written d-proper bytes (t, file) identifiers exponents comments rows zero out enough in
-        let done = accepted (record { refusal = 0; length = length form }) zero told in
+        let told = lent-answer proper bytes (t, file) identifiers exponents comments rows zero out enough in
+        let laid = lent-written proper bytes (t, file) identifiers exponents comments rows zero out enough in
+        let done = accepted t whole (record { refusal = 0; length = length form }) told in
         inl (
           ap (λ (r : Rewritten). r .refusal) (done .0),
           record {
@@ -113,41 +134,41 @@ module _ (bytes identifiers exponents comments : List ℕ) (rows : List ℤ) (ou
 
     too-large : mostBytes < length form → Outcome (refusedText 12 0 0) out answer left
     too-large over =
-        let less : length out < length (canonical d table) = rw (lent-form d-proper bytes (t, file) identifiers exponents comments rows zero) (omega arith) in
-        let twelve = too-small-12 d-proper table out (lent-valid d-proper bytes (t, file) identifiers exponents comments rows zero) less in
-        let kept = refusal-keeps-out d-proper table out (λ none. omega (arith, ap (λ (m : Measured). m .refusal) twelve)) in
-        let done = accepted (refusedAs 12) zero twelve in
+        let less : length out < length (canonical rules table) = rw (lent-form proper bytes (t, file) identifiers exponents comments rows zero) (omega arith) in
+        let twelve = too-small-12 proper table out (lent-valid proper bytes (t, file) identifiers exponents comments rows zero) less in
+        let kept = refusal-keeps-out proper table out (λ none. omega (arith, ap (λ (m : Measured). m .refusal) twelve)) in
+        let done = accepted t whole (refusedAs 12) twelve in
         rw (done .0) (inr (λ none. omega arith, refl, done .1 ∙ kept))
 
   -- a file that is accepted
-  filed : (t : Tally) → fileOf d bytes ≡ front.File t → Outcome (answered bytes (front.File t)) out answer left
+  filed : (t : Tally) → fileOf rules bytes ≡ front.File t → Outcome (answered bytes (front.File t)) out answer left
   unfolding answered
-  filed t file = by (leb (header d bytes .comments) mostComments) (leb (length form) mostBytes) refl refl
+  filed t file = by (leb (header rules bytes .comments) mostComments) (leb (length form) mostBytes) refl refl
     where
-      some-0 : leb (header d bytes .comments) mostComments ≡ true → read .refusal ≡ 0
-      some-0 few =
-          let answers = few-comments d-proper bytes (t, file) short (leb-true (header d bytes .comments) mostComments few) in
-          ap (λ (r : Reading). r .refusal) (read-is ∙ answers)
+      all-read : leb (header rules bytes .comments) mostComments ≡ true → read ≡ acceptedAs rules bytes t
+      all-read few =
+          let answers = few-comments proper bytes (t, file) short (leb-true (header rules bytes .comments) mostComments few) in
+          read-is ∙ answers
 
-      by : (few fits : Bool) → leb (header d bytes .comments) mostComments ≡ few → leb (length form) mostBytes ≡ fits
+      by : (few fits : Bool) → leb (header rules bytes .comments) mostComments ≡ few → leb (length form) mostBytes ≡ fits
           → Outcome (cond (few && fits) form (refusedText 12 0 0)) out answer left
-      by true true p q = fitting t file (some-0 p) (leb-true (length form) mostBytes q)
-      by true false p q = too-large t file (some-0 p) (leb-false (length form) mostBytes q)
+      by true true p q = fitting t file (all-read p) (leb-true (length form) mostBytes q)
+      by true false p q = too-large t file (all-read p) (leb-false (length form) mostBytes q)
       by false fits p q =
-          let answers = many-comments d-proper bytes (t, file) short (leb-false (header d bytes .comments) mostComments p) in
+          let answers = many-comments proper bytes (t, file) short (leb-false (header rules bytes .comments) mostComments p) in
           refused 12 0 0 (omega arith) (read-is ∙ answers)
 
   -- THE OUTCOME: what the paper says is laid, or is a refusal that is still to be said.
-  outcome : Outcome (answered bytes (fileOf d bytes)) out answer left
+  outcome : Outcome (answered bytes (fileOf rules bytes)) out answer left
   unfolding answered delivered
-  outcome = go (fileOf d bytes) refl
+  outcome = go (fileOf rules bytes) refl
     where
-      go : (f : Front) → fileOf d bytes ≡ f → Outcome (answered bytes f) out answer left
+      go : (f : Front) → fileOf rules bytes ≡ f → Outcome (answered bytes f) out answer left
       go (front.File t) e = filed t e
-      go (front.Refused number line column) e = refused number line column (found-numbered d-proper true bytes number line column e) (rw e)
+      go (front.Refused number line column) e = refused number line column (found-numbered proper true bytes number line column e) (rw e)
 
   -- so it is of what the function answers and leaves
-  pub outcome-of : {done : Rewritten} {now : List ℕ} → done ≡ answer → now ≡ left → Outcome (answered bytes (fileOf d bytes)) out done now
+  pub outcome-of : {done : Rewritten} {now : List ℕ} → done ≡ answer → now ≡ left → Outcome (answered bytes (fileOf rules bytes)) out done now
   outcome-of e f = rw (e, f) outcome
 
 -- a refusal that is said is laid
@@ -164,11 +185,11 @@ outcome-laid done (inr (apart, words, same)) none = absurd (apart none)
 pub answer-fits : (bytes : List ℕ) (f : Front) → length (answered bytes f) ≤ mostBytes
 unfolding answered
 answer-fits bytes (front.Refused number line column) = omega (arith, few-words number line column)
-answer-fits bytes (front.File t) = go (leb (header d bytes .comments) mostComments) (leb (length (rewritten d bytes)) mostBytes) refl
+answer-fits bytes (front.File t) = go (leb (header (rulesIn bytes) bytes .comments) mostComments) (leb (length (rewritten (rulesIn bytes) bytes)) mostBytes) refl
   where
-    go : (few fits : Bool) → leb (length (rewritten d bytes)) mostBytes ≡ fits
-        → length (cond (few && fits) (rewritten d bytes) (refusedText 12 0 0)) ≤ mostBytes
-    go true true q = leb-true (length (rewritten d bytes)) mostBytes q
+    go : (few fits : Bool) → leb (length (rewritten (rulesIn bytes) bytes)) mostBytes ≡ fits
+        → length (cond (few && fits) (rewritten (rulesIn bytes) bytes) (refusedText 12 0 0)) ≤ mostBytes
+    go true true q = leb-true (length (rewritten (rulesIn bytes) bytes)) mostBytes q
     go true false q = omega (arith, few-words 12 0 0)
     go false fits q = omega (arith, few-words 12 0 0)
 
@@ -177,6 +198,6 @@ pub printed-long : (bytes : List ℕ) → mostBytes < length bytes → tooLong �
 unfolding printed
 printed-long bytes long = rw (lt-leb (length bytes) mostBytes long)
 
-pub printed-short : (bytes : List ℕ) → length bytes ≤ mostBytes → answered bytes (fileOf d bytes) ≡ printed bytes
+pub printed-short : (bytes : List ℕ) → length bytes ≤ mostBytes → answered bytes (fileOf (rulesIn bytes) bytes) ≡ printed bytes
 unfolding printed
 printed-short bytes short = rw (le-leb (length bytes) mostBytes short)

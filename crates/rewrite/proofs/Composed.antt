@@ -8,9 +8,12 @@ use borrow.Author.Tests.{eq-eqb, ne-eqb}
 use lib.Dec.{eqb}
 use lib.IntN.{ℤ}
 use lib.ListN.{length}
-use Rattle.header.specs.Rules.{d}
+use Rattle.header.specs.Versions.{toldVersion, versionBy, rulesOf}
+use Rattle.header.specs.declared.types.Rules.{Rules}
+use Rattle.header.specs.declared.types.Version.{Version}
+use Rattle.header.proofs.Determined.{toldVersion-one}
 use Rattle.canon.specs.Table.{Table, tableOf}
-use Rattle.canon.specs.Measured.{measured}
+use Rattle.canon.specs.Measured.{measuredIn}
 use Rattle.writer.specs.Writing.{outAfter}
 use Rattle.reader.specs.declared.types.Reading.{Reading}
 use Rattle.canon.specs.declared.types.Measured.{Measured}
@@ -38,17 +41,19 @@ module _ (bytes identifiers exponents comments : List ℕ) (rows : List ℤ) whe
       (rw apart (ap asRead e), rw apart)
 
   -- else the writing is, of what was read
-  pub then-written : (r : Reading) (ids exps notes : List ℕ) (numbers : List ℤ) (m : Measured) (out now : List ℕ)
-      → r ≡ read → ids ≡ table .identifiers → exps ≡ table .exponents → notes ≡ table .comments → numbers ≡ table .rows → r .refusal ≡ 0
-      → m ≡ measured d (tableOf (r .header) ids exps notes numbers) (length out) → now ≡ outAfter d (tableOf (r .header) ids exps notes numbers) out
+  pub then-written : (r : Reading) (v : Version) (ids exps notes : List ℕ) (numbers : List ℤ) (m : Measured) (out now : List ℕ)
+      → toldVersion v ≡ toldVersion (versionBy (r .version)) → r ≡ read → ids ≡ table .identifiers → exps ≡ table .exponents → notes ≡ table .comments → numbers ≡ table .rows → r .refusal ≡ 0
+      → m ≡ measuredIn (rulesOf v) (tableOf (r .header) ids exps notes numbers) (length out) → now ≡ outAfter (rulesOf v) (tableOf (r .header) ids exps notes numbers) out
       → Same (asWritten m) out now
   unfolding rewriteAnswer outRewritten
-  then-written r ids exps notes numbers m out now e a b c g none written left =
+  then-written r v ids exps notes numbers m out now told e a b c g none written left =
       let zero : eqb (read .refusal) 0 ≡ true = ap (λ (x : Reading). eqb (x .refusal) 0) (sym e) ∙ eq-eqb (r .refusal) 0 none in
+      let by : rulesOf v ≡ rulesOf (versionBy (read .version)) =
+      ap rulesOf (toldVersion-one v (versionBy (r .version)) told) ∙ ap (λ (x : Reading). rulesOf (versionBy (x .version))) e in
       let same : tableOf (r .header) ids exps notes numbers ≡ table =
       ap₂ (λ (x : Reading) (i : List ℕ). tableOf (x .header) i exps notes numbers) e a
       ∙ ap₂ (λ (x y : List ℕ). tableOf (read .header) (table .identifiers) x y numbers) b c
       ∙ ap (tableOf (read .header) (table .identifiers) (table .exponents) (table .comments)) g in (
-        rw zero (ap asWritten (written ∙ ap (λ (t : Table). measured d t (length out)) same)),
-        rw zero (left ∙ ap (λ (t : Table). outAfter d t out) same),
+        rw zero (ap asWritten (written ∙ ap₂ (λ (rules : Rules) (t : Table). measuredIn rules t (length out)) by same)),
+        rw zero (left ∙ ap₂ (λ (rules : Rules) (t : Table). outAfter rules t out) by same),
       )

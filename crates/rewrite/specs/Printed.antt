@@ -7,7 +7,7 @@ use Prim.Native.Nat.{ℕ}
 use lib.Dec.{leb}
 use lib.ListN.{length}
 use Rattle.field.specs.Show.{digitsIn}
-use Rattle.header.specs.Rules.{d}
+use Rattle.header.specs.Versions.{rulesIn}
 use Rattle.lines.specs.Lines.{linesOf}
 use Rattle.file.specs.Table.{headerIn}
 use Rattle.reader.specs.Reading.{fileOf}
@@ -43,12 +43,16 @@ said word n = word ++ numberText n
 unfoldable pub refusedText : ℕ → ℕ → ℕ → List ℕ
 refusedText number line column = ((said refusedWord number ++ said lineWord line) ++ said columnWord column) ++ (10 ∷ [])
 
+-- the canonical form of a file in its own version
+abbrev pub formOf : List ℕ → List ℕ
+formOf bytes = rewritten (rulesIn bytes) bytes
+
 -- of a file that is accepted, the canonical form where there is room; the refusal of another
 unfoldable pub answered : List ℕ → Front → List ℕ
 answered bytes (front.File t) =
-    cond (leb (headerIn d (linesOf bytes) .comments) mostComments && leb (length (rewritten d bytes)) mostBytes) (rewritten d bytes) (refusedText 12 0 0)
+    cond (leb (headerIn (rulesIn bytes) (linesOf bytes) .comments) mostComments && leb (length (formOf bytes)) mostBytes) (formOf bytes) (refusedText 12 0 0)
 answered bytes (front.Refused number line column) = refusedText number line column
 
 -- all that is printed
 unfoldable pub printed : List ℕ → List ℕ
-printed bytes = cond (leb (length bytes) mostBytes) (answered bytes (fileOf d bytes)) tooLong
+printed bytes = cond (leb (length bytes) mostBytes) (answered bytes (fileOf (rulesIn bytes) bytes)) tooLong

@@ -4,11 +4,12 @@ use mathlib.Core.List.{List}
 use Prim.Native.Nat.{ℕ}
 use lib.Dec.{eqb}
 use lib.IntN.{ℤ}
-use Rattle.header.specs.Rules.{d}
+use Rattle.header.specs.Versions.{versionBy, rulesOf, rulesIn}
 use Rattle.reader.specs.Reading.{fileOf, readAnswer, identifiersAfter, exponentsAfter, commentsAfter, rowsAfter}
 use Rattle.canon.specs.Table.{Table, tableOf}
-use Rattle.canon.specs.Measured.{measured}
+use Rattle.canon.specs.Measured.{measuredIn}
 use Rattle.writer.specs.Writing.{outAfter}
+use Rattle.header.specs.declared.types.Rules.{Rules}
 use Rattle.reader.specs.declared.types.Reading.{Reading}
 use Rattle.canon.specs.declared.types.Measured.{Measured}
 use Rattle.rewrite.specs.declared.types.Rewritten.{Rewritten}
@@ -22,21 +23,29 @@ asWritten m = record { refusal = m .refusal; line = 0; column = 0; length = m .l
 
 -- Of these bytes, with these lists lent.
 module _ (bytes identifiers exponents comments : List ℕ) (rows : List ℤ) where
+  -- the rules that they tell
+  abbrev rules : Rules
+  rules = rulesIn bytes
+
   abbrev pub reading : Reading
-  reading = readAnswer d bytes (fileOf d bytes) identifiers exponents comments rows
+  reading = readAnswer rules bytes (fileOf rules bytes) identifiers exponents comments rows
 
   -- what is lent to the writing: the header that was read, and the lists as the reading left them
   abbrev pub tableRead : Table
   tableRead =
       tableOf (reading .header)
-      (identifiersAfter d bytes (fileOf d bytes) identifiers exponents comments rows)
-      (exponentsAfter d bytes (fileOf d bytes) identifiers exponents comments rows)
-      (commentsAfter d bytes (fileOf d bytes) identifiers exponents comments rows)
-      (rowsAfter d bytes (fileOf d bytes) identifiers exponents comments rows)
+      (identifiersAfter rules bytes (fileOf rules bytes) identifiers exponents comments rows)
+      (exponentsAfter rules bytes (fileOf rules bytes) identifiers exponents comments rows)
+      (commentsAfter rules bytes (fileOf rules bytes) identifiers exponents comments rows)
+      (rowsAfter rules bytes (fileOf rules bytes) identifiers exponents comments rows)
+
+  -- the rules of the version that the reading told
+  abbrev pub versionRead : Rules
+  versionRead = rulesOf (versionBy (reading .version))
 
   -- the answer where so many bytes are lent for the form, and those bytes afterwards
   unfoldable pub rewriteAnswer : ℕ → Rewritten
-  rewriteAnswer room = cond (eqb (reading .refusal) 0) (asWritten (measured d tableRead room)) (asRead reading)
+  rewriteAnswer room = cond (eqb (reading .refusal) 0) (asWritten (measuredIn versionRead tableRead room)) (asRead reading)
 
   unfoldable pub outRewritten : List ℕ → List ℕ
-  outRewritten out = cond (eqb (reading .refusal) 0) (outAfter d tableRead out) out
+  outRewritten out = cond (eqb (reading .refusal) 0) (outAfter versionRead tableRead out) out

@@ -1,7 +1,7 @@
 // The whole answer, laid into the lent output.
 ghost use mathlib.Core.Path.{_≡_};
 ghost use lib.ListN.{length, take};
-ghost use Rattle.header.specs.Rules.{d};
+ghost use Rattle.header.specs.Versions.{rulesIn};
 ghost use Rattle.reader.specs.Reading.{fileOf};
 ghost use Rattle.layout.specs.Line.{Lays};
 ghost use Rattle.rewrite.specs.Printed.{answered, printed, mostBytes};
@@ -26,7 +26,7 @@ const MOST_ROWS: usize = 1_191;
 fn answer_short(file: &[u8], out: &mut [u8]) -> usize
     requires { ⌜ length (now file) ≤ mostBytes ⌝ }
     requires { ⌜ length (now out) ≡ mostBytes ⌝ }
-    ensures { λ r. ⌜ Lays (answered (now (file .entry)) (fileOf d (now (file .entry)))) (now (out .entry)) r (now (out .exit)) ⌝ }
+    ensures { λ r. ⌜ Lays (answered (now (file .entry)) (fileOf (rulesIn (now (file .entry))) (now (file .entry)))) (now (out .entry)) r (now (out .exit)) ⌝ }
 {
     let mut identifiers = [0u64; Header::MAX_SATELLITES as usize];
     let mut exponents = [0u64; Header::MAX_SATELLITES as usize];

@@ -3,8 +3,9 @@ ghost use mathlib.Core.Path.{_≡_};
 ghost use lib.ListN.{length};
 ghost use Rattle.rewrite.specs.Rewriting.{rewriteAnswer, outRewritten};
 use crate::types::Rewritten;
+use header::Version;
 
-// Reads a whole file into the lent lists and writes its table into `out`: the refusal of the reading with its line and column, else that of the
+// Reads a whole file into the lent lists and writes its table, in the version of the file, into `out`: the refusal of the reading with its line and column, else that of the
 // writing, with neither. On a refusal `out` is as it was.
 pub(crate) fn read_and_write(
     file: &[u8],
@@ -27,7 +28,8 @@ pub(crate) fn read_and_write(
         };
     }
     let header = read.header;
-    let written = writer::write(header, identifiers, exponents, comments, rows, out);
+    let version = Version::by(read.version);
+    let written = writer::write(version, header, identifiers, exponents, comments, rows, out);
     Rewritten {
         refusal: written.refusal,
         line: 0,

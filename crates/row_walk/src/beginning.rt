@@ -1,7 +1,7 @@
 // Before a walk: the file judged whole, and the identifiers of its header.
 ghost use mathlib.Core.Path.{_≡_};
 ghost use lib.ListN.{length};
-ghost use Rattle.header.specs.Rules.{d};
+ghost use Rattle.header.specs.Versions.{rulesIn};
 ghost use Rattle.reader.specs.Reading.{refusedWith, fileOf, judged};
 ghost use Rattle.row_walk.specs.Begin.{begunAs, identifiersBegun};
 use header::Header;
@@ -18,14 +18,15 @@ fn no_room() -> Reading
         column: 0,
         length: 0,
         header: Header::none(),
+        version: b' ',
     }
 }
 
 // Judges a whole file and leaves the identifiers of its header in the first places of `identifiers`: the file's own refusal first, then 12 with
 // line 0 where there is less room than satellites. On every refusal the list is as it was.
 pub fn begin(file: &[u8], identifiers: &mut [u64]) -> Reading
-    ensures result { λ r. ⌜ r ≡ begunAs (judged d (now (file .entry)) (fileOf d (now (file .entry)))) (length (now (identifiers .entry))) ⌝ }
-    ensures lent { λ _. ⌜ now (identifiers .exit) ≡ identifiersBegun d (judged d (now (file .entry)) (fileOf d (now (file .entry)))) (now (file .entry)) (now (identifiers .entry)) ⌝ }
+    ensures result { λ r. ⌜ r ≡ begunAs (judged (rulesIn (now (file .entry))) (now (file .entry)) (fileOf (rulesIn (now (file .entry))) (now (file .entry)))) (length (now (identifiers .entry))) ⌝ }
+    ensures lent { λ _. ⌜ now (identifiers .exit) ≡ identifiersBegun (rulesIn (now (file .entry))) (judged (rulesIn (now (file .entry))) (now (file .entry)) (fileOf (rulesIn (now (file .entry))) (now (file .entry)))) (now (file .entry)) (now (identifiers .entry)) ⌝ }
 {
     let reading = reader::judge(file);
     if reading.refusal != 0 {
@@ -37,6 +38,6 @@ pub fn begin(file: &[u8], identifiers: &mut [u64]) -> Reading
     if room < n {
         return no_room();
     }
-    fill::fill_slots(Rules::d(), file, false, n, identifiers);
+    fill::fill_slots(Rules::told_by(file), file, false, n, identifiers);
     reading
 }

@@ -4,7 +4,7 @@ ghost use Prim.Native.Nat.{_+_, _%_, _^_};
 ghost use lib.Dec.{eqb};
 ghost use lib.ListN.{length, getD, take, drop};
 ghost use Rattle.lines.specs.Lines.{linesOf};
-ghost use Rattle.header.specs.Rules.{d};
+ghost use Rattle.header.specs.Versions.{rulesIn};
 ghost use Rattle.machine.specs.Step.{lineKnown};
 ghost use Rattle.machine.specs.Told.{toldRead};
 ghost use Rattle.row_walk.specs.Rows.{firstWalk, spotPast, rowAhead, epochOf, satelliteOf, rowGiven, rowStep};
@@ -35,24 +35,31 @@ fn is_row_at(file: &[u8], at: usize) -> bool
     false
 }
 
-// The plain line reader where the identifiers of the header are known: what the line at a spot does, and where the next begins.
-pub fn read_known<'a>(file: &'a [u8], identifiers: &'a [u64], spot: Spot) -> LineRead
-    ensures result { λ r. ⌜ toldRead r ≡ toldRead (lineKnown d (now (file .entry)) (spot .at) (spot .state) (now (identifiers .entry))) ⌝ }
+// The line reader by these rules: what the line at a spot does, and where the next begins.
+fn read_by<'a>(rules: Rules, file: &'a [u8], identifiers: &'a [u64], spot: Spot) -> LineRead
+    ensures { λ r. ⌜ toldRead r ≡ toldRead (lineKnown rules (now (file .entry)) (spot .at) (spot .state) (now (identifiers .entry))) ⌝ }
 {
     let state = spot.state;
-    machine::line_known(Rules::d(), file, spot.at, state, identifiers)
+    machine::line_known(rules, file, spot.at, state, identifiers)
+}
+
+// The plain line reader where the identifiers of the header are known: what the line at a spot does, and where the next begins.
+pub fn read_known<'a>(file: &'a [u8], identifiers: &'a [u64], spot: Spot) -> LineRead
+    ensures result { λ r. ⌜ toldRead r ≡ toldRead (lineKnown (rulesIn (now (file .entry))) (now (file .entry)) (spot .at) (spot .state) (now (identifiers .entry))) ⌝ }
+{
+    read_by(Rules::told_by(file), file, identifiers, spot)
 }
 
 // The spot after the line at a spot; the same spot where no line is left, where the line is refused and where it ends the file.
-fn spot_past<'a>(file: &'a [u8], identifiers: &'a [u64], spot: Spot) -> Spot
-    ensures { λ r. ⌜ r ≡ spotPast d (now (file .entry)) (now (identifiers .entry)) spot ⌝ }
+fn spot_past<'a>(rules: Rules, file: &'a [u8], identifiers: &'a [u64], spot: Spot) -> Spot
+    ensures { λ r. ⌜ r ≡ spotPast rules (now (file .entry)) (now (identifiers .entry)) spot ⌝ }
 {
-    line_walk::gone_to(read_known(file, identifiers, spot), spot)
+    line_walk::gone_to(read_by(rules, file, identifiers, spot), spot)
 }
 
 // The spot of the next P line; or of the line before it that is refused or ends the file.
-fn at_row<'a>(file: &'a [u8], identifiers: &'a [u64], from: Spot) -> Spot
-    ensures { λ r. ⌜ r ≡ rowAhead d (now (file .entry)) (now (identifiers .entry)) from ⌝ }
+fn at_row<'a>(rules: Rules, file: &'a [u8], identifiers: &'a [u64], from: Spot) -> Spot
+    ensures { λ r. ⌜ r ≡ rowAhead rules (now (file .entry)) (now (identifiers .entry)) from ⌝ }
 {
     let mut spot = from;
     loop {
@@ -60,7 +67,7 @@ fn at_row<'a>(file: &'a [u8], identifiers: &'a [u64], from: Spot) -> Spot
         if is_row_at(file, at) {
             return spot;
         }
-        let next = spot_past(file, identifiers, spot);
+        let next = spot_past(rules, file, identifiers, spot);
         if next.at == at {
             return spot;
         }
@@ -141,14 +148,15 @@ fn row_given(file: &[u8], at: usize, satellites: u64, passed: u64, next: RowWalk
 // The next P row of a file in order, in mode V too, where `identifiers` are the identifiers of its header; each line on the way is judged. A file
 // that `begin` accepted gives all its rows and then the end.
 pub fn next_row<'a>(file: &'a [u8], identifiers: &'a [u64], from: RowWalk) -> RowStep
-    ensures result { λ r. ⌜ toldStep r ≡ toldStep (rowStep d (now (file .entry)) (now (identifiers .entry)) from) ⌝ }
+    ensures result { λ r. ⌜ toldStep r ≡ toldStep (rowStep (rulesIn (now (file .entry))) (now (file .entry)) (now (identifiers .entry)) from) ⌝ }
 {
     let start = from.spot;
     let passed = from.passed;
-    let spot = at_row(file, identifiers, start);
+    let rules = Rules::told_by(file);
+    let spot = at_row(rules, file, identifiers, start);
     let at = spot.at;
     let state = spot.state;
-    match read_known(file, identifiers, spot) {
+    match read_by(rules, file, identifiers, spot) {
         LineRead::NoLine => RowStep::Refused {
             number: 1,
             line: line_number(file, at),

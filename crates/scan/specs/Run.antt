@@ -10,6 +10,7 @@ use lib.ListN.{length}
 use Rattle.lines.specs.Lines.{linesOf}
 use Rattle.record.specs.LineKinds.{commentKind}
 use Rattle.file.specs.Kinds.{isKind, isRow}
+use Rattle.header.specs.Versions.{rulesIn}
 use Rattle.header.specs.declared.types.Rules.{Rules}
 use Rattle.machine.specs.State.{startState, noIdentifiers}
 use Rattle.machine.specs.Step.{stepOf, identifiersBrought}
@@ -61,6 +62,10 @@ wholeFront size (front.Refused number line column) = front.Refused number line c
 -- the bytes are one accepted file
 abbrev pub IsFile : Rules → List ℕ → Type 0
 IsFile rules bytes = (t : Tally) × (wholeFront (length bytes) (scanOf rules bytes) ≡ front.File t)
+
+-- one accepted file of the version that its first bytes tell. 02, Ask 9: "accepted files of both versions mixed"
+abbrev pub AnyFile : List ℕ → Type 0
+AnyFile bytes = IsFile (rulesIn bytes) bytes
 
 -- Stepping: the byte, the state and the identifiers after so many lines. A line that is refused, or that ends the file, leaves them as they
 -- were.

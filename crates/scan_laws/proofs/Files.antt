@@ -16,7 +16,7 @@ use Rattle.laws.proofs.Bounds.{within-true}
 use Rattle.lines.specs.Lines.{linesOf, joinLines}
 use Rattle.lines.proofs.Each.{Each, each-weaken}
 use Rattle.lines.proofs.Split.{OneLine, one-cons, one-nil, join-lines, parted}
-use Rattle.header.specs.Rules.{d}
+use Rattle.header.specs.Rules.{c, d}
 use Rattle.header.specs.declared.types.Rules.{Rules}
 use Rattle.machine.specs.State.{startState, noIdentifiers}
 use Rattle.machine.specs.Step.{stepOf}
@@ -116,7 +116,10 @@ plain-accepts rules sound bytes (lines, bytes-are, p) =
 pub accepts-exactly : (rules : Rules) → Sound rules → (bytes : List ℕ) → IsFile rules bytes ↔ Accepted rules bytes
 accepts-exactly rules sound bytes = (accepts-plain rules sound bytes, plain-accepts rules sound bytes)
 
--- The rules of SP3-d are such rules.
+-- The rules of SP3-c and those of SP3-d are such rules.
+pub c-sound : Sound c
+c-sound = record { identifiers-fit = omega arith; comments-fit = omega arith }
+
 pub d-sound : Sound d
 d-sound = record { identifiers-fit = omega arith; comments-fit = omega arith }
 

@@ -26,6 +26,7 @@ pub mod Slots
 pub mod Bounds
 pub mod Accepts
 pub mod Files
+pub mod Which
 pub mod Known
 pub mod KnownIdentifiers
 pub mod KnownSteps

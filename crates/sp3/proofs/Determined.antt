@@ -8,6 +8,8 @@ use Rattle.sp3.proofs.reading.sp3_read.Reads as sp3-read
 use Rattle.sp3.proofs.reading.sp3_read_front.Reads as sp3-read-front
 use Rattle.sp3.proofs.reading.sp3_write.Reads as sp3-write
 use Rattle.sp3.proofs.reading.sp3_form_length.Reads as sp3-form-length
+use Rattle.sp3.proofs.reading.sp3_write_c.Reads as sp3-write-c
+use Rattle.sp3.proofs.reading.sp3_form_length_c.Reads as sp3-form-length-c
 use Rattle.sp3.proofs.reading.sp3_divide.Reads as sp3-divide
 use Rattle.sp3.proofs.asking.sp3_comment.Reads as sp3-comment
 use Rattle.sp3.proofs.asking.sp3_identifier.Reads as sp3-identifier
@@ -53,6 +55,10 @@ sp3-read-front-determined κs a r r′ s s′ p q =
 pub sp3-write-determined : (κs : _) (a : _) (r r′ : _) (s s′ : _) → sp3-write.Post κs a r s → sp3-write.Post κs a r′ s′
     → (r ≡ r′) × (now (s .1 .1 .1 .1 .1 .0) ≡ now (s′ .1 .1 .1 .1 .1 .0))
 sp3-write-determined κs a r r′ s s′ p q = (p .0 ∙ sym (q .0), p .1 ∙ sym (q .1))
+
+pub sp3-write-c-determined : (κs : _) (a : _) (r r′ : _) (s s′ : _) → sp3-write-c.Post κs a r s → sp3-write-c.Post κs a r′ s′
+    → (r ≡ r′) × (now (s .1 .1 .1 .1 .1 .0) ≡ now (s′ .1 .1 .1 .1 .1 .0))
+sp3-write-c-determined κs a r r′ s s′ p q = (p .0 ∙ sym (q .0), p .1 ∙ sym (q .1))
 
 pub sp3-divide-determined : (κs : _) (a : _) (r r′ : _) (s s′ : _) → sp3-divide.Post κs a r s → sp3-divide.Post κs a r′ s′
     → (r ≡ r′) × (now (s .1 .0) ≡ now (s′ .1 .0))
@@ -129,3 +135,6 @@ sp3-next-row-determined κs a r r′ s s′ p q = p ∙ sym q
 
 pub sp3-form-length-determined : (κs : _) (a : _) (r r′ : _) (s s′ : _) → sp3-form-length.Post κs a r s → sp3-form-length.Post κs a r′ s′ → r ≡ r′
 sp3-form-length-determined κs a r r′ s s′ p q = p ∙ sym q
+
+pub sp3-form-length-c-determined : (κs : _) (a : _) (r r′ : _) (s s′ : _) → sp3-form-length-c.Post κs a r s → sp3-form-length-c.Post κs a r′ s′ → r ≡ r′
+sp3-form-length-c-determined κs a r r′ s s′ p q = p ∙ sym q

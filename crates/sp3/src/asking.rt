@@ -1,6 +1,6 @@
 // Questions: for a comment, a satellite, a row of a file; for a date; for a header.
 ghost use mathlib.Core.Path.{_≡_};
-ghost use Rattle.header.specs.Rules.{d};
+ghost use Rattle.header.specs.Versions.{rulesIn};
 ghost use Rattle.header.specs.Header.{headerOf};
 ghost use Rattle.calendar.specs.Clock.{clockOf};
 ghost use Rattle.calendar.specs.Gregorian.{toldDate, dateAnswer, toldNamed, civilAnswer};
@@ -23,7 +23,7 @@ use questions::SatelliteAnswer;
 // Where the text of the k-th comment of a file lies.
 #[no_mangle]
 pub extern "C" fn sp3_comment(file: &[u8], k: u64) -> CommentAnswer
-    ensures result { λ r. ⌜ r ≡ commentAnswer d (now (file .entry)) (fileOf d (now (file .entry))) k ⌝ }
+    ensures result { λ r. ⌜ r ≡ commentAnswer (rulesIn (now (file .entry))) (now (file .entry)) (fileOf (rulesIn (now (file .entry))) (now (file .entry))) k ⌝ }
 {
     questions::comment_answer(file, k)
 }
@@ -39,7 +39,7 @@ pub extern "C" fn sp3_identifier(text: &[u8]) -> u64
 // The number in a file's header of the satellite with this identifier.
 #[no_mangle]
 pub extern "C" fn sp3_satellite_of(file: &[u8], identifier: u64) -> SatelliteAnswer
-    ensures result { λ r. ⌜ r ≡ satelliteAnswer d (now (file .entry)) (fileOf d (now (file .entry))) identifier ⌝ }
+    ensures result { λ r. ⌜ r ≡ satelliteAnswer (rulesIn (now (file .entry))) (now (file .entry)) (fileOf (rulesIn (now (file .entry))) (now (file .entry))) identifier ⌝ }
 {
     questions::satellite_of(file, identifier)
 }
@@ -47,7 +47,7 @@ pub extern "C" fn sp3_satellite_of(file: &[u8], identifier: u64) -> SatelliteAns
 // The row of an epoch and a satellite of a file, as floats.
 #[no_mangle]
 pub extern "C" fn sp3_row(file: &[u8], epoch: u64, satellite: u64) -> RowAnswer
-    ensures result { λ r. ⌜ r ≡ rowAnswer (now (file .entry)) (rowBegins d (now (file .entry)) (fileOf d (now (file .entry))) epoch satellite) ⌝ }
+    ensures result { λ r. ⌜ r ≡ rowAnswer (now (file .entry)) (rowBegins (rulesIn (now (file .entry))) (now (file .entry)) (fileOf (rulesIn (now (file .entry))) (now (file .entry))) epoch satellite) ⌝ }
 {
     questions::row(file, epoch, satellite)
 }

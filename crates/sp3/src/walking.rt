@@ -1,7 +1,7 @@
 // A file line by line, and row by row.
 ghost use mathlib.Core.Path.{_≡_};
 ghost use lib.ListN.{length};
-ghost use Rattle.header.specs.Rules.{d};
+ghost use Rattle.header.specs.Versions.{rulesIn};
 ghost use Rattle.machine.specs.Due.{dueAt};
 ghost use Rattle.machine.specs.Step.{lineKnown, lineRead, lineIdentifiers};
 ghost use Rattle.reader.specs.Reading.{fileOf, judged};
@@ -56,12 +56,12 @@ fn line_answer(found: LineRead, spot: Spot) -> LineAnswer
 // The plain line reader: what the line at a spot does. A `+ ` line leaves its identifiers in `identifiers`; 12 where they are more than fit.
 #[no_mangle]
 pub extern "C" fn sp3_read_line(bytes: &[u8], spot: Spot, identifiers: &mut [u64]) -> LineAnswer
-    ensures result { λ r. ⌜ r ≡ lineDoor spot (lineRead d (now (bytes .entry)) (spot .at) (spot .state) (now (identifiers .entry))) ⌝ }
-    ensures lent { λ _. ⌜ now (identifiers .exit) ≡ lineIdentifiers d (now (bytes .entry)) (spot .at) (spot .state) (now (identifiers .entry)) ⌝ }
+    ensures result { λ r. ⌜ r ≡ lineDoor spot (lineRead (rulesIn (now (bytes .entry))) (now (bytes .entry)) (spot .at) (spot .state) (now (identifiers .entry))) ⌝ }
+    ensures lent { λ _. ⌜ now (identifiers .exit) ≡ lineIdentifiers (rulesIn (now (bytes .entry))) (now (bytes .entry)) (spot .at) (spot .state) (now (identifiers .entry)) ⌝ }
 {
     let at = spot.at;
     let state = spot.state;
-    let found = machine::read_line(Rules::d(), bytes, at, state, identifiers);
+    let found = machine::read_line(Rules::told_by(bytes), bytes, at, state, identifiers);
     line_answer(found, spot)
 }
 
@@ -72,7 +72,7 @@ pub extern "C" fn sp3_next_line<'a>(
     identifiers: &'a [u64],
     spot: Spot,
 ) -> LineAnswer
-    ensures result { λ r. ⌜ r ≡ lineDoor spot (lineKnown d (now (file .entry)) (spot .at) (spot .state) (now (identifiers .entry))) ⌝ }
+    ensures result { λ r. ⌜ r ≡ lineDoor spot (lineKnown (rulesIn (now (file .entry))) (now (file .entry)) (spot .at) (spot .state) (now (identifiers .entry))) ⌝ }
 {
     let found = row_walk::read_known(file, identifiers, spot);
     line_answer(found, spot)
@@ -81,10 +81,10 @@ pub extern "C" fn sp3_next_line<'a>(
 // What must stand at a spot, where the identifiers are those of the lines before it.
 #[no_mangle]
 pub extern "C" fn sp3_due<'a>(file: &'a [u8], identifiers: &'a [u64], spot: Spot) -> Due
-    ensures result { λ r. ⌜ r ≡ dueAt d (now (file .entry)) (spot .at) (spot .state) (now (identifiers .entry)) ⌝ }
+    ensures result { λ r. ⌜ r ≡ dueAt (rulesIn (now (file .entry))) (now (file .entry)) (spot .at) (spot .state) (now (identifiers .entry)) ⌝ }
 {
     let state = spot.state;
-    machine::due_at(Rules::d(), file, spot.at, state, identifiers)
+    machine::due_at(Rules::told_by(file), file, spot.at, state, identifiers)
 }
 
 // A walk: the spot so many lines further. A `+ ` line leaves its identifiers in `identifiers`.
@@ -95,8 +95,8 @@ pub extern "C" fn sp3_after_lines(
     spot: Spot,
     lines: usize,
 ) -> Spot
-    ensures result { λ r. ⌜ r ≡ spotsAfter d (now (file .entry)) (now (identifiers .entry)) spot lines ⌝ }
-    ensures lent { λ _. ⌜ now (identifiers .exit) ≡ identifiersPast d (now (file .entry)) (now (identifiers .entry)) spot lines ⌝ }
+    ensures result { λ r. ⌜ r ≡ spotsAfter (rulesIn (now (file .entry))) (now (file .entry)) (now (identifiers .entry)) spot lines ⌝ }
+    ensures lent { λ _. ⌜ now (identifiers .exit) ≡ identifiersPast (rulesIn (now (file .entry))) (now (file .entry)) (now (identifiers .entry)) spot lines ⌝ }
 {
     line_walk::after_lines(file, spot, lines, identifiers)
 }
@@ -104,8 +104,8 @@ pub extern "C" fn sp3_after_lines(
 // Before a walk over rows: the file judged, the identifiers of its header left in `identifiers`.
 #[no_mangle]
 pub extern "C" fn sp3_begin(file: &[u8], identifiers: &mut [u64]) -> Reading
-    ensures result { λ r. ⌜ r ≡ begunAs (judged d (now (file .entry)) (fileOf d (now (file .entry)))) (length (now (identifiers .entry))) ⌝ }
-    ensures lent { λ _. ⌜ now (identifiers .exit) ≡ identifiersBegun d (judged d (now (file .entry)) (fileOf d (now (file .entry)))) (now (file .entry)) (now (identifiers .entry)) ⌝ }
+    ensures result { λ r. ⌜ r ≡ begunAs (judged (rulesIn (now (file .entry))) (now (file .entry)) (fileOf (rulesIn (now (file .entry))) (now (file .entry)))) (length (now (identifiers .entry))) ⌝ }
+    ensures lent { λ _. ⌜ now (identifiers .exit) ≡ identifiersBegun (rulesIn (now (file .entry))) (judged (rulesIn (now (file .entry))) (now (file .entry)) (fileOf (rulesIn (now (file .entry))) (now (file .entry)))) (now (file .entry)) (now (identifiers .entry)) ⌝ }
 {
     row_walk::begin(file, identifiers)
 }
@@ -191,7 +191,7 @@ pub extern "C" fn sp3_next_row<'a>(
     identifiers: &'a [u64],
     from: RowWalk,
 ) -> RowStepAnswer
-    ensures result { λ r. ⌜ r ≡ rowDoor from (rowStep d (now (file .entry)) (now (identifiers .entry)) from) ⌝ }
+    ensures result { λ r. ⌜ r ≡ rowDoor from (rowStep (rulesIn (now (file .entry))) (now (file .entry)) (now (identifiers .entry)) from) ⌝ }
 {
     row_answer(row_walk::next_row(file, identifiers, from), from)
 }

@@ -30,10 +30,11 @@ use Rattle.record.specs.declared.types.Row.{Row}
 use Rattle.record.proofs.Tiled.{rows-tiled}
 use Rattle.laws.proofs.Bools.{and-left, and-right}
 use Rattle.laws.proofs.Lists.{front-rest}
+use Rattle.header.specs.Rules.{d}
 use Rattle.header.specs.declared.types.Rules.{Rules}
 use Rattle.canon.specs.Table.{Table, cellWidth, cellsIn, rowsOf}
 use Rattle.canon.specs.Valid.{entry, amountValid, clockValid, fourValid, rowValid, noteValid, notedValid, cellValid, rowsValid, valid}
-use Rattle.canon.specs.Measured.{measured}
+use Rattle.canon.specs.Measured.{measuredIn}
 use Rattle.canon.proofs.Parts.{parts}
 use Rattle.stored_row.specs.Stored.{isThere, numberAt}
 use Rattle.theorems.proofs.Writing.{thirteen-exactly}
@@ -193,12 +194,12 @@ rows-there false cells many r e h = omega (arith, h, e)
 module _ {rules : Rules} (proper : Proper rules) where
   -- A TABLE WITH A CLOCK ABOVE 999,998,999,999 that is not twelve nines is 13, whatever the room.
   pub clock-thirteen : (t : Table) (out : List ℕ) (r n : ℕ) → isThere (rowsOf t) r ≡ true → numberAt (rowsOf t) r 3 ≡ pos n → largestClock < n → (n ≡ largest → ⊥)
-      → measured rules t (length out) .refusal ≡ 13
-  clock-thirteen t out r n there is more other = thirteen-exactly proper t out .1 (go (valid rules t) refl)
+      → measuredIn rules t (length out) .refusal ≡ 13
+  clock-thirteen t out r n there is more other = thirteen-exactly proper t out .1 (go (valid d t) refl)
     where
-      go : (b : Bool) → valid rules t ≡ b → valid rules t ≡ false
+      go : (b : Bool) → valid d t ≡ b → valid d t ≡ false
       go true ok =
-          let p = parts rules t ok in
+          let p = parts d t ok in
           let few = ltb-true r (length (rowsOf t) / rowWidth) there in
           let within : r < cellsIn (t .header) * rowsEach (t .header .velocity) = rows-there (t .header .velocity) (cellsIn (t .header)) (length (rowsOf t)) r (p .rows-many) few in
           let sound = rows-clock (t .header .velocity) (cellsIn (t .header)) (rowsOf t) (p .rows) r within in

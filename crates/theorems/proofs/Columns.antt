@@ -12,8 +12,8 @@ use lib.ListN.{length}
 use Rattle.layout.specs.Fault.{keyed}
 use Rattle.layout.specs.Kind.{isUnused}
 use Rattle.layout.specs.Layout.{Item, faultAt}
-use Rattle.lines.specs.Lines.{linesOf, nth}
-use Rattle.header.specs.Rules.{d}
+use Rattle.lines.specs.Lines.{linesOf}
+use Rattle.header.specs.Rules.{c, d}
 use Rattle.header.specs.declared.types.Rules.{Rules}
 use Rattle.record.specs.LineKinds.{commentKind, toldKind, longest}
 use Rattle.file.specs.Kinds.{isKind}
@@ -31,7 +31,7 @@ use Rattle.theorems.specs.Faults.{after, Earned, Decided, FirstFault, re
 use Rattle.theorems.specs.Room.{foundIn}
 use Rattle.theorems.proofs.Judging.{refused-first, Followed, whole-refused}
 use Rattle.canon_laws.specs.Held.{Proper}
-use Rattle.canon_laws.proofs.Versions.{d-proper}
+use Rattle.canon_laws.proofs.Versions.{c-proper, d-proper}
 
 -- a line may have 80 characters, a comment the columns that its version allows
 longest-told : (rules : Rules) (k : LineKind) → longest rules k ≡ cond (eqb (toldKind k) commentKind) (min 80 (rules .«comment_columns»)) 80
@@ -143,12 +143,22 @@ module _ {rules : Rules} (proper : Proper rules) where
           go (inr h) (inl (inr decided)) = no-column rules (g .state) (g .identifiers) text number column h (decided .earned)
           go (inl one) (inl (inr decided)) = absurd (omega (arith, earned-numbered rules (g .state) (g .identifiers) text number column (decided .earned) .0))
 
--- so that in SP3-d it is column 81 of every line.
+-- So in SP3-d it is column 81 of every line,
 pub three-81 : (bytes : List ℕ) (number line column : ℕ) (whole : Bool) → foundIn d whole bytes ≡ front.Refused number line column → number ≡ 3 → column ≡ 81
 three-81 bytes number line column whole found n =
     three-after d-proper bytes number line column whole found n ∙ either (isKind d commentKind (refusedLine bytes line))
   where
     either : (t : Bool) → cond t 80 80 + 1 ≡ 81
+    either true = refl
+    either false = refl
+
+-- and in SP3-c column 61 of a `/*` line, 81 of any other.
+pub three-61 : (bytes : List ℕ) (number line column : ℕ) (whole : Bool) → foundIn c whole bytes ≡ front.Refused number line column → number ≡ 3
+    → column ≡ cond (isKind c commentKind (refusedLine bytes line)) 61 81
+three-61 bytes number line column whole found n =
+    three-after c-proper bytes number line column whole found n ∙ either (isKind c commentKind (refusedLine bytes line))
+  where
+    either : (t : Bool) → cond t 60 80 + 1 ≡ cond t 61 81
     either true = refl
     either false = refl
 

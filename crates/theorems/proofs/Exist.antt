@@ -7,7 +7,9 @@ use Prim.Native.Nat.{ℕ, _*_}
 use native.Mathlib.Omega.{arith}
 use lib.IntN.{ℤ, pos}
 use lib.ListN.{replicate}
-use Rattle.header.specs.Rules.{d}
+use Rattle.header.specs.Versions.{rulesOf}
+use Rattle.header.specs.declared.types.Version.{Version}
+use Rattle.header.specs.declared.types.Version.the-variants as version
 use Rattle.lines.specs.Lines.{linesOf}
 use Rattle.file.specs.Table.{rowsIn}
 use Rattle.scan.specs.Run.{IsFile}
@@ -18,7 +20,7 @@ use Rattle.layout.specs.Kind.{unnoted}
 use Rattle.canon_laws.specs.Held.{Holds}
 use Rattle.theorems.proofs.Rewritten.{valid-exactly}
 use Rattle.header.specs.declared.types.Header.{Header}
-use Rattle.canon_laws.proofs.Versions.{d-proper}
+use Rattle.canon_laws.proofs.Versions.{of-proper}
 
 -- the header of the paper's own file: mode P, 2013-04-03, one epoch, 900 s, one satellite, four comments, type G, GPS
 unfoldable pub header : Header
@@ -46,28 +48,31 @@ oneRow x mark =
     tableOf header (7107 ∷ []) (0 ∷ []) (replicate 308 32)
     (x ∷ pos 0 ∷ pos 0 ∷ pos 999_999_999_999 ∷ pos 1000 ∷ pos 1000 ∷ pos 1000 ∷ pos 1000 ∷ pos 0 ∷ pos 0 ∷ pos 0 ∷ pos 0 ∷ mark ∷ replicate 10 (pos unnoted))
 
-valid-one : valid d (oneRow (pos 1) (pos 0)) ≡ true
+valid-one : (v : Version) → valid (rulesOf v) (oneRow (pos 1) (pos 0)) ≡ true
 unfolding isInstant textsFit timesValid countsValid wordsValid headerValid listsLong identifiersValid exponentsValid commentValid commentsValid rowValid noteValid notedValid cellValid rowsValid countsHold valid oneRow header repeats typeAgrees
-valid-one = refl
+valid-one version.C = refl
+valid-one version.D = refl
 
-valid-two : valid d (oneRow (pos 2) (pos 0)) ≡ true
+valid-two : (v : Version) → valid (rulesOf v) (oneRow (pos 2) (pos 0)) ≡ true
 unfolding isInstant textsFit timesValid countsValid wordsValid headerValid listsLong identifiersValid exponentsValid commentValid commentsValid rowValid noteValid notedValid cellValid rowsValid countsHold valid oneRow header repeats typeAgrees
-valid-two = refl
+valid-two version.C = refl
+valid-two version.D = refl
 
-valid-noted : valid d (oneRow (pos 1) (pos 1)) ≡ true
+valid-noted : (v : Version) → valid (rulesOf v) (oneRow (pos 1) (pos 1)) ≡ true
 unfolding isInstant textsFit timesValid countsValid wordsValid headerValid listsLong identifiersValid exponentsValid commentValid commentsValid rowValid noteValid notedValid cellValid rowsValid countsHold valid oneRow header repeats typeAgrees
-valid-noted = refl
+valid-noted version.C = refl
+valid-noted version.D = refl
 
--- A FILE IS ACCEPTED that has this table,
-pub accepted-one : (bytes : List ℕ) × IsFile d bytes × Holds d (linesOf bytes) (oneRow (pos 1) (pos 0))
-accepted-one = valid-exactly d-proper (oneRow (pos 1) (pos 0)) .0 valid-one
+-- A FILE of each version IS ACCEPTED that has this table,
+pub accepted-one : (v : Version) → (bytes : List ℕ) × IsFile (rulesOf v) bytes × Holds (rulesOf v) (linesOf bytes) (oneRow (pos 1) (pos 0))
+accepted-one v = valid-exactly (of-proper v) (oneRow (pos 1) (pos 0)) .0 (valid-one v)
 
-pub accepted-two : (bytes : List ℕ) × IsFile d bytes × Holds d (linesOf bytes) (oneRow (pos 2) (pos 0))
-accepted-two = valid-exactly d-proper (oneRow (pos 2) (pos 0)) .0 valid-two
+pub accepted-two : (v : Version) → (bytes : List ℕ) × IsFile (rulesOf v) bytes × Holds (rulesOf v) (linesOf bytes) (oneRow (pos 2) (pos 0))
+accepted-two v = valid-exactly (of-proper v) (oneRow (pos 2) (pos 0)) .0 (valid-two v)
 
 -- and one with `EP` alone after its row.
-pub accepted-noted : (bytes : List ℕ) × IsFile d bytes × Holds d (linesOf bytes) (oneRow (pos 1) (pos 1))
-accepted-noted = valid-exactly d-proper (oneRow (pos 1) (pos 1)) .0 valid-noted
+pub accepted-noted : (v : Version) → (bytes : List ℕ) × IsFile (rulesOf v) bytes × Holds (rulesOf v) (linesOf bytes) (oneRow (pos 1) (pos 1))
+accepted-noted v = valid-exactly (of-proper v) (oneRow (pos 1) (pos 1)) .0 (valid-noted v)
 
 -- the first number of the rows
 firstOf : List ℤ → ℤ
@@ -82,8 +87,9 @@ apart e =
     omega arith
 
 -- and two accepted files have different rows.
-pub tables-differ : (a : List ℕ) × (b : List ℕ) × IsFile d a × IsFile d b × (rowsIn d (linesOf a) ≡ rowsIn d (linesOf b) → ⊥)
-tables-differ =
-    let one = accepted-one in
-    let two = accepted-two in
+pub tables-differ : (v : Version)
+    → (a : List ℕ) × (b : List ℕ) × IsFile (rulesOf v) a × IsFile (rulesOf v) b × (rowsIn (rulesOf v) (linesOf a) ≡ rowsIn (rulesOf v) (linesOf b) → ⊥)
+tables-differ v =
+    let one = accepted-one v in
+    let two = accepted-two v in
     (one .0, two .0, one .1, two .1, λ e. apart (sym (one .2 .rows-are) ∙ e ∙ two .2 .rows-are))

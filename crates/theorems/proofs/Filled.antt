@@ -1,4 +1,4 @@
--- A whole file, read into lent lists with success: the answer has the file's length and header, and each list is filled from its first place on.
+-- A whole file, read into lent lists with success: the answer has the file's length, header and version, and each list is filled from its first place on.
 -- Assumes nothing.
 use mathlib.Core.Path.{_≡_, ap, ap₂, _∙_}
 use mathlib.Core.Bool.{Bool, true}
@@ -43,7 +43,7 @@ module _ {rules : Rules} (proper : Proper rules) where
     pub rows-filled : rowsAfter rules bytes (fileOf rules bytes) identifiers exponents comments rows ≡ over (rowsIn rules (linesOf bytes)) rows
     rows-filled = list-filled (rowsIn rules) rows
 
-    answer-is : readAnswer rules bytes (fileOf rules bytes) identifiers exponents comments rows ≡ acceptedAs rules bytes (accepted .0)
+    pub answer-is : readAnswer rules bytes (fileOf rules bytes) identifiers exponents comments rows ≡ acceptedAs rules bytes (accepted .0)
     answer-is =
         let t = accepted .0 in
         room-accepted proper true bytes t (accepted .1) (length identifiers) (length exponents) (length comments) (length rows)
@@ -54,3 +54,6 @@ module _ {rules : Rules} (proper : Proper rules) where
 
     pub length-told : readAnswer rules bytes (fileOf rules bytes) identifiers exponents comments rows .length ≡ length bytes
     length-told = ap (λ (r : Reading). r .length) answer-is ∙ file-then-anything proper bytes [] (accepted .0) (accepted .1) .1
+
+    pub version-told : readAnswer rules bytes (fileOf rules bytes) identifiers exponents comments rows .version ≡ rules .letter
+    version-told = ap (λ (r : Reading). r .version) answer-is

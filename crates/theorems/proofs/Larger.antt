@@ -19,12 +19,12 @@ use Rattle.record.specs.SlotLines.{satellitesOf}
 use Rattle.file.specs.Table.{headerIn, slotsIn, commentsIn, rowsOfLines}
 use Rattle.file.specs.Kinds.{kindIn}
 use Rattle.file.specs.Plain.{Sound}
-use Rattle.scan.specs.Run.{IsFile}
+use Rattle.scan.specs.Run.{IsFile, AnyFile}
 use Rattle.reader.specs.Reading.{refusedWith, fileOf, judged, enough, delivered, readAnswer, identifiersAfter, exponentsAfter, commentsAfter, rowsAfter}
 use Rattle.canon.specs.Table.{Table, commentsOf}
 use Rattle.canon.specs.Valid.{countsValid, valid}
 use Rattle.canon.specs.Canonical.{canonical}
-use Rattle.canon.specs.Measured.{measured}
+use Rattle.canon.specs.Measured.{measured, measuredIn}
 use Rattle.canon.specs.declared.types.Measured.{Measured}
 use Rattle.writer.specs.Writing.{outAfter}
 use Rattle.canon_laws.specs.Held.{tableIn, rewritten}
@@ -37,6 +37,7 @@ use Rattle.canon_laws.proofs.Trips.{form-accepted}
 use Rattle.canon_laws.proofs.Rewriting.{form-again}
 use Rattle.scan_laws.proofs.Files.{d-sound}
 use Rattle.scan_laws.proofs.Files as files
+use Rattle.scan_laws.proofs.Which.{either}
 use Rattle.scan.specs.declared.Front.{Front}
 use Rattle.scan.specs.declared.Front.the-variants as front
 use Rattle.divide.specs.Dividing.{Divides}
@@ -45,7 +46,7 @@ use Rattle.theorems.specs.Faults.{refusedLine}
 use Rattle.theorems.specs.Before.{satellitesBefore, before, foundBefore}
 use Rattle.theorems.specs.Room.{foundIn}
 use Rattle.theorems.specs.Again.{lentTable}
-use Rattle.theorems.proofs.Writing.{written-0, out-is}
+use Rattle.theorems.proofs.Writing.{in-d, written-0, out-is}
 use Rattle.theorems.proofs.Rewritten.{canonical-again}
 use Rattle.theorems.proofs.Answers.{judge-accepts}
 use Rattle.theorems.proofs.NothingElse.{Found, front-either, file-either}
@@ -73,9 +74,12 @@ module _ (t : Table) (few : t .header .satellites ≤ satellitesBefore) where
   valid-same = valid-by d before t counts-same (same-columns d before refl (t .header .comments) (commentsOf t))
 
   -- is answered as it was, valid or not and whatever the room, and leaves the same output.
-  pub answer-stays : (room : ℕ) → measured d t room ≡ measured before t room
+  pub answer-stays : (room : ℕ) → measuredIn d t room ≡ measured before t room
   unfolding measured
-  answer-stays room = rw (valid-same, forms-stay t)
+  answer-stays room = in-d t room ∙ same
+    where
+      same : measured d t room ≡ measured before t room
+      same = rw (valid-same, forms-stay t)
 
   pub output-stays : (out : List ℕ) → outAfter d t out ≡ outAfter before t out
   unfolding outAfter
@@ -87,7 +91,7 @@ valid-stays t ok = wider before d before-within t ok
 
 -- and with room it is answered by 0 and the length of the form of before, which stands from the first byte of the output on.
 pub writing-stays : (t : Table) → valid before t ≡ true → (out : List ℕ) → length (canonical before t) ≤ length out
-    → (measured d t (length out) ≡ record { refusal = 0; length = length (canonical before t) }) × (outAfter d t out ≡ over (canonical before t) out)
+    → (measuredIn d t (length out) ≡ record { refusal = 0; length = length (canonical before t) }) × (outAfter d t out ≡ over (canonical before t) out)
 writing-stays t ok out room =
     let now = valid-stays t ok in
     let enough-now : length (canonical d t) ≤ length out = subst (λ (s : List ℕ). length s ≤ length out) (sym (forms-stay t)) room in
@@ -108,7 +112,7 @@ canonical-accepted t ok =
 -- and read and written it comes back: 0, its length, and its bytes.
 pub bytes-stay : (t : Table) → valid before t ≡ true → (identifiers exponents comments : List ℕ) (rows : List ℤ) → let bytes = canonical before t in
     readAnswer d bytes (fileOf d bytes) identifiers exponents comments rows .refusal ≡ 0 → (out : List ℕ) → length bytes ≤ length out
-    → (measured d (lentTable d true bytes identifiers exponents comments rows) (length out) ≡ record { refusal = 0; length = length bytes })
+    → (measuredIn d (lentTable d true bytes identifiers exponents comments rows) (length out) ≡ record { refusal = 0; length = length bytes })
     × (outAfter d (lentTable d true bytes identifiers exponents comments rows) out ≡ over bytes out)
 bytes-stay t ok identifiers exponents comments rows read out room =
     canonical-again d-proper (canonical before t) (canonical-accepted t ok) identifiers exponents comments rows read t (valid-stays t ok) (sym (forms-stay t)) out room
@@ -151,9 +155,9 @@ module _ (bytes : List ℕ) (accepted : IsFile before bytes) where
     )
 
 -- A stretch that was divided is divided in the same way.
-pub division-stays : {bytes lengths : List ℕ} → Divides before bytes lengths → Divides d bytes lengths
+pub division-stays : {bytes lengths : List ℕ} → Divides (IsFile before) bytes lengths → Divides AnyFile bytes lengths
 division-stays none = none
-division-stays (one a file more) = one a (accepted-stays a file) (division-stays more)
+division-stays (one a file more) = one a (either a .1 (inr (accepted-stays a file))) (division-stays more)
 
 -- NOTHING ELSE CHANGES: any bytes are judged as they were, but those that were refused with 7 at column 4 of a `+ ` line whose columns 4 to 6 hold more.
 module _ (bytes : List ℕ) where

@@ -3,6 +3,7 @@ pub mod Accepting
 pub mod Reading
 pub mod Judging
 pub mod Columns
+pub mod CommentFaults
 pub mod Correlations
 pub mod Room
 pub mod Filled
@@ -26,6 +27,7 @@ pub mod NothingElse
 pub mod Larger
 pub mod Exist
 pub mod Most
+pub mod InVersion
 pub mod EveryNumber
 pub mod EndToEnd
 pub mod Dividing

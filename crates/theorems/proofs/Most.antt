@@ -30,11 +30,12 @@ use Rattle.file_laws.proofs.Selected.{kind-satellites, kind-accuracies}
 use Rattle.scan.specs.Run.{IsFile}
 use Rattle.canon.specs.Table.{Table}
 use Rattle.canon.specs.Valid.{valid}
-use Rattle.canon.specs.Measured.{refusedAs, measured}
+use Rattle.canon.specs.Measured.{refusedAs, measured, measuredIn}
 use Rattle.canon.proofs.Parts.{parts}
 use Rattle.scan_laws.proofs.Files.{file-plain}
 use Rattle.theorems.specs.Files.{header}
 use Rattle.theorems.proofs.Accepting.{says-satellites}
+use Rattle.theorems.proofs.Writing.{in-d}
 use Rattle.canon_laws.specs.Held.{Proper}
 use Rattle.header.specs.declared.types.Rules.{Rules}
 
@@ -55,9 +56,9 @@ module _ {rules : Rules} (proper : Proper rules) where
         (lines-of-each .0 ∙ each, lines-of-each .1 ∙ each)
 
 -- A TABLE OF MORE IS 13, whatever the room,
-pub too-many-13 : (t : Table) → maxSatellites < t .header .satellites → (room : ℕ) → measured d t room ≡ refusedAs 13
+pub too-many-13 : (t : Table) → maxSatellites < t .header .satellites → (room : ℕ) → measuredIn d t room ≡ refusedAs 13
 unfolding measured
-too-many-13 t more room = rw (go (valid d t) refl)
+too-many-13 t more room = in-d t room ∙ rw (go (valid d t) refl)
   where
     go : (b : Bool) → valid d t ≡ b → valid d t ≡ false
     go true ok = absurd (omega (arith, more, parts d t ok .header .satellites .1))

@@ -18,7 +18,7 @@ use Rattle.lines.specs.Lines.{linesOf}
 use Rattle.file.specs.Table.{rowLines}
 use Rattle.scan.specs.Run.{IsFile}
 use Rattle.reader.specs.Reading.{fileOf, readAnswer, refusedWith, acceptedAs}
-use Rattle.canon.specs.Measured.{measured}
+use Rattle.canon.specs.Measured.{measuredIn}
 use Rattle.canon_laws.specs.Held.{rewritten, Proper}
 use Rattle.theorems.specs.Again.{lentTable}
 use Rattle.theorems.proofs.Rewritten.{lent-twelve}
@@ -48,9 +48,9 @@ module _ {rules : Rules} (proper : Proper rules) where
   -- WRITING WHAT WAS READ into 65,536 bytes answers 12 exactly where the form of the file has more.
   pub output-twelve : (bytes : List ℕ) (accepted : IsFile rules bytes) (identifiers exponents comments : List ℕ) (rows : List ℤ)
       → readAnswer rules bytes (fileOf rules bytes) identifiers exponents comments rows .refusal ≡ 0 → (out : List ℕ) → length out ≡ mostBytes
-      → (measured rules (lentTable rules true bytes identifiers exponents comments rows) (length out) .refusal ≡ 12) ↔ (mostBytes < length (rewritten rules bytes))
+      → (measuredIn rules (lentTable rules true bytes identifiers exponents comments rows) (length out) .refusal ≡ 12) ↔ (mostBytes < length (rewritten rules bytes))
   output-twelve bytes accepted identifiers exponents comments rows read out room =
-      subst (λ (n : ℕ). (measured rules (lentTable rules true bytes identifiers exponents comments rows) (length out) .refusal ≡ 12) ↔ (n < length (rewritten rules bytes))) room
+      subst (λ (n : ℕ). (measuredIn rules (lentTable rules true bytes identifiers exponents comments rows) (length out) .refusal ≡ 12) ↔ (n < length (rewritten rules bytes))) room
       (lent-twelve proper bytes accepted identifiers exponents comments rows read out)
 
   module _ (bytes : List ℕ) (accepted : IsFile rules bytes) where

@@ -29,7 +29,7 @@ use Rattle.scan_laws.proofs.Files as files
 use Rattle.canon.specs.Table.{Table, tableOf, cellWidth, cellsIn, tableIdentifiers, exponentsOf, commentsOf, rowsOf}
 use Rattle.canon.specs.Valid.{valid}
 use Rattle.canon.specs.Canonical.{canonical}
-use Rattle.canon.specs.Measured.{measured}
+use Rattle.canon.specs.Measured.{measuredIn}
 use Rattle.writer.specs.Writing.{outAfter}
 use Rattle.canon.proofs.Parts.{parts}
 use Rattle.canon_laws.specs.Held.{Holds, tableIn, rewritten, Proper}
@@ -60,7 +60,7 @@ module _ {rules : Rules} (proper : Proper rules) where
       whole ∙ sym (ap (take n) filled ∙ take-append-le n new (drop (length new) old) (omega (arith, many, length-take n new)))
 
   -- WHAT WAS WRITTEN IS READ BACK. `write` answered 0.
-  module _ (t : Table) (out : List ℕ) (success : measured rules t (length out) .refusal ≡ 0) where
+  module _ (t : Table) (out : List ℕ) (success : measuredIn rules t (length out) .refusal ≡ 0) where
     abbrev again : List ℕ
     again = writtenBytes rules t out
 
@@ -92,7 +92,7 @@ module _ {rules : Rules} (proper : Proper rules) where
       pub header-back : readAnswer rules again (fileOf rules again) identifiers exponents comments rows .header ≡ t .header
       header-back = header-told proper again written-accepted identifiers exponents comments rows read ∙ written-holds .header-is
 
-      pub length-back : readAnswer rules again (fileOf rules again) identifiers exponents comments rows .length ≡ measured rules t (length out) .length
+      pub length-back : readAnswer rules again (fileOf rules again) identifiers exponents comments rows .length ≡ measuredIn rules t (length out) .length
       length-back =
           length-told proper again written-accepted identifiers exponents comments rows read
           ∙ ap length (written-form proper t out success)
@@ -162,7 +162,7 @@ module _ {rules : Rules} (proper : Proper rules) where
       enough : length (canonical rules lent) ≤ length out
       enough = rw lent-form room
 
-      pub lent-answer : measured rules lent (length out) ≡ record { refusal = 0; length = length (rewritten rules bytes) }
+      pub lent-answer : measuredIn rules lent (length out) ≡ record { refusal = 0; length = length (rewritten rules bytes) }
       lent-answer = written-0 proper lent out lent-valid enough ∙ ap (λ (s : List ℕ). record { refusal = 0; length = length s }) lent-form
 
       pub lent-written : outAfter rules lent out ≡ over (rewritten rules bytes) out
@@ -170,7 +170,7 @@ module _ {rules : Rules} (proper : Proper rules) where
           out-is proper lent out (ap (λ (m : Measured). m .refusal) lent-answer) ∙ ap (λ (s : List ℕ). over s out) lent-form
 
     -- and by 12 exactly where there is none;
-    pub lent-twelve : (out : List ℕ) → (measured rules lent (length out) .refusal ≡ 12) ↔ (length out < length (rewritten rules bytes))
+    pub lent-twelve : (out : List ℕ) → (measuredIn rules lent (length out) .refusal ≡ 12) ↔ (length out < length (rewritten rules bytes))
     lent-twelve out = (
       λ twelve. subst (λ (s : List ℕ). length out < length s) lent-form (twelve-exactly proper lent out .0 twelve .1),
       λ few. twelve-exactly proper lent out .1 (lent-valid, subst (λ (s : List ℕ). length out < length s) (sym lent-form) few),
@@ -197,7 +197,7 @@ module _ {rules : Rules} (proper : Proper rules) where
 
     -- so `write` answers 0 and their length, and lays them.
     pub canonical-again : (t : Table) → valid rules t ≡ true → bytes ≡ canonical rules t → (out : List ℕ) → length bytes ≤ length out
-        → (measured rules lent (length out) ≡ record { refusal = 0; length = length bytes }) × (outAfter rules lent out ≡ over bytes out)
+        → (measuredIn rules lent (length out) ≡ record { refusal = 0; length = length bytes }) × (outAfter rules lent out ≡ over bytes out)
     canonical-again t ok is out room =
         let same : rewritten rules bytes ≡ bytes = sym lent-form ∙ form-is-file t ok is in
         let enough : length (rewritten rules bytes) ≤ length out = subst (λ (s : List ℕ). length s ≤ length out) (sym same) room in (

@@ -8,7 +8,7 @@ use native.Mathlib.Nat.{le-of-suc-le-suc, not-suc-le-zero, add-zero, zero-add}
 use native.Mathlib.Omega.{arith}
 use lib.ListN.{length, take, drop}
 use denote.Ref.{RefT, now}
-use Rattle.header.specs.Rules.{d}
+use Rattle.header.specs.Versions.{rulesIn}
 use Rattle.lines.specs.Lines.{linesOf, nth}
 use Rattle.lines.proofs.Lined.{lined}
 use Rattle.machine.specs.State.{noIdentifiers}
@@ -35,7 +35,7 @@ use Rattle.line_walk.specs.declared.Spot.{Spot}
 use Rattle.line_walk.specs.declared.Walker.{Walker}
 use Rattle.theorems.specs.Walked.{spotOf, goingAt, read, onFrom, past, overLines, walkedFrom}
 use Rattle.canon_laws.specs.Held.{Proper}
-use Rattle.canon_laws.proofs.Versions.{d-proper}
+use Rattle.canon_laws.proofs.Versions.{told-proper}
 
 no-fault : (m c : ℕ) (s : State) → verdict.Fault m c ≡ verdict.Next s → ⊥
 no-fault m c s x = let z : _≡_ {A = ℕ} 0 1 = cc in absurd (omega arith)
@@ -199,8 +199,8 @@ pub data After (from : Walker) (first : List ℕ) : ℕ → Walker → List ℕ 
 -- BY THE PROMISES OF `new` AND `moved`: k moves after a walker, the file is the same, the spot is k lines further and the identifiers are theirs, for every k;
 pub record Further (from : Walker) (first : List ℕ) (k : ℕ) (w : Walker) (identifiers : List ℕ) : Type 0 where
   pub file : w .file ≡ from .file
-  pub spot : w .spot ≡ spotsAfter d (now (from .file)) first (from .spot) k
-  pub identifiers-are : identifiers ≡ identifiersPast d (now (from .file)) first (from .spot) k
+  pub spot : w .spot ≡ spotsAfter (rulesIn (now (from .file))) (now (from .file)) first (from .spot) k
+  pub identifiers-are : identifiers ≡ identifiersPast (rulesIn (now (from .file))) (now (from .file)) first (from .spot) k
 
 pub after-moves : (from : Walker) (first : List ℕ) {k : ℕ} {w : Walker} {identifiers : List ℕ} → After from first k w identifiers → Further from first k w identifiers
 unfolding spotsAfter identifiersPast
@@ -208,30 +208,31 @@ after-moves from first none = record { file = refl; spot = refl; identifiers-are
 after-moves from first (more {k} {w} {v} {identifiers} {kept} steps move) =
     let so-far = after-moves from first steps in
     let bytes = now (from .file) in
-    let here : spotAfter d bytes identifiers (w .spot) ≡ spotAfter d bytes (identifiersPast d bytes first (from .spot) k) (spotsAfter d bytes first (from .spot) k) =
-    ap₂ (λ (ns : List ℕ) (p : Spot). spotAfter d bytes ns p) (so-far .identifiers-are) (so-far .spot) in
-    let brought : lineIdentifiers d bytes (w .spot .at) (w .spot .state) identifiers
-    ≡ lineIdentifiers d bytes (spotsAfter d bytes first (from .spot) k .at) (spotsAfter d bytes first (from .spot) k .state) (identifiersPast d bytes first (from .spot) k) =
-    ap₂ (λ (ns : List ℕ) (p : Spot). lineIdentifiers d bytes (p .at) (p .state) ns) (so-far .identifiers-are) (so-far .spot) in
+    let rules = rulesIn bytes in
+    let here : spotAfter rules bytes identifiers (w .spot) ≡ spotAfter rules bytes (identifiersPast rules bytes first (from .spot) k) (spotsAfter rules bytes first (from .spot) k) =
+    ap₂ (λ (ns : List ℕ) (p : Spot). spotAfter rules bytes ns p) (so-far .identifiers-are) (so-far .spot) in
+    let brought : lineIdentifiers rules bytes (w .spot .at) (w .spot .state) identifiers
+    ≡ lineIdentifiers rules bytes (spotsAfter rules bytes first (from .spot) k .at) (spotsAfter rules bytes first (from .spot) k .state) (identifiersPast rules bytes first (from .spot) k) =
+    ap₂ (λ (ns : List ℕ) (p : Spot). lineIdentifiers rules bytes (p .at) (p .state) ns) (so-far .identifiers-are) (so-far .spot) in
     record {
       file = move .file ∙ so-far .file;
       spot =
           move .spot
-          ∙ ap (λ (f : RefT (List ℕ)). spotAfter d (now f) identifiers (w .spot)) (so-far .file)
+          ∙ ap (λ (f : RefT (List ℕ)). spotAfter (rulesIn (now f)) (now f) identifiers (w .spot)) (so-far .file)
           ∙ here
-          ∙ last-step d bytes k first (from .spot) .0;
+          ∙ last-step rules bytes k first (from .spot) .0;
       identifiers-are =
           move .identifiers-are
-          ∙ ap (λ (f : RefT (List ℕ)). lineIdentifiers d (now f) (w .spot .at) (w .spot .state) identifiers) (so-far .file)
+          ∙ ap (λ (f : RefT (List ℕ)). lineIdentifiers (rulesIn (now f)) (now f) (w .spot .at) (w .spot .state) identifiers) (so-far .file)
           ∙ brought
-          ∙ last-step d bytes k first (from .spot) .1;
+          ∙ last-step rules bytes k first (from .spot) .1;
     }
 
 -- so from `new` at the first line of any bytes, over lines that go on, they are those of its first k lines.
 pub walker-walks : (file : RefT (List ℕ)) (from : Walker) → Begins file firstSpot from → (k : ℕ) (w : Walker) (identifiers : List ℕ) → After from noIdentifiers k w identifiers
-    → GoOn d atFirst (linesOf (now file)) k → k ≤ length (linesOf (now file)) → goingAt (w .spot) identifiers ≡ after d (now file) k
+    → GoOn (rulesIn (now file)) atFirst (linesOf (now file)) k → k ≤ length (linesOf (now file)) → goingAt (w .spot) identifiers ≡ after (rulesIn (now file)) (now file) k
 walker-walks file from begins k w identifiers steps goes h =
     let far = after-moves from noIdentifiers steps in
     ap₂ goingAt (far .spot) (far .identifiers-are)
-    ∙ ap₂ (λ (f : RefT (List ℕ)) (p : Spot). goingAt (spotsAfter d (now f) noIdentifiers p k) (identifiersPast d (now f) noIdentifiers p k)) (begins .file-is) (begins .spot-is)
-    ∙ walker-steps d-proper (now file) k goes h
+    ∙ ap₂ (λ (f : RefT (List ℕ)) (p : Spot). goingAt (spotsAfter (rulesIn (now f)) (now f) noIdentifiers p k) (identifiersPast (rulesIn (now f)) (now f) noIdentifiers p k)) (begins .file-is) (begins .spot-is)
+    ∙ walker-steps (told-proper (now file)) (now file) k goes h

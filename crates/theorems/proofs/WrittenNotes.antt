@@ -17,7 +17,7 @@ use Rattle.record.specs.Notes.{correlationSymbol, noteLine}
 use Rattle.reader.specs.Reading.{fileOf, readAnswer, rowsAfter}
 use Rattle.canon.specs.Table.{Table, cellWidth, cellsIn, tableIdentifiers, exponentsOf, commentsOf, rowsOf}
 use Rattle.canon.specs.Canonical.{noteShown}
-use Rattle.canon.specs.Measured.{measured}
+use Rattle.canon.specs.Measured.{measuredIn}
 use Rattle.canon.proofs.Parts.{Parts, parts}
 use Rattle.stored_row.specs.Stored.{noteIn}
 use Rattle.stored_row.specs.declared.types.NoteMark.the-variants as noteMark
@@ -36,7 +36,7 @@ bare-note true mark = refl
 bare-note false mark = refl
 
 module _ {rules : Rules} (proper : Proper rules) where
-  module _ (t : Table) (out : List ℕ) (success : measured rules t (length out) .refusal ≡ 0) where
+  module _ (t : Table) (out : List ℕ) (success : measuredIn rules t (length out) .refusal ≡ 0) where
     abbrev again : List ℕ
     again = writtenBytes rules t out
 

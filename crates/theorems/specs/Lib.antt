@@ -6,3 +6,4 @@ pub mod Again
 pub mod Divided
 pub mod Walked
 pub mod Before
+pub mod Bounds

@@ -1,5 +1,5 @@
 -- What a writing leaves. 01, "Numbers of the answers": "Each refusal leaves all lent memory unchanged. After success the places past those filled are
--- unchanged too." Its answer is `measured` (canon, Measured).
+-- unchanged too." Its answer is `measuredIn` (canon, Measured).
 use mathlib.Core.Bool.{cond, _&&_}
 use mathlib.Core.List.{List}
 use Prim.Native.Nat.{ℕ}

@@ -5,17 +5,18 @@ ghost use Prim.Native.Nat.{_≤_};
 ghost use lib.ListN.{length};
 ghost use Rattle.layout.specs.Line.{Lays};
 ghost use Rattle.lines.specs.Lent.{over, flat};
-ghost use Rattle.header.specs.Rules.{d};
+ghost use Rattle.header.specs.Versions.{rulesOf};
 ghost use Rattle.canon.specs.Table.{tableOf};
 ghost use Rattle.canon.specs.Valid.{isInstant, valid};
 ghost use Rattle.canon.specs.Canonical.{linesBefore, canonical};
-ghost use Rattle.canon.specs.Measured.{measured};
+ghost use Rattle.canon.specs.Measured.{measuredIn};
 ghost use Rattle.writer.specs.Writing.{outAfter};
 use crate::epochs;
 use crate::heads;
 use canon::Measured;
 use header::Header;
 use header::Rules;
+use header::Version;
 use record::plain::COMMENT_WIDTH;
 
 // The lines before the comments.
@@ -66,9 +67,10 @@ fn put_table(
     draw::plain::write_end(&mut out[at..]);
 }
 
-// Writes the canonical form of a table into the first bytes of `out` and gives its length: 13 where the table is not valid, a list shorter than its count
-// too, then 12 where `out` is too short; on a refusal `out` is as it was. Places of the lists past the counts are not looked at.
+// Writes the canonical form of a table in a version into the first bytes of `out` and gives its length: 13 where the table is not valid, a list shorter
+// than its count too, then 17 where it is outside the bounds of the version, then 12 where `out` is too short; on a refusal `out` is as it was. Places of the lists past the counts are not looked at.
 pub fn write(
+    version: Version,
     h: Header,
     identifiers: &[u64],
     exponents: &[u64],
@@ -76,14 +78,14 @@ pub fn write(
     rows: &[i64],
     out: &mut [u8],
 ) -> Measured
-    ensures result { λ r. ⌜ r ≡ measured d (tableOf h (now (identifiers .entry)) (now (exponents .entry)) (now (comments .entry)) (now (rows .entry))) (length (now (out .entry))) ⌝ }
-    ensures lent { λ _. ⌜ now (out .exit) ≡ outAfter d (tableOf h (now (identifiers .entry)) (now (exponents .entry)) (now (comments .entry)) (now (rows .entry))) (now (out .entry)) ⌝ }
+    ensures result { λ r. ⌜ r ≡ measuredIn (rulesOf version) (tableOf h (now (identifiers .entry)) (now (exponents .entry)) (now (comments .entry)) (now (rows .entry))) (length (now (out .entry))) ⌝ }
+    ensures lent { λ _. ⌜ now (out .exit) ≡ outAfter (rulesOf version) (tableOf h (now (identifiers .entry)) (now (exponents .entry)) (now (comments .entry)) (now (rows .entry))) (now (out .entry)) ⌝ }
 {
-    let rules = Rules::d();
-    let answer = canon::measure(rules, h, identifiers, exponents, comments, rows, out);
+    let answer = canon::measure(version, h, identifiers, exponents, comments, rows, out);
     if answer.refusal != 0 {
         return answer;
     }
+    let rules = Rules::of(version);
     put_table(rules, h, identifiers, exponents, comments, rows, out);
     answer
 }

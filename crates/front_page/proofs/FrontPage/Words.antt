@@ -20,33 +20,36 @@ pub use prog.Wp.{Heap}
 pub use lib.Dec.{eqb, leb}
 pub use lib.IntN.{ℤ, pos, natAbs}
 pub use lib.ListN.{length, getD, take, drop, replicate}
-pub use Rattle.header.specs.Rules.{d, maxSatellites, slotLines}
+pub use Rattle.header.specs.Rules.{c, d, maxSatellites, slotLines}
+pub use Rattle.header.specs.Versions.{toldVersion, rulesOf, rulesIn}
+pub use Rattle.header.specs.declared.types.Version.{Version}
 pub use Rattle.header.specs.Header.{lettersListed, headerOf, refused as noHeaderBut}
 pub use Rattle.header.specs.declared.types.Moment.{Moment}
 pub use Rattle.header.specs.declared.types.Texts.{Texts}
 pub use Rattle.header.specs.declared.types.Bases.{Bases}
 pub use Rattle.lines.specs.Lent.{over}
-pub use Rattle.lines.specs.Lines.{linesOf, joinLines, select}
-pub use Rattle.laws.specs.Texts.{every}
+pub use Rattle.lines.specs.Lines.{linesOf, joinLines, select, nth}
+pub use Rattle.laws.specs.Texts.{every, isPrintable}
 pub use Rattle.file.specs.Kinds.{isKind, isNote, kindIn, ofKind}
-pub use Rattle.record.specs.LineKinds.{satellitesKind, accuraciesKind, commentKind}
+pub use Rattle.record.specs.LineKinds.{satellitesKind, accuraciesKind, commentKind, epochKind}
 pub use Rattle.file.specs.Plain.{Accepted}
 pub use Rattle.file.specs.Table.{rowLines, rowsIn, headerIn, commentsIn}
 pub use Rattle.machine.specs.State.{noIdentifiers}
 pub use Rattle.machine.specs.Step.{lineKnown, lineRead, lineIdentifiers, Overfull}
 pub use Rattle.machine.specs.declared.types.State.{State}
 pub use Rattle.machine.specs.declared.types.LineRead.the-variants as found
-pub use Rattle.scan.specs.Run.{IsFile, Going, atFirst}
+pub use Rattle.scan.specs.Run.{IsFile, AnyFile, Going, atFirst}
+pub use Rattle.scan_laws.proofs.Which as which
 pub use Rattle.reader.specs.Reading.{refusedWith, acceptedAs, frontOf, fileOf, filled, readAnswer, judged, identifiersOf, identifiersAfter, exponentsAfter, commentsAfter, rowsAfter}
 pub use Rattle.canon.specs.Table.{Table, rowsOf}
 pub use Rattle.canon.specs.Table as table
 pub use Rattle.canon.specs.Valid.{valid}
 pub use Rattle.canon.specs.Canonical.{canonical, noteShown}
-pub use Rattle.canon.specs.Measured.{refusedAs, measured}
+pub use Rattle.canon.specs.Measured.{refusedAs, measured, measuredIn}
 pub use Rattle.writer.specs.Writing.{outAfter}
 pub use Rattle.canon_laws.proofs.Rewriting as rewriting
 pub use Rattle.canon_laws.specs.Held.{Proper, Holds, tableIn, rewritten as formOf}
-pub use Rattle.canon_laws.proofs.Versions.{d-proper}
+pub use Rattle.canon_laws.proofs.Versions.{c-proper, d-proper, told-proper}
 pub use Rattle.divide.specs.Dividing.{Divides, sum, division, divideOf, lengthsAfter}
 pub use Rattle.line_walk.specs.Spots.{firstSpot}
 pub use Rattle.file.specs.Exact.{exactSigned, exactNote}
@@ -59,11 +62,11 @@ pub use Rattle.questions.specs.Questions.{rowBegins, noRow, commentAnswer, text
 pub use Rattle.questions.proofs.Theorems as asking
 pub use Rattle.questions.proofs.Theorems.{CommentPost}
 pub use Rattle.theorems.proofs.Judging as judging
-pub use Rattle.theorems.specs.Faults.{FirstFault, after, AllGoOn, Outside, refusedLine, InColumns}
-pub use Rattle.scan_laws.specs.Earned.{Among, itemsAt, byteAt, fieldNumber, fieldColumn}
+pub use Rattle.theorems.specs.Faults.{FirstFault, after, AllGoOn, Earned, Outside, refusedLine, InColumns}
+pub use Rattle.scan_laws.specs.Earned.{Among, Earns, itemsAt, byteAt, fieldNumber, fieldColumn}
 pub use Rattle.layout.specs.Fault.{clean, keyed}
 pub use Rattle.layout.specs.Kind.{isUnused}
-pub use Rattle.layout.specs.Layout.{Item, columns, faultAt, showLine}
+pub use Rattle.layout.specs.Layout.{Item, columns, partOf, faultAt, showLine}
 pub use Rattle.layout.specs.Kind.Kind.{signed, clock as clockKind}
 pub use Rattle.header.specs.declared.types.Rules.{Rules}
 pub use Rattle.record.specs.declared.types.LineKind.{LineKind}
@@ -79,7 +82,10 @@ pub use Rattle.theorems.proofs.Writing as writing
 pub use Rattle.theorems.proofs.Clocks as clocks
 pub use Rattle.theorems.proofs.Clocks.{twelveNines}
 pub use Rattle.theorems.proofs.Rewritten as rewritten
-pub use Rattle.theorems.specs.Again.{writtenBytes, lentTable}
+pub use Rattle.theorems.specs.Again.{toldFile, writtenBytes, lentTable}
+pub use Rattle.theorems.proofs.InVersion as inVersion
+pub use Rattle.theorems.proofs.CommentFaults as comment-faults
+pub use Rattle.theorems.specs.Bounds.{commentOf, Keeps}
 pub use Rattle.theorems.specs.Before.{satellitesBefore, before, foundBefore}
 pub use Rattle.theorems.proofs.Larger as larger
 pub use Rattle.theorems.proofs.Most as most
@@ -115,10 +121,11 @@ pub use Rattle.sp3.proofs.Marks.{clock-mark, row-clock-mark}
 pub use Rattle.row_walk.specs.declared.types.RowStep.the-variants as step
 pub use Rattle.layout.specs.Layout.{valuesOf}
 pub use Rattle.layout.specs.Kind.{unnoted, isBlank}
-pub use Rattle.layout.specs.Line.{padded, ended}
+pub use Rattle.layout.specs.Line.{padded, trimmed, ended}
 pub use Rattle.record.specs.Rows.{cut, rowItems, rowValues, rowFrom, sixNinesIn, shortestRow, bareWidth, rowWidth}
 pub use Rattle.field.specs.Digits.{allDigits}
 pub use Rattle.field.specs.Read.{wholeOf}
+pub use Rattle.field.specs.declared.Whole.the-variants as wholes
 pub use Rattle.field.specs.Clock.{isSixNines}
 pub use Rattle.record.specs.Notes.{correlationItems, correlationSymbol, largestDeviation, largestCorrelation, noteFrom, noteOf, noteLine, deviationAt, correlationAt}
 pub use Rattle.record.specs.Absence.{placeAbsent}

@@ -6,7 +6,7 @@ use Rattle.line_walk.proofs.Walking.{_≡_, refl, ap, ap₂, sym, subst
 use Rattle.line_walk.proofs.Saying.{says-both}
 use Rattle.line_walk.proofs.Again.{LentAgain, lends-again, comes-back}
 use denote.Struct.Laws as LL
-use Rattle.header.specs.Rules.{d as rules-d}
+use Rattle.header.specs.Versions.{rulesIn}
 use Rattle.machine.specs.Step.{lineIdentifiers}
 use Rattle.line_walk.specs.Spots.{spotAfter, spotsAfter, identifiersPast}
 use Rattle.line_walk.proofs.Spots.{first-line-more, no-line-more}
@@ -189,10 +189,10 @@ module _ {M : Type 1} (𝓤 : URA M) (H : Heap 𝓤) (A : Atoms 𝓤) (W : Given
       qed W (‵ (flft κ q) ∷ ‵ (flft (ν ∷ []) fullShare) ∷ ‵ (passed w ν δ l) ∷ []) ∵ nothing ! $ move ! (2 ∷ 0 ∷ []) $ join ! $ move ! (1 ∷ 0 ∷ []) $ join ! $ join ! $ frame ! $ done !
 
   abbrev Next : Walker → List ℕ → Walker → Type 0
-  Next w l r = (r .file ≡ w .file) × (r .spot ≡ spotAfter rules-d (now (w .file)) l (w .spot))
+  Next w l r = (r .file ≡ w .file) × (r .spot ≡ spotAfter (rulesIn (now (w .file))) (now (w .file)) l (w .spot))
 
   abbrev Kept : Walker → List ℕ → List ℕ → Type 0
-  Kept w l zs = zs ≡ lineIdentifiers rules-d (now (w .file)) (w .spot .at) (w .spot .state) l
+  Kept w l zs = zs ≡ lineIdentifiers (rulesIn (now (w .file))) (now (w .file)) (w .spot .at) (w .spot .state) l
 
   -- the call of `spot_of`
   abbrev to-spot-of : Walker → SpotOf 𝓤 H A mem run .Ghost
@@ -204,7 +204,7 @@ module _ {M : Type 1} (𝓤 : URA M) (H : Heap 𝓤) (A : Atoms 𝓤) (W : Given
   spot-said : (w : Walker) (r : Spot) → ent 𝓤 (ensured 𝓤 H A spot-of.ended (spot-of.clauses 𝓤 H A mem run) (κ, tt) (w, tt) tt r) (fact 𝓤 (r ≡ w .spot))
   spot-said w r = exE 𝓤 _ (λ ws. snd∗ 𝓤 (sem 𝓤 H A (lasts spot-of.ended (κ, tt) (w, tt) ws)) (fact 𝓤 (r ≡ w .spot)))
 
-  exits : (r : Spot) (u : Val) (zs : List ℕ) → r ≡ spotsAfter rules-d (now f) ys s n → zs ≡ identifiersPast rules-d (now f) ys s n → length zs ≡ length ys
+  exits : (r : Spot) (u : Val) (zs : List ℕ) → r ≡ spotsAfter (rulesIn (now f)) (now f) ys s n → zs ≡ identifiersPast (rulesIn (now f)) (now f) ys s n → length zs ≡ length ys
       → ent 𝓤 (⋆ 𝓤 H A (‵ (S.the-row .own r (u ∷ [])) ∷ (‵ (flft κ q) ⊛ ‵ ftrue) ∷ ‵ (flft κ′ q′) ∷ ‵ (OwnIdentifiers zs) ∷ ‵ OwnFile ∷ ‵ OwnSpot ∷ ‵ OwnLines ∷ [])) (Post u)
   exits r u zs e k l =
       qed W (‵ (S.the-row .own r (u ∷ [])) ∷ (‵ (flft κ q) ⊛ ‵ ftrue) ∷ ‵ (flft κ′ q′) ∷ ‵ (OwnIdentifiers zs) ∷ ‵ OwnFile ∷ ‵ OwnSpot ∷ ‵ OwnLines ∷ []) ∵
@@ -221,8 +221,8 @@ module _ {M : Type 1} (𝓤 : URA M) (H : Heap 𝓤) (A : Atoms 𝓤) (W : Given
     pub same : w .file ≡ f
     pub long : length identifiers ≡ length ys
     pub small : left < 2 ^ 64
-    pub holds : spotsAfter rules-d (now f) identifiers (w .spot) left ≡ spotsAfter rules-d (now f) ys s n
-    pub keeps : identifiersPast rules-d (now f) identifiers (w .spot) left ≡ identifiersPast rules-d (now f) ys s n
+    pub holds : spotsAfter (rulesIn (now f)) (now f) identifiers (w .spot) left ≡ spotsAfter (rulesIn (now f)) (now f) ys s n
+    pub keeps : identifiersPast (rulesIn (now f)) (now f) identifiers (w .spot) left ≡ identifiersPast (rulesIn (now f)) (now f) ys s n
 
   abbrev Nearer : Turn → Turn → Type 0
   Nearer j i = j .left < i .left
@@ -231,11 +231,11 @@ module _ {M : Type 1} (𝓤 : URA M) (H : Heap 𝓤) (A : Atoms 𝓤) (W : Given
   Nearer-wf = InvImage·wf (λ (i : Turn). i .left) (Nat·lt-wfRel .wf)
 
   -- a line passed: the spot and the identifiers after it
-  here : (i : Turn) (r : Walker) → Next (i .w) (i .identifiers) r → r .spot ≡ spotAfter rules-d (now f) (i .identifiers) (i .w .spot)
-  here i r e = e .1 ∙ ap (λ (g : RefT (List ℕ)). spotAfter rules-d (now g) (i .identifiers) (i .w .spot)) (i .same)
+  here : (i : Turn) (r : Walker) → Next (i .w) (i .identifiers) r → r .spot ≡ spotAfter (rulesIn (now f)) (now f) (i .identifiers) (i .w .spot)
+  here i r e = e .1 ∙ ap (λ (g : RefT (List ℕ)). spotAfter (rulesIn (now g)) (now g) (i .identifiers) (i .w .spot)) (i .same)
 
-  kept-here : (i : Turn) (zs : List ℕ) → Kept (i .w) (i .identifiers) zs → zs ≡ lineIdentifiers rules-d (now f) (i .w .spot .at) (i .w .spot .state) (i .identifiers)
-  kept-here i zs k = k ∙ ap (λ (g : RefT (List ℕ)). lineIdentifiers rules-d (now g) (i .w .spot .at) (i .w .spot .state) (i .identifiers)) (i .same)
+  kept-here : (i : Turn) (zs : List ℕ) → Kept (i .w) (i .identifiers) zs → zs ≡ lineIdentifiers (rulesIn (now f)) (now f) (i .w .spot .at) (i .w .spot .state) (i .identifiers)
+  kept-here i zs k = k ∙ ap (λ (g : RefT (List ℕ)). lineIdentifiers (rulesIn (now g)) (now g) (i .w .spot .at) (i .w .spot .state) (i .identifiers)) (i .same)
 
   next : (i : Turn) (r : Walker) (zs : List ℕ) → Next (i .w) (i .identifiers) r → Kept (i .w) (i .identifiers) zs → length zs ≡ length (i .identifiers) → 0 < i .left → Turn
   next i r zs e k l h = record {
@@ -246,11 +246,11 @@ module _ {M : Type 1} (𝓤 : URA M) (H : Heap 𝓤) (A : Atoms 𝓤) (W : Given
     long = l ∙ i .long;
     small = lt-of-le-of-lt (omega arith) (i .small);
     holds =
-        ap₂ (λ (p : Spot) (ns : List ℕ). spotsAfter rules-d (now f) ns p (i .left - 1)) (here i r e) (kept-here i zs k)
-        ∙ first-line-more rules-d (now f) (i .identifiers) (i .w .spot) (i .left) h .0 ∙ i .holds;
+        ap₂ (λ (p : Spot) (ns : List ℕ). spotsAfter (rulesIn (now f)) (now f) ns p (i .left - 1)) (here i r e) (kept-here i zs k)
+        ∙ first-line-more (rulesIn (now f)) (now f) (i .identifiers) (i .w .spot) (i .left) h .0 ∙ i .holds;
     keeps =
-        ap₂ (λ (p : Spot) (ns : List ℕ). identifiersPast rules-d (now f) ns p (i .left - 1)) (here i r e) (kept-here i zs k)
-        ∙ first-line-more rules-d (now f) (i .identifiers) (i .w .spot) (i .left) h .1 ∙ i .keeps;
+        ap₂ (λ (p : Spot) (ns : List ℕ). identifiersPast (rulesIn (now f)) (now f) ns p (i .left - 1)) (here i r e) (kept-here i zs k)
+        ∙ first-line-more (rulesIn (now f)) (now f) (i .identifiers) (i .w .spot) (i .left) h .1 ∙ i .keeps;
   }
 
   module _ (𝓣 : Tables 𝓤 H) (fm : FmC 𝓤 H (W .laws) (𝓣 .C)) (known-moved : Triple 𝓤 (𝓣 .C #line-walk·moved) (Moved 𝓤 H A mem run)) (known-spot : Triple 𝓤 (𝓣 .C #line-walk·spot-of) (SpotOf 𝓤 H A mem run)) (l₀ l₁ l₂ l₃ l₄ l₅ l₆ l₇ l₈ l₉ l₁₀ l₁₁ : ℕ) where
@@ -325,7 +325,7 @@ module _ {M : Type 1} (𝓤 : URA M) (H : Heap 𝓤) (A : Atoms 𝓤) (W : Given
         land ! (from ! (stop !)) (init ! 29 refl (LL.lawful S.the-type S′.the-laws 𝓤 H A W .typed r _ is′ .0)) $
         returns ! (look ! 29 refl) $ forget ! 7 refl $ forget ! 15 refl $ forget ! 17 refl $ forget ! 19 refl $ forget ! 21 refl $ forget ! 23 refl $ forget ! 25 refl $ forget ! 27 refl $ forget ! 29 refl $
         move ! (29 ∷ 30 ∷ []) $ free1 ! $ move ! (27 ∷ 28 ∷ []) $ free1 ! $ move ! (25 ∷ 26 ∷ []) $ free1 ! $ move ! (23 ∷ 24 ∷ []) $ free1 ! $ move ! (21 ∷ 22 ∷ []) $ free1 ! $ move ! (19 ∷ 20 ∷ []) $ free1 ! $ move ! (17 ∷ 18 ∷ []) $ free1 ! $ move ! (15 ∷ 16 ∷ []) $ free1 ! $ move ! (13 ∷ 14 ∷ []) $ free1 ! $ move ! (11 ∷ 12 ∷ []) $ free1 ! $ move ! (9 ∷ 10 ∷ []) $ free1 ! $ move ! (7 ∷ 8 ∷ []) $ free1 ! $ free0 ! $
-        by ! (let none = no-line-more rules-d (now f) (i .identifiers) (i .w .spot) (i .left) (nltb→le 0 (i .left) over) in exits r u (i .identifiers) (e ∙ none .0 ∙ i .holds) (none .1 ∙ i .keeps) (i .long))))))))
+        by ! (let none = no-line-more (rulesIn (now f)) (now f) (i .identifiers) (i .w .spot) (i .left) (nltb→le 0 (i .left) over) in exits r u (i .identifiers) (e ∙ none .0 ∙ i .holds) (none .1 ∙ i .keeps) (i .long))))))))
 
     -- the loop and what follows it, from where the loop stands
     looped : (i : Turn) → Sq W (At i) (runs C Λ En (seq (block (loop turn)) rest) (atRet En Post))
@@ -342,8 +342,8 @@ module _ {M : Type 1} (𝓤 : URA M) (H : Heap 𝓤) (A : Atoms 𝓤) (W : Given
           same = e .0;
           long = refl;
           small = gn;
-          holds = ap (λ (p : Spot). spotsAfter rules-d (now f) ys p n) (e .1);
-          keeps = ap (λ (p : Spot). identifiersPast rules-d (now f) ys p n) (e .1);
+          holds = ap (λ (p : Spot). spotsAfter (rulesIn (now f)) (now f) ys p n) (e .1);
+          keeps = ap (λ (p : Spot). identifiersPast (rulesIn (now f)) (now f) ys p n) (e .1);
         })
 
   walk : (𝓣 : Tables 𝓤 H) → FmC 𝓤 H (W .laws) (𝓣 .C) → Triple 𝓤 (𝓣 .C #line-walk·new) (New 𝓤 H A mem run) → Triple 𝓤 (𝓣 .C #line-walk·moved) (Moved 𝓤 H A mem run) → Triple 𝓤 (𝓣 .C #line-walk·spot-of) (SpotOf 𝓤 H A mem run)

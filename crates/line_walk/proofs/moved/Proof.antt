@@ -4,7 +4,7 @@
 use Rattle.line_walk.proofs.Walking.{_≡_, refl, ap, subst, fullShare, List, [], _∷_, ℕ, Holds, length, URA, named, Val, WT, hasTy, SProp, ent, sep, emp, via, fst∗, id⊢, Lft, Share, GName, Fml, ftrue, flft, fat, Memory, Routine, Heap, Calls, Loops, WpFn, Tables, Atoms, sem, Lfts, Fun, fact, givenOf, tables, tablesOf, Given, Item, ‵, raw, _⊛_, given, ⋆, some, later, _$_, _∵_, !, qed, by, move, drop, use1, use2, rewrite, split, join, learn, pick, fsplit, fjoin, feqL, suffices, frame, await, done, whole, sub, look-in, agg, look, init, forget, stop, hop, fld, from, load, addr, of-opd, and-then, no-more, assigns, land, returns, enter, alloc1, alloc0, params1, pass1, pass0, free1, free0, FmC, fmOf, WpFn-mono, RattleType, owns, Is, shows, u8, u64, RefT, now, plain, namedLft, sliceVal, ShrSlice, MutSlice, Room, finally, slice-vals, mut-slice-tells, only, peeks, heard, nothing, Declared, all-own, own-open, own-put, Values, Contract, Triple, calls-at, Vals, onEntry, Meets, tripleOf, entered, cited, Stays, stay-none, gave-slice, walkOf, goes-none, goes-gave-slice, Walks, ends-at, walked, walk-meets, yes, ensured, lasts}
 use Rattle.line_walk.proofs.Saying.{says-both}
 use denote.Struct.Laws as LL
-use Rattle.header.specs.Rules.{d as rules-d}
+use Rattle.header.specs.Versions.{rulesIn}
 use Rattle.machine.specs.Step.{lineIdentifiers}
 use Rattle.line_walk.specs.Spots.{spotAfter}
 use Rattle.line_walk.specs.declared.Walker.{Walker}
@@ -56,11 +56,11 @@ module _ {M : Type 1} (𝓤 : URA M) (H : Heap 𝓤) (A : Atoms 𝓤) (W : Given
   vals = (mach ∷ [], (m ∷ [], tt))
 
   abbrev found : Spot
-  found = spotAfter rules-d (now (d .file)) ys (d .spot)
+  found = spotAfter (rulesIn (now (d .file))) (now (d .file)) ys (d .spot)
 
   -- what is known of the last list
   abbrev Kept : List ℕ → Type 0
-  Kept zs = zs ≡ lineIdentifiers rules-d (now (d .file)) (d .spot .at) (d .spot .state) ys
+  Kept zs = zs ≡ lineIdentifiers (rulesIn (now (d .file))) (now (d .file)) (d .spot .at) (d .spot .state) ys
 
   -- the struct with another spot
   abbrev made : Spot → Walker

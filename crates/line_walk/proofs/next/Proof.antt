@@ -5,7 +5,7 @@ use Rattle.line_walk.proofs.Walking.{_≡_, refl, List, [], _∷_, ℕ,
 use Rattle.line_walk.proofs.Saying.{says-both}
 use denote.Enum.Laws as EL
 use denote.Struct.Laws as LL
-use Rattle.header.specs.Rules.{d as rules-d}
+use Rattle.header.specs.Versions.{rulesIn}
 use Rattle.machine.specs.Step.{lineRead, lineIdentifiers}
 use Rattle.machine.specs.Told.{toldRead}
 use Rattle.machine.specs.declared.types.LineRead.{LineRead}
@@ -60,10 +60,10 @@ module _ {M : Type 1} (𝓤 : URA M) (H : Heap 𝓤) (A : Atoms 𝓤) (W : Given
 
   -- what is known of the result, and of the last list
   abbrev Told : LineRead → Type 0
-  Told r = toldRead r ≡ toldRead (lineRead rules-d (now (d .file)) (d .spot .at) (d .spot .state) ys)
+  Told r = toldRead r ≡ toldRead (lineRead (rulesIn (now (d .file))) (now (d .file)) (d .spot .at) (d .spot .state) ys)
 
   abbrev Kept : List ℕ → Type 0
-  Kept zs = zs ≡ lineIdentifiers rules-d (now (d .file)) (d .spot .at) (d .spot .state) ys
+  Kept zs = zs ≡ lineIdentifiers (rulesIn (now (d .file))) (now (d .file)) (d .spot .at) (d .spot .state) ys
 
   abbrev Post : Val → SProp 𝓤
   Post = walkOf 𝓤 H A own.ended stayed (own.clauses 𝓤 H A mem run) .post ((κs, (q, (q′, tt)), tt, (d, (x, tt)), vals), tt)

@@ -13,8 +13,8 @@ returns c =
     let done = c .before .before in
     let ruled = done .before .before in
     let a = ruled .before .before .before .before .args in (
-      done .read-line .ensures .0 ∙ ap (λ (k : Rules). toldRead (lineRead k (a .file .now) (a .spot .at) (a .spot .state) (a .identifiers .now))) (ruled .d .ensures),
-      done .read-line .ensures .1 ∙ ap (λ (k : Rules). lineIdentifiers k (a .file .now) (a .spot .at) (a .spot .state) (a .identifiers .now)) (ruled .d .ensures),
+      done .read-line .ensures .0 ∙ ap (λ (k : Rules). toldRead (lineRead k (a .file .now) (a .spot .at) (a .spot .state) (a .identifiers .now))) (ruled .told-by .ensures),
+      done .read-line .ensures .1 ∙ ap (λ (k : Rules). lineIdentifiers k (a .file .now) (a .spot .at) (a .spot .state) (a .identifiers .now)) (ruled .told-by .ensures),
     )
 
 pub read-at-spec : {M : Type 1} → statement M

@@ -4,9 +4,9 @@ use mathlib.Core.Path.{_≡_}
 use native.Mathlib.Omega.{arith}
 use borrow.Author.Needs.{needs}
 use Rattle.scan.proofs.Told.{toldFront-one}
-use Rattle.header.specs.Rules.{d}
+use Rattle.header.specs.Versions.{rulesIn}
 use Rattle.reader.specs.Reading.{fileOf}
-use Rattle.scan_laws.proofs.Files.{d-sound}
+use Rattle.scan_laws.proofs.Which.{told-sound}
 use Rattle.questions.specs.Questions.{rowBegins}
 use Rattle.scan.specs.declared.Front.the-variants as front
 use Rattle.questions.proofs.Asking.{found-as, row-as, row-found, bounded-as, file-within}
@@ -14,22 +14,22 @@ use Rattle.questions.proofs.rows.row_begins.Statement.{statement}
 use Rattle.questions.proofs.rows.row_begins.Tie as tie
 
 -- what was found in the file
-found-file : (c : tie.After-tally) → fileOf d (c .before .before .before .before .before .args .file .now) ≡ front.File (c .tally .given .0 .0)
+found-file : (c : tie.After-tally) → fileOf (rulesIn (c .before .before .before .before .before .args .file .now)) (c .before .before .before .before .before .args .file .now) ≡ front.File (c .tally .given .0 .0)
 found-file c =
     let ran = c .before .before in
-    found-as (ran .before .d .result) (ran .before .before .before .args .file .now) (ran .scan-whole .result) (front.File (c .tally .given .0 .0))
-    (ran .before .d .ensures) (toldFront-one _ _ (ran .scan-whole .ensures)) (c .tally .given .1)
+    found-as (ran .before .told-by .result) (ran .before .before .before .args .file .now) (ran .scan-whole .result) (front.File (c .tally .given .0 .0))
+    (ran .before .told-by .ensures) (toldFront-one _ _ (ran .scan-whole .ensures)) (c .tally .given .1)
 
 part-row-at-end : tie.Need-part-row-at-end
 part-row-at-end c =
     let known = c .before in
-    omega (arith, file-within d (known .before .before .before .before .before .args .file .now) (known .tally .given .0 .0) (found-file known))
+    omega (arith, file-within (rulesIn (known .before .before .before .before .before .args .file .now)) (known .before .before .before .before .before .args .file .now) (known .tally .given .0 .0) (found-file known))
 
 row-at-requires : tie.Need-row-at-requires
 row-at-requires c κs =
     let known = c .before .before in
     let started = known .before .before .before in
-    bounded-as (started .d .result) (started .d .ensures) (started .before .before .args .file .now) (known .tally .given .0 .0) d-sound (found-file known)
+    bounded-as (started .told-by .result) (started .told-by .ensures) (started .before .before .args .file .now) (known .tally .given .0 .0) (told-sound _) (found-file known)
 
 returns : tie.Need-returns
 unfolding rowBegins
@@ -37,8 +37,8 @@ returns c =
     let known = c .before .before in
     let ran = known .before .before in
     let start = ran .before .before .before in
-    row-as d (start .args .file .now) _
-    (found-as (ran .before .d .result) (start .args .file .now) (ran .scan-whole .result) _ (ran .before .d .ensures) (toldFront-one _ _ (ran .scan-whole .ensures)) (known .number .given .1))
+    row-as (rulesIn (start .args .file .now)) (start .args .file .now) _
+    (found-as (ran .before .told-by .result) (start .args .file .now) (ran .scan-whole .result) _ (ran .before .told-by .ensures) (toldFront-one _ _ (ran .scan-whole .ensures)) (known .number .given .1))
     (start .args .epoch) (start .args .satellite) (c .no-row .result) (c .no-row .ensures)
 
 returns-2 : tie.Need-returns-2
@@ -47,8 +47,8 @@ returns-2 c =
     let started = known .before .before .before in
     let start = started .before .before in
     let t = known .tally .given .0 .0 in
-    row-as d (start .args .file .now) (front.File t) (found-file known) (start .args .epoch) (start .args .satellite) (c .row-at .result)
-    (row-found (started .d .result) (started .d .ensures) (start .args .file .now) t (start .args .epoch) (start .args .satellite) (c .row-at .result) (c .row-at .ensures))
+    row-as (rulesIn (start .args .file .now)) (start .args .file .now) (front.File t) (found-file known) (start .args .epoch) (start .args .satellite) (c .row-at .result)
+    (row-found (started .told-by .result) (started .told-by .ensures) (start .args .file .now) t (start .args .epoch) (start .args .satellite) (c .row-at .result) (c .row-at .ensures))
 
 pub row-begins-spec : {M : Type 1} → statement M
 row-begins-spec =

@@ -1,7 +1,7 @@
 -- `reader::delivery::read` meets its contract.
 -- Assumes nothing.
 use Rattle.file.specs.Table.{commentsIn, rowsIn}
-use Rattle.header.specs.Rules.{d}
+use Rattle.header.specs.Versions.{rulesIn}
 use Rattle.header.specs.declared.types.Rules.{Rules}
 use Rattle.reader.proofs.Delivering.{answered, listed}
 use Rattle.reader.specs.Reading.{exponentsOf, fileOf, identifiersOf}
@@ -20,16 +20,16 @@ returns c =
     let looked = done .before .before .before .before .before in
     let ruled = looked .before in
     let a = ruled .before .before .before .before .before .args in
-    let same : looked .found-in .result ≡ fileOf d (a .file .now) = looked .found-in .ensures .0 ∙ ap (λ (k : Rules). fileOf k (a .file .now)) (ruled .d .ensures) in
+    let same : looked .found-in .result ≡ fileOf (rulesIn (a .file .now)) (a .file .now) = looked .found-in .ensures .0 ∙ ap (λ (k : Rules). fileOf k (a .file .now)) (ruled .told-by .ensures) in
     let p = done .deliver .ensures in (
-      answered (a .file .now) (length (a .identifiers .now)) (length (a .exponents .now)) (length (a .comments .now)) (length (a .rows .now)) (ruled .d .result) d (looked .found-in .result) (fileOf d (a .file .now)) (ruled .d .ensures) same (done .deliver .result) (p .0),
+      answered (a .file .now) (length (a .identifiers .now)) (length (a .exponents .now)) (length (a .comments .now)) (length (a .rows .now)) (ruled .told-by .result) (rulesIn (a .file .now)) (looked .found-in .result) (fileOf (rulesIn (a .file .now)) (a .file .now)) (ruled .told-by .ensures) same (done .deliver .result) (p .0),
       (
-        listed (a .file .now) (length (a .identifiers .now)) (length (a .exponents .now)) (length (a .comments .now)) (length (a .rows .now)) (ruled .d .result) d (looked .found-in .result) (fileOf d (a .file .now)) (ruled .d .ensures) same identifiersOf (a .identifiers .now) _ (p .1 .0),
+        listed (a .file .now) (length (a .identifiers .now)) (length (a .exponents .now)) (length (a .comments .now)) (length (a .rows .now)) (ruled .told-by .result) (rulesIn (a .file .now)) (looked .found-in .result) (fileOf (rulesIn (a .file .now)) (a .file .now)) (ruled .told-by .ensures) same identifiersOf (a .identifiers .now) _ (p .1 .0),
         (
-          listed (a .file .now) (length (a .identifiers .now)) (length (a .exponents .now)) (length (a .comments .now)) (length (a .rows .now)) (ruled .d .result) d (looked .found-in .result) (fileOf d (a .file .now)) (ruled .d .ensures) same exponentsOf (a .exponents .now) _ (p .1 .1 .0),
+          listed (a .file .now) (length (a .identifiers .now)) (length (a .exponents .now)) (length (a .comments .now)) (length (a .rows .now)) (ruled .told-by .result) (rulesIn (a .file .now)) (looked .found-in .result) (fileOf (rulesIn (a .file .now)) (a .file .now)) (ruled .told-by .ensures) same exponentsOf (a .exponents .now) _ (p .1 .1 .0),
           (
-            listed (a .file .now) (length (a .identifiers .now)) (length (a .exponents .now)) (length (a .comments .now)) (length (a .rows .now)) (ruled .d .result) d (looked .found-in .result) (fileOf d (a .file .now)) (ruled .d .ensures) same commentsIn (a .comments .now) _ (p .1 .1 .1 .0),
-            listed (a .file .now) (length (a .identifiers .now)) (length (a .exponents .now)) (length (a .comments .now)) (length (a .rows .now)) (ruled .d .result) d (looked .found-in .result) (fileOf d (a .file .now)) (ruled .d .ensures) same rowsIn (a .rows .now) _ (p .1 .1 .1 .1),
+            listed (a .file .now) (length (a .identifiers .now)) (length (a .exponents .now)) (length (a .comments .now)) (length (a .rows .now)) (ruled .told-by .result) (rulesIn (a .file .now)) (looked .found-in .result) (fileOf (rulesIn (a .file .now)) (a .file .now)) (ruled .told-by .ensures) same commentsIn (a .comments .now) _ (p .1 .1 .1 .0),
+            listed (a .file .now) (length (a .identifiers .now)) (length (a .exponents .now)) (length (a .comments .now)) (length (a .rows .now)) (ruled .told-by .result) (rulesIn (a .file .now)) (looked .found-in .result) (fileOf (rulesIn (a .file .now)) (a .file .now)) (ruled .told-by .ensures) same rowsIn (a .rows .now) _ (p .1 .1 .1 .1),
           ),
         ),
       ),

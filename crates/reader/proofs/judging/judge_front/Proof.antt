@@ -16,7 +16,7 @@ returns c =
     let bytes = c .before .before .before .before .args .stretch .now in
     let ruled = c .before .before in
     c .answer .ensures
-    ∙ ap₂ (λ (r : Rules) (f : Front). judged r bytes f) (ruled .d .ensures) (c .before .found-in .ensures .0 ∙ ap (λ (r : Rules). frontOf r bytes) (ruled .d .ensures))
+    ∙ ap₂ (λ (r : Rules) (f : Front). judged r bytes f) (ruled .told-by .ensures) (c .before .found-in .ensures .0 ∙ ap (λ (r : Rules). frontOf r bytes) (ruled .told-by .ensures))
 
 pub judge-front-spec : {M : Type 1} → statement M
 judge-front-spec = tie.close (tie.spec (λ c κs. search needs) (λ c κs. search needs) answer-requires returns)

@@ -2,7 +2,7 @@
 -- Assumes nothing.
 use native.Mathlib.Omega.{arith}
 use borrow.Author.Needs.{needs}
-use Rattle.header.specs.Rules.{d}
+use Rattle.header.specs.Versions.{rulesIn}
 use Rattle.reader.specs.Reading.{fileOf}
 use Rattle.rewrite.proofs.Saying.{seen}
 use Rattle.rewrite.proofs.Answering.{answer-fits, printed-long, printed-short}
@@ -21,7 +21,7 @@ returns-2 c =
     let said = c .before .before in
     let tested = said .before .before in
     let start = tested .before .before .before in
-    let fits = answer-fits (start .args .file .now) (fileOf d (start .args .file .now)) in
+    let fits = answer-fits (start .args .file .now) (fileOf (rulesIn (start .args .file .now)) (start .args .file .now)) in
     seen (printed-short (start .args .file .now) (tested .if1 .left)) (omega (arith, start .pre, fits)) (said .answer-short .ensures)
 
 pub answer-spec : {M : Type 1} → statement M

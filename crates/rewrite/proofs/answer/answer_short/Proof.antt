@@ -5,7 +5,8 @@ use native.Mathlib.Omega.{arith}
 use borrow.Author.Needs.{needs}
 use lib.IntN.{ℤ, pos}
 use lib.ListN.{replicate, length-replicate}
-use Rattle.header.specs.Rules.{d, maxSatellites}
+use Rattle.header.specs.Rules.{maxSatellites}
+use Rattle.header.specs.Versions.{rulesIn}
 use Rattle.record.specs.Plain.{commentWidth}
 use Rattle.record.specs.Rows.{rowWidth}
 use Rattle.theorems.specs.Room.{mostRows}
@@ -19,7 +20,7 @@ abbrev start : tie.After-read-and-write → tie.Start
 start c = c .before .before .before .before .before .before .before .before
 
 answered-so : (c : tie.After-read-and-write)
-    → Outcome (answered (start c .args .file .now) (fileOf d (start c .args .file .now))) (start c .args .out .now)
+    → Outcome (answered (start c .args .file .now) (fileOf (rulesIn (start c .args .file .now)) (start c .args .file .now))) (start c .args .out .now)
     (c .read-and-write .result) (c .read-and-write .last .1 .1 .1 .1 .1 .0)
 answered-so c =
     outcome-of (start c .args .file .now) (replicate maxSatellites 0) (replicate maxSatellites 0) (replicate (mostComments * commentWidth) 0) (replicate (mostRows * rowWidth) (pos 0)) (start c .args .out .now)

@@ -15,12 +15,13 @@ returns c =
 returns-2 : tie.Need-returns-2
 returns-2 c =
     let written = c .before .before in
-    let tested = written .before .before .before .before .before .before .before in
+    let told = written .before .before .before .before .before .before in
+    let tested = told .before .before in
     let done = tested .before .before .before .before .before .before .before .before .before in
     let a = done .before .before .before .before .before .before .before .before .before .before .args in
     let p = done .read .ensures in
     then-written (a .file .now) (a .identifiers .now) (a .exponents .now) (a .comments .now) (a .rows .now)
-    (done .read .result) _ _ _ _ (written .write .result) (a .out .now) _
+    (done .read .result) (told .by .result) _ _ _ _ (written .write .result) (a .out .now) _ (told .by .ensures)
     (p .0) (p .1 .0) (p .1 .1 .0) (p .1 .1 .1 .0) (p .1 .1 .1 .1) (tested .if1 .left)
     (written .write .ensures .0) (written .write .ensures .1)
 
@@ -34,6 +35,7 @@ read-and-write-spec =
     (λ c. search needs)
     (λ c. search needs)
     returns
+    (λ c κs. search needs)
     (λ c κs. search needs)
     (λ c. search needs)
     (λ c. search needs)

@@ -9,7 +9,7 @@ use Rattle.row_walk.proofs.beginning.no_room.Tie as tie
 
 -- 12 beside a header
 abbrev twelve : Header → Reading
-twelve h = record { refusal = 12; line = 0; column = 0; length = 0; header = h }
+twelve h = record { refusal = 12; line = 0; column = 0; length = 0; header = h; version = 32 }
 
 returns : tie.Need-returns
 returns c = ap twelve (c .none .ensures)

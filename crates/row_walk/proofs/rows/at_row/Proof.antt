@@ -5,7 +5,6 @@ use Prim.Native.Nat.{_-_}
 use native.Mathlib.Omega.{arith}
 use borrow.Author.Needs.{needs}
 use lib.ListN.{length}
-use Rattle.header.specs.Rules.{d}
 use Rattle.row_walk.specs.Rows.{rowAhead}
 use Rattle.line_walk.specs.declared.Spot.{Spot}
 use Rattle.row_walk.proofs.Going.{Turn, turn, row-here}
@@ -13,27 +12,27 @@ use Rattle.row_walk.proofs.rows.at_row.Statement.{statement}
 use Rattle.row_walk.proofs.rows.at_row.Tie as tie
 
 abbrev Inv-loop : tie.InvT-loop
-Inv-loop file identifiers spot₀ spot = rowAhead d file identifiers spot ≡ rowAhead d file identifiers spot₀
+Inv-loop rules file identifiers spot₀ spot = rowAhead rules file identifiers spot ≡ rowAhead rules file identifiers spot₀
 
 abbrev μ-loop : tie.MeasureT-loop
-μ-loop file identifiers spot₀ spot = length file - spot .at
+μ-loop rules file identifiers spot₀ spot = length file - spot .at
 
 returns : tie.Need-returns Inv-loop μ-loop
 returns c =
     let at-loop = c .before .before in
     let a = at-loop .before .before .before .args in
-    row-here d (a .file .now) (a .identifiers .now) (at-loop .loop .spot) (sym (c .before .is-row-at .ensures) ∙ c .if1 .taken) ∙ at-loop .loop .inv
+    row-here (a .rules) (a .file .now) (a .identifiers .now) (at-loop .loop .spot) (sym (c .before .is-row-at .ensures) ∙ c .if1 .taken) ∙ at-loop .loop .inv
 
 -- the spot after the line
 turned : (c : tie.After-spot-past Inv-loop μ-loop) → let at-loop = c .before .before .before in
     let a = at-loop .before .before .before .args in
-    Turn d (a .file .now) (a .identifiers .now) (at-loop .loop .spot) (c .spot-past .result)
+    Turn (a .rules) (a .file .now) (a .identifiers .now) (at-loop .loop .spot) (c .spot-past .result)
 turned c =
     let at-loop = c .before .before .before in
     let a = at-loop .before .before .before .args in
-    subst (λ (p : Spot). Turn d (a .file .now) (a .identifiers .now) (at-loop .loop .spot) p)
+    subst (λ (p : Spot). Turn (a .rules) (a .file .now) (a .identifiers .now) (at-loop .loop .spot) p)
     (sym (c .spot-past .ensures))
-    (turn d (a .file .now) (a .identifiers .now) (at-loop .loop .spot) (sym (c .before .before .is-row-at .ensures) ∙ c .before .if1 .left))
+    (turn (a .rules) (a .file .now) (a .identifiers .now) (at-loop .loop .spot) (sym (c .before .before .is-row-at .ensures) ∙ c .before .if1 .left))
 
 returns-2 : tie.Need-returns-2 Inv-loop μ-loop
 returns-2 c = turned (c .before .before) .stays (c .if2 .taken) ∙ c .before .before .before .before .before .loop .inv

@@ -3,7 +3,8 @@
 use mathlib.Core.Path.{_≡_, refl, ap, _∙_}
 use Prim.Native.Nat.{ℕ}
 use borrow.Author.Needs.{needs}
-use Rattle.header.specs.Rules.{d}
+use Rattle.header.specs.Versions.{rulesIn}
+use Rattle.header.specs.declared.types.Rules.{Rules}
 use Rattle.row_walk.specs.Rows.{rowGiven, stepAt, rowStep}
 use Rattle.row_walk.specs.Told.{toldStep}
 use Rattle.machine.specs.declared.types.LineRead.{LineRead}
@@ -14,14 +15,17 @@ use Rattle.row_walk.proofs.rows.next_row.Statement.{statement}
 use Rattle.row_walk.proofs.rows.next_row.Tie as tie
 
 -- where the line at the spot of the next row has been read
-read : (c : tie.After-read-known) (w : LineRead) (x : RowStep) → c .read-known .result ≡ w
+read : (c : tie.After-read-by) (w : LineRead) (x : RowStep) → c .read-by .result ≡ w
     → let placed = c .before .before in
-    let a = placed .before .before .before .before .args in
-    x ≡ stepAt (a .file .now) (placed .at-row .result) (a .from .passed) w → toldStep x ≡ toldStep (rowStep d (a .file .now) (a .identifiers .now) (a .from))
+    let a = placed .before .before .before .before .before .args in
+    x ≡ stepAt (a .file .now) (placed .at-row .result) (a .from .passed) w → toldStep x ≡ toldStep (rowStep (rulesIn (a .file .now)) (a .file .now) (a .identifiers .now) (a .from))
 read c w x is so =
     let placed = c .before .before in
-    let a = placed .before .before .before .before .args in
-    steps-so d (a .file .now) (a .identifiers .now) (a .from) (placed .at-row .result) (placed .at-row .ensures) (c .read-known .result) w x (c .read-known .ensures) is so
+    let a = placed .before .before .before .before .before .args in
+    let rules = placed .before .told-by .result in
+    let told : rules ≡ rulesIn (a .file .now) = placed .before .told-by .ensures in
+    steps-so rules (a .file .now) (a .identifiers .now) (a .from) (placed .at-row .result) (placed .at-row .ensures) (c .read-by .result) w x (c .read-by .ensures) is so
+    ∙ ap (λ (r : Rules). toldStep (rowStep r (a .file .now) (a .identifiers .now) (a .from))) told
 
 returns : tie.Need-returns
 unfolding stepAt
@@ -43,7 +47,7 @@ returns-4 c =
     let told = c .before .before in
     let read-at = told .before .before .before in
     let placed = read-at .before .before in
-    let a = placed .before .before .before .before .args in
+    let a = placed .before .before .before .before .before .args in
     let there = told .before .end .given .0 in
     read read-at _ _ (told .before .end .given .1)
     (c .row-given .ensures
@@ -54,6 +58,7 @@ pub next-row-spec : {M : Type 1} → statement M
 next-row-spec =
     tie.close
     (tie.spec
+    (λ c κs. search needs)
     (λ c κs. search needs)
     (λ c κs. search needs)
     (λ c. search needs)

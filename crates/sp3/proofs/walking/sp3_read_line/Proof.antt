@@ -17,9 +17,9 @@ returns c =
     let a = ruled .before .before .before .before .args in (
       c .line-answer .ensures
           ∙ ap (lineDoor (a .spot)) (toldRead-one _ _ (done .read-line .ensures .0
-          ∙ ap (λ (k : Rules). toldRead (lineRead k (a .bytes .now) (a .spot .at) (a .spot .state) (a .identifiers .now))) (ruled .d .ensures))),
+          ∙ ap (λ (k : Rules). toldRead (lineRead k (a .bytes .now) (a .spot .at) (a .spot .state) (a .identifiers .now))) (ruled .told-by .ensures))),
       done .read-line .ensures .1
-          ∙ ap (λ (k : Rules). lineIdentifiers k (a .bytes .now) (a .spot .at) (a .spot .state) (a .identifiers .now)) (ruled .d .ensures),
+          ∙ ap (λ (k : Rules). lineIdentifiers k (a .bytes .now) (a .spot .at) (a .spot .state) (a .identifiers .now)) (ruled .told-by .ensures),
     )
 
 pub sp3-read-line-spec : {M : Type 1} → statement M
