@@ -1,5 +1,5 @@
 #!/usr/bin/env python3
-"""Makes the sample files of this folder, from 01 and the SP3-d document alone; every byte is the same on every machine.
+"""Makes the sample files of this folder, from 01, 02 and the SP3-d document alone; every byte is the same on every machine.
 
     python3 samples/make.py          writes them
     python3 samples/make.py check    compares the stored files with what it makes; ends with 1 at a difference
@@ -7,7 +7,7 @@
 paper.sp3 is the file that 01 prints, and late.sp3 the same with its epoch a quarter of an hour late, which is refused with 9 at line 23. The others
 are made up: circles of 26,560 km at 55 degrees around a turning Earth, in Earth-fixed coordinates. velocity.sp3 and correlations.sp3 have EP and EV
 records, the second of every kind. six-nines.sp3 has absent clocks and rates in every spelling, beside clocks at their ends. combined.sp3 has as many
-satellites as a file can have. six-nines.sp3 and the second file of season.sp3 are no canonical forms.
+satellites as a file can have. station.sp3 is in SP3-c, for an older station. six-nines.sp3 and the second file of season.sp3 are no canonical forms.
 `tests/desk/run.py` takes the numbers of the files from here, to know what the desk tool must print.
 """
 import datetime
@@ -45,10 +45,11 @@ class Row:
 
 
 class Model:
-    """What a file holds. `rows[epoch][satellite]` is a list of one Row, of a P and a V row in mode V; times in seconds."""
+    """What a file holds, and the letter of its version. `rows[epoch][satellite]` is a list of one Row, of a P and a V row in mode V; times in
+    seconds."""
 
-    def __init__(self, mode, start, interval, satellites, accuracies, comments, rows, texts=("ORBIT", "IGS20", "FIT", "MADE")):
-        self.mode, self.start, self.interval, self.texts = mode, start, interval, texts
+    def __init__(self, mode, start, interval, satellites, accuracies, comments, rows, texts=("ORBIT", "IGS20", "FIT", "MADE"), version="d"):
+        self.mode, self.start, self.interval, self.texts, self.version = mode, start, interval, texts, version
         self.satellites, self.accuracies, self.comments, self.rows = satellites, accuracies, comments, rows
 
     def instant(self, epoch):
@@ -232,6 +233,24 @@ def combined_row(k, name):
     return Row(place, time, exponents, flags)
 
 
+def station():
+    """Eight epochs over a midnight of six satellites, in SP3-c; the longest comment line has its 60 characters. One satellite is withdrawn for a
+    part, another has no clock."""
+    names = ["G01", "G04", "G07", "G20", "R05", "R24"]
+    rows = [[[station_row(epoch, k)] for k in range(len(names))] for epoch in range(8)]
+    comments = ["MADE UP: FOR AN OLDER STATION, IN SP3-C. ORBITS: CIRCLES.", "G04 IS WITHDRAWN FROM 00:00 TO 00:30. R24 HAS NO CLOCK.",
+                "THE LAST TWO EPOCHS ARE PREDICTED.", ""]
+    return Model("P", datetime.datetime(2024, 10, 31, 23, 15), 900, names, [3, 4, 3, 5, 6, 0], comments, rows, version="c")
+
+
+def station_row(epoch, k):
+    if k == 1 and 3 <= epoch < 6:
+        return Row(None, None)
+    time = None if k == 5 else clock(k, 900 * epoch)[0]
+    predicted = "P" if epoch >= 6 else " "
+    return Row(circle(k, 900 * epoch)[0], time, (7 + k, 6 + epoch % 3, 8, None if time is None else 90 + k), f" {predicted} {predicted}")
+
+
 def season():
     """Three small files for one stretch; the second has its lines filled up with blanks."""
     starts = [datetime.datetime(2024, 3, 31, 23, 59, 30), datetime.datetime(2024, 6, 30), datetime.datetime(2024, 9, 30, 12)]
@@ -264,7 +283,7 @@ def first_lines(model):
     week, days = divmod(mjd - GPS_ZERO, 7)
     fraction = (2 * time * 10**13 + DAY) // (2 * DAY)
     data, coordinates, orbit, agency = model.texts
-    return [f"#d{model.mode}{date_and_time(model.start)} {len(model.rows):7} {data:5} {coordinates:5} {orbit:3} {agency:4}",
+    return [f"#{model.version}{model.mode}{date_and_time(model.start)} {len(model.rows):7} {data:5} {coordinates:5} {orbit:3} {agency:4}",
             f"## {week:4} {fixed((days * DAY + time) * 10**8, 8, 15)} {fixed(model.interval * 10**8, 8, 14)} {mjd:5} {fixed(fraction, 13, 15)}"]
 
 
@@ -347,7 +366,8 @@ def late_lines():
 def samples():
     return {"paper.sp3": joined(paper_lines()), "late.sp3": joined(late_lines()), "day.sp3": joined(file_lines(day())),
             "velocity.sp3": joined(file_lines(velocity())), "correlations.sp3": joined(file_lines(correlations())),
-            "six-nines.sp3": joined(six_nines_lines()), "combined.sp3": joined(file_lines(combined())), "season.sp3": b"".join(season_files())}
+            "six-nines.sp3": joined(six_nines_lines()), "combined.sp3": joined(file_lines(combined())), "station.sp3": joined(file_lines(station())),
+            "season.sp3": b"".join(season_files())}
 
 
 def main(words):

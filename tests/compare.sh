@@ -7,8 +7,9 @@
 # compares the doors for C (tests/doors.c over target/staticlib/libsp3.a) in all four formats, first on the cases worked out by hand (`hand`, below),
 # then on generated inputs: without arguments seed 1 and 20,000 inputs, of which 8,000 are files (`tables`), 5,000 files and tables to be written
 # (`forms`), 6,000 stretches to be divided, walked and read by lines (`divide`) and 1,000 dates, instants and identifiers (`dates`). A seed always
-# makes the same inputs. Prints the seed, how often each number of the paper's table was the answer to each question, and in all. Ends with 1 at a
-# difference, and, for 20,000 inputs or more, where one of the numbers 1 to 13 was the answer fewer than 50 times.
+# makes the same inputs. Of the files two in five are in SP3-c, and half of the writings are. Prints the seed, how often each number was the answer to
+# each question, and in all. Ends with 1 at a difference, and, for 20,000 inputs or more, where one of the numbers 1 to 13 and 17 was the answer fewer
+# than 50 times.
 #
 #   tests/compare.sh case FORMAT SEED NUMBER       shows one of these inputs and what both sides answer
 #
@@ -21,7 +22,7 @@
 #   tests/compare.sh columns
 #   tests/compare.sh case columns NUMBER
 #
-# compares the doors on some 37,000 files that differ from an accepted one in one line: in a row, an EP or an EV every class of bytes in each of its
+# compares the doors on some 39,000 files that differ from an accepted one in one line: in a row, an EP or an EV every class of bytes in each of its
 # columns, and pairs of bytes side by side; some bytes in each column of the other lines; identifiers that make the same number; a line once more.
 # They are always the same. A difference is shown at once; the second shows any.
 #
@@ -112,11 +113,12 @@ compare_format() {
 # the sum over all formats and questions, and whether each refusal occurred often enough
 sum_up() {
     awk -v count="$1" '
-        NF == 15 && $1 != "number" { for (n = 0; n <= 13; n++) sum[n] += $(n + 2) }
+        NF == 16 && $1 == "number" { for (n = 2; n <= 16; n++) number[n] = $n }
+        NF == 16 && $1 != "number" { for (n = 2; n <= 16; n++) sum[n] += $n }
         END {
-            printf "number    "; for (n = 0; n <= 13; n++) printf "%7d", n; print ""
-            printf "in all    "; for (n = 0; n <= 13; n++) printf "%7d", sum[n]; print ""
-            for (n = 1; n <= 13; n++) if (count >= 20000 && sum[n] < 50) { print n " was the answer fewer than 50 times"; few = 1 }
+            printf "number    "; for (n = 2; n <= 16; n++) printf "%7d", number[n]; print ""
+            printf "in all    "; for (n = 2; n <= 16; n++) printf "%7d", sum[n]; print ""
+            for (n = 3; n <= 16; n++) if (count >= 20000 && sum[n] < 50) { print number[n] " was the answer fewer than 50 times"; few = 1 }
             exit few
         }' "$work/all"
 }

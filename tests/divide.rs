@@ -1,5 +1,5 @@
-//! A divider of stretches and a walker of SP3-d files, written from the
-//! documents. Where they are silent it follows the definitions: in what the
+//! A divider of stretches and a walker of files, of SP3-d and SP3-c, written from
+//! the documents. Where they are silent it follows the definitions: in what the
 //! state of a spot between two lines is (the kind of line due, satellites and
 //! epochs still to come), in what identifiers other than the file's do in a walk
 //! over rows, and in what is told of the line that must come next.
@@ -44,7 +44,7 @@
 //! length L                      of each file
 //! kept                          every lent place past them holds the mark
 //! (the rest only where WALK is 1)
-//! begin R LINE COLUMN LENGTH SATELLITES EPOCHS
+//! begin R LINE COLUMN LENGTH SATELLITES EPOCHS |V|
 //! identifier G07                each identifier
 //! kept
 //! row E S at X Y Z CLOCK        each P row; `absent` in place of `at X Y Z`
@@ -68,12 +68,15 @@
 //!
 //! At `spot` and `then` K is 0, 1, 3, half of the lines, all (`then` before
 //! `spot`), five more, and there is room for 999 identifiers. AT is the byte,
-//! DUE the record that must stand there (1 `#d` to 14 `EOF` in their order),
+//! DUE the record that must stand there (1 the first line to 14 `EOF` in their order),
 //! LEFT how many satellites have their slot, or their rows of this epoch, still
 //! to come, EPOCHS how many epochs are still to come.
 //!
+//! V is the letter of the version, a blank beside a refusal. A division chooses the
+//! version anew at each file, a walk and a reading by lines by the first bytes.
+//!
 //! KIND is the record that must come next, ALSO the one that may stand before it
-//! (0 for none): a comment after four, EP after P, EV after V. INSTANT is that of
+//! (0 for none): a comment after four (not in c), EP after P, EV after V. INSTANT is that of
 //! the epoch that must come, IDENTIFIER the satellite (7107) that the row that must
 //! come must name; 0 where none must, IDENTIFIER also where fewer are lent. REPEATS
 //! is 1 where a `+ ` line is due and the line there, LF and all, is refused with 8
@@ -83,15 +86,15 @@
 //! EP and EV are lines like others: they are judged, and a row is met before the
 //! note after it.
 //!
-//! "The paper" is 01-scope.md as requests 1 to 3 and 6 of 02-change-requests.md
+//! "The paper" is 01-scope.md as requests 1 to 3, 6 and 9 of 02-change-requests.md
 //! changed it, "000" is the SP3-d document.
 
 #[allow(dead_code)]
 #[path = "files.rs"]
 mod files;
 
-use files::lines::{Line, Random, Reader, Tally, SYMBOLS};
-use files::{generated, once_in};
+use files::lines::{Line, Random, Reader, Tally, Version, SYMBOLS};
+use files::{generated, once_in, AS_C, AS_D, COMMENT_60, COMMENT_61};
 use files::{Base, Compared, Edit, Refusal, Row, Table, BARE, MOST_SATELLITES, NOTE, NO_ROOM};
 
 // ---------------------------------------------------------------------------
@@ -194,7 +197,7 @@ fn number_in(line: &[u8], first: usize, last: usize) -> usize {
     files::show_text(&line[first - 1..last]).trim().parse().unwrap_or_default()
 }
 
-/// The number of a record: 1 for `#d` to 14 for `EOF`.
+/// The number of a record: 1 for the first line to 14 for `EOF`.
 fn number_of(record: &str) -> usize {
     SYMBOLS.iter().position(|&symbol| symbol == record).map_or(0, |place| place + 1)
 }
@@ -215,24 +218,26 @@ impl Due {
     }
 }
 
-/// Lines without fault from the front of a file.
-struct Passed<'a>(Vec<&'a [u8]>);
+/// Lines without fault from the front of a file, of the version that it tells.
+struct Passed<'a>(Vec<&'a [u8]>, Version);
 
 impl Passed<'_> {
     fn of(bytes: &[u8], count: usize) -> Passed<'_> {
         let lines = bytes.split_inclusive(|&c| c == b'\n').take(count);
-        Passed(lines.map(|line| &line[..line.len() - 1]).collect())
+        let lines = lines.map(|line| &line[..line.len() - 1]).collect();
+        Passed(lines, Version::told_by(bytes))
     }
 
-    /// How many of them are this record.
+    /// How many of them are this record; the first line has the version's letter.
     fn count(&self, record: &str) -> usize {
-        self.0.iter().filter(|line| Line::padded(line).begins(record)).count()
+        let symbol = if record == SYMBOLS[0] { self.1.symbol() } else { record };
+        self.0.iter().filter(|line| Line::padded(line).begins(symbol)).count()
     }
 
     /// Those after the last epoch header; none before the first.
     fn in_epoch(&self) -> Passed<'_> {
         let header = self.0.iter().rposition(|line| Line::padded(line).begins("* "));
-        Passed(self.0[header.map_or(self.0.len(), |place| place + 1)..].to_vec())
+        Passed(self.0[header.map_or(self.0.len(), |place| place + 1)..].to_vec(), self.1)
     }
 
     fn length(&self) -> usize {
@@ -271,12 +276,13 @@ impl Passed<'_> {
         }
     }
 
-    /// "Four or more comments", "one EP at most", "one EV at most": the record
-    /// that may stand here before the one that is due.
+    /// "Four or more comments" ("exactly four" in c), "one EP at most", "one EV at most":
+    /// the record that may stand here before the one that is due.
     fn also(&self) -> Option<&'static str> {
         let last = Line::padded(self.0.last()?);
+        let more = self.1.allows_more_than_four();
         match () {
-            _ if last.begins("/*") && self.count("/*") >= 4 => Some("/*"),
+            _ if last.begins("/*") && self.count("/*") >= 4 => more.then_some("/*"),
             _ if last.begins("P") => Some("EP"),
             _ if last.begins("V") => Some("EV"),
             _ => None,
@@ -287,12 +293,12 @@ impl Passed<'_> {
     /// refused with 8 though its columns are right: its identifiers and those before
     /// are not "all different".
     fn repeats(&self, rest: &[u8], identifiers: &[u64]) -> bool {
-        let Ok(text) = files::Lines::new(rest).take() else {
+        let Ok(text) = files::Lines::of(self.1, rest).take() else {
             return false;
         };
         let mut reader = Reader::new(text);
         let line = match self.count("+ ") {
-            0 => files::lines::read_first_satellites(&mut reader),
+            0 => files::lines::read_first_satellites(&mut reader, self.1),
             _ => files::lines::read_further_satellites(&mut reader, self.left()),
         };
         let brought = identifiers.len().min(self.said().0 - self.left());
@@ -432,10 +438,22 @@ impl Case {
     fn show_walked(&self) -> String {
         let begun = begin(&self.stretch, self.identifier_room);
         let identifiers = begun.as_ref().map_or(&self.identifiers, |(table, _)| &table.identifiers);
-        show_begun(&begun)
+        self.show_begun(&begun)
             + &show_rows(&walk_rows(&self.stretch, identifiers))
             + &show_spots(&walk(&self.stretch, MOST_SATELLITES), &self.identifiers)
             + &show_short(&walk(&self.stretch, self.identifier_room))
+    }
+
+    fn show_begun(&self, begun: &Result<(Table, usize), Refusal>) -> String {
+        let version = files::show_version(&self.stretch, begun.is_ok());
+        match begun {
+            Err(refusal) => format!("begin {} 0 0 0 {version}\nkept\n", refusal.show()),
+            Ok((table, length)) => {
+                let identifiers = &table.identifiers;
+                let counts = format!("{} {} {version}", identifiers.len(), table.epochs);
+                format!("begin 0 0 0 {length} {counts}\n{}", show_identifiers(identifiers))
+            }
+        }
     }
 }
 
@@ -466,17 +484,6 @@ fn show_identifiers(identifiers: &[u64]) -> String {
     let shown =
         identifiers.iter().map(|&number| format!("identifier {}\n", files::show_code(number)));
     shown.collect::<String>() + "kept\n"
-}
-
-fn show_begun(begun: &Result<(Table, usize), Refusal>) -> String {
-    match begun {
-        Err(refusal) => format!("begin {} 0 0 0\nkept\n", refusal.show()),
-        Ok((table, length)) => {
-            let identifiers = &table.identifiers;
-            let counts = format!("{} {}", identifiers.len(), table.epochs);
-            format!("begin 0 0 0 {length} {counts}\n{}", show_identifiers(identifiers))
-        }
-    }
 }
 
 fn show_row(row: &Row) -> String {
@@ -572,6 +579,17 @@ const X: Part = File(Paper, &[Put(24, 61, "x")]);
 const CUT_ROW: &str = "PG07   5000.000001     -0.500000      0.000000 999999.";
 const C: Part = File(Paper, &[Whole(24, CUT_ROW)]);
 
+/// The same of version c, and one of each refused by its rules and accepted by those of d: a
+/// comment line of 61 characters (its file in d has 1,266 bytes), five comments (1,218).
+const PC: Part = File(Paper, &[AS_C]);
+const NC: Part = File(Night, &[AS_C]);
+const MC: Part = File(Motion, &[AS_C]);
+const XC: Part = File(Paper, &[AS_C, Put(24, 61, "x")]);
+const LONG: Part = File(Paper, &[Whole(19, COMMENT_61)]);
+const LONG_C: Part = File(Paper, &[AS_C, Whole(19, COMMENT_61)]);
+const FIVE: Part = File(Paper, &[Insert(23, "/*")]);
+const FIVE_C: Part = File(Paper, &[AS_C, Insert(23, "/*")]);
+
 /// Parts and room; refusal, line, column, number of files, where the rest begins;
 /// lengths.
 type Divided = (&'static [Part], usize, [usize; 5], &'static [usize]);
@@ -614,7 +632,11 @@ const DIVIDED: &[Divided] = &[
     (&[C, P, C], 3, [0, 0, 0, 3, 3633], &[1209, 1215, 1209]),
     (&[C, C], 1, [12, 0, 0, 0, 0], &[]),
     (
-        &[P, File(Motion, &[Whole(29, "VG02      0.000000      0.000000      0.000000 999999.")]), P],
+        &[
+            P,
+            File(Motion, &[Whole(29, "VG02      0.000000      0.000000      0.000000 999999.")]),
+            P,
+        ],
         3,
         [0, 0, 0, 3, 4029],
         &[1215, 1599, 1215],
@@ -659,7 +681,8 @@ const DIVIDED: &[Divided] = &[
     (&[P, Bytes(b"\n"), P], 2, [4, 1, 0, 1, 1215], &[1215]),
     (&[P, Bytes(b"EP\n"), P], 2, [4, 1, 0, 1, 1215], &[1215]),
     (&[P, Bytes(b"#dP\n")], 1, [6, 1, 4, 1, 1215], &[1215]),
-    (&[P, Bytes(b"#cP\n")], 1, [4, 1, 0, 1, 1215], &[1215]),
+    (&[P, Bytes(b"#cP\n")], 1, [6, 1, 4, 1, 1215], &[1215]),
+    (&[P, Bytes(b"#aP\n")], 1, [4, 1, 0, 1, 1215], &[1215]),
     // A last LF that is missing: of the last file, of one before another.
     (&[File(Paper, &[Join(25)])], 1, [1, 25, 0, 0, 0], &[]),
     (&[N, File(Paper, &[Join(25)])], 2, [1, 25, 0, 1, 1636], &[1636]),
@@ -738,6 +761,45 @@ const DIVIDED: &[Divided] = &[
     (&[P, File(ManyFile(255), &[Join(299)])], 2, [1, 299, 0, 1, 1215], &[1215]),
 ];
 
+/// Request 9: "demand 3 then reads accepted files of both versions mixed". The version is
+/// chosen anew at each file's first byte.
+const MIXED: &[Divided] = &[
+    (&[PC], 1, [0, 0, 0, 1, 1215], &[1215]),
+    (&[PC, PC], 2, [0, 0, 0, 2, 2430], &[1215, 1215]),
+    (&[PC, P], 2, [0, 0, 0, 2, 2430], &[1215, 1215]),
+    (&[P, PC], 2, [0, 0, 0, 2, 2430], &[1215, 1215]),
+    (&[PC, N, MC], 3, [0, 0, 0, 3, 4456], &[1215, 1636, 1605]),
+    (&[P, NC, M], 3, [0, 0, 0, 3, 4456], &[1215, 1636, 1605]),
+    (&[PC, N, MC], 2, [12, 0, 0, 0, 0], &[]),
+    (&[P, NC, M, PC, N], 5, [0, 0, 0, 5, 7307], &[1215, 1636, 1605, 1215, 1636]),
+    // A damaged file of the other version; the files after it don't count.
+    (&[PC, X], 2, [5, 24, 61, 1, 1215], &[1215]),
+    (&[P, XC], 2, [5, 24, 61, 1, 1215], &[1215]),
+    (&[NC, X, PC], 3, [5, 24, 61, 1, 1636], &[1636]),
+    (&[PC, File(Paper, &[Join(25)])], 2, [1, 25, 0, 1, 1215], &[1215]),
+    (&[PC, File(Paper, &[AS_C, Join(25)]), P], 3, [5, 25, 4, 1, 1215], &[1215]),
+    // What only d allows: after a file of either version, and before one.
+    (&[PC, LONG, PC], 3, [0, 0, 0, 3, 3696], &[1215, 1266, 1215]),
+    (&[LONG, PC], 2, [0, 0, 0, 2, 2481], &[1266, 1215]),
+    (&[P, LONG_C, P], 3, [3, 19, 61, 1, 1215], &[1215]),
+    (&[LONG, LONG_C], 2, [3, 19, 61, 1, 1266], &[1266]),
+    (&[LONG_C, P], 2, [3, 19, 61, 0, 0], &[]),
+    (&[PC, FIVE, PC], 3, [0, 0, 0, 3, 3648], &[1215, 1218, 1215]),
+    (&[P, FIVE_C, P], 3, [4, 23, 0, 1, 1215], &[1215]),
+    (&[FIVE, FIVE_C, PC], 3, [4, 23, 0, 1, 1218], &[1218]),
+    (&[PC, File(ManyFile(86), &[])], 2, [0, 0, 0, 2, 7737], &[1215, 6522]),
+    (&[File(ManyFile(86), &[]), PC], 2, [0, 0, 0, 2, 7737], &[6522, 1215]),
+    (&[P, File(ManyFile(85), &[AS_C]), P], 3, [0, 0, 0, 3, 8769], &[1215, 6339, 1215]),
+    (&[P, File(ManyFile(86), &[AS_C, Keep(12)])], 2, [7, 3, 4, 1, 1215], &[1215]),
+    // Rests: the first bytes of a file of c, `#C`, `#a`, `##`; a comment of 61 is no c file.
+    (&[PC, Bytes(b"#c")], 2, [1, 1, 0, 1, 1215], &[1215]),
+    (&[PC, Bytes(b"#c\n")], 2, [6, 1, 3, 1, 1215], &[1215]),
+    (&[PC, Bytes(b"#C\n")], 2, [4, 1, 0, 1, 1215], &[1215]),
+    (&[PC, Bytes(b"##\n"), PC], 2, [4, 1, 0, 1, 1215], &[1215]),
+    (&[PC, Bytes(b"/*"), Many(b' ', 59), Bytes(b"\n")], 2, [4, 1, 0, 1, 1215], &[1215]),
+    (&[PC, Bytes(b"\n"), PC], 2, [4, 1, 0, 1, 1215], &[1215]),
+];
+
 /// Files of more than 255 satellites; these aren't stored. One of 256 has 18,112 bytes,
 /// one of 999 has 68,681, its `+ ` lines being 3 to 61, its rows 132 to 1130.
 const MANY_DIVIDED: &[Divided] = &[
@@ -775,12 +837,138 @@ type Walked = (Base, &'static [Edit], usize, &'static [u64], &'static [&'static 
 
 /// A clock of the paper's file that is malformed, and a rate of `motion`.
 const SIX_IN_P: &[&str] =
-    &["begin 6 24 47 0 0 0", "kept", "refused 6 line 24 column 47", "spot 25 1150 10 1 0"];
+    &["begin 6 24 47 0 0 0 | |", "kept", "refused 6 line 24 column 47", "spot 25 1150 10 1 0"];
 const SIX_IN_V: &[&str] = &[
-    "begin 6 26 47 0 0 0",
+    "begin 6 26 47 0 0 0 | |",
     "row 0 0 at -11044805800 -10475672350 21929418200 189163300",
     "refused 6 line 26 column 47",
     "spot 30 1305 11 2 0",
+];
+
+/// Files of version c. What is due after their four comments is the epoch alone.
+const OLDER_WALKED: &[Walked] = &[
+    (
+        Paper,
+        &[AS_C],
+        1,
+        &[],
+        &[
+            "begin 0 0 0 1215 1 1 |c|",
+            "identifier G07",
+            "kept",
+            "row 0 0 at 5000000001 -500000 0 absent",
+            "end",
+            "spot 0 0 1 0 0",
+            "spot 1 61 2 0 1",
+            "spot 3 183 3 0 1",
+            "spot 12 732 5 0 1",
+            "then 25 1211 14 0 0",
+            "spot 25 1211 14 0 0",
+            "spot 30 1211 14 0 0",
+            "due 14 12 0 0 0",
+            "short 25 1211 14 0 0",
+        ],
+    ),
+    (
+        Motion,
+        &[AS_C],
+        2,
+        &[],
+        &[
+            "begin 0 0 0 1605 2 1 |c|",
+            "row 0 0 at -11044805800 -10475672350 21929418200 189163300",
+            "row 0 1 at -12593593500 10170327650 -20354534400 -55976000",
+            "end",
+        ],
+    ),
+    // A fifth comment: refused there, and none may stand there; in d an epoch may be wrong.
+    (
+        Paper,
+        &[AS_C, Insert(23, "/*")],
+        1,
+        &[7107],
+        &[
+            "begin 4 23 0 0 0 0 | |",
+            "kept",
+            "refused 4 line 23 column 0",
+            "spot 26 1118 9 0 1",
+            "due 9 0 487166400000000000 0 0",
+            "given 9 0 487166400000000000 0 0",
+        ],
+    ),
+    (
+        Paper,
+        &[Insert(23, "EP")],
+        1,
+        &[7107],
+        &["begin 4 23 0 0 0 0 | |", "spot 26 1118 9 0 1", "due 9 8 487166400000000000 0 0"],
+    ),
+    (
+        Paper,
+        &[AS_C, Insert(23, "EP")],
+        1,
+        &[7107],
+        &["begin 4 23 0 0 0 0 | |", "spot 26 1118 9 0 1", "due 9 0 487166400000000000 0 0"],
+    ),
+    // A `/*` line of 61 characters, in its place and out of it.
+    (
+        Paper,
+        &[AS_C, Whole(19, COMMENT_61)],
+        1,
+        &[7107],
+        &["begin 3 19 61 0 0 0 | |", "refused 3 line 19 column 61", "spot 25 1098 8 0 1"],
+    ),
+    (
+        Paper,
+        &[AS_C, Insert(24, COMMENT_61)],
+        1,
+        &[7107],
+        &["begin 3 24 61 0 0 0 | |", "refused 3 line 24 column 61", "spot 26 1150 10 1 0"],
+    ),
+    (
+        Paper,
+        &[AS_C, Whole(22, COMMENT_60)],
+        1,
+        &[],
+        &["begin 0 0 0 1273 1 1 |c|", "end", "spot 25 1269 14 0 0"],
+    ),
+    // 85 satellites; 86, whose first `+ ` line is refused.
+    (
+        ManyFile(85),
+        &[AS_C],
+        85,
+        &[],
+        &["begin 0 0 0 6339 85 1 |c|", "identifier G85", "row 0 84 at 84000001 -500000 0 1000000"],
+    ),
+    (
+        ManyFile(86),
+        &[AS_C],
+        86,
+        &[7101],
+        &["begin 7 3 4 0 0 0 | |", "refused 7 line 3 column 4", "spot 3 122 3 0 1"],
+    ),
+    (
+        ManyFile(20),
+        &[AS_C, Put(4, 10, "G17")],
+        20,
+        &[],
+        &["begin 8 4 0 0 0 0 | |", "due 3 0 0 0 1", "given 3 0 0 0 0"],
+    ),
+    // A file of the other version after it isn't met.
+    (
+        Paper,
+        &[AfterItself, AS_C],
+        1,
+        &[7107],
+        &["begin 11 26 0 0 0 0 | |", "row 0 0 at 5000000001 -500000 0 absent", "end"],
+    ),
+    (
+        Paper,
+        &[AS_C, AfterItself, AS_D],
+        1,
+        &[7107],
+        &["begin 11 26 0 0 0 0 | |", "row 0 0 at 5000000001 -500000 0 absent", "end"],
+    ),
 ];
 
 const WALKED: &[Walked] = &[
@@ -790,7 +978,7 @@ const WALKED: &[Walked] = &[
         1,
         &[],
         &[
-            "begin 0 0 0 1215 1 1",
+            "begin 0 0 0 1215 1 1 |d|",
             "identifier G07",
             "kept",
             "row 0 0 at 5000000001 -500000 0 absent",
@@ -813,7 +1001,7 @@ const WALKED: &[Walked] = &[
         9,
         &[],
         &[
-            "begin 0 0 0 1636 2 3",
+            "begin 0 0 0 1636 2 3 |d|",
             "identifier G07",
             "identifier R24",
             "kept",
@@ -836,7 +1024,7 @@ const WALKED: &[Walked] = &[
         2,
         &[],
         &[
-            "begin 0 0 0 1605 2 1",
+            "begin 0 0 0 1605 2 1 |d|",
             "identifier G01",
             "identifier G02",
             "kept",
@@ -853,7 +1041,7 @@ const WALKED: &[Walked] = &[
         3,
         &[],
         &[
-            "begin 0 0 0 1443 2 1",
+            "begin 0 0 0 1443 2 1 |d|",
             "row 0 0 at -11044805800 -10475672350 21929418200 189163300",
             "row 0 1 at -12593593500 10170327650 -20354534400 -55976000",
             "end",
@@ -866,7 +1054,7 @@ const WALKED: &[Walked] = &[
         1,
         &[],
         &[
-            "begin 0 0 0 1296 1 1",
+            "begin 0 0 0 1296 1 1 |d|",
             "row 0 0 at 5000000001 -500000 0 absent",
             "end",
             "then 26 1292 14 0 0",
@@ -879,7 +1067,7 @@ const WALKED: &[Walked] = &[
         1,
         &[7107],
         &[
-            "begin 5 25 3 0 0 0",
+            "begin 5 25 3 0 0 0 | |",
             "kept",
             "row 0 0 at 5000000001 -500000 0 absent",
             "refused 5 line 25 column 3",
@@ -893,7 +1081,7 @@ const WALKED: &[Walked] = &[
         1,
         &[7107],
         &[
-            "begin 6 25 73 0 0 0",
+            "begin 6 25 73 0 0 0 | |",
             "row 0 0 at 5000000001 -500000 0 absent",
             "refused 6 line 25 column 73",
         ],
@@ -904,7 +1092,7 @@ const WALKED: &[Walked] = &[
         2,
         &[7101, 7102],
         &[
-            "begin 7 25 46 0 0 0",
+            "begin 7 25 46 0 0 0 | |",
             "row 0 0 at -11044805800 -10475672350 21929418200 189163300",
             "refused 7 line 25 column 46",
             "spot 30 1224 11 2 0",
@@ -916,7 +1104,7 @@ const WALKED: &[Walked] = &[
         2,
         &[7101, 7102],
         &[
-            "begin 5 27 3 0 0 0",
+            "begin 5 27 3 0 0 0 | |",
             "row 0 0 at -11044805800 -10475672350 21929418200 189163300",
             "refused 5 line 27 column 3",
             "spot 30 1379 10 1 0",
@@ -980,7 +1168,7 @@ const WALKED: &[Walked] = &[
         1,
         &[],
         &[
-            "begin 0 0 0 1209 1 1",
+            "begin 0 0 0 1209 1 1 |d|",
             "row 0 0 at 5000000001 -500000 0 absent",
             "end",
             "then 25 1205 14 0 0",
@@ -1000,7 +1188,7 @@ const WALKED: &[Walked] = &[
         2,
         &[],
         &[
-            "begin 0 0 0 1630 2 3",
+            "begin 0 0 0 1630 2 3 |d|",
             "row 0 0 at 15000000000 -20000500000 0 absent",
             "row 0 1 absent absent",
             "row 1 0 absent absent",
@@ -1024,7 +1212,7 @@ const WALKED: &[Walked] = &[
         2,
         &[],
         &[
-            "begin 0 0 0 1636 2 3",
+            "begin 0 0 0 1636 2 3 |d|",
             "row 0 0 at 15000000000 -20000500000 0 999998999999",
             "row 0 1 absent -999999000000",
             "row 1 0 absent -999999999999",
@@ -1048,7 +1236,7 @@ const WALKED: &[Walked] = &[
         2,
         &[],
         &[
-            "begin 0 0 0 1763 2 2",
+            "begin 0 0 0 1763 2 2 |d|",
             "row 0 0 at 123456789012 234567890123 999999999999 987654321098",
             "row 0 1 absent absent",
             "row 1 0 at -12500000 -23456789012 -3456789012 -999999000000",
@@ -1067,7 +1255,7 @@ const WALKED: &[Walked] = &[
         ],
         2,
         &[],
-        &["begin 0 0 0 1769 2 2", "row 1 1 at 12500000 1000000 -500000 absent", "end"],
+        &["begin 0 0 0 1769 2 2 |d|", "row 1 1 at 12500000 1000000 -500000 absent", "end"],
     ),
     // Neither absent nor a decimal, in P and in V.
     (Paper, &[Put(24, 47, "-999999.      ")], 1, &[7107], SIX_IN_P),
@@ -1092,7 +1280,7 @@ const WALKED: &[Walked] = &[
         &[Put(24, 47, "1000000.000000")],
         1,
         &[7107],
-        &["begin 7 24 47 0 0 0", "kept", "refused 7 line 24 column 47", "spot 25 1150 10 1 0"],
+        &["begin 7 24 47 0 0 0 | |", "kept", "refused 7 line 24 column 47", "spot 25 1150 10 1 0"],
     ),
     (
         Motion,
@@ -1100,7 +1288,7 @@ const WALKED: &[Walked] = &[
         2,
         &[7101, 7102],
         &[
-            "begin 7 26 47 0 0 0",
+            "begin 7 26 47 0 0 0 | |",
             "row 0 0 at -11044805800 -10475672350 21929418200 189163300",
             "refused 7 line 26 column 47",
         ],
@@ -1119,14 +1307,14 @@ const WALKED: &[Walked] = &[
         &[Put(24, 5, " 999999.      ")],
         1,
         &[7107],
-        &["begin 6 24 5 0 0 0", "kept", "refused 6 line 24 column 5"],
+        &["begin 6 24 5 0 0 0 | |", "kept", "refused 6 line 24 column 5"],
     ),
     (
         Paper,
         &[Put(24, 47, " 999999.      0")],
         1,
         &[7107],
-        &["begin 5 24 61 0 0 0", "kept", "refused 5 line 24 column 61"],
+        &["begin 5 24 61 0 0 0 | |", "kept", "refused 5 line 24 column 61"],
     ),
     (
         Motion,
@@ -1140,7 +1328,7 @@ const WALKED: &[Walked] = &[
         &[Put(24, 2, "G08"), Put(24, 47, " 999999.      ")],
         1,
         &[7107],
-        &["begin 10 24 0 0 0 0", "kept", "refused 10 line 24 column 0"],
+        &["begin 10 24 0 0 0 0 | |", "kept", "refused 10 line 24 column 0"],
     ),
     // Too little room: 12 with line 0, and the identifiers that are given; the walker
     // stays at the `+ ` line that brings too many.
@@ -1150,7 +1338,7 @@ const WALKED: &[Walked] = &[
         1,
         &[7107, 8224],
         &[
-            "begin 12 0 0 0 0 0",
+            "begin 12 0 0 0 0 0 | |",
             "kept",
             "row 0 0 at 15000000000 -20000500000 0 123456789",
             "end",
@@ -1179,7 +1367,7 @@ const WALKED: &[Walked] = &[
         0,
         &[7107],
         &[
-            "begin 12 0 0 0 0 0",
+            "begin 12 0 0 0 0 0 | |",
             "kept",
             "row 0 0 at 5000000001 -500000 0 absent",
             "then 25 1211 14 0 0",
@@ -1192,17 +1380,17 @@ const WALKED: &[Walked] = &[
         &[],
         0,
         &[7108],
-        &["begin 12 0 0 0 0 0", "kept", "refused 10 line 24 column 0", "spot 30 1211 14 0 0"],
+        &["begin 12 0 0 0 0 0 | |", "kept", "refused 10 line 24 column 0", "spot 30 1211 14 0 0"],
     ),
     // 18 satellites, of which 17 have their slots in the first line.
-    (ManyFile(18), &[], 16, &[], &["begin 12 0 0 0 0 0", "kept", "short 42 122 3 0 1", "kept"]),
+    (ManyFile(18), &[], 16, &[], &["begin 12 0 0 0 0 0 | |", "kept", "short 42 122 3 0 1", "kept"]),
     (
         ManyFile(18),
         &[],
         17,
         &[],
         &[
-            "begin 12 0 0 0 0 0",
+            "begin 12 0 0 0 0 0 | |",
             "kept",
             "spot 42 2248 14 0 0",
             "short 42 183 3 1 1",
@@ -1230,9 +1418,21 @@ const WALKED: &[Walked] = &[
         &[Keep(5), Put(4, 10, "G01")],
         20,
         &[],
-        &["begin 8 4 0 0 0 0", "then 5 183 3 23 1", "short 5 183 3 23 1", "identifier G17", "kept"],
+        &[
+            "begin 8 4 0 0 0 0 | |",
+            "then 5 183 3 23 1",
+            "short 5 183 3 23 1",
+            "identifier G17",
+            "kept",
+        ],
     ),
-    (Paper, &[Join(25)], 0, &[7107], &["begin 1 25 0 0 0 0", "kept", "refused 1 line 25 column 0"]),
+    (
+        Paper,
+        &[Join(25)],
+        0,
+        &[7107],
+        &["begin 1 25 0 0 0 0 | |", "kept", "refused 1 line 25 column 0"],
+    ),
     // No bytes, a byte, an empty line.
     (
         Nothing,
@@ -1240,7 +1440,7 @@ const WALKED: &[Walked] = &[
         1,
         &[],
         &[
-            "begin 1 1 0 0 0 0",
+            "begin 1 1 0 0 0 0 | |",
             "kept",
             "refused 1 line 1 column 0",
             "spot 0 0 1 0 0",
@@ -1252,13 +1452,13 @@ const WALKED: &[Walked] = &[
             "spot 5 0 1 0 0",
         ],
     ),
-    (Nothing, &[After(b"x")], 1, &[], &["begin 1 1 0 0 0 0", "refused 1 line 1 column 0"]),
+    (Nothing, &[After(b"x")], 1, &[], &["begin 1 1 0 0 0 0 | |", "refused 1 line 1 column 0"]),
     (
         Nothing,
         &[After(b"\n")],
         1,
         &[],
-        &["begin 4 1 0 0 0 0", "refused 4 line 1 column 0", "spot 1 0 1 0 0"],
+        &["begin 4 1 0 0 0 0 | |", "refused 4 line 1 column 0", "spot 1 0 1 0 0"],
     ),
     // Bytes after EOF: 11 at `begin`, and a walk that ends there.
     (
@@ -1267,7 +1467,7 @@ const WALKED: &[Walked] = &[
         1,
         &[7107],
         &[
-            "begin 11 26 0 0 0 0",
+            "begin 11 26 0 0 0 0 | |",
             "kept",
             "row 0 0 at 5000000001 -500000 0 absent",
             "end",
@@ -1280,7 +1480,7 @@ const WALKED: &[Walked] = &[
         2,
         &[7101, 7102],
         &[
-            "begin 11 31 0 0 0 0",
+            "begin 11 31 0 0 0 0 | |",
             "row 0 0 at -11044805800 -10475672350 21929418200 189163300",
             "row 0 1 at -12593593500 10170327650 -20354534400 -55976000",
             "end",
@@ -1291,22 +1491,28 @@ const WALKED: &[Walked] = &[
     ),
     // Other identifiers than the header's: none, another, of another letter, more; the
     // walker has the file's own.
-    (Paper, &[After(b"x")], 1, &[], &["begin 11 26 0 0 0 0", "refused 10 line 24 column 0"]),
-    (Paper, &[After(b"x")], 1, &[7108], &["begin 11 26 0 0 0 0", "refused 10 line 24 column 0"]),
+    (Paper, &[After(b"x")], 1, &[], &["begin 11 26 0 0 0 0 | |", "refused 10 line 24 column 0"]),
+    (
+        Paper,
+        &[After(b"x")],
+        1,
+        &[7108],
+        &["begin 11 26 0 0 0 0 | |", "refused 10 line 24 column 0"],
+    ),
     // A row of number 00 or of a small letter is faulty, also where such a name is given.
     (
         Paper,
         &[Put(24, 2, "G00")],
         1,
         &[7100],
-        &["begin 7 24 2 0 0 0", "refused 7 line 24 column 2"],
+        &["begin 7 24 2 0 0 0 | |", "refused 7 line 24 column 2"],
     ),
     (
         Paper,
         &[Put(13, 4, "M"), Put(24, 2, "g07")],
         1,
         &[10307],
-        &["begin 6 24 2 0 0 0", "refused 6 line 24 column 2"],
+        &["begin 6 24 2 0 0 0 | |", "refused 6 line 24 column 2"],
     ),
     (
         Paper,
@@ -1314,7 +1520,7 @@ const WALKED: &[Walked] = &[
         1,
         &[8207],
         &[
-            "begin 11 26 0 0 0 0",
+            "begin 11 26 0 0 0 0 | |",
             "refused 8 line 13 column 0",
             "spot 12 732 5 0 1",
             "then 25 1211 14 0 0",
@@ -1325,7 +1531,7 @@ const WALKED: &[Walked] = &[
         &[After(b"x")],
         1,
         &[7107, 8207, 0],
-        &["begin 11 26 0 0 0 0", "row 0 0 at 5000000001 -500000 0 absent", "end"],
+        &["begin 11 26 0 0 0 0 | |", "row 0 0 at 5000000001 -500000 0 absent", "end"],
     ),
     (
         Night,
@@ -1346,14 +1552,14 @@ const WALKED: &[Walked] = &[
         &[After(b"x")],
         20,
         &[7118],
-        &["begin 11 45 0 0 0 0", "refused 8 line 4 column 0"],
+        &["begin 11 45 0 0 0 0 | |", "refused 8 line 4 column 0"],
     ),
     (
         ManyFile(20),
         &[After(b"x")],
         20,
         &[7117],
-        &["begin 11 45 0 0 0 0", "refused 10 line 24 column 0"],
+        &["begin 11 45 0 0 0 0 | |", "refused 10 line 24 column 0"],
     ),
     // Refused before the first row.
     (
@@ -1362,7 +1568,7 @@ const WALKED: &[Walked] = &[
         1,
         &[7107],
         &[
-            "begin 8 2 0 0 0 0",
+            "begin 8 2 0 0 0 0 | |",
             "kept",
             "refused 8 line 2 column 0",
             "spot 1 61 2 0 1",
@@ -1386,7 +1592,7 @@ const WALKED: &[Walked] = &[
         &[Put(3, 13, "G07")],
         2,
         &[7107, 8224],
-        &["begin 8 3 0 0 0 0", "refused 8 line 3 column 0"],
+        &["begin 8 3 0 0 0 0 | |", "refused 8 line 3 column 0"],
     ),
     // Refused between rows.
     (
@@ -1395,7 +1601,7 @@ const WALKED: &[Walked] = &[
         2,
         &[7107, 8224],
         &[
-            "begin 9 29 0 0 0 0",
+            "begin 9 29 0 0 0 0 | |",
             "kept",
             "row 0 0 at 15000000000 -20000500000 0 123456789",
             "row 0 1 absent absent",
@@ -1412,7 +1618,7 @@ const WALKED: &[Walked] = &[
         2,
         &[7107, 8224],
         &[
-            "begin 10 27 0 0 0 0",
+            "begin 10 27 0 0 0 0 | |",
             "row 0 1 absent absent",
             "refused 10 line 27 column 0",
             "spot 32 1304 10 2 1",
@@ -1424,7 +1630,7 @@ const WALKED: &[Walked] = &[
         2,
         &[7107, 8224],
         &[
-            "begin 4 27 0 0 0 0",
+            "begin 4 27 0 0 0 0 | |",
             "row 0 1 absent absent",
             "refused 4 line 27 column 0",
             "spot 34 1275 9 0 2",
@@ -1436,7 +1642,7 @@ const WALKED: &[Walked] = &[
         2,
         &[7101, 7102],
         &[
-            "begin 2 25 60 0 0 0",
+            "begin 2 25 60 0 0 0 | |",
             "row 0 0 at -11044805800 -10475672350 21929418200 189163300",
             "refused 2 line 25 column 60",
             "spot 30 1224 11 2 0",
@@ -1448,7 +1654,7 @@ const WALKED: &[Walked] = &[
         2,
         &[7101, 7102],
         &[
-            "begin 10 26 0 0 0 0",
+            "begin 10 26 0 0 0 0 | |",
             "row 0 0 at -11044805800 -10475672350 21929418200 189163300",
             "refused 10 line 26 column 0",
             "spot 30 1305 11 2 0",
@@ -1460,7 +1666,7 @@ const WALKED: &[Walked] = &[
         2,
         &[7101, 7102],
         &[
-            "begin 3 27 81 0 0 0",
+            "begin 3 27 81 0 0 0 | |",
             "row 0 0 at -11044805800 -10475672350 21929418200 189163300",
             "refused 3 line 27 column 81",
             "spot 30 1379 10 1 0",
@@ -1472,7 +1678,7 @@ const WALKED: &[Walked] = &[
         2,
         &[7101, 7102],
         &[
-            "begin 7 28 5 0 0 0",
+            "begin 7 28 5 0 0 0 | |",
             "row 0 0 at -11044805800 -10475672350 21929418200 189163300",
             "refused 7 line 28 column 5",
             "spot 30 1460 10 1 0",
@@ -1484,7 +1690,7 @@ const WALKED: &[Walked] = &[
         2,
         &[7101, 7102],
         &[
-            "begin 5 30 4 0 0 0",
+            "begin 5 30 4 0 0 0 | |",
             "row 0 0 at -11044805800 -10475672350 21929418200 189163300",
             "row 0 1 at -12593593500 10170327650 -20354534400 -55976000",
             "refused 5 line 30 column 4",
@@ -1497,14 +1703,14 @@ const WALKED: &[Walked] = &[
         &[Put(24, 5, "  5000.0000001")],
         1,
         &[7107],
-        &["begin 6 24 5 0 0 0", "kept", "refused 6 line 24 column 5", "spot 25 1150 10 1 0"],
+        &["begin 6 24 5 0 0 0 | |", "kept", "refused 6 line 24 column 5", "spot 25 1150 10 1 0"],
     ),
     (
         Night,
         &[Byte(27, 200, 127), Byte(27, 300, 9)],
         2,
         &[7107, 8224],
-        &["begin 2 27 200 0 0 0", "row 0 1 absent absent", "refused 2 line 27 column 200"],
+        &["begin 2 27 200 0 0 0 | |", "row 0 1 absent absent", "refused 2 line 27 column 200"],
     ),
     (
         Motion,
@@ -1512,7 +1718,7 @@ const WALKED: &[Walked] = &[
         2,
         &[7101, 7102],
         &[
-            "begin 5 26 61 0 0 0",
+            "begin 5 26 61 0 0 0 | |",
             "row 0 0 at -11044805800 -10475672350 21929418200 189163300",
             "refused 5 line 26 column 61",
         ],
@@ -1522,7 +1728,7 @@ const WALKED: &[Walked] = &[
         &[Put(29, 9, "13"), Put(29, 15, "24")],
         2,
         &[7107, 8224],
-        &["begin 7 29 4 0 0 0", "row 1 1 at 0 0 1 absent", "refused 7 line 29 column 4"],
+        &["begin 7 29 4 0 0 0 | |", "row 1 1 at 0 0 1 absent", "refused 7 line 29 column 4"],
     ),
     // Slots: 20 satellites in two lines, 86 in six.
     (
@@ -1531,7 +1737,7 @@ const WALKED: &[Walked] = &[
         20,
         &[],
         &[
-            "begin 0 0 0 2374 20 1",
+            "begin 0 0 0 2374 20 1 |d|",
             "identifier G18",
             "row 0 19 at 19000001 -500000 0 1000000",
             "spot 3 183 3 3 1",
@@ -1543,7 +1749,7 @@ const WALKED: &[Walked] = &[
         86,
         &[],
         &[
-            "begin 4 10 0 0 0 0",
+            "begin 4 10 0 0 0 0 | |",
             "refused 4 line 10 column 0",
             "spot 5 305 3 35 1",
             "then 10 549 4 69 1",
@@ -1562,7 +1768,7 @@ const WALKED: &[Walked] = &[
         255,
         &[],
         &[
-            "begin 0 0 0 17929 255 1",
+            "begin 0 0 0 17929 255 1 |d|",
             "identifier E57",
             "row 0 254 at 254000001 -500000 0 1000000",
             "end",
@@ -1573,7 +1779,7 @@ const WALKED: &[Walked] = &[
         &[Put(3, 4, "256")],
         300,
         &[],
-        &["begin 4 18 0 0 0 0", "kept", "refused 4 line 18 column 0"],
+        &["begin 4 18 0 0 0 0 | |", "kept", "refused 4 line 18 column 0"],
     ),
     // 255 places are too few for 256 satellites: the line walk stays before line 18,
     // which brings the last.
@@ -1583,7 +1789,7 @@ const WALKED: &[Walked] = &[
         255,
         &[],
         &[
-            "begin 12 0 0 0 0 0",
+            "begin 12 0 0 0 0 0 | |",
             "kept",
             "refused 10 line 46 column 0",
             "then 302 18108 14 0 0",
@@ -1600,7 +1806,7 @@ const WALKED: &[Walked] = &[
         999,
         &[],
         &[
-            "begin 0 0 0 68681 999 1",
+            "begin 0 0 0 68681 999 1 |d|",
             "identifier G01",
             "identifier E58",
             "identifier Z09",
@@ -1626,7 +1832,7 @@ const MANY_WALKED: &[Walked] = &[
         998,
         &[],
         &[
-            "begin 12 0 0 0 0 0",
+            "begin 12 0 0 0 0 0 | |",
             "kept",
             "refused 10 line 132 column 0",
             "then 1131 68677 14 0 0",
@@ -1635,9 +1841,15 @@ const MANY_WALKED: &[Walked] = &[
             "kept",
         ],
     ),
-    (ManyFile(999), &[], 1000, &[], &["begin 0 0 0 68681 999 1", "identifier Z09", "kept", "end"]),
-    (ManyFile(999), &[], 985, &[], &["begin 12 0 0 0 0 0", "short 1131 3599 3 30 1"]),
-    (ManyFile(999), &[], 0, &[7101], &["begin 12 0 0 0 0 0", "short 1131 122 3 0 1", "kept"]),
+    (
+        ManyFile(999),
+        &[],
+        1000,
+        &[],
+        &["begin 0 0 0 68681 999 1 |d|", "identifier Z09", "kept", "end"],
+    ),
+    (ManyFile(999), &[], 985, &[], &["begin 12 0 0 0 0 0 | |", "short 1131 3599 3 30 1"]),
+    (ManyFile(999), &[], 0, &[7101], &["begin 12 0 0 0 0 0 | |", "short 1131 122 3 0 1", "kept"]),
     // With one identifier lent: its row, and then none that is known.
     (
         ManyFile(999),
@@ -1652,7 +1864,7 @@ const MANY_WALKED: &[Walked] = &[
         999,
         &[],
         &[
-            "begin 0 0 0 68681 999 1",
+            "begin 0 0 0 68681 999 1 |d|",
             "identifier Z09",
             "identifier G01",
             "row 0 0 at 1 -500000 0 1000000",
@@ -1665,7 +1877,7 @@ const MANY_WALKED: &[Walked] = &[
         &[],
         999,
         &[],
-        &["begin 0 0 0 68681 999 1", "identifier Z01", "identifier G02", "end"],
+        &["begin 0 0 0 68681 999 1 |d|", "identifier Z01", "identifier G02", "end"],
     ),
     (
         MovingMany(999),
@@ -1673,7 +1885,7 @@ const MANY_WALKED: &[Walked] = &[
         999,
         &[],
         &[
-            "begin 0 0 0 129620 999 1",
+            "begin 0 0 0 129620 999 1 |d|",
             "row 0 998 at 998000001 -500000 0 1000000",
             "end",
             "then 2130 129616 14 0 0",
@@ -1685,14 +1897,19 @@ const MANY_WALKED: &[Walked] = &[
         &[Put(61, 46, "G01")],
         999,
         &[],
-        &["begin 8 61 0 0 0 0", "kept", "refused 10 line 132 column 0", "then 1131 3660 3 13 1"],
+        &[
+            "begin 8 61 0 0 0 0 | |",
+            "kept",
+            "refused 10 line 132 column 0",
+            "then 1131 3660 3 13 1",
+        ],
     ),
     (
         ManyFile(999),
         &[Put(1130, 2, "Z08")],
         999,
         &[],
-        &["begin 10 1130 0 0 0 0", "kept", "then 1131 68616 10 1 0"],
+        &["begin 10 1130 0 0 0 0 | |", "kept", "then 1131 68616 10 1 0"],
     ),
 ];
 
@@ -1701,6 +1918,30 @@ const MANY_WALKED: &[Walked] = &[
 type ReadFile = (Base, &'static [Edit], usize, &'static [&'static str]);
 
 const READ: &[ReadFile] = &[
+    // Files of version c, line by line.
+    (
+        Paper,
+        &[AS_C],
+        1,
+        &[
+            "line 1 61 2 0 1",
+            "line 22 1118 9 0 1",
+            "line 24 1211 14 0 0",
+            "finished 25 1215",
+            "due 14 12 0 0 0",
+            "identifiers 7107",
+        ],
+    ),
+    (Paper, &[AS_C, Insert(23, "/*")], 1, &["line 22 1118 9 0 1", "stopped 4 line 23 column 0"]),
+    (Paper, &[Insert(23, "/*")], 1, &["line 23 1121 9 0 1", "finished 26 1218"]),
+    (Paper, &[AS_C, Insert(23, COMMENT_61)], 1, &["stopped 3 line 23 column 61"]),
+    (Paper, &[AS_C, Put(20, 61, " ")], 1, &["line 19 1109 8 0 1", "stopped 3 line 20 column 61"]),
+    (Paper, &[AS_C, Insert(24, COMMENT_60)], 1, &["stopped 4 line 24 column 0"]),
+    (Paper, &[AS_C, Put(4, 81, " ")], 1, &["stopped 3 line 4 column 81"]),
+    (ManyFile(86), &[AS_C], 86, &["line 2 122 3 0 1", "stopped 7 line 3 column 4"]),
+    (ManyFile(85), &[AS_C], 85, &["line 12 732 5 0 1", "finished 109 6339"]),
+    (ManyFile(85), &[AS_C], 84, &["line 6 366 3 17 1", "stopped 12 line 7 column 0"]),
+    (Nothing, &[After(b"#cP\n")], 1, &["stopped 6 line 1 column 4", "due 1 0 0 0 0"]),
     (
         Paper,
         &[],
@@ -1896,6 +2137,44 @@ const READ: &[ReadFile] = &[
 type DueFile = (Base, &'static [Edit], usize, &'static [u64], &'static str, [&'static str; 3]);
 
 const DUE: &[DueFile] = &[
+    // In c no comment may stand before the first epoch: "exactly four".
+    (
+        Paper,
+        &[AS_C, Put(23, 18, "15")],
+        1,
+        &[7107],
+        "stopped 9 line 23 column 0",
+        ["9 0 487166400000000000 0 0"; 3],
+    ),
+    (
+        Paper,
+        &[AS_C, Insert(23, "/*")],
+        1,
+        &[7107],
+        "stopped 4 line 23 column 0",
+        ["9 0 487166400000000000 0 0"; 3],
+    ),
+    (Paper, &[AS_C, Drop(22)], 1, &[7107], "stopped 4 line 22 column 0", ["8 0 0 0 0"; 3]),
+    (Paper, &[AS_C], 1, &[], "finished 25 1215", ["14 12 0 0 0"; 3]),
+    (Paper, &[AS_C, Put(1, 3, "v")], 1, &[], "stopped 6 line 1 column 3", ["1 0 0 0 0"; 3]),
+    // 86 satellites: 7 in c, though an identifier repeats; in d that is 8.
+    (
+        ManyFile(86),
+        &[AS_C, Put(3, 13, "G01")],
+        86,
+        &[],
+        "stopped 7 line 3 column 4",
+        ["3 0 0 0 0"; 3],
+    ),
+    (ManyFile(86), &[Put(3, 13, "G01")], 86, &[], "stopped 8 line 3 column 0", ["3 0 0 0 1"; 3]),
+    (
+        ManyFile(85),
+        &[AS_C, Put(7, 58, "G69")],
+        85,
+        &[],
+        "stopped 8 line 7 column 0",
+        ["3 0 0 0 1"; 3],
+    ),
     // Before EOF: a note may stand before it where none does.
     (Paper, &[], 1, &[], "finished 25 1215", ["14 12 0 0 0"; 3]),
     (Paper, &[BARE], 1, &[], "finished 26 1218", ["14 0 0 0 0"; 3]),
@@ -2535,8 +2814,8 @@ fn generate_accepted(random: &mut Random, part: MakePart) -> (Vec<u64>, Vec<u8>)
 }
 
 const SHORT_RESTS: &[&[u8]] = &[
-    b"\n", b"x", b"#", b"#d", b"#d\n", b"#dP", b"EOF", b"EOF\n", b"EOF \n", b"\x00", b"\xff\n",
-    b" \n", b"\n\n", b"EP\n", b"/*\n", b"\r\n", b"\x1a", b"* \n",
+    b"\n", b"x", b"#", b"#d", b"#c", b"#d\n", b"#c\n", b"#dP", b"#cP", b"EOF", b"EOF\n", b"EOF \n",
+    b"\x00", b"\xff\n", b" \n", b"\n\n", b"EP\n", b"/*\n", b"\r\n", b"\x1a", b"* \n",
 ];
 
 /// What may stand after accepted files: nothing, a beginning of one, garbage,
@@ -2671,7 +2950,8 @@ fn hand_cases() -> Vec<Case> {
         files::cut_after_fault(&mut case.stretch);
         case
     });
-    divided_cases(DIVIDED).chain(walked_cases(WALKED)).chain(due).collect()
+    let divided = divided_cases(DIVIDED).chain(divided_cases(MIXED));
+    divided.chain(walked_cases(WALKED)).chain(walked_cases(OLDER_WALKED)).chain(due).collect()
 }
 
 /// All of them, stored or not; those read line by line are not.
@@ -2718,7 +2998,7 @@ fn stored_cases() -> Vec<Case> {
 // ---------------------------------------------------------------------------
 
 fn test_divided(tally: &mut Tally) {
-    for &(parts, room, wanted, lengths) in DIVIDED.iter().chain(MANY_DIVIDED) {
+    for &(parts, room, wanted, lengths) in DIVIDED.iter().chain(MIXED).chain(MANY_DIVIDED) {
         let found = divide_into(&joined(parts), room);
         let Refusal { number, line, column } = found.refusal;
         let numbers = [number.into(), line, column, found.lengths.len(), found.rest];
@@ -2732,7 +3012,8 @@ fn test_divided(tally: &mut Tally) {
 }
 
 fn test_walked(tally: &mut Tally) {
-    for &(base, edits, room, identifiers, wanted) in WALKED.iter().chain(MANY_WALKED) {
+    let walked = WALKED.iter().chain(OLDER_WALKED).chain(MANY_WALKED);
+    for &(base, edits, room, identifiers, wanted) in walked {
         let answer = walked_case(base, edits, room, identifiers).show_walked();
         let missing = files::missing_line(&answer, wanted);
         tally.holds(missing.is_none(), || {

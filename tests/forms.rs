@@ -1,6 +1,8 @@
-//! A judge and a writer of SP3-d tables, written only from the documents.
+//! A judge and a writer of tables, in SP3-d and in SP3-c, written only from the
+//! documents.
 //!
-//! It says of a table whether it is valid, and what its canonical bytes are.
+//! It says of a table whether it is valid, whether it is within the bounds of a
+//! version, and what its canonical bytes there are.
 //! It also makes the tables and files on which another implementation is
 //! compared with it. It shares no code with that implementation; files are
 //! judged by `files.rs` and single lines written by `lines.rs`, from the same
@@ -24,9 +26,10 @@
 //! * `BIN compare SEED COUNT PROGRAM [ARGS..]` gives generated batches to the
 //!   program and compares what it prints with the answers, byte for byte.
 //!
-//! A batch is cases one after the other. A case is a line `KIND ROOM LENGTH`
-//! and directly after its LF so many bytes. ROOM is the output lent, of which
-//! every byte holds a mark before. Of kind 0 the bytes are a file, which is
+//! A batch is cases one after the other. A case is a line `KIND VERSION ROOM
+//! LENGTH` and directly after its LF so many bytes. VERSION is the one to be
+//! written, its letter as a number (99 c, 100 d). ROOM is the output lent, of
+//! which every byte holds a mark before. Of kind 0 the bytes are a file, which is
 //! read into lists with room for 1,000 identifiers, 1,000 exponents, 8,000 bytes of
 //! comments and 23,000 numbers of rows, and written again. Of kind 2 they are a
 //! file that is read into lists with just the room that it needs (the program of
@@ -52,22 +55,25 @@
 //!
 //! ```text
 //! file ROOM LENGTH      or  table ROOM LENGTH
-//! read R LINE COLUMN        new R
+//! read R LINE COLUMN |V|    new R
 //! (the rest only where that is 0)
 //! write R LENGTH
 //! (the bytes written)
 //! kept                      every byte past them still holds the mark
 //! ```
 //!
-//! "The paper" is 01-scope.md as requests 1 to 3 and 6 of 02-change-requests.md
+//! V is the letter of the version that the file had, a blank beside a refusal.
+//!
+//! "The paper" is 01-scope.md as requests 1 to 3, 6 and 9 of 02-change-requests.md
 //! changed it, "000" is the SP3-d document.
 
 #[allow(dead_code)]
 #[path = "files.rs"]
 pub(crate) mod files;
 
-use files::lines::{self, fail, Exponent, Identifier, Moment, Note, Random, Tally};
-use files::{answers, generated};
+use files::lines::{self, fail, without_trailing_blanks, Version};
+use files::lines::{Exponent, Identifier, Moment, Note, Random, Tally};
+use files::{answers, generated, AS_C, COMMENT_60, COMMENT_61};
 use files::{Base, Compared, Edit, Lent, BARE, DAY, GPS_ZERO, NOTE, SECOND, UNKNOWN, UNNOTED};
 use std::collections::HashSet;
 
@@ -79,6 +85,8 @@ use std::collections::HashSet;
 const NO_ROOM: u8 = 12;
 /// "the table to be written isn't valid"
 const NOT_VALID: u8 = 13;
+/// "a table outside c's bounds"
+const OUTSIDE_VERSION: u8 = 17;
 /// A letter, file type or time system that isn't listed, or a text's byte.
 const NOT_LISTED: u8 = 6;
 /// "a number or date is outside its bounds"
@@ -248,6 +256,18 @@ fn is_valid(head: &Head, lists: &Lent) -> bool {
         && rows.all(|(place, row)| row_is_valid(row, head.velocities && place % 2 == 1))
 }
 
+/// Whether a valid table is within the bounds of a version: its satellites, its comments,
+/// and their lines, of which the text begins in column 4.
+fn is_within(version: Version, head: &Head, lists: &Lent) -> bool {
+    let short = |text: &[u8]| match without_trailing_blanks(text).len() {
+        0 => true,
+        length => 3 + length <= version.comment_width(),
+    };
+    head.satellites <= version.most_satellites() as u64
+        && (version.allows_more_than_four() || head.comments == 4)
+        && Held::of(head, lists).comments.chunks(COMMENT).all(short)
+}
+
 /// The lists as far as the counts go: "places past them aren't looked at".
 struct Held<'a> {
     identifiers: &'a [u64],
@@ -295,7 +315,7 @@ fn fraction_of(time: i64) -> i64 {
 }
 
 /// Records 1 and 2.
-fn start_lines(head: &Head) -> [String; 2] {
+fn start_lines(version: Version, head: &Head) -> [String; 2] {
     let first = lines::FirstLine {
         mode: if head.velocities { b"V".to_vec() } else { b"P".to_vec() },
         start: moment_of(head.start),
@@ -313,7 +333,7 @@ fn start_lines(head: &Head) -> [String; 2] {
         modified_julian_day: day,
         fraction: fraction_of(time),
     };
-    [lines::write_first_line(&first), lines::write_line_two(&two)]
+    [lines::write_first_line(version, &first), lines::write_line_two(&two)]
 }
 
 /// Records 3 and 4: seventeen to a line, five lines at least of each.
@@ -400,10 +420,10 @@ fn epoch_lines(head: &Head, held: &Held) -> Vec<String> {
     out
 }
 
-/// The canonical bytes of a valid table.
-fn canonical(head: &Head, lists: &Lent) -> Vec<u8> {
+/// The canonical bytes of a valid table in a version.
+fn canonical(version: Version, head: &Head, lists: &Lent) -> Vec<u8> {
     let held = Held::of(head, lists);
-    let mut all = start_lines(head).to_vec();
+    let mut all = start_lines(version, head).to_vec();
     all.extend(slot_lines(held.identifiers, held.exponents));
     all.extend(fixed_lines(head));
     all.extend(held.comments.chunks(COMMENT).map(lines::write_comment));
@@ -412,12 +432,15 @@ fn canonical(head: &Head, lists: &Lent) -> Vec<u8> {
     all.iter().flat_map(|line| line.bytes().chain([b'\n'])).collect()
 }
 
-/// What is written into a room of so many bytes; 13, "but before 12".
-fn write(head: &Head, lists: &Lent, room: usize) -> Result<Vec<u8>, u8> {
+/// What is written into a room of so many bytes; 17, "after 13 and before 12".
+fn write(version: Version, head: &Head, lists: &Lent, room: usize) -> Result<Vec<u8>, u8> {
     if !is_valid(head, lists) {
         return Err(NOT_VALID);
     }
-    let bytes = canonical(head, lists);
+    if !is_within(version, head, lists) {
+        return Err(OUTSIDE_VERSION);
+    }
+    let bytes = canonical(version, head, lists);
     if bytes.len() > room {
         return Err(NO_ROOM);
     }
@@ -520,8 +543,8 @@ impl Given {
         Ok(head_with(&numbers, if field == START { self.value } else { head.start }))
     }
 
-    pub(crate) fn write(&self, room: usize) -> Result<Vec<u8>, u8> {
-        self.head().and_then(|head| write(&head, &self.lists, room))
+    pub(crate) fn write(&self, version: Version, room: usize) -> Result<Vec<u8>, u8> {
+        self.head().and_then(|head| write(version, &head, &self.lists, room))
     }
 }
 
@@ -580,6 +603,7 @@ enum Body {
 
 #[derive(Clone)]
 struct Case {
+    version: Version,
     room: usize,
     body: Body,
 }
@@ -628,21 +652,28 @@ impl Case {
     fn answer_file(&self, file: &[u8], rooms: [usize; 4]) -> String {
         let mut lists = Lent::marked(rooms);
         match files::read(file, &mut lists) {
-            Err(refusal) => format!("read {}\n", refusal.show()),
+            Err(refusal) => {
+                format!("read {} {}\n", refusal.show(), files::show_version(file, false))
+            }
             Ok(_) => {
                 let head = given_of(file).and_then(|given| given.head().ok());
                 let Some(head) = head else {
                     fail("a file was read that has no header");
                 };
-                format!("read 0 0 0\n{}", show_written(write(&head, &lists, self.room)))
+                let told = files::show_version(file, true);
+                format!("read 0 0 0 {told}\n{}", self.show_write(&head, &lists))
             }
         }
+    }
+
+    fn show_write(&self, head: &Head, lists: &Lent) -> String {
+        show_written(write(self.version, head, lists, self.room))
     }
 
     fn answer_table(&self, given: &Given) -> String {
         match given.head() {
             Err(number) => format!("new {number}\n"),
-            Ok(head) => format!("new 0\n{}", show_written(write(&head, &given.lists, self.room))),
+            Ok(head) => format!("new 0\n{}", self.show_write(&head, &given.lists)),
         }
     }
 }
@@ -656,8 +687,8 @@ impl Compared for Case {
             Body::Table(_) => 1,
             Body::Roomy(_) => 2,
         };
-        let bytes = self.bytes();
-        [show_numbers(&[kind, self.room, bytes.len()]).into_bytes(), bytes].concat()
+        let (bytes, letter) = (self.bytes(), self.version.letter().into());
+        [show_numbers(&[kind, letter, self.room, bytes.len()]).into_bytes(), bytes].concat()
     }
 
     fn answer(&self) -> String {
@@ -728,8 +759,12 @@ fn parse_batch(bytes: &[u8]) -> Vec<Case> {
     let mut words = Words(bytes);
     let mut cases = Vec::new();
     while !words.0.is_empty() {
-        let (kind, room, length): (usize, usize, usize) =
-            (words.take(), words.take(), words.take());
+        let [kind, letter, room, length] = [0; 4].map(|_: usize| words.take());
+        let version = match letter {
+            99 => Version::C,
+            100 => Version::D,
+            _ => fail(&format!("{letter} is no version")),
+        };
         let bytes = words.bytes(length);
         let body = match kind {
             0 => Body::File(bytes),
@@ -737,7 +772,7 @@ fn parse_batch(bytes: &[u8]) -> Vec<Case> {
             2 => Body::Roomy(bytes),
             _ => fail(&format!("{kind} is no kind of case")),
         };
-        cases.push(Case { room, body });
+        cases.push(Case { version, room, body });
     }
     cases
 }
@@ -1411,38 +1446,38 @@ const DATED: &[(Base, &[Change], Lines)] = &[
 /// Files that are refused, and what is said of their reading: refusal, line and
 /// column.
 const REFUSED: &[(Base, &[Edit], &str)] = &[
-    (Base::Nothing, &[], "read 1 1 0"),
-    (Paper, &[Put(25, 4, "x")], "read 5 25 4"),
-    (Paper, &[Byte(24, 200, 127)], "read 2 24 200"),
-    (Paper, &[Put(24, 300, " ")], "read 3 24 81"),
-    (Paper, &[Drop(22)], "read 4 22 0"),
-    (Paper, &[Put(24, 5, "  5000.0000001")], "read 6 24 5"),
-    (Paper, &[Put(24, 47, "1000000.000000")], "read 7 24 47"),
-    (Paper, &[Put(24, 47, "-999999.      ")], "read 6 24 47"),
-    (Paper, &[Put(24, 47, " 999999.00000 ")], "read 6 24 47"),
-    (Paper, &[Put(24, 47, " 999999.     0")], "read 6 24 47"),
-    (Paper, &[Put(24, 47, " 999999.0     ")], "read 6 24 47"),
-    (Paper, &[Put(24, 47, " 999998.      ")], "read 6 24 47"),
-    (Paper, &[Put(24, 47, "1000000.      ")], "read 6 24 47"),
-    (Paper, &[Put(24, 47, " 999999       ")], "read 6 24 47"),
-    (Paper, &[Put(24, 47, "              ")], "read 6 24 47"),
-    (Paper, &[Put(24, 47, "999999.       ")], "read 6 24 47"),
-    (Paper, &[Put(24, 47, " 999999.      0")], "read 5 24 61"),
-    (Paper, &[Put(24, 5, " 999999.      ")], "read 6 24 5"),
-    (Motion, &[Put(26, 47, "1000000.000000")], "read 7 26 47"),
-    (Motion, &[Put(26, 47, "-999999.      ")], "read 6 26 47"),
-    (Motion, &[Put(26, 47, " 999999.00000 ")], "read 6 26 47"),
-    (Motion, &[Put(26, 47, " 999999.     0")], "read 6 26 47"),
-    (Motion, &[Put(26, 47, " 999998.      ")], "read 6 26 47"),
-    (Motion, &[Put(26, 47, "1000000.      ")], "read 6 26 47"),
-    (Motion, &[Put(26, 47, " 999999       ")], "read 6 26 47"),
-    (Motion, &[Put(26, 47, "              ")], "read 6 26 47"),
-    (Motion, &[Put(26, 47, "999999.       ")], "read 6 26 47"),
-    (Motion, &[Put(26, 47, " 999999.      0")], "read 5 26 61"),
-    (Motion, &[Put(26, 5, " 999999.      ")], "read 6 26 5"),
-    (Paper, &[Put(24, 2, "G08")], "read 10 24 0"),
-    (Paper, &[After(b"\n")], "read 11 26 0"),
-    (Talkative(104), &[], "read 12 0 0"),
+    (Base::Nothing, &[], "read 1 1 0 | |"),
+    (Paper, &[Put(25, 4, "x")], "read 5 25 4 | |"),
+    (Paper, &[Byte(24, 200, 127)], "read 2 24 200 | |"),
+    (Paper, &[Put(24, 300, " ")], "read 3 24 81 | |"),
+    (Paper, &[Drop(22)], "read 4 22 0 | |"),
+    (Paper, &[Put(24, 5, "  5000.0000001")], "read 6 24 5 | |"),
+    (Paper, &[Put(24, 47, "1000000.000000")], "read 7 24 47 | |"),
+    (Paper, &[Put(24, 47, "-999999.      ")], "read 6 24 47 | |"),
+    (Paper, &[Put(24, 47, " 999999.00000 ")], "read 6 24 47 | |"),
+    (Paper, &[Put(24, 47, " 999999.     0")], "read 6 24 47 | |"),
+    (Paper, &[Put(24, 47, " 999999.0     ")], "read 6 24 47 | |"),
+    (Paper, &[Put(24, 47, " 999998.      ")], "read 6 24 47 | |"),
+    (Paper, &[Put(24, 47, "1000000.      ")], "read 6 24 47 | |"),
+    (Paper, &[Put(24, 47, " 999999       ")], "read 6 24 47 | |"),
+    (Paper, &[Put(24, 47, "              ")], "read 6 24 47 | |"),
+    (Paper, &[Put(24, 47, "999999.       ")], "read 6 24 47 | |"),
+    (Paper, &[Put(24, 47, " 999999.      0")], "read 5 24 61 | |"),
+    (Paper, &[Put(24, 5, " 999999.      ")], "read 6 24 5 | |"),
+    (Motion, &[Put(26, 47, "1000000.000000")], "read 7 26 47 | |"),
+    (Motion, &[Put(26, 47, "-999999.      ")], "read 6 26 47 | |"),
+    (Motion, &[Put(26, 47, " 999999.00000 ")], "read 6 26 47 | |"),
+    (Motion, &[Put(26, 47, " 999999.     0")], "read 6 26 47 | |"),
+    (Motion, &[Put(26, 47, " 999998.      ")], "read 6 26 47 | |"),
+    (Motion, &[Put(26, 47, "1000000.      ")], "read 6 26 47 | |"),
+    (Motion, &[Put(26, 47, " 999999       ")], "read 6 26 47 | |"),
+    (Motion, &[Put(26, 47, "              ")], "read 6 26 47 | |"),
+    (Motion, &[Put(26, 47, "999999.       ")], "read 6 26 47 | |"),
+    (Motion, &[Put(26, 47, " 999999.      0")], "read 5 26 61 | |"),
+    (Motion, &[Put(26, 5, " 999999.      ")], "read 6 26 5 | |"),
+    (Paper, &[Put(24, 2, "G08")], "read 10 24 0 | |"),
+    (Paper, &[After(b"\n")], "read 11 26 0 | |"),
+    (Talkative(104), &[], "read 12 0 0 | |"),
 ];
 
 /// Files whose form is longer than they are, the room for it, and the number of
@@ -1761,12 +1796,24 @@ const AMOUNTS: (&[i64], &[i64]) = (
 /// A clock or rate: those that only an absent one could be spelt as are none.
 const CLOCK_AMOUNTS: (&[i64], &[i64]) = (
     &[
-        999_999_999_999, 999_998_999_999, 999_998_000_000, -999_999_999_999, -999_999_000_000, 0,
-        -1, 999_999,
+        999_999_999_999,
+        999_998_999_999,
+        999_998_000_000,
+        -999_999_999_999,
+        -999_999_000_000,
+        0,
+        -1,
+        999_999,
     ],
     &[
-        999_999_000_000, 999_999_000_001, 999_999_500_000, 999_999_999_998, 1_000_000_000_000,
-        -1_000_000_000_000, i64::MIN, i64::MAX,
+        999_999_000_000,
+        999_999_000_001,
+        999_999_500_000,
+        999_999_999_998,
+        1_000_000_000_000,
+        -1_000_000_000_000,
+        i64::MIN,
+        i64::MAX,
     ],
 );
 const EXPONENTS: (&[i64], &[i64]) = (&[0, 9, 99, 1000], &[-1, 100, 999, 1001, -1000, i64::MIN]);
@@ -1946,6 +1993,121 @@ const MANY_ROOMS: &[(Base, &[Change], isize, u8)] = &[
     (MovingMany(999), &[], 0, 0),
     (MovingMany(999), &[], -1, 12),
 ];
+
+/// Tables to be put into c, the room as above, and the answer: "a table outside c's bounds
+/// gives 17, after 13 and before 12".
+const OLDER_ROOMS: &[(Base, &[Change], isize, u8)] = &[
+    (Paper, &[], 0, 0),
+    (Paper, &[], -1, 12),
+    (Paper, &[], 5, 0),
+    (Paper, &[], -1215, 12),
+    (Night, &[], 0, 0),
+    (Motion, &[], 0, 0),
+    (Motion, &[], -1, 12),
+    (MovingNotes, &[], 0, 0),
+    // Satellites.
+    (Many(85), &[], 0, 0),
+    (Many(86), &[], 0, 17),
+    (Many(86), &[], -6522, 17),
+    // Comments: four, and no more; three are 13.
+    (Talkative(4), &[], 0, 0),
+    (Talkative(5), &[], 0, 17),
+    (Talkative(5), &[], -1, 17),
+    (Talkative(5), &[], -1260, 17),
+    (Talkative(5), &[Field(COMMENTS, 4)], 0, 0),
+    (Talkative(103), &[], 0, 17),
+    (Paper, &[Field(COMMENTS, 3)], 0, 13),
+    (Paper, &[Field(COMMENTS, 5)], 0, 13),
+    (Paper, &[Field(COMMENTS, 0)], -1215, 13),
+    // Texts of 57 and 58 characters: column 60, column 61; of 77; with blanks after them.
+    (Paper, &[Comment(0, TEXT_57)], 0, 0),
+    (Paper, &[Comment(0, TEXT_57)], -1, 12),
+    (Paper, &[Comment(0, TEXT_58)], 0, 17),
+    (Paper, &[Comment(0, TEXT_58)], -1, 17),
+    (Paper, &[Comment(3, TEXT_57)], 0, 0),
+    (Paper, &[Comment(3, TEXT_58)], 0, 17),
+    (Paper, &[CommentByte(56, b'x')], 0, 0),
+    (Paper, &[CommentByte(57, b'x')], 0, 17),
+    (Paper, &[CommentByte(57, b' ')], 0, 0),
+    (Paper, &[CommentByte(76, b'x')], 0, 17),
+    (Paper, &[CommentByte(307, b'x')], 0, 17),
+    (Paper, &[Length(2, 309), CommentByte(308, b'x')], 0, 0),
+    // 13 before 17, 17 before 12.
+    (Many(86), &[Accuracy(0, 1000)], 0, 13),
+    (Talkative(5), &[CommentByte(384, 7)], 0, 13),
+    (Talkative(5), &[CommentByte(384, 7)], -1260, 13),
+    (Talkative(5), &[RowNumber(MARK, 2)], 0, 13),
+    (Paper, &[CommentByte(57, 7)], 0, 13),
+    (Paper, &[CommentByte(57, 200)], -1215, 13),
+    (Paper, &[CommentByte(60, b'x'), Field(TYPE, 0)], 0, 13),
+    (Paper, &[CommentByte(60, b'x'), Length(0, 0)], 0, 13),
+];
+
+/// More of them, of many satellites; these aren't stored.
+const MANY_OLDER_ROOMS: &[(Base, &[Change], isize, u8)] = &[
+    (Many(84), &[], 0, 0),
+    (Many(85), &[], -1, 12),
+    (Many(86), &[], -1, 17),
+    (Many(86), &[Field(SATELLITES, 85)], 0, 0),
+    (Many(85), &[More(7186), Field(SATELLITES, 86)], 0, 17),
+    (Many(255), &[], 0, 17),
+    (Many(86), &[Accuracy(85, 1000)], -6522, 13),
+    (Many(86), &[Name(85, 7101)], 0, 13),
+    (Many(86), &[RowNumber(at(85, 11), 2)], -1, 13),
+    (Many(86), &[Length(3, 1977)], 0, 13),
+    (Many(85), &[Accuracy(84, 1000)], 0, 13),
+    (Many(999), &[], 0, 17),
+    (Many(999), &[], -68_681, 17),
+    (Many(999), &[Accuracy(998, 1000)], 0, 13),
+    (Many(999), &[Field(SATELLITES, 1000)], 0, 13),
+];
+
+/// Texts whose lines have 60 and 61 characters.
+const TEXT_57: &str = "456789012345678901234567890123456789012345678901234567890";
+const TEXT_58: &str = "4567890123456789012345678901234567890123456789012345678901";
+
+/// Files of either version, the version to be written, and what is said of it; the bytes that
+/// are written begin with the line after it.
+const PUT_INTO: &[(Base, &[Edit], Version, &[&str])] = &[
+    (Paper, &[], Version::C, &["read 0 0 0 |d|", "write 0 1215", PAPER_C, PAPER_TWO]),
+    (Paper, &[AS_C], Version::D, &["read 0 0 0 |c|", "write 0 1215", PAPER_D, PAPER_TWO]),
+    (Paper, &[AS_C], Version::C, &["read 0 0 0 |c|", "write 0 1215", PAPER_C, PAPER_TWO]),
+    (
+        Paper,
+        &[AS_C, Put(24, 19, "    -00.500000")],
+        Version::C,
+        &["read 0 0 0 |c|", "write 0 1215", PAPER_C, PAPER_TWO, PAPER_ROW, "EOF", "kept"],
+    ),
+    (
+        Paper,
+        &[AS_C, Put(4, 80, " "), Put(24, 80, " "), Put(19, 60, " ")],
+        Version::C,
+        &["write 0 1215", PAPER_C, "/* ONE ROW", PAPER_ROW, "EOF"],
+    ),
+    (Motion, &[AS_C], Version::C, &["read 0 0 0 |c|", "write 0 1605", MOTION_C]),
+    (Motion, &[AS_C], Version::D, &["read 0 0 0 |c|", "write 0 1605", MOTION_D]),
+    (Paper, &[AS_C, Whole(19, COMMENT_60)], Version::C, &["write 0 1265", PAPER_C, COMMENT_60]),
+    (Paper, &[Whole(19, COMMENT_60)], Version::C, &["write 0 1265", PAPER_C, COMMENT_60]),
+    (Paper, &[Whole(19, COMMENT_61)], Version::C, &["read 0 0 0 |d|", "write 17 0", "kept"]),
+    (Paper, &[Whole(19, COMMENT_61)], Version::D, &["write 0 1266", PAPER_D, COMMENT_61]),
+    // Blanks past column 60 don't count in a table.
+    (Paper, &[Put(19, 80, " ")], Version::C, &["read 0 0 0 |d|", "write 0 1215", PAPER_C]),
+    (Paper, &[Insert(23, "/*")], Version::C, &["read 0 0 0 |d|", "write 17 0", "kept"]),
+    (Talkative(5), &[], Version::C, &["read 0 0 0 |d|", "write 17 0", "kept"]),
+    (Many(85), &[], Version::C, &["read 0 0 0 |d|", "write 0 6339", MANY_C]),
+    (Many(86), &[], Version::C, &["read 0 0 0 |d|", "write 17 0", "kept"]),
+    // A c file that is refused is not written, whatever is wanted.
+    (Many(86), &[AS_C], Version::D, &["read 7 3 4 | |"]),
+    (Talkative(5), &[AS_C], Version::D, &["read 4 23 0 | |"]),
+    (Paper, &[AS_C, Whole(19, COMMENT_61)], Version::D, &["read 3 19 61 | |"]),
+];
+
+const PAPER_C: &str = "#cP2013  4  3  0  0  0.00000000       1 ORBIT WGS84 BCT PORT";
+const PAPER_D: &str = "#dP2013  4  3  0  0  0.00000000       1 ORBIT WGS84 BCT PORT";
+const PAPER_TWO: &str = "## 1734 259200.00000000   900.00000000 56385 0.0000000000000";
+const MOTION_C: &str = "#cV2001  8  8  0  0  0.00000000       1 ORBIT IGS97 HLM MGEX";
+const MOTION_D: &str = "#dV2001  8  8  0  0  0.00000000       1 ORBIT IGS97 HLM MGEX";
+const MANY_C: &str = PAPER_C;
 
 // ---------------------------------------------------------------------------
 // Generated cases
@@ -2235,12 +2397,12 @@ fn generate_table(random: &mut Random, file: MakeFile, most: [usize; 4]) -> Give
 }
 
 /// The length of what is written, where the room suffices.
-fn length_of(body: &Body) -> Option<usize> {
+fn length_of(version: Version, body: &Body) -> Option<usize> {
     let given = match body {
         Body::File(file) | Body::Roomy(file) => given_of(file)?,
         Body::Table(given) => given.clone(),
     };
-    given.write(usize::MAX).ok().map(|bytes| bytes.len())
+    given.write(version, usize::MAX).ok().map(|bytes| bytes.len())
 }
 
 fn choose_room(random: &mut Random, needed: usize) -> usize {
@@ -2254,9 +2416,11 @@ fn choose_room(random: &mut Random, needed: usize) -> usize {
     }
 }
 
+/// In either version; where it isn't within its bounds the room is one for the other.
 fn with_some_room(random: &mut Random, body: Body) -> Case {
-    let needed = length_of(&body).unwrap_or(random.below(3000));
-    Case { room: choose_room(random, needed), body }
+    let version = if files::once_in(random, 2) { Version::C } else { Version::D };
+    let needed = length_of(Version::D, &body).unwrap_or(random.below(3000));
+    Case { version, room: choose_room(random, needed), body }
 }
 
 type MakeFile = fn(&mut Random) -> Vec<u8>;
@@ -2294,23 +2458,26 @@ fn generate_any_case(random: &mut Random) -> Case {
 // ---------------------------------------------------------------------------
 
 fn with_room(body: Body, more: isize) -> Case {
-    let needed = length_of(&body).unwrap_or(1215);
-    Case { room: needed.saturating_add_signed(more), body }
+    let needed = length_of(Version::D, &body).unwrap_or(1215);
+    Case { version: Version::D, room: needed.saturating_add_signed(more), body }
 }
 
 fn refused_case(base: Base, edits: &[Edit]) -> Case {
-    Case { room: 1300, body: Body::File(files::hand_made(base, edits)) }
+    let body = Body::File(files::hand_made(base, edits));
+    Case { version: Version::D, room: 1300, body }
 }
 
 fn longer_case(base: Base, edits: &[Edit], room: usize) -> Case {
-    Case { room, body: Body::File(files::hand_made(base, edits)) }
+    Case { version: Version::D, room, body: Body::File(files::hand_made(base, edits)) }
 }
 
 /// A table with the room that it needs, and so much more or less.
 fn room_case(base: Base, changes: &[Change], more: isize) -> Case {
     let given = changed(base, changes);
-    let needed = given.write(usize::MAX).map_or(form_with(base, &[]).len(), |bytes| bytes.len());
-    Case { room: needed.saturating_add_signed(more), body: Body::Table(given) }
+    let written = given.write(Version::D, usize::MAX);
+    let needed = written.map_or(form_with(base, &[]).len(), |bytes| bytes.len());
+    let room = needed.saturating_add_signed(more);
+    Case { version: Version::D, room, body: Body::Table(given) }
 }
 
 /// Those of many satellites: as files, with a byte too little too, and as tables.
@@ -2328,11 +2495,30 @@ fn many_cases() -> Vec<Case> {
     cases.into_iter().chain(rooms).collect()
 }
 
+/// A file of either version with the room that its table needs in d.
+fn put_into(base: Base, edits: &[Edit], version: Version) -> Case {
+    Case { version, ..with_room(Body::File(files::hand_made(base, edits)), 0) }
+}
+
+/// Tables to be put into c.
+fn older_rooms(list: &[(Base, &[Change], isize, u8)]) -> Vec<Case> {
+    let room = |&(base, changes, more, _): &(_, &[Change], _, _)| room_case(base, changes, more);
+    list.iter().map(room).map(|case| Case { version: Version::C, ..case }).collect()
+}
+
+/// Those of version c that are stored: tables and files.
+fn older_cases() -> Vec<Case> {
+    let rooms = older_rooms(OLDER_ROOMS).into_iter();
+    let files = PUT_INTO.iter().map(|&(base, edits, version, _)| put_into(base, edits, version));
+    rooms.chain(files).collect()
+}
+
 /// All of them that are worked out by hand, stored or not.
 fn all_hand_cases() -> Vec<Case> {
     let judged = judged_by_hand().into_iter().map(|(base, changes, ..)| (base, changes));
     let tables = judged.map(|(base, changes)| with_room(Body::Table(changed(base, &changes)), 1));
-    hand_cases().into_iter().chain(tables).chain(many_cases()).collect()
+    let all = hand_cases().into_iter().chain(tables).chain(many_cases());
+    all.chain(older_rooms(MANY_OLDER_ROOMS)).collect()
 }
 
 /// Those worked out by hand, the longer of the judged tables in part.
@@ -2363,6 +2549,7 @@ fn hand_cases() -> Vec<Case> {
     }
     cases.extend(REFUSED.iter().map(|&(base, edits, _)| refused_case(base, edits)));
     cases.extend(LONGER.iter().map(|&(base, edits, room, _)| longer_case(base, edits, room)));
+    cases.extend(older_cases());
     cases
 }
 
@@ -2383,39 +2570,79 @@ fn same(tally: &mut Tally, given: Result<Vec<u8>, u8>, wanted: &[u8], name: &str
     });
 }
 
+/// What is written of a table in both versions: in c the same but for the second byte, or 17
+/// where that form has six `+ ` lines, five comments or a comment line of 61 characters.
+fn test_versions(tally: &mut Tally, given: Option<Given>, form: &[u8], name: &str) {
+    let write = |version| given.as_ref().map_or(Err(0), |given| given.write(version, usize::MAX));
+    same(tally, write(Version::D), form, name);
+    let (mut older, count) = (form.to_vec(), |symbol| lines_of(form, symbol).count());
+    older[1] = b'c';
+    let within = count("+ ") == 5 && count("/*") == 4;
+    if within && lines_of(form, "/*").all(|line| line.len() <= 60) {
+        same(tally, write(Version::C), &older, name);
+    } else {
+        tally.holds(write(Version::C) == Err(17), || format!("{name}: it can be put into c"));
+    }
+}
+
+/// The lines that begin so.
+fn lines_of<'a>(form: &'a [u8], symbol: &'a str) -> impl Iterator<Item = &'a [u8]> {
+    form.split(|&c| c == b'\n').filter(move |line| line.starts_with(symbol.as_bytes()))
+}
+
 /// What is written of files and tables, line by line.
 fn test_forms(tally: &mut Tally) {
     for &(base, edits, lines) in WRITTEN.iter().chain(MANY_WRITTEN) {
         let file = files::hand_made(base, edits);
-        let written = given_of(&file).map_or(Err(0), |given| given.write(usize::MAX));
-        same(tally, written, &form_with(base, lines), &format!("{base:?} {edits:?}"));
+        let given = given_of(&file);
+        let form = form_with(base, lines);
+        test_versions(tally, given, &form, &format!("{base:?} {edits:?}"));
     }
     for &(base, changes, lines) in DATED {
-        let written = changed(base, changes).write(usize::MAX);
-        same(tally, written, &form_with(base, lines), &format!("{base:?} {changes:?}"));
+        let form = form_with(base, lines);
+        test_versions(tally, Some(changed(base, changes)), &form, &format!("{base:?} {changes:?}"));
     }
 }
 
-/// The numbers of a table: of its header, and of its writing into a large room.
-fn numbers_of(given: &Given, room: usize) -> (u8, u8) {
+/// The numbers of a table: of its header, and of its writing in a version into a room.
+fn numbers_of(version: Version, given: &Given, room: usize) -> (u8, u8) {
     match given.head() {
         Err(number) => (number, 0),
-        Ok(head) => (0, write(&head, &given.lists, room).err().unwrap_or_default()),
+        Ok(head) => (0, write(version, &head, &given.lists, room).err().unwrap_or_default()),
     }
 }
 
 fn test_judged(tally: &mut Tally) {
     let judged = [judged_by_hand(), judged_clocks(), judged_many()].concat();
     for (base, changes, new, written) in judged {
-        let found = numbers_of(&changed(base, &changes), usize::MAX);
+        let given = changed(base, &changes);
+        let found = numbers_of(Version::D, &given, usize::MAX);
         tally.holds(found == (new, written), || {
             format!("{base:?} {changes:?}: wanted {new} {written}, found {found:?}")
         });
+        // "after 13": what isn't valid is neither in c
+        let found = numbers_of(Version::C, &given, usize::MAX);
+        tally.holds(written != 13 || found == (new, 13), || format!("{base:?} {changes:?} in c"));
     }
     for &(base, changes, more, number) in ROOMS.iter().chain(MANY_ROOMS) {
         let given = changed(base, changes);
-        let found = numbers_of(&given, room_case(base, changes, more).room);
+        let found = numbers_of(Version::D, &given, room_case(base, changes, more).room);
         tally.holds(found == (0, number), || format!("{base:?} {changes:?} {more}: {found:?}"));
+    }
+}
+
+fn test_older(tally: &mut Tally) {
+    for &(base, changes, more, number) in OLDER_ROOMS.iter().chain(MANY_OLDER_ROOMS) {
+        let given = changed(base, changes);
+        let found = numbers_of(Version::C, &given, room_case(base, changes, more).room);
+        tally.holds(found == (0, number), || format!("c {base:?} {changes:?} {more}: {found:?}"));
+    }
+    for &(base, edits, version, wanted) in PUT_INTO {
+        let answer = put_into(base, edits, version).answer();
+        let missing = files::missing_line(&answer, wanted);
+        tally.holds(missing.is_none(), || {
+            format!("{base:?} {edits:?} {version:?}\n  wanted {missing:?}\n  given {answer}")
+        });
     }
 }
 
@@ -2443,11 +2670,12 @@ fn test_alike(tally: &mut Tally) {
         for &(clock, shown) in lines::CLOCKS {
             let mut draft = files::base_file(base);
             draft.put(line, 47, clock.as_bytes());
-            let written = given_of(&draft.bytes()).map(|given| given.write(usize::MAX));
+            let write = |given: Given| given.write(Version::D, usize::MAX);
+            let written = given_of(&draft.bytes()).map(write);
             if let Ok(shown) = shown {
                 draft = files::base_file(base);
                 draft.put(line, 47, shown.as_bytes());
-                let plain = given_of(&draft.bytes()).map(|given| given.write(usize::MAX));
+                let plain = given_of(&draft.bytes()).map(write);
                 tally.holds(written.is_some() && written == plain, || {
                     format!("{base:?} clock {clock:?} isn't written as {shown:?}")
                 });
@@ -2477,33 +2705,35 @@ fn has_table(bytes: &[u8], head: &Head, lists: &Lent) -> bool {
 
 /// "A table is valid exactly when some accepted file has it": the form of a
 /// valid table is such a file and its own form; what the writer would make of
-/// a table that isn't valid is none.
+/// a table that isn't valid, or not within the bounds of the version, is none.
 fn test_validity(tally: &mut Tally) {
     std::panic::set_hook(Box::new(|_| {}));
     for number in 1..=3000 {
-        let Body::Table(given) = generated(generate_case, files::STORED_SEED + 1, number).body
-        else {
+        let case = generated(generate_case, files::STORED_SEED + 1, number);
+        let (version, Body::Table(given)) = (case.version, case.body) else {
             continue;
         };
         let Ok(head) = given.head() else {
             continue;
         };
-        let small = lists_suffice(&head, &given.lists);
-        let valid = is_valid(&head, &given.lists);
-        let made = std::panic::catch_unwind(|| small.then(|| canonical(&head, &given.lists)));
+        let lists = &given.lists;
+        let small = lists_suffice(&head, lists);
+        let valid = is_valid(&head, lists) && is_within(version, &head, lists);
+        let made = std::panic::catch_unwind(|| small.then(|| canonical(version, &head, lists)));
         let bytes = made.ok().flatten().unwrap_or_default();
-        tally.holds(valid == has_table(&bytes, &head, &given.lists), || {
+        tally.holds(valid == has_table(&bytes, &head, lists), || {
             format!("case {number}: valid {valid}\n{}", files::show_text(&given.show()))
         });
         if valid {
-            let again = given_of(&bytes).map_or(Err(0), |given| given.write(bytes.len()));
+            let again = given_of(&bytes).map_or(Err(0), |given| given.write(version, bytes.len()));
             same(tally, again, &bytes, &format!("case {number} again"));
         }
     }
     let _ = std::panic::take_hook();
 }
 
-/// The table of every accepted file is valid, and its form has the same table.
+/// The table of every accepted file is valid in its version and in d, and its form has the
+/// same table.
 fn test_files(tally: &mut Tally) {
     for number in 1..=3000 {
         let Body::File(file) = generated(generate_case, files::STORED_SEED + 1, number).body else {
@@ -2512,9 +2742,13 @@ fn test_files(tally: &mut Tally) {
         let Some(given) = given_of(&file) else {
             continue;
         };
-        let written = given.write(usize::MAX).unwrap_or_default();
-        let held = given.head().is_ok_and(|head| has_table(&written, &head, &given.lists));
-        tally.holds(held, || format!("case {number}: its table isn't that of its form"));
+        let own = Version::told_by(&file);
+        for version in [own, Version::D] {
+            let written = given.write(version, usize::MAX).unwrap_or_default();
+            let told = Version::told_by(&written) == version;
+            let held = given.head().is_ok_and(|head| has_table(&written, &head, &given.lists));
+            tally.holds(told && held, || format!("case {number}: its form has another table"));
+        }
     }
 }
 
@@ -2522,6 +2756,7 @@ fn self_test() {
     let mut tally = Tally::default();
     test_forms(&mut tally);
     test_judged(&mut tally);
+    test_older(&mut tally);
     test_refused(&mut tally);
     test_longer(&mut tally);
     test_alike(&mut tally);

@@ -5,8 +5,9 @@
 #   tests/large.sh [SEED]
 #
 # The inputs: a file of 100,000 epochs (accepted), the same with its last epoch a second late (9), a file of 100,001 epochs (7 at line 1, column 33),
-# one of 999 satellites with velocities, 8,000 files laid end to end, one line of 50 MB with and without its LF and with a wrong byte (3, 1, 2 at
-# line 1; column 81, none, 50,000,000), a comment of 50 MB (3 at line 20, column 81), 10 MB of random bytes made by the seed (1 where none is given).
+# one of 999 satellites with velocities, in SP3-c one of 85 and one of 86 (7 at line 3, column 4), 8,000 files of both versions laid end to end by
+# turns, one line of 50 MB with and without its LF and with a wrong byte (3, 1, 2 at line 1; column 81, none, 50,000,000), a comment of 50 MB (3 at
+# line 20, column 81; in SP3-c one of 61 bytes, column 61), 10 MB of random bytes made by the seed (1 where none is given).
 # Ends with 1 at a difference, and where a file is not judged as said here.
 set -eu
 
@@ -39,6 +40,11 @@ repeated() {
     head -c "$2" /dev/zero | tr '\0' "$1"
 }
 
+# the letter of a file's version as a number: c is 99, d is 100
+version_of() {
+    if [ "$(head -c 2 "$1" | tr -d '\0')" = '#c' ]; then echo 99; else echo 100; fi
+}
+
 # NAME, how the file `input` is judged as a whole, and its satellites; it is read with the room that it needs, then with one number of rows less
 compare_input() {
     bytes=$(($(wc -c <input)))
@@ -55,7 +61,7 @@ compare_input() {
     both tables files
     answered 'whole|read'
     grep -aq "^whole $2 " wanted || { echo "$1: not judged as $2"; exit 1; }
-    { echo "2 $bytes $bytes"; cat input; } >batch
+    { echo "2 $(version_of input) $bytes $bytes"; cat input; } >batch
     both forms forms
     answered write
     { echo "8000 1 $most_satellites 1 $bytes $name"; cat input; } >batch
@@ -71,6 +77,7 @@ name_of() {
 }
 
 "$made/files" file P 1 1 >one
+"$made/files" file P 1 1 c >older
 name=$(name_of one)
 
 "$made/files" file P 1 100000 >input
@@ -86,8 +93,14 @@ compare_input "100,001 epochs" "7 1 33" 1
 "$made/files" file V "$most_satellites" 24 >input
 compare_input "$most_satellites satellites with velocities" "0 0 0" "$most_satellites"
 
-yes one | head -n 8000 | xargs cat >input
-compare_input "8,000 files laid end to end" "11 $(($(wc -l <one) + 1)) 0" 1
+"$made/files" file V 85 24 c >input
+compare_input "85 satellites with velocities in SP3-c" "0 0 0" 85
+
+"$made/files" file V 86 24 c >input
+compare_input "86 satellites with velocities in SP3-c" "7 3 4" 86
+
+yes 'one older' | head -n 4000 | xargs cat >input
+compare_input "8,000 files of both versions laid end to end" "11 $(($(wc -l <one) + 1)) 0" 1
 
 repeated x 50000000 >input
 compare_input "a line of 50 MB without its LF" "1 1 0" 1
@@ -100,6 +113,9 @@ compare_input "a line of 50 MB with a wrong byte" "2 1 50000000" 1
 
 { head -n 19 one; printf '/* '; repeated x 50000000; echo; tail -n +21 one; } >input
 compare_input "a comment of 50 MB" "3 20 81" 1
+
+{ head -n 19 older; printf '/* '; repeated x 58; echo; tail -n +21 older; } >input
+compare_input "a comment of 61 bytes in SP3-c" "3 20 61" 1
 
 "$made/files" bytes "$seed" 10000000 >input
 compare_input "10 MB of random bytes, seed $seed" "[124] 1 [0-9]*" 1

@@ -1,4 +1,4 @@
-//! A judge of single SP3-d lines, written only from the documents.
+//! A judge of single lines of SP3-d and SP3-c, written only from the documents.
 //!
 //! It says of one line alone which number of the paper's table it earns, at
 //! which column, and, for an accepted line, how the canonical form shows it.
@@ -23,12 +23,15 @@
 //! m P           n V          o EP         p EV         q EOF      z which kind
 //! ```
 //!
+//! These are of SP3-d; a capital letter asks the same of SP3-c (`A`, `C` and `Z`
+//! have other answers there).
+//!
 //! An answer is `NUMBER COLUMN`, `0 0 CANONICAL LINE`, or `kind N` for the kind
 //! letter `z`. The canonical line of an EP or EV shows its ten values as that of
 //! any other record does: `0 0 EP    55               222`, and `0 0 EP` where
 //! all of them are unknown.
 //!
-//! "The paper" is 01-scope.md as requests 1 to 3 and 6 of 02-change-requests.md
+//! "The paper" is 01-scope.md as requests 1 to 3, 6 and 9 of 02-change-requests.md
 //! changed it, "000" is the SP3-d document; the words beside the columns below
 //! are those of its column-by-column description.
 
@@ -81,15 +84,48 @@ const DISAGREES: u8 = 8;
 /// The column given where a number has none.
 const NO_COLUMN: usize = 0;
 
+/// Request 9: "files for the older stations". What the versions don't share.
+#[derive(Clone, Copy, PartialEq, Eq, Debug)]
+pub(crate) enum Version {
+    C,
+    D,
+}
+
+impl Version {
+    /// Columns 1 and 2 of its first line.
+    pub(crate) fn symbol(self) -> &'static str {
+        match self {
+            Version::C => "#c",
+            Version::D => "#d",
+        }
+    }
+
+    /// "at most 85 satellites"; request 6: "Take 999, as document 000 does": as many as
+    /// its I3 shows.
+    pub(crate) fn most_satellites(self) -> i64 {
+        match self {
+            Version::C => 85,
+            Version::D => MOST_SATELLITES,
+        }
+    }
+}
+
 /// "The kind of a line is told by columns 1 and 2; for P and V by column 1,
-/// for EOF by columns 1 to 3."
+/// for EOF by columns 1 to 3." The first is that of SP3-d.
 pub(crate) const SYMBOLS: [&str; 14] = [
     "#d", "##", "+ ", "++", "%c", "%f", "%i", "/*", "* ", "P", "V", "EP", "EV", "EOF",
 ];
 
+/// The symbols of a version.
+pub(crate) fn symbols(version: Version) -> [&'static str; 14] {
+    let mut symbols = SYMBOLS;
+    symbols[0] = version.symbol();
+    symbols
+}
+
 /// The kind of a line, 1 to 14 in the order above; 0 for none of them.
-fn kind_of_line(line: &Line) -> usize {
-    let found = SYMBOLS.iter().position(|symbol| line.begins(symbol));
+fn kind_of_line(version: Version, line: &Line) -> usize {
+    let found = symbols(version).iter().position(|symbol| line.begins(symbol));
     found.map_or(0, |place| place + 1)
 }
 
@@ -516,7 +552,7 @@ enum Record {
 // ---------------------------------------------------------------------------
 
 pub(crate) const SLOTS: usize = 17;
-/// Request 6: "Take 999, as document 000 does": as many as its I3 shows.
+/// Those of SP3-d.
 pub(crate) const MOST_SATELLITES: i64 = 999;
 pub(crate) const MOST_EPOCHS: i64 = 100_000;
 /// Of x, y and z, and of a clock or rate below zero: "with magnitude at most
@@ -543,8 +579,8 @@ fn read_moment(r: &mut Reader) -> Moment {
 }
 
 /// SP3 First Line
-pub(crate) fn read_first_line(r: &mut Reader) -> FirstLine {
-    r.symbol("#d"); //                                      Columns 1-2    Version Symbol
+pub(crate) fn read_first_line(r: &mut Reader, version: Version) -> FirstLine {
+    r.symbol(version.symbol()); //                          Columns 1-2    Version Symbol
     let mode = r.listed(3, 3, &["P", "V"]); //              Column 3       Pos or Vel Flag  A1
     let start = read_moment(r); //                          Columns 4-31
     r.unused(32, 32); //                                    Column 32      Unused
@@ -587,11 +623,12 @@ fn slot_columns(slot: usize) -> (usize, usize) {
 }
 
 /// SP3 Line Three
-pub(crate) fn read_first_satellites(r: &mut Reader) -> Satellites {
+pub(crate) fn read_first_satellites(r: &mut Reader, version: Version) -> Satellites {
     r.symbol("+ "); //                                      Columns 1-2    Symbols
     r.unused(3, 3); //                                      Column 3       Unused
     let written = read_integer(r.line.columns(4, 6));
-    let number = r.integer(4, 6, 1..=MOST_SATELLITES); //   Columns 4-6    Number of Sats   I3
+    let bounds = 1..=version.most_satellites();
+    let number = r.integer(4, 6, bounds); //                Columns 4-6    Number of Sats   I3
     r.unused(7, 9); //                                      Columns 7-9    Unused
     let identifiers = match written {
         Some(left) => read_identifiers(r, left as usize),
@@ -846,12 +883,19 @@ pub(crate) fn read_end(r: &mut Reader) {
     r.unused(4, 80);
 }
 
+/// The version of a kind letter, and the letter that asks the same of SP3-d.
+fn version_of(letter: u8) -> (Version, u8) {
+    let version = if letter.is_ascii_uppercase() { Version::C } else { Version::D };
+    (version, letter.to_ascii_lowercase())
+}
+
 /// The record that kind letter `letter` asks for; faults are left in `r`.
 fn read_record(letter: u8, left: usize, r: &mut Reader) -> Record {
+    let (version, letter) = version_of(letter);
     match letter {
-        b'a' => Record::First(read_first_line(r)),
+        b'a' => Record::First(read_first_line(r, version)),
         b'b' => Record::Two(read_line_two(r)),
-        b'c' => Record::Satellites(read_first_satellites(r)),
+        b'c' => Record::Satellites(read_first_satellites(r, version)),
         b'd' => Record::Satellites(read_further_satellites(r, left)),
         b'e' => Record::Accuracies(read_accuracies(r, left)),
         b'f' => Record::FirstCharacters(read_first_characters(r)),
@@ -949,8 +993,8 @@ fn write_moment(w: &mut Writer, moment: &Moment) {
     w.decimal(31, 8, moment.seconds);
 }
 
-pub(crate) fn write_first_line(line: &FirstLine) -> String {
-    let mut w = Writer::new("#d");
+pub(crate) fn write_first_line(version: Version, line: &FirstLine) -> String {
+    let mut w = Writer::new(version.symbol());
     w.text(3, &line.mode);
     write_moment(&mut w, &line.start);
     w.integer(39, line.epochs);
@@ -1068,9 +1112,9 @@ pub(crate) fn write_note(symbol: &str, note: &Note) -> String {
 }
 
 /// The canonical line of a record.
-fn canonical(record: &Record) -> String {
+fn canonical(version: Version, record: &Record) -> String {
     match record {
-        Record::First(line) => write_first_line(line),
+        Record::First(line) => write_first_line(version, line),
         Record::Two(line) => write_line_two(line),
         Record::Satellites(line) => write_satellites(line),
         Record::Accuracies(exponents) => write_accuracies(exponents),
@@ -1098,7 +1142,7 @@ fn judge(letter: u8, left: usize, text: &[u8]) -> Result<String, Fault> {
     let record = read_record(letter, left, &mut reader);
     match reader.deciding {
         Some(fault) => Err(fault),
-        None => Ok(canonical(&record)),
+        None => Ok(canonical(version_of(letter).0, &record)),
     }
 }
 
@@ -1116,8 +1160,8 @@ impl Case {
 
     fn answer(&self) -> String {
         let text = self.line.as_bytes();
-        if self.letter == b'z' {
-            return format!("kind {}", kind_of_line(&Line::padded(text)));
+        if let (version, b'z') = version_of(self.letter) {
+            return format!("kind {}", kind_of_line(version, &Line::padded(text)));
         }
         match judge(self.letter, self.argument, text) {
             Err(fault) => format!("{} {}", fault.number, fault.column),
@@ -2322,6 +2366,32 @@ fn add_random_clocks(cases: &mut Cases, random: &mut Random, number: usize) {
     }
 }
 
+/// What SP3-c has otherwise: its first line, with the letter of either version; the first
+/// `+ ` line, of which 85 and 86 satellites; and which kind a line is.
+fn add_older_version(cases: &mut Cases) {
+    let known = cases.list.clone();
+    let of = |letter: u8| known.iter().filter(move |case| case.letter == letter);
+    for (place, case) in of(b'a').enumerate() {
+        let older = Case { letter: b'A', ..case.clone() };
+        let with_letter = case.line.starts_with("#d") && place % 8 != 0;
+        cases.add(if with_letter { edited(&older, 2, "c") } else { older });
+    }
+    for (place, case) in of(b'c').step_by(2).chain(of(b'z')).enumerate() {
+        let older = Case { letter: case.letter.to_ascii_uppercase(), ..case.clone() };
+        let fewer = case.line.starts_with("+  140") && place % 8 != 0;
+        cases.add(if fewer { edited(&older, 4, " 85") } else { older });
+    }
+    for letter in [b'c', b'C'] {
+        for number in ["085", " 84", " 85", " 86", "086", " 87", "100", "255", "999"] {
+            let line = edited(&Case { letter, ..slot_line(b'c', 17) }, 4, number);
+            cases.add(line.clone());
+            for (column, text) in [(10, "e01"), (13, "E00"), (58, "  0"), (9, "x"), (61, "0")] {
+                cases.add(edited(&line, column, text));
+            }
+        }
+    }
+}
+
 fn all_cases() -> Vec<Case> {
     let mut cases = Cases::default();
     let mut random = Random(20_160_221);
@@ -2338,6 +2408,7 @@ fn all_cases() -> Vec<Case> {
     add_kinds(&mut cases);
     add_random_clocks(&mut cases, &mut random, 150);
     add_random(&mut cases, &mut random, 620);
+    add_older_version(&mut cases);
     cases.list
 }
 
@@ -2621,6 +2692,49 @@ const BY_HAND: &[(&str, &str)] = &[
         "6 73",
     ),
     ("p000EV                         10000000 10000000", "7 28"),
+    // SP3-c: its letter, 85 satellites at most; all else is the same.
+    (
+        "A000#cP2013  4  3  0  0  0.00000000       1 ORBIT WGS84 BCT PORT",
+        "0 0 #cP2013  4  3  0  0  0.00000000       1 ORBIT WGS84 BCT PORT",
+    ),
+    (
+        "A000#cV2013 04 03 00 00 00.00000000 0000001 ORBIT WGS84 BCT PORT                ",
+        "0 0 #cV2013  4  3  0  0  0.00000000       1 ORBIT WGS84 BCT PORT",
+    ),
+    ("A000#dP2013  4  3  0  0  0.00000000       1 ORBIT WGS84 BCT PORT", "4 0"),
+    ("A000#CP2013  4  3  0  0  0.00000000       1 ORBIT WGS84 BCT PORT", "4 0"),
+    ("A000##P2013  4  3  0  0  0.00000000       1 ORBIT WGS84 BCT PORT", "4 0"),
+    ("a000#cP2013  4  3  0  0  0.00000000       1 ORBIT WGS84 BCT PORT", "4 0"),
+    ("A000#cv2013  4  3  0  0  0.00000000       1 ORBIT WGS84 BCT PORT", "6 3"),
+    ("A000#cP2013  4  3  0  0  0.00000000  100001 ORBIT WGS84 BCT PORT", "7 33"),
+    ("A000#c", "6 3"),
+    (
+        "C000+   85   G01G02G03G04G05G06G07G08G09G10G11G12G13G14G15G16G17",
+        "0 0 +   85   G01G02G03G04G05G06G07G08G09G10G11G12G13G14G15G16G17",
+    ),
+    (
+        "c000+   86   G01G02G03G04G05G06G07G08G09G10G11G12G13G14G15G16G17",
+        "0 0 +   86   G01G02G03G04G05G06G07G08G09G10G11G12G13G14G15G16G17",
+    ),
+    ("C000+   86   G01G02G03G04G05G06G07G08G09G10G11G12G13G14G15G16G17", "7 4"),
+    ("C000+  086   G01G02G03G04G05G06G07G08G09G10G11G12G13G14G15G16G17", "7 4"),
+    ("C000+  999   G01G02G03G04G05G06G07G08G09G10G11G12G13G14G15G16G17", "7 4"),
+    ("C000+    0     0  0  0  0  0  0  0  0  0  0  0  0  0  0  0  0  0", "7 4"),
+    // Beside other faults: of the slots that 86 satellites need, 6 before 7 and 5 before 6.
+    ("C000+   86   G01G 2G03G04G05G06G07G08G09G10G11G12G13G14G15G16G17", "6 13"),
+    ("C000+   86   G01G02G03G04G05G06G07G08G09G10G11G12G13G14G15G16  0", "6 58"),
+    ("C000+   86   G00G02G03G04G05G06G07G08G09G10G11G12G13G14G15G16G17", "7 4"),
+    ("C000+   86 x G01G 2G03G04G05G06G07G08G09G10G11G12G13G14G15G16G17", "5 8"),
+    ("C000+  1000  G01G02G03G04G05G06G07G08G09G10G11G12G13G14G15G16G17", "5 7"),
+    // The columns of a comment are those of SP3-d; how long its line may be isn't judged here.
+    ("K000/* two", "0 0 /* two"),
+    ("M000PG07", "6 5"),
+    ("Z000#cP", "kind 1"),
+    ("Z000#dP", "kind 0"),
+    ("Z000#C", "kind 0"),
+    ("Z000##", "kind 2"),
+    ("Z000/*", "kind 8"),
+    ("Z000EOF", "kind 14"),
     // Kinds.
     ("z000#dP", "kind 1"),
     ("z000#c", "kind 0"),

@@ -14,9 +14,10 @@
 //! * `BIN check DIR`      compares DIR with the stored inputs and outputs;
 //! * `BIN self-test`      compares the answers with ones worked out by hand.
 //!
-//! 13 is no answer of `rewrite`: what was read from a file is a valid table.
+//! 13 and 17 are no answers of `rewrite`: what was read from a file is a valid table
+//! in the file's own version, in which it is written.
 //!
-//! "The paper" is 01-scope.md as requests 1 to 3 and 6 of 02-change-requests.md
+//! "The paper" is 01-scope.md as requests 1 to 3, 6 and 9 of 02-change-requests.md
 //! changed it.
 
 #[allow(dead_code)]
@@ -24,8 +25,9 @@
 mod forms;
 
 use forms::files;
-use forms::files::lines::{fail, Tally};
-use forms::files::{Base, Draft, Edit, BARE, MOST_SATELLITES, NOTE};
+use forms::files::lines::{fail, Tally, Version};
+use forms::files::{Base, Draft, Edit, AS_C, AS_D, BARE, COMMENT_60, COMMENT_61};
+use forms::files::{MOST_SATELLITES, NOTE};
 use std::collections::BTreeMap;
 use std::path::Path;
 use std::process::exit;
@@ -50,13 +52,14 @@ fn too_long() -> Vec<u8> {
     b"too long\n".to_vec()
 }
 
-/// The canonical form of a file that was accepted; "past that it prints
+/// The canonical form of a file that was accepted, in its own version; "past that it prints
 /// `refused 12 line 0`" and column 0.
 fn printed_form(file: &[u8]) -> Vec<u8> {
     let Some(table) = forms::given_of(file) else {
         fail("a file was accepted that has no table");
     };
-    table.write(MOST_BYTES).unwrap_or_else(|number| refused(number, 0, 0))
+    let version = Version::told_by(file);
+    table.write(version, MOST_BYTES).unwrap_or_else(|number| refused(number, 0, 0))
 }
 
 fn printed(input: &[u8]) -> Vec<u8> {
@@ -220,6 +223,28 @@ const WRITTEN: &[(&str, Base, Edits, Edits)] = &[
         &[ONE_SECOND[0], ONE_SECOND[1], ONE_SECOND[2], Put(2, 46, "0.0000115740741")],
     ),
     ("00-80-characters", Paper, &[Put(24, 80, " ")], &[]),
+    // Version c: `#c` again, and all else as of version d.
+    ("00-c-paper", Paper, &[AS_C, Put(24, 19, "    -00.500000")], &[AS_C]),
+    ("00-c-canonical", Paper, &[AS_C], &[AS_C]),
+    ("00-c-over-midnight", Night, &[AS_C], &[AS_C, NIGHT_FORM]),
+    ("00-c-mode-v-with-ep-and-ev", Motion, &[AS_C], &[AS_C]),
+    ("00-c-ep-of-blanks", Paper, &[AS_C, BARE, Put(25, 80, " ")], &[AS_C, BARE]),
+    ("00-c-clock-cut", Paper, &[AS_C, CUT], &[AS_C]),
+    (
+        "00-c-comment-of-60",
+        Paper,
+        &[AS_C, Whole(19, COMMENT_60), Put(22, 60, " ")],
+        &[AS_C, Whole(19, COMMENT_60)],
+    ),
+    (
+        "00-c-lines-of-80",
+        Paper,
+        &[AS_C, Put(1, 80, " "), Put(4, 80, " "), Put(13, 80, " "), Put(24, 80, " ")],
+        &[AS_C],
+    ),
+    ("00-c-85-satellites", Many(85), &[AS_C], &[AS_C]),
+    ("00-comment-of-61", Paper, &[Whole(19, COMMENT_61)], &[Whole(19, COMMENT_61)]),
+    ("00-five-comments", Paper, &[Insert(23, "/* FIVE")], &[Insert(23, "/* FIVE")]),
     // Six nines are enough for an absent clock: "The canonical form still writes twelve nines".
     ("00-clock-six-nines", Paper, &[Put(24, 47, " 999999.000000")], &[]),
     ("00-clock-nearly-twelve-nines", Paper, &[Put(24, 47, " 999999.999998")], &[]),
@@ -294,6 +319,7 @@ const REFUSED: &[(&str, Base, Edits, u8, usize, usize)] = &[
     ("01-no-bytes", Nothing, &[], 1, 1, 0),
     ("01-one-byte", Nothing, &[After(b"#")], 1, 1, 0),
     ("01-eof-without-lf", Paper, &[Join(25)], 1, 25, 0),
+    ("01-c-eof-without-lf", Paper, &[AS_C, Join(25)], 1, 25, 0),
     ("01-no-eof", Paper, &[Keep(24)], 1, 25, 0),
     ("01-one-line", Paper, &[Keep(1)], 1, 2, 0),
     ("02-carriage-returns", Paper, &[CarriageReturns], 2, 1, 61),
@@ -307,11 +333,26 @@ const REFUSED: &[(&str, Base, Edits, u8, usize, usize)] = &[
     ("03-81-characters", Paper, &[Put(24, 81, " ")], 3, 24, 81),
     ("03-300-characters", Paper, &[Put(24, 300, " ")], 3, 24, 81),
     ("03-comment-of-81", Paper, &[Put(19, 81, "x")], 3, 19, 81),
+    ("03-c-comment-of-61", Paper, &[AS_C, Whole(19, COMMENT_61)], 3, 19, 61),
+    ("03-c-comment-padded-to-61", Paper, &[AS_C, Put(19, 61, " ")], 3, 19, 61),
+    ("03-c-comment-of-81", Paper, &[AS_C, Put(19, 81, "x")], 3, 19, 61),
+    ("03-c-fifth-comment-of-61", Paper, &[AS_C, Insert(23, COMMENT_61)], 3, 23, 61),
+    ("03-c-comment-of-61-after-an-epoch", Paper, &[AS_C, Insert(24, COMMENT_61)], 3, 24, 61),
+    ("03-c-satellites-of-81", Paper, &[AS_C, Put(4, 81, " ")], 3, 4, 81),
     ("03-before-4", Paper, &[Put(24, 1, "x"), Put(24, 81, "x")], 3, 24, 81),
     ("03-ep-of-81", Paper, &[NOTE, Put(25, 81, " ")], 3, 25, 81),
     ("04-one-lf", Nothing, &[After(b"\n")], 4, 1, 0),
     ("04-three-comments", Paper, &[Drop(22)], 4, 22, 0),
-    ("04-sp3-c", Paper, &[Put(1, 2, "c")], 4, 1, 0),
+    ("04-sp3-a", Paper, &[Put(1, 2, "a")], 4, 1, 0),
+    ("04-sp3-capital-c", Paper, &[Put(1, 2, "C")], 4, 1, 0),
+    ("04-line-1-of-two-marks", Paper, &[Put(1, 2, "#")], 4, 1, 0),
+    ("04-c-five-comments", Paper, &[AS_C, Insert(23, "/*")], 4, 23, 0),
+    ("04-c-three-comments", Paper, &[AS_C, Drop(22)], 4, 22, 0),
+    ("04-c-comment-of-60-after-an-epoch", Paper, &[AS_C, Insert(24, COMMENT_60)], 4, 24, 0),
+    ("04-comment-of-61-after-an-epoch", Paper, &[Insert(24, COMMENT_61)], 4, 24, 0),
+    ("04-c-comment-of-61-as-line-1", Paper, &[AS_C, Insert(1, COMMENT_61)], 4, 1, 0),
+    ("04-c-line-of-d", Paper, &[AS_C, Insert(2, "#d")], 4, 2, 0),
+    ("04-c-six-lines-of-85", Many(86), &[AS_C, Put(3, 4, " 85"), Keep(14)], 4, 8, 0),
     ("04-slots-too-few", Paper, &[Drop(7)], 4, 7, 0),
     ("04-slots-too-many", Paper, &[Double(7)], 4, 8, 0),
     ("04-256-satellites-in-15-lines", Many(256), &[Drop(18), Keep(40)], 4, 18, 0),
@@ -342,6 +383,8 @@ const REFUSED: &[(&str, Base, Edits, u8, usize, usize)] = &[
     ("05-ep-column-72", Paper, &[BARE, Put(25, 72, "x")], 5, 25, 72),
     ("05-ep-before-6", Paper, &[NOTE, Put(25, 5, "55  "), Put(25, 27, "x")], 5, 25, 27),
     ("05-ev-column-3", Motion, &[Put(27, 3, "x")], 5, 27, 3),
+    ("06-c-small-v", Paper, &[AS_C, Put(1, 3, "v")], 6, 1, 3),
+    ("06-c-86-satellites-and-a-slot", Many(86), &[AS_C, Put(3, 13, "G 2"), Keep(14)], 6, 3, 13),
     ("06-small-v", Paper, &[Put(1, 3, "v")], 6, 1, 3),
     ("06-no-digit-before-point", Paper, &[Put(24, 5, "       .500000")], 6, 24, 5),
     ("06-blank-clock", Paper, &[Put(24, 47, "              ")], 6, 24, 47),
@@ -398,6 +441,8 @@ const REFUSED: &[(&str, Base, Edits, u8, usize, usize)] = &[
     ("07-ep-99999999", Paper, &[BARE, Put(25, 28, "99999999")], 7, 25, 28),
     ("07-ep-10000000", Paper, &[BARE, Put(25, 28, "10000000")], 7, 25, 28),
     ("07-ev-10000000", Motion, &[Put(27, 73, "10000000")], 7, 27, 73),
+    ("07-c-86-satellites", Many(86), &[AS_C, Keep(14)], 7, 3, 4),
+    ("07-c-999-satellites", Many(999), &[AS_C, Keep(14)], 7, 3, 4),
     ("07-no-satellite", Paper, &[Put(3, 4, "  0")], 7, 3, 4),
     ("07-000-satellites", Many(999), &[Put(3, 4, "000"), Keep(64)], 7, 3, 4),
     ("07-100001-epochs", Paper, &[Put(1, 33, " 100001")], 7, 1, 33),
@@ -442,6 +487,8 @@ const REFUSED: &[(&str, Base, Edits, u8, usize, usize)] = &[
     ("11-one-lf-after", Paper, &[After(b"\n")], 11, 26, 0),
     ("11-zero-after", Paper, &[After(b"\0")], 11, 26, 0),
     ("11-two-files", Paper, &[AfterItself], 11, 26, 0),
+    ("11-c-then-d", Paper, &[AfterItself, AS_C], 11, 26, 0),
+    ("11-d-then-c", Paper, &[AS_C, AfterItself, AS_D], 11, 26, 0),
 ];
 
 fn stored() -> Vec<Case> {
@@ -742,6 +789,15 @@ fn large() -> Vec<Case> {
         Case::new("801-comments-and-a-byte-after", after(b'x', talk(801)), refused(11, 823, 0)),
         Case::new("21444-comments", many_comments.bytes(), refused(12, 0, 0)),
         same_form("85-satellites", files::base_file(Many(85)).bytes()),
+        same_form("c-of-1050-rows", as_c(many_rows(75, 7).bytes())),
+        same_form("c-of-692-epochs", as_c(bare_form(b'P', 692, 0))),
+        Case::new(
+            "c-of-693-bare-epochs",
+            as_c(cut_rows(&bare_form(b'P', 693, 0))),
+            refused(12, 0, 0),
+        ),
+        Case::new("c-of-801-comments", as_c(talk(801)), refused(4, 23, 0)),
+        Case::new("65537-bytes-of-c", as_c(paper(MOST_BYTES + 1)), too_long()),
         same_form("86-satellites", files::base_file(Many(86)).bytes()),
         same_form("65535-bytes", paper(MOST_BYTES - 1)),
         same_form("65536-bytes", paper(MOST_BYTES)),
@@ -770,6 +826,12 @@ fn large() -> Vec<Case> {
         .into_iter()
         .flatten()
         .collect()
+}
+
+/// The file as one of version c.
+fn as_c(mut file: Vec<u8>) -> Vec<u8> {
+    file[1] = b'c';
+    file
 }
 
 /// One line of so many bytes of which the last before its LF is wrong.
@@ -851,7 +913,7 @@ fn number_in(text: &[u8]) -> Option<u8> {
     let text = String::from_utf8_lossy(text);
     match text.strip_prefix("refused ") {
         Some(rest) => rest.split(' ').next()?.parse().ok(),
-        None => text.starts_with("#d").then_some(0),
+        None => (text.starts_with("#d") || text.starts_with("#c")).then_some(0),
     }
 }
 

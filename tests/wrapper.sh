@@ -5,8 +5,8 @@
 #
 # The archive is built first where it is missing or older than a source; SP3_LIB_DIR names the folder of another one. What the wrapper takes
 # include/sp3.h to be (structs, fields, constants, functions, the numbers in words) is held to what the header says, and the most satellites of the
-# header to those of the proved source. The archive is for x86-64: on another processor Rust's target x86_64-unknown-linux-gnu is needed; without it
-# the wrapper is only checked. Prints `wrapper: passed`, or what failed, and then ends with 1.
+# header and its bounds of SP3-c to those of the proved source. The archive is for x86-64: on another processor Rust's target x86_64-unknown-linux-gnu
+# is needed; without it the wrapper is only checked. Prints `wrapper: passed`, or what failed, and then ends with 1.
 set -eu
 
 root=$(cd "$(dirname "$0")/.." && pwd -P)
@@ -145,12 +145,20 @@ print_layout() {
     [ "$(grep -c '^struct ' "$made/layout_of_c")" -ge 20 ] || fail 'structs of include/sp3.h were not found'
 }
 
-# The most satellites of the header are those of the proved source.
+# compare_bound FILE NAME CONSTANT: a constant of the header is the one that a file of crates/header has
 compare_bound() {
-    most=$(sed -n 's/^ *pub const MAX_SATELLITES: u64 = \([0-9_]*\);$/\1/p' "$root/crates/header/src/making.rt" | tr -d _)
-    echo "constant SP3_MOST_SATELLITES $most" >"$made/by_source"
-    grep '^constant SP3_MOST_SATELLITES ' "$made/layout_of_c" >"$made/found" || :
-    same 'MAX_SATELLITES of crates/header/src/making.rt (<) and SP3_MOST_SATELLITES of include/sp3.h (>) differ' "$made/by_source" "$made/found"
+    number=$(sed -n "s/^ *\(pub \)*const $2: u64 = \([0-9_]*\);\$/\2/p" "$root/crates/header/src/$1" | tr -d _)
+    echo "constant $3 $number" >"$made/by_source"
+    grep "^constant $3 " "$made/layout_of_c" >"$made/found" || :
+    same "$2 of crates/header/src/$1 (<) and $3 of include/sp3.h (>) differ" "$made/by_source" "$made/found"
+}
+
+# The most satellites of the header, and its bounds of SP3-c, are those of the proved source.
+compare_bounds() {
+    compare_bound making.rt MAX_SATELLITES SP3_MOST_SATELLITES
+    compare_bound versions.rt MOST_SATELLITES_C SP3_MOST_SATELLITES_C
+    compare_bound making.rt MIN_COMMENTS SP3_COMMENTS_C
+    compare_bound versions.rt COMMENT_COLUMNS_C SP3_COMMENT_COLUMNS_C
 }
 
 # Structs, fields and constants of the wrapper are those that C has.
@@ -175,7 +183,8 @@ compare_words() {
     same 'the numbers in words of include/sp3.h (<) and rust/sp3/src/refusal.rs (>) differ' "$made/by_c" "$made/found"
 }
 
-# Files beside the sample: one that ends too early, one with seven places in x, one of no bytes, one whose place is absent and whose clock is 0.
+# Files beside the sample: one that ends too early, one with seven places in x, one of no bytes, one whose place is absent and whose clock is 0, and
+# the sample in SP3-c.
 make_files() {
     sample=$root/samples/paper.sp3
     head -n 21 "$sample" >"$made/short.sp3"
@@ -183,6 +192,7 @@ make_files() {
     : >"$made/empty.sp3"
     zero='      0.000000'
     sed "s/^PG07.*/PG07$zero$zero$zero$zero/" "$sample" >"$made/withdrawn.sp3"
+    sed '1s/^#d/#c/' "$sample" >"$made/older.sp3"
 }
 
 # An example program on the sample, on files that are refused, and where there is no file.
@@ -225,7 +235,12 @@ wrapper_tests() {
     run_example known "$crate/examples/known.out" 'known FILE' x86_run "$known"
     printf 'G07 known 0 absent 1\nall known 0 absent 1\n' >"$made/withdrawn.out"
     answers 'known, a place that is absent' 0 "$made/withdrawn.out" x86_run "$known" "$made/withdrawn.sp3"
+    answers 'known, a file in SP3-c' 0 "$crate/examples/known.out" x86_run "$known" "$made/older.sp3"
     answers notes 0 "$crate/examples/notes.out" x86_run "$built/notes" "$root/samples/correlations.sp3"
+    run_example older "$made/older.sp3" 'older FILE' x86_run "$built/older"
+    answers 'older, a file in SP3-c' 0 "$made/older.sp3" x86_run "$built/older" "$made/older.sp3"
+    outside='refused 17 line 0: the table to be written is outside the bounds of SP3-c'
+    says 'older, too many satellites' 1 "$root/samples/combined.sp3: $outside" x86_run "$built/older" "$root/samples/combined.sp3"
 }
 
 c_example() {
@@ -233,11 +248,12 @@ c_example() {
     run_example rows "$root/examples/c/rows.out" 'rows FILE' x86_run "$made/rows"
     printf 'epoch 0 G07 place absent clock 0\nrows 1 known 0 absent 1\n' >"$made/withdrawn.out"
     answers 'rows, a place that is absent' 0 "$made/withdrawn.out" x86_run "$made/rows" "$made/withdrawn.sp3"
+    answers 'rows, a file in SP3-c' 0 "$root/examples/c/rows.out" x86_run "$made/rows" "$made/older.sp3"
 }
 
 command -v cargo >/dev/null || fail 'cargo is needed for the tests of rust/sp3'
 print_layout
-compare_bound
+compare_bounds
 find_archive
 make_files
 c_example

@@ -4,7 +4,7 @@
  *   answers calls PAPER    calls on the paper's file (calls.c)
  *
  * A file is `refused N line L`, with ` column C` where the refusal names one, or `accepted written|other row X Y Z CLOCK note ..`: whether its
- * canonical form is the second file, the row of epoch 0 and satellite 0, and what its stored row says of the EP line after it, in mode V also what
+ * canonical form, in its own version, is the second file, the row of epoch 0 and satellite 0, and what its stored row says of the EP line after it, in mode V also what
  * the V row says of the EV line (`note ..` again): `none`, or four deviations and six correlations, `-` for unknown, `large` for too large. The line
  * reader must find the same refusal in the same line and column. */
 #include "sp3.h"
@@ -107,12 +107,13 @@ static void free_table(table_t t)
     free(t.identifiers), free(t.exponents), free(t.comments), free(t.rows);
 }
 
-/* Whether a table is written in this form. */
-static bool is_written_as(table_t t, stretch_t form)
+/* Whether a table is written in this form, in the version of its file. */
+static bool is_written_as(table_t t, uint8_t version, stretch_t form)
 {
     uint8_t *out = room(form.length, 1);
     size_t n = t.header.satellites;
-    sp3_measured_t written = sp3_write(t.header, t.identifiers, n, t.exponents, n, t.comments, t.text, t.rows, t.numbers, out, form.length);
+    sp3_measured_t written = (version == 'c' ? sp3_write_c : sp3_write)(t.header, t.identifiers, n, t.exponents, n, t.comments, t.text, t.rows,
+                                                                        t.numbers, out, form.length);
     bool same = written.refusal == 0 && written.length == form.length && memcmp(out, form.bytes, form.length) == 0;
     free(out);
     return same;
@@ -172,7 +173,7 @@ static void print_file(const char *path, const char *form_path)
         print_refusal(file, judged, path);
     } else {
         table_t table = table_of(file, judged.header, path);
-        printf("accepted %s", is_written_as(table, form) ? "written" : "other");
+        printf("accepted %s", is_written_as(table, judged.version, form) ? "written" : "other");
         print_row(file);
         for (size_t k = 0; k < (judged.header.velocity ? 2 : 1); k++)
             print_note(table, k);

@@ -15,11 +15,14 @@ enum { IDENTIFIERS = 1, COMMENTS = 4, TEXT = COMMENTS * SP3_COMMENT_WIDTH, NUMBE
        ROW_FROM_END = 65, IDENTIFIERS_LINE = 122, ALL_LINES = 99, CLOCK = 3, MARK = 12, DEVIATION = 13, CLOCK_DEVIATION = 16, CORRELATION = 17,
        BARE_NOTE = 3 };
 
+/* More than version c has: satellites, comments, the characters of a comment's text; room for 86 satellites. */
+enum { SATELLITES_C = 85, MORE_SATELLITES = 86, MORE_COMMENTS = 5, TEXT_C = 57, LARGE_ROOM = 8000 };
+
 /* What is changed in the paper's table before it is written. */
 enum { AS_READ, EXPONENT_1000, IDENTIFIER_00, THREE_COMMENTS, CLOCK_LARGE, CLOCK_LARGEST, CLOCK_SIX_NINES, CLOCK_BELOW, CLOCK_LEAST,
        CLOCK_MINUS_LARGE, RATE_LARGEST, RATE_SIX_NINES, RATE_BELOW, PLACE_SIX_NINES, FLAG_2, PAST_2099, MARK_1, MARK_2, NO_RECORD_5, NO_RECORD_0,
        DEVIATION_9999, DEVIATION_10000, DEVIATION_MINUS, CLOCK_DEVIATION_LARGE, CORRELATION_LARGE, CORRELATION_MINUS_LARGE,
-       CORRELATION_MINUS_UNKNOWN };
+       CORRELATION_MINUS_UNKNOWN, SATELLITES_85, SATELLITES_86, SATELLITES_86_AND_EXPONENT, FIVE_COMMENTS, TEXT_57, TEXT_58 };
 
 /* An answer; `line` is -1 where the function tells none, `column` is 0 where it tells none or the refusal names none. */
 typedef struct {
@@ -43,12 +46,12 @@ static answer_t alone(size_t refusal)
     return (answer_t){refusal, -1, 0};
 }
 
-/* The paper's table, with room for one epoch more. */
+/* The paper's table, with room for one epoch more, or for more satellites and comments. */
 typedef struct {
     sp3_header_t header;
-    uint64_t identifiers[IDENTIFIERS], exponents[IDENTIFIERS];
-    uint8_t comments[TEXT];
-    int64_t rows[2 * NUMBERS];
+    uint64_t identifiers[MORE_SATELLITES], exponents[MORE_SATELLITES];
+    uint8_t comments[MORE_COMMENTS * SP3_COMMENT_WIDTH];
+    int64_t rows[MORE_SATELLITES * NUMBERS];
 } table_t;
 
 static table_t table_of(stretch_t file)
@@ -63,7 +66,7 @@ static table_t table_of(stretch_t file)
 
 static stretch_t followed_by(stretch_t paper, const void *more, size_t length)
 {
-    static uint8_t made[2 * LENGTH];
+    static uint8_t made[3 * LENGTH];
     memcpy(made, paper.bytes, paper.length);
     memcpy(made + paper.length, more, length);
     return (stretch_t){made, paper.length + length};
@@ -105,6 +108,37 @@ static stretch_t then_misspelt(stretch_t paper)
 {
     stretch_t both = twice(paper);
     both.bytes[both.length - ROW_FROM_END + 17] = 'x';
+    return both;
+}
+
+/* The paper's file in version c. */
+static stretch_t older(stretch_t paper)
+{
+    stretch_t file = followed_by(paper, "", 0);
+    file.bytes[1] = 'c';
+    return file;
+}
+
+/* That one, and then the paper's. */
+static stretch_t older_then_itself(stretch_t paper)
+{
+    stretch_t both = twice(paper);
+    both.bytes[1] = 'c';
+    return both;
+}
+
+/* And then once more that one. */
+static stretch_t by_turns(stretch_t paper)
+{
+    stretch_t three = older_then_itself(paper);
+    memcpy(three.bytes + three.length, three.bytes, paper.length);
+    return (stretch_t){three.bytes, three.length + paper.length};
+}
+
+static stretch_t older_then_misspelt(stretch_t paper)
+{
+    stretch_t both = then_misspelt(paper);
+    both.bytes[1] = 'c';
     return both;
 }
 
@@ -165,6 +199,16 @@ static void note(table_t *t, size_t place, int64_t value)
     t->rows[place] = value;
 }
 
+/* So many satellites, G01 and on, each with the row of the first. */
+static void satellites(table_t *t, size_t count)
+{
+    t->header.satellites = count;
+    for (size_t k = 0; k < count; k++) {
+        t->identifiers[k] = 'G' * 100 + 1 + k;
+        memmove(t->rows + k * NUMBERS, t->rows, NUMBERS * sizeof t->rows[0]);
+    }
+}
+
 static void change(table_t *t, size_t which)
 {
     const uint64_t day8 = 86400ull * 100000000ull;
@@ -200,6 +244,18 @@ static void change(table_t *t, size_t which)
     case CORRELATION_LARGE: note(t, CORRELATION, 10000000); break;
     case CORRELATION_MINUS_LARGE: note(t, CORRELATION, -10000000); break;
     case CORRELATION_MINUS_UNKNOWN: note(t, CORRELATION, -SP3_UNNOTED); break;
+    case SATELLITES_85: satellites(t, SATELLITES_C); break;
+    case SATELLITES_86: satellites(t, MORE_SATELLITES); break;
+    case SATELLITES_86_AND_EXPONENT:
+        satellites(t, MORE_SATELLITES);
+        t->exponents[0] = 1000;
+        break;
+    case FIVE_COMMENTS:
+        t->header.comments = MORE_COMMENTS;
+        memset(t->comments + TEXT, ' ', SP3_COMMENT_WIDTH);
+        break;
+    case TEXT_57: memset(t->comments, 'x', TEXT_C); break;
+    case TEXT_58: memset(t->comments, 'x', TEXT_C + 1); break;
     }
 }
 
@@ -211,6 +267,17 @@ static answer_t write_into(stretch_t file, const size_t *with)
     change(&t, with[0]);
     size_t numbers = t.header.epochs * (t.header.velocity ? 2 : 1) * NUMBERS - with[3];
     return alone(sp3_write(t.header, t.identifiers, with[1], t.exponents, IDENTIFIERS, t.comments, TEXT, t.rows, numbers, out, with[2]).refusal);
+}
+
+/* with: what is changed, bytes of output, the letter of the version; the lists are as long as the counts say */
+static answer_t write_in(stretch_t file, const size_t *with)
+{
+    static uint8_t out[LARGE_ROOM];
+    table_t t = table_of(file);
+    change(&t, with[0]);
+    size_t n = t.header.satellites, text = t.header.comments * SP3_COMMENT_WIDTH, numbers = n * NUMBERS;
+    return alone((with[2] == 'c' ? sp3_write_c : sp3_write)(t.header, t.identifiers, n, t.exponents, n, t.comments, text, t.rows, numbers, out,
+                                                            with[1]).refusal);
 }
 
 /* with: mode, satellites, month and day in 2001 */
@@ -303,7 +370,7 @@ static answer_t ask_moment(stretch_t file, const size_t *with)
 /* with: places for lengths */
 static answer_t divide_into(stretch_t stretch, const size_t *with)
 {
-    uint64_t lengths[2];
+    uint64_t lengths[3];
     sp3_division_t d = sp3_divide(stretch.bytes, stretch.length, lengths, with[0]);
     return at_place(d.refusal, d.line, d.column);
 }
@@ -394,6 +461,18 @@ static const struct {
     {"write-correlation-minus-large", itself, write_into, {CORRELATION_MINUS_LARGE, IDENTIFIERS, ROOM}},
     {"write-correlation-minus-unknown", itself, write_into, {CORRELATION_MINUS_UNKNOWN, IDENTIFIERS, ROOM}},
     {"write-invalid-short", itself, write_into, {EXPONENT_1000, IDENTIFIERS, 0}},
+    {"write-c-exact", itself, write_in, {AS_READ, LENGTH, 'c'}},
+    {"write-c-short", itself, write_in, {AS_READ, LENGTH - 1, 'c'}},
+    {"write-c-85", itself, write_in, {SATELLITES_85, LARGE_ROOM, 'c'}},
+    {"write-c-86", itself, write_in, {SATELLITES_86, LARGE_ROOM, 'c'}},
+    {"write-c-57", itself, write_in, {TEXT_57, LARGE_ROOM, 'c'}},
+    {"write-c-58", itself, write_in, {TEXT_58, LARGE_ROOM, 'c'}},
+    {"write-c-three-comments", itself, write_in, {THREE_COMMENTS, LARGE_ROOM, 'c'}},
+    {"write-c-five-comments", itself, write_in, {FIVE_COMMENTS, LARGE_ROOM, 'c'}},
+    {"write-c-five-short", itself, write_in, {FIVE_COMMENTS, 0, 'c'}},
+    {"write-c-86-exponent-1000", itself, write_in, {SATELLITES_86_AND_EXPONENT, LARGE_ROOM, 'c'}},
+    {"write-d-86", older, write_in, {SATELLITES_86, LARGE_ROOM, 'd'}},
+    {"write-d-58", older, write_in, {TEXT_58, LARGE_ROOM, 'd'}},
     {"header-mode-q", itself, make_header, {'Q', 1, 8, 8}},
     {"header-256", itself, make_header, {'P', 256, 8, 8}},
     {"header-999", itself, make_header, {'P', SP3_MOST_SATELLITES, 8, 8}},
@@ -427,6 +506,9 @@ static const struct {
     {"divide-short", twice, divide_into, {1}},
     {"divide-rest", with_more, divide_into, {1}},
     {"divide-refused-first", damaged, divide_into, {0}},
+    {"divide-mixed", by_turns, divide_into, {3}},
+    {"divide-c-then-damaged", older_then_misspelt, divide_into, {2}},
+    {"read-c-then-d", older_then_itself, read_into, {IDENTIFIERS, TEXT, NUMBERS}},
     {"divide-column", then_misspelt, divide_into, {1}},
     {"walk-line-at-end", itself, line_at, {LENGTH}},
     {"walk-identifiers-exact", itself, line_after, {2, IDENTIFIERS}},
@@ -454,6 +536,7 @@ static const struct {
     {"due-line-17", itself, 16},
     {"due-comment", itself, 21},
     {"due-epoch", itself, 22},
+    {"due-epoch-c", older, 22},
     {"due-row", itself, 23},
     {"due-end", itself, 24},
     {"due-other-row", damaged, ALL_LINES},

@@ -12,32 +12,39 @@ DAY = 86400 * SECOND
 
 
 def words():
-    """The refusals in words, out of the table in include/sp3.h; what is said there of line and column is left out, and of 13 the first half."""
+    """The refusals in words, out of the table in include/sp3.h; what is said there of line and column is left out, of 13 the first half, of 3 the
+    second, which is said of comment lines in SP3-c alone."""
     header = (ROOT / "include/sp3.h").read_text()
     listed = dict(re.findall(r"^ \* +(\d+)  (.*)$", header, re.M))
     said = {int(number): re.sub(r" \(.*\)$|; column: .*$", "", text) for number, text in listed.items()}
     said[13] = said[13].split(", or ")[1]
-    assert sorted(said) == list(range(14))
-    return said
+    said[3], comment = said[3].split(", or ")
+    assert sorted(said) == [*range(14), 17]
+    return said, re.sub(" (more than .*)", r" has \1 characters", comment)
 
 
-WORDS = words()
+WORDS, LONG_COMMENT = words()
+# 02, ask 9: "at most 85 satellites, .., exactly four comments, comment lines of at most 60 characters"
+BOUNDS_OF_C = "at most 85 satellites, 4 comments, comment lines of 60 characters"
+BOTH_READ = "SP3-c and SP3-d are read"
 LARGE = "large"
 
 
 # ---- What is said of a refusal ----
 
 
-def hint(content, number, line):
+def hint(content, number, line, column):
     """What the bytes that were refused make plain; nothing where they do not."""
     if re.match(rb"\x1f[\x8b\x9d]", content):
         return "compressed: zcat FILE | sp3 check -"
     text = content.split(b"\n")[line - 1]
-    version = re.match(rb"#([abc])", text)
+    older = re.match(rb"#([ab])", text)
     if number == 2 and re.fullmatch(rb"[ -~]*\r", text):
         return "the line ends in CR LF: tr -d '\\r' < FILE | sp3 check -"
-    if number == 4 and line == 1 and version:
-        return f"this is SP3-{version[1].decode()}; only SP3-d is read"
+    if number == 4 and line == 1:
+        return (f"this is SP3-{older[1].decode()}; " if older else "`#c` or `#d` is due; ") + BOTH_READ
+    if (number, line, column) == (7, 3, 4) and content.startswith(b"#c"):
+        return "a file in SP3-c has 1 to 85 satellites"
     return "another file follows: sp3 divide FILE" if number == 11 and text.startswith(b"#") else ""
 
 
@@ -56,7 +63,7 @@ def satellites_in(lines):
 def opening(lines):
     """How the lines up to the fourth comment begin; how many there are follows from n in the third."""
     slots = max(5, -(-int(lines[2][3:6]) // 17)) if len(lines) > 2 else 1
-    return ["#d", "##", *["+ "] * slots, *["++"] * slots, "%c", "%c", "%f", "%f", "%i", "%i", *["/*"] * 4]
+    return ["#", "##", *["+ "] * slots, *["++"] * slots, "%c", "%c", "%f", "%f", "%i", "%i", *["/*"] * 4]
 
 
 def due(lines):
@@ -66,7 +73,7 @@ def due(lines):
         return first[len(lines)], ""
     epochs = [k for k, line in enumerate(lines) if line.startswith("* ")]
     if not epochs:
-        return "* ", "/*"
+        return "* ", "" if lines[0].startswith("#c") else "/*"
     rows = [letter + name for name in satellites_in(lines) for letter in ("PV" if lines[0][2] == "V" else "P")]
     passed = sum(line[0] in "PV" for line in lines[epochs[-1] :])
     note = "E" + lines[-1][0] if lines[-1][0] in "PV" else ""
@@ -98,9 +105,9 @@ def disagreement(lines):
     return {"##": start, "+ ": repeated if right else slot, "++": slot, "%c": f"{file_type} with the identifiers"}[lines[-1][:2]]
 
 
-def cause(content, number, line):
+def cause(content, number, line, column):
     """A refusal of bytes in words; in parentheses what they make plain, or what stands in the line and what was due."""
-    plain = hint(content, number, line)
+    plain = hint(content, number, line, column)
     *before, text = content.decode("latin-1").split("\n")[:line]
     if number == 8:
         return disagreement([*before, text])
@@ -111,7 +118,7 @@ def cause(content, number, line):
         plain = instants(before, text)
     if number == 10:
         plain = f"{text[1:4]} stands here, {due(before)[0][1:]} is due"
-    return WORDS[number] + (f" ({plain})" if plain else "")
+    return (LONG_COMMENT if (number, column) == (3, 61) else WORDS[number]) + (f" ({plain})" if plain else "")
 
 
 def shown(content, line, column):
@@ -129,15 +136,16 @@ def shown(content, line, column):
 def refused(subject, number, line=0, column=0, content=b""):
     """What is said of a refusal; of bytes that were refused also what it comes from, and the line."""
     at = f"{subject}: refused {number} line {line}{f' column {column}' if column else ''}: "
-    return at + (cause(content, number, line) + "\n" + shown(content, line, column) if content else WORDS[number] + "\n")
+    return at + (cause(content, number, line, column) + "\n" + shown(content, line, column) if content else WORDS[number] + "\n")
 
 
 class Held:
     """What an accepted file holds. A row is a tuple: letter, epoch, satellite, place or None, clock or None, exponents and flags as shown, note or
-    None. A note is its four deviations and six correlations: whole numbers, None for an unknown one, LARGE for one that is too large."""
+    None. A note is its four deviations and six correlations: whole numbers, None for an unknown one, LARGE for one that is too large. Its version is
+    a letter."""
 
-    def __init__(self, mode, start8, epochs, interval8, texts, file_type, time, bases, satellites, comments, rows):
-        self.mode, self.start8, self.epochs, self.interval8, self.texts = mode, start8, epochs, interval8, texts
+    def __init__(self, version, mode, start8, epochs, interval8, texts, file_type, time, bases, satellites, comments, rows):
+        self.version, self.mode, self.start8, self.epochs, self.interval8, self.texts = version, mode, start8, epochs, interval8, texts
         self.file_type, self.time, self.bases = file_type, time, bases
         self.satellites, self.comments, self.rows = satellites, comments, rows
 
@@ -151,8 +159,8 @@ def note_of_model(note):
     return [LARGE if number == large else number for number, large in zip(note.deviations, (9999, 9999, 9999, 9999999))] + list(note.correlations)
 
 
-def of_model(model):
-    """What a file of samples/make.py holds."""
+def of_model(model, version=None):
+    """What a file of samples/make.py holds, in its own version or in this one."""
     start8 = (model.start.toordinal() - MJD_ZERO) * DAY + (model.start.hour * 3600 + model.start.minute * 60 + model.start.second) * SECOND
     letters = {name[0] for name in model.satellites}
     rows = []
@@ -162,7 +170,8 @@ def of_model(model):
                 exponents = [shown_exponent(e, large) for e, large in zip(row.exponents, (99, 99, 99, 999))]
                 note = None if row.note is None else note_of_model(row.note)
                 rows.append((letter, epoch, k, row.place, row.clock, exponents, row.flags.replace(" ", "."), note))
-    return Held(model.mode, start8, len(model.rows), model.interval * SECOND, model.texts, letters.pop() if len(letters) == 1 else "M", "GPS",
+    file_type = letters.pop() if len(letters) == 1 else "M"
+    return Held(version or model.version, model.mode, start8, len(model.rows), model.interval * SECOND, model.texts, file_type, "GPS",
                 (12_500_000, 1_025_000_000), list(zip(model.satellites, model.accuracies)), model.comments, rows)
 
 
@@ -194,8 +203,8 @@ def tally(held, with_notes):
 
 
 def check(name, held):
-    return (f"{name}: accepted, mode {held.mode}, start {moment(held.start8)}, epochs {held.epochs}, interval {fixed(held.interval8, 8)} s, "
-            f"satellites {len(held.satellites)}, time system {held.time}, {tally(held, True)}")
+    return (f"{name}: accepted, SP3-{held.version}, mode {held.mode}, start {moment(held.start8)}, epochs {held.epochs}, "
+            f"interval {fixed(held.interval8, 8)} s, satellites {len(held.satellites)}, time system {held.time}, {tally(held, True)}")
 
 
 def labelled(label, text):
@@ -298,12 +307,14 @@ class Oracles:
         refusal = tuple(int(word) for word in answers["whole"][1:4])
         return refusal, None if refusal[0] else of_answer(lines), answers
 
-    def form(self, file):
-        """The canonical form of an accepted file."""
-        answer = self.ask("forms", "answer", batch=b"2 1000000 %d\n" % len(file) + file)
+    def form(self, file, version=None):
+        """The canonical form of an accepted file in its own version or in this one; 17 where it has none."""
+        letter = version.encode()[0] if version else file[1]
+        answer = self.ask("forms", "answer", batch=b"2 %d 1000000 %d\n" % (letter, len(file)) + file)
         _, read, write, rest = answer.split(b"\n", 3)
-        assert read.startswith(b"read 0 ") and write.startswith(b"write 0 "), (read, write)
-        return rest[: int(write.split()[2])]
+        number, length = (int(word) for word in write.split()[1:])
+        assert read.startswith(b"read 0 ") and number in (0, 17), (read, write)
+        return number or rest[:length]
 
     def division(self, stretch):
         """The refusal, its line and its column, the byte where the rest begins, and the lengths."""
@@ -328,7 +339,8 @@ def of_answer(lines):
         rows.append(of_row(lines[at].split(" "), names))
         at += 1
     texts = [head["texts"][first:last] for first, last in ((1, 6), (7, 12), (13, 16), (17, 21))]
-    return Held(head["mode"], int(head["start8"]), int(head["epochs"]), int(head["interval8"]), texts, head["type"], head["time"],
+    version = next(line for line in lines if line.startswith("whole ")).split("|")[1]
+    return Held(version, head["mode"], int(head["start8"]), int(head["epochs"]), int(head["interval8"]), texts, head["type"], head["time"],
                 [int(word) for word in head["bases"].split()], satellites, comments, rows)
 
 

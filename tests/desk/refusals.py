@@ -1,9 +1,9 @@
-"""Files that are refused, each with what the desk tool says of it: worked out by hand from 01 and from asks 2, 3 and 6 of 02, which tell the column,
-how an absent clock may be spelt, and how many satellites there may be."""
+"""Files that are refused, each with what the desk tool says of it: worked out by hand from 01 and from asks 2, 3, 6 and 9 of 02, which tell the
+column, how an absent clock may be spelt, how many satellites there may be, and what is otherwise in SP3-c."""
 import gzip
 import importlib.util
 
-from expected import ROOT, WORDS
+from expected import BOTH_READ, LONG_COMMENT, ROOT, WORDS
 
 
 def load_make():
@@ -21,6 +21,13 @@ WHOLE = make.joined(PAPER)
 
 def as_content(content):
     return content if isinstance(content, bytes) else make.joined(content)
+
+
+def as_c(content):
+    """A file of SP3-d with the letter of SP3-c."""
+    content = as_content(content)
+    assert content.startswith(b"#d")
+    return b"#c" + content[2:]
 
 
 def put(lines, line, first, text):
@@ -148,6 +155,23 @@ def crowded():
             (put(crowd(255), 3, 4, "256"), 4, 18, 0), (put(crowd(MOST - 1), 3, 4, "999"), 6, 61, 46), (put(crowd(MOST), 3, 4, "1000"), 5, 3, 7)]
 
 
+def older():
+    """In SP3-c: 86 satellites and more, and none, but a malformed slot before that; a sixth `+ ` line; a comment line of 61 characters, blanks too,
+    and one out of place; a fifth comment, and three; other lines of 81; a line of the other version; no last LF; another number outside its bounds
+    than that of the satellites."""
+    long, blanks = "/* " + "X" * 58, "/*".ljust(61)
+    counted = [(crowd(86), 7, 3, 4), (crowd(MOST), 7, 3, 4), (changed(3, 4, "000"), 7, 3, 4), (put(crowd(86), 3, 13, "G 2"), 6, 3, 13),
+               (put(crowd(86), 3, 4, " 85"), 4, 8, 0), (changed(3, 4, " 86"), 6, 3, 13)]
+    worded = [(with_line(19, long), 3, 19, 61), (with_line(22, blanks), 3, 22, 61), (with_line(19, "/*".ljust(300, "x")), 3, 19, 61),
+              (PAPER[:22] + [long] + PAPER[22:], 3, 23, 61), (PAPER[:22] + ["/*"] + PAPER[22:], 4, 23, 0), (PAPER[:21] + PAPER[22:], 4, 22, 0),
+              (after_row(long), 3, 25, 61), (after_row(long[:60]), 4, 25, 0), (PAPER[:1] + [long] + PAPER[1:], 3, 2, 61),
+              (put(with_line(19, long), 19, 70, "\t"), 2, 19, 70)]
+    others = [(changed(1, 3, "v"), 6, 1, 3), (with_line(3, PAPER[2].ljust(81)), 3, 3, 81), (changed(24, 81, " "), 3, 24, 81),
+              (PAPER[:1] + PAPER, 4, 2, 0), (WHOLE[:-1], 1, 25, 0), (WHOLE + WHOLE, 11, 26, 0), (changed(1, 9, "13 "), 7, 1, 4),
+              (changed(23, 9, "13 "), 7, 23, 4), (changed(3, 10, "G00"), 7, 3, 10)]
+    return [(as_c(content), *refusal) for content, *refusal in [*counted, *worded, *others]]
+
+
 # ---- What a refusal comes from ----
 
 
@@ -157,17 +181,19 @@ def hinted():
     packed, follows = "compressed: zcat FILE | sp3 check -", "another file follows: sp3 divide FILE"
     return [(gzip.compress(WHOLE, mtime=0), 2, 1, 1, packed), (b"\x1f\x8b", 1, 1, 0, packed), (b"\x1f\x9d\x90\n", 2, 1, 1, packed),
             (WHOLE.replace(b"\n", b"\r\n"), 2, 1, 61, crlf), (WHOLE.replace(b"ROW\n", b"ROW\r\n"), 2, 19, 11, crlf), (b"\r\n", 2, 1, 1, crlf),
-            *((WHOLE.replace(b"#d", b"#" + letter), 4, 1, 0, f"this is SP3-{letter.decode()}; only SP3-d is read") for letter in (b"a", b"b", b"c")),
-            (WHOLE + WHOLE, 11, 26, 0, follows), (WHOLE + b"#", 11, 26, 0, follows)]
+            *((WHOLE.replace(b"#d", b"#" + letter), 4, 1, 0, f"this is SP3-{letter.decode()}; {BOTH_READ}") for letter in (b"a", b"b")),
+            (as_c(crowd(86)), 7, 3, 4, "a file in SP3-c has 1 to 85 satellites"), (as_c(WHOLE) + WHOLE, 11, 26, 0, follows),
+            (WHOLE + as_c(WHOLE), 11, 26, 0, follows), (WHOLE + WHOLE, 11, 26, 0, follows), (WHOLE + b"#", 11, 26, 0, follows)]
 
 
 def unhinted():
     """Files that are refused with the same numbers for something else; of 4 it is said what was due."""
-    first, texts = "`#d` is due", ((b"\rROW\n", 8), (b"\tROW\r\n", 8), (b"ROW\r\r\n", 11))
+    first, texts = f"`#c` or `#d` is due; {BOTH_READ}", ((b"\rROW\n", 8), (b"\tROW\r\n", 8), (b"ROW\r\r\n", 11))
     return [(b"\x1f", 1, 1, 0, None), (b"\x1f\x8c\n", 2, 1, 1, None), (b"#" + gzip.compress(WHOLE, mtime=0)[:2] + b"\n", 2, 1, 2, None),
             *((WHOLE.replace(b"ROW\n", text), 2, 19, column, None) for text, column in texts), (b"\r", 1, 1, 0, None),
-            *((WHOLE.replace(b"#d", mark), 4, 1, 0, first) for mark in (b"#e", b"#D", b"# ", b"##", b"%c")), (b"#\n", 4, 1, 0, first),
-            (b"\n", 4, 1, 0, first), (WHOLE.replace(b"\n##", b"\n#c", 1), 4, 2, 0, "`##` is due"), (WHOLE.replace(b"#dP", b"#cP\x80"), 2, 1, 4, None),
+            *((WHOLE.replace(b"#d", mark), 4, 1, 0, first) for mark in (b"#e", b"#C", b"#D", b"# ", b"##", b"%c")),
+            *((content, 4, 1, 0, first) for content in (b"#\n", b"\n", PAPER[1:], [f"/* {'x' * 58}"] + PAPER)),
+            (WHOLE.replace(b"\n##", b"\n#c", 1), 4, 2, 0, "`##` is due"), (WHOLE.replace(b"#dP", b"#cP\x80"), 2, 1, 4, None),
             (WHOLE + b"\n#d", 11, 26, 0, None), (WHOLE + b"+", 11, 26, 0, None)]
 
 
@@ -207,7 +233,7 @@ def elsewhere():
 def misplaced():
     """Lines of a kind that may not stand there, with how the one begins that is due, and one that may stand before it."""
     twenty, moved, most = many(), moving(), crowd(MOST)
-    return [(PAPER[1:], 1, "#d", ""), (PAPER[:1] + PAPER[2:], 2, "##", ""), (with_line(3, ""), 3, "+ ", ""), (PAPER[:5] + PAPER[7:], 6, "+ ", ""),
+    return [(PAPER[:1] + PAPER[2:], 2, "##", ""), (with_line(3, ""), 3, "+ ", ""), (PAPER[:5] + PAPER[7:], 6, "+ ", ""),
             (PAPER[:7] + PAPER[8:], 12, "++", ""), (changed(8, 2, " "), 8, "++", ""), (changed(13, 2, "C"), 13, "%c", ""),
             (PAPER[:13] + PAPER[14:], 14, "%c", ""), (changed(15, 2, "F"), 15, "%f", ""), (changed(17, 2, "f"), 17, "%i", ""),
             (PAPER[:21] + PAPER[22:], 22, "/*", ""), (PAPER[:22] + PAPER[23:], 23, "* ", "/*"), (with_line(23, "EOF"), 23, "* ", "/*"),
@@ -216,12 +242,15 @@ def misplaced():
             (moved[:25] + moved[26:], 26, "VG01", ""), (moved[:24] + moved[26:], 25, "VG01", "EP"), (moved[:26] + moved[35:], 27, "PE11", "EV"),
             (moved[:27] + moved[35:], 28, "PE11", ""), (moved[:34] + ["EOF"], 35, "* ", "EV"), (moved[:60] + [moved[48]], 61, "EOF", "EV"),
             (crowd(256)[:17] + crowd(256)[18:], 18, "+ ", ""), (most[:61] + [PAPER[3]] + most[61:], 62, "++", ""),
-            (most[:1129] + ["EOF"], 1130, "PD09", "EP")]
+            (most[:1129] + ["EOF"], 1130, "PD09", "EP"), (as_c(PAPER[:22] + ["/*"] + PAPER[22:]), 23, "* ", ""),
+            (as_c(PAPER[:22] + PAPER[23:]), 23, "* ", ""), (as_c(PAPER[:21] + PAPER[22:]), 22, "/*", ""), (as_c(PAPER[:1] + PAPER), 2, "##", ""),
+            (as_c(put(crowd(86), 3, 4, " 85")), 8, "++", ""), (as_c(after_row("/*")), 25, "EOF", "EP")]
 
 
 def causes():
     """All of these with number, line, column and what is said in words."""
     cases = [(*case[:4], WORDS[case[1]] + (f" ({case[4]})" if case[4] else "")) for case in [*hinted(), *unhinted()]]
+    cases += [(as_c(with_line(19, "/* " + "X" * 58)), 3, 19, 61, LONG_COMMENT), (as_c(with_line(3, PAPER[2].ljust(81))), 3, 3, 81, WORDS[3])]
     cases += [(content, 8, line, 0, cause) for content, line, cause in disagreeing()]
     cases += [(content, number, line, 0, f"{WORDS[number]} ({here} stands here, {due} is due)") for content, number, line, here, due in elsewhere()]
     for content, line, due, may in misplaced():
@@ -254,6 +283,8 @@ def pictured():
              (with_line(19, "/* " + xs[:124] + "\x7f" + xs[:72]), 2, [".." + xs[:80] + "?" + xs[:19] + "..", " " * 82 + "^"]),
              (with_line(19, "/* " + xs[:196] + "\x7f" + xs[:19]), 2, [".." + xs[:80] + "?" + xs[:19], " " * 82 + "^"]),
              (with_line(19, "/* " + xs[:196] + "\x7f" + xs[:100]), 2, [".." + xs[:80] + "?" + xs[:19] + "..", " " * 82 + "^"]),
+             (as_c(with_line(19, "/* " + xs[:58])), 3, ["/* " + xs[:58], " " * 60 + "^"]),
+             (as_c(with_line(19, "/* " + xs[:297])), 3, ["/* " + xs[:97] + "..", " " * 60 + "^"]),
              # no column; no line
              (WHOLE[:-1], 1, ["EOF"]), (WHOLE[:-4], 1, []), (PAPER[:10], 1, []), (WHOLE[:3], 1, ["#dP"]), (xs.encode(), 1, [xs[:100] + ".."]),
              (with_line(24, ""), 4, [""]), (changed(23, 18, "15"), 9, ["*  2013  4  3  0 15  0.00000000"]), (WHOLE + b" ", 11, [" "]),

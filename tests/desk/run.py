@@ -20,7 +20,7 @@ import threading
 import expected
 import refusals
 from expected import ROOT, of_model, refused
-from refusals import MOST, PAPER, after_row, as_content, changed, crowd_model, make, moving, with_clock
+from refusals import MOST, PAPER, after_row, as_c, as_content, changed, crowd_model, make, moving, with_clock, with_line
 
 SEED = 20130403
 GENERATED = 80
@@ -66,16 +66,16 @@ USAGE = """\
 usage: sp3 COMMAND ARGUMENTS
 
   sp3 check   FILE..          judge each file: what an accepted one holds, or why it is refused
-  sp3 rewrite FILE            write a file's canonical form
+  sp3 rewrite [--as c|d] FILE write a file's canonical form, in its own version or as SP3-c or SP3-d
   sp3 table   FILE            show the header, every row and its EP or EV; absent as a word
   sp3 row     FILE EPOCH SAT  show a satellite's place and clock at an epoch; SAT is G07 or a number
   sp3 comment FILE K          write the text of a comment
   sp3 divide  FILE            tell where each file begins in a stretch of files laid end to end
   sp3 date    Y M D           tell MJD, GPS week and seconds of week of a date
 
-FILE may be - for standard input; a name that begins with - comes after --. Epochs, satellites
-and comments are counted from 0. Results, for check the refusals too, go to standard output,
-messages to standard error.
+FILE, in SP3-c or SP3-d, may be - for standard input; a name that begins with - comes after --.
+Epochs, satellites and comments are counted from 0. Results, for check the refusals too, go to
+standard output, messages to standard error.
 Status: 0 accepted, 1 refused, 2 wrong arguments or an input or output that fails.
 """
 COMMANDS = ("check", "rewrite", "table", "row", "comment", "divide", "date")
@@ -132,7 +132,7 @@ class Desk:
 
 def paper_checked(name, notes):
     """What `check` says of the paper's file with so many notes."""
-    told = ": accepted, mode P, start 2013-04-03 00:00:00.00000000, epochs 1, interval 900.00000000 s, satellites 1, time system GPS, "
+    told = ": accepted, SP3-d, mode P, start 2013-04-03 00:00:00.00000000, epochs 1, interval 900.00000000 s, satellites 1, time system GPS, "
     return f"{name}{told}{PAPER_TALLY}, notes {notes}\n"
 
 
@@ -172,7 +172,8 @@ def about(name):
 
 
 def test_damaged(desk):
-    """Each of the refusals 1 to 11, by each command; then the columns, clocks that are none, and numbers of satellites."""
+    """Each of the refusals 1 to 11, by each command; then the columns, clocks that are none, numbers of satellites, and what is refused in SP3-c. The
+    refusals 1 to 11 are the same there, but that a comment line that is too long is so in column 61."""
     assert {number for _, number, _, _ in refusals.damaged()} == set(range(1, 12))
     for content, *refusal in refusals.damaged():
         content = as_content(content)
@@ -180,7 +181,8 @@ def test_damaged(desk):
         for words in [*about(name), ["row", name, "9", "0"]]:
             desk.expect_refused(words, refused(name, *refusal, content))
         expect_refusal(desk, content, refusal)
-    for content, *refusal in [*refusals.columned(), *refusals.clocked(), *refusals.crowded()]:
+        expect_refusal(desk, as_c(content), [3, 19, 61] if refusal[0] == 3 else refusal)
+    for content, *refusal in [*refusals.columned(), *refusals.clocked(), *refusals.crowded(), *refusals.older()]:
         expect_refusal(desk, as_content(content), refusal)
 
 
@@ -363,7 +365,7 @@ def test_samples(desk):
     late = str(ROOT / "samples/late.sp3")
     desk.expect(["check", late], 1, refused(late, 9, 23, 0, make.samples()["late.sp3"]))
     models, files = {"day.sp3": make.day(), "velocity.sp3": make.velocity(), "correlations.sp3": make.correlations()}, make.season_files()
-    models |= {"six-nines.sp3": make.six_nines(), "combined.sp3": make.combined()}
+    models |= {"six-nines.sp3": make.six_nines(), "combined.sp3": make.combined(), "station.sp3": make.station()}
     for sample, model in models.items():
         name, held, form = str(ROOT / "samples" / sample), of_model(model), make.joined(make.file_lines(model))
         desk.expect(["check", name], 0, expected.check(name, held))
@@ -404,8 +406,78 @@ def test_crowds(desk):
         desk.expect(["divide", "-"], 0, expected.divide([len(content), 1215, len(content)]), stdin=content + paper + content)
 
 
+# ---- Both versions ----
+
+
+def short_models():
+    """Models within the bounds of SP3-c, and at them: 85 satellites, comment lines of 60 characters."""
+    full = crowd_model(85)
+    full.comments = ["X" * 57] * 4
+    return [make.velocity(), crowd_model(1), crowd_model(84, "V", 2), full]
+
+
+def outside_models():
+    """Models outside them: 86 satellites; five comments, the last of them empty; a comment line of 61 characters; all of these."""
+    many, five, long, every = crowd_model(86), crowd_model(85), crowd_model(85), crowd_model(86)
+    five.comments, long.comments, every.comments = [""] * 5, ["", "", "", "X" * 58], ["X" * 58] * 5
+    return [many, five, long, every, make.day(), make.correlations(), make.combined()]
+
+
+def test_versions(desk):
+    """A file in SP3-c is told as such and answered for like the same in SP3-d; it is rewritten in its own version, and in the one that is asked for.
+    Both versions lie mixed in a stretch."""
+    for model in short_models():
+        newer, held = make.joined(make.file_lines(model)), of_model(model, "c")
+        content, last = as_c(newer), len(held.satellites) - 1
+        name, paper = desk.file("older.sp3", content), make.joined(PAPER)
+        assert expected.check(name, desk.oracles.judged(content)[1]) == expected.check(name, held)
+        assert desk.oracles.form(content) == desk.oracles.form(newer, "c") == content and desk.oracles.form(content, "d") == newer
+        desk.expect(["check", name], 0, expected.check(name, held))
+        desk.expect(["table", name], 0, expected.table(of_model(model)))
+        desk.expect(["row", name, "0", str(last)], 0, expected.row(held, 0, last))
+        desk.expect(["comment", name, "3"], 0, held.comments[3] + "\n")
+        for words, form in (([], content), (["--as", "c"], content), (["--as", "d"], newer), (["--as", "c", "--as", "d"], newer)):
+            desk.expect(["rewrite", *words, name], 0, form)
+        for words, form in (([], newer), (["--as", "c"], content), (["--as", "d"], newer)):
+            desk.expect(["rewrite", "-", *words], 0, form, stdin=newer)
+        for files in ((content, paper, content), (paper, content, as_c(paper)), (newer, content)):
+            desk.expect(["divide", "-"], 0, expected.divide([len(file) for file in files]), stdin=b"".join(files))
+    expect_refusal(desk, as_c(make.joined(PAPER)) + make.joined(PAPER), [11, 26, 0])
+
+
+def test_spellings(desk):
+    """A file in SP3-c that is no canonical form: rewritten in each version it is that form there, and the second byte alone differs."""
+    odd = as_c(put_all(PAPER))
+    name, form = desk.file("odd.sp3", odd), make.joined(PAPER)
+    desk.expect(["rewrite", name], 0, as_c(form))
+    desk.expect(["rewrite", "--as", "c", name], 0, as_c(form))
+    desk.expect(["rewrite", "--as", "d", name], 0, form)
+
+
+def put_all(lines):
+    """The paper's lines with blanks at the end of each, as many as may stand, and with zeros before numbers."""
+    spelt = [line.replace("     -0.500000", "    -00.500000").replace("+    1", "+  001") for line in lines]
+    return [line.ljust(60 if line.startswith("/*") else 80) for line in spelt]
+
+
+def test_outside(desk):
+    """A table that SP3-c cannot hold is refused there with 17, and nothing is printed; in SP3-d it is written."""
+    for model in outside_models():
+        content = make.joined(make.file_lines(model))
+        name, said = desk.file("wide.sp3", content), f": refused 17 line 0: {expected.WORDS[17]} ({expected.BOUNDS_OF_C})\n"
+        assert desk.oracles.form(content, "c") == 17
+        desk.expect(["rewrite", "--as", "c", name], 1, "", name + said)
+        desk.expect(["rewrite", "--as", "c", "-"], 1, "", "standard input" + said, stdin=content)
+        desk.expect(["rewrite", "--as", "d", name], 0, content)
+        desk.expect(["rewrite", name], 0, content)
+    # a file's own refusal comes first
+    wrong = make.joined(with_line(24, "PG07"))
+    for words, file in ((["--as", "c"], wrong), (["--as", "d"], as_c(wrong))):
+        desk.expect(["rewrite", *words, "-"], 1, "", refused("standard input", 6, 24, 5, file), stdin=file)
+
+
 def test_generated(desk):
-    """Generated files, right and damaged, as the independent implementation answers for them."""
+    """Generated files of both versions, right and damaged, as the independent implementation answers for them."""
     for file, asked in desk.oracles.cases(SEED, GENERATED):
         name = desk.file("made.sp3", file)
         if not file:
@@ -419,10 +491,19 @@ def test_generated(desk):
             desk.expect(["check", name], 0, expected.check(name, held))
             desk.expect(["table", name], 0, expected.table(held))
             desk.expect(["rewrite", name], 0, desk.oracles.form(file))
+            expect_forms(desk, name, file)
             expect_answers(desk, name, held, asked, answers)
         refusal, rest, lengths = desk.oracles.division(file)
         err = refused(f"{name}: from byte {rest}", *refusal, file[rest:]) if refusal[0] else ""
         desk.expect(["divide", name], 1 if err else 0, expected.divide(lengths, rest if err else None), err)
+
+
+def expect_forms(desk, name, file):
+    """An accepted file rewritten in each version."""
+    outside = f"{name}: refused 17 line 0: {expected.WORDS[17]} ({expected.BOUNDS_OF_C})\n"
+    for version in "cd":
+        form = desk.oracles.form(file, version)
+        desk.expect(["rewrite", "--as", version, name], *((1, "", outside) if form == 17 else (0, form)))
 
 
 def expect_answers(desk, name, held, asked, answers):
@@ -489,7 +570,14 @@ def test_usage(desk):
     for words in (["-x"], ["check", "--all", "paper.sp3"], ["row", "paper.sp3", "-1", "G07"], ["date", "2013", "4", "-3"], ["check", "-9", "--help"]):
         option = next(word for word in words if word[0] == "-")
         desk.expect(words, 2, "", f"sp3: {option}: no such option; a name that begins with - comes after --\n")
-    for command, arguments, counts in (("check", "FILE..", (0,)), ("rewrite", "FILE", (0, 2)), ("table", "FILE", (0, 2)),
+    for words in (["--as"], ["rewrite", "--as"], ["rewrite", "paper.sp3", "--as", "C"], ["rewrite", "--as", "paper.sp3"],
+                  ["rewrite", "--as", "", "x"], ["rewrite", "--as", "cd", "paper.sp3"], ["rewrite", "--as", "--help"]):
+        desk.expect(words, 2, "", "sp3: --as: c or d must come after it\n")
+    for words in (["check", "--as", "c", "paper.sp3"], ["--as", "d", "divide", "paper.sp3"], ["table", "paper.sp3", "--as", "d"]):
+        desk.expect(words, 2, "", "sp3: --as: for rewrite alone\n")
+    desk.expect(["rewrite", "--as", "c", "--help"], 0, USAGE)
+    desk.expect(["rewrite", "--as=c", "paper.sp3"], 2, "", "sp3: --as=c: no such option; a name that begins with - comes after --\n")
+    for command, arguments, counts in (("check", "FILE..", (0,)), ("rewrite", "[--as c|d] FILE", (0, 2)), ("table", "FILE", (0, 2)),
                                        ("row", "FILE EPOCH SAT", (0, 1, 2, 4)), ("comment", "FILE K", (0, 1, 3)), ("divide", "FILE", (0, 2)),
                                        ("date", "Y M D", (0, 1, 2, 4))):
         for count in counts:
@@ -654,8 +742,8 @@ def expect_without_memory(desk, words, out, content, tool):
 def main():
     desk = Desk(pathlib.Path(sys.argv[1]).resolve())
     for test in (test_paper, test_dates, test_damaged, test_causes, test_pictures, test_edges, test_clocks, test_clocks_before_exponents,
-                 test_rates, test_nines_in_places, test_notes, test_moving_notes, test_samples, test_crowds, test_generated, test_usage,
-                 test_numbers, test_inputs, test_pipes, test_many, test_outputs, test_failing, test_large):
+                 test_rates, test_nines_in_places, test_notes, test_moving_notes, test_samples, test_crowds, test_versions, test_spellings,
+                 test_outside, test_generated, test_usage, test_numbers, test_inputs, test_pipes, test_many, test_outputs, test_failing, test_large):
         test(desk)
     print(f"desk: {desk.passed} tests passed")
 

@@ -159,8 +159,9 @@ static void walk_out(bytes_t file, size_t room, identifiers_t given) {
     uint64_t *identifiers = lent_numbers(room, NUMBER_MARK);
     sp3_reading_t reading = sp3_begin(file.bytes, file.length, identifiers, room);
     sp3_header_t header = reading.header;
-    printf("begin %zu %" PRIu64 " %zu %zu %" PRIu64 " %" PRIu64 "\n", reading.refusal, reading.line, reading.column, reading.length,
+    printf("begin %zu %" PRIu64 " %zu %zu %" PRIu64 " %" PRIu64, reading.refusal, reading.line, reading.column, reading.length,
            header.satellites, header.epochs);
+    version_out(reading.version);
     check_reading(reading);
     identifiers_out(identifiers, header.satellites, room);
     identifiers_t own = {shown(identifiers, room * sizeof *identifiers), room};

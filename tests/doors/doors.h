@@ -84,6 +84,9 @@ void bytes_out(const uint8_t *bytes, size_t count);
 /* A satellite's identifier: 7107 is G07. */
 void identifier_out(uint64_t identifier);
 
+/* The letter of a version, and the end of a line. */
+void version_out(uint8_t letter);
+
 /* A mark, which stands in no expected answer, where something is wrong. */
 void mark(bool wrong);
 
@@ -104,7 +107,7 @@ bool same_row(sp3_row_t one, sp3_row_t other);
 /* Whether both parts of a row are absent. */
 bool is_no_row(sp3_row_t row);
 
-/* Tells a line or a column beside no refusal, and a length or header beside one. */
+/* Tells a line or a column beside no refusal, and a length, header or version beside one. */
 void check_reading(sp3_reading_t reading);
 
 /* ---- the formats: one case each, and its answer ---- */

@@ -62,8 +62,9 @@ static sp3_header_t changed(sp3_header_t header, uint64_t n[ARGUMENTS], uint64_t
     return header_with(n, field == START ? to : header.start8);
 }
 
-/* A table whose lists are shown to the library, not lent. */
+/* A table whose lists are shown to the library, not lent, and the version that is wanted, by its letter. */
 typedef struct {
+    uint64_t version;
     sp3_header_t header;
     const uint64_t *identifiers, *exponents;
     const uint8_t *comments;
@@ -71,8 +72,9 @@ typedef struct {
     lists_t lists;
 } table_t;
 
-static table_t table_of(sp3_header_t header, lists_t lists) {
+static table_t table_of(uint64_t version, sp3_header_t header, lists_t lists) {
     return (table_t){
+        .version = version,
         .header = header,
         .identifiers = shown(lists.identifiers, lists.identifier_room * sizeof *lists.identifiers),
         .exponents = shown(lists.exponents, lists.exponent_room * sizeof *lists.exponents),
@@ -83,8 +85,16 @@ static table_t table_of(sp3_header_t header, lists_t lists) {
 }
 
 static sp3_measured_t write_into(table_t t, uint8_t *out, size_t room) {
-    return sp3_write(t.header, t.identifiers, t.lists.identifier_room, t.exponents, t.lists.exponent_room, t.comments, t.lists.comment_room,
-                     t.rows, t.lists.row_room, out, room);
+    return (t.version == 'c' ? sp3_write_c : sp3_write)(t.header, t.identifiers, t.lists.identifier_room, t.exponents,
+                                                        t.lists.exponent_room, t.comments, t.lists.comment_room, t.rows,
+                                                        t.lists.row_room, out, room);
+}
+
+/* The length of a table's form in this version. */
+static sp3_measured_t length_told(table_t t, uint64_t version) {
+    return (version == 'c' ? sp3_form_length_c : sp3_form_length)(t.header, t.identifiers, t.lists.identifier_room, t.exponents,
+                                                                  t.lists.exponent_room, t.comments, t.lists.comment_room, t.rows,
+                                                                  t.lists.row_room);
 }
 
 /* Whether writing into so much room answers this. */
@@ -93,21 +103,38 @@ static bool writes(table_t table, size_t room, size_t refusal, size_t length) {
     return answer.refusal == refusal && answer.length == length;
 }
 
-/* The length that is told before: just so much room suffices, and not one byte less; 13 is told alike. */
+/* The length that is told before: just so much room suffices, and not one byte less, in d too; 13 and 17 are told alike, and what is 17 is a table
+ * in d. */
 static void check_length(table_t t, sp3_measured_t written) {
-    sp3_measured_t told = sp3_form_length(t.header, t.identifiers, t.lists.identifier_room, t.exponents, t.lists.exponent_room, t.comments,
-                                          t.lists.comment_room, t.rows, t.lists.row_room);
-    bool form = told.refusal == 0 && told.length > 0;
-    if (written.refusal == 13) {
-        check(told.refusal == 13 && told.length == 0, "the length of what is no table");
+    sp3_measured_t told = length_told(t, t.version), in_d = length_told(t, 'd');
+    bool form = told.refusal == 0 && told.length > 0 && in_d.refusal == 0 && in_d.length == told.length;
+    if (written.refusal == 13 || written.refusal == 17) {
+        check(told.refusal == written.refusal && told.length == 0, "the length of what is no table of the version");
+        check(in_d.refusal == (written.refusal == 13 ? 13 : 0), "what can't be put into c and is no table");
     } else {
         check(form && writes(t, told.length, 0, told.length) && writes(t, told.length - 1, 12, 0), "the length of a form");
     }
 }
 
+/* Whether the first places of the lists of a table are those of others, as far as these go. */
+static bool same_lists(table_t t, lists_t other) {
+    return memcmp(t.identifiers, other.identifiers, other.identifier_room * sizeof *other.identifiers) == 0 &&
+           memcmp(t.exponents, other.exponents, other.exponent_room * sizeof *other.exponents) == 0 &&
+           memcmp(t.comments, other.comments, other.comment_room) == 0 && memcmp(t.rows, other.rows, other.row_room * sizeof *other.rows) == 0;
+}
+
+/* What was written is read back with the version and the table that were given. */
+static void check_again(table_t t, bytes_t form) {
+    sp3_header_t h = t.header;
+    lists_t lists = lent_lists(h.satellites, h.satellites, h.comments * SP3_COMMENT_WIDTH,
+                               h.satellites * h.epochs * (h.velocity ? 2 : 1) * SP3_ROW_WIDTH);
+    sp3_reading_t again = read_into(shown_bytes(form), false, lists);
+    check(again.refusal == 0 && again.version == t.version && again.length == form.length, "a form and its version read back");
+    check(same_header(again.header, h) && same_lists(t, lists), "the table of a form");
+}
+
 /* Writes a table into a room of marks. */
-static void write_out(sp3_header_t header, lists_t lists, size_t room) {
-    table_t table = table_of(header, lists);
+static void write_out(table_t table, size_t room) {
     uint8_t *out = lent_bytes(room, OUTPUT_MARK);
     sp3_measured_t answer = write_into(table, out, room);
     size_t written = answer.length <= room ? answer.length : 0;
@@ -117,14 +144,16 @@ static void write_out(sp3_header_t header, lists_t lists, size_t room) {
     bytes_out(out, written);
     puts(kept ? "kept" : "changed");
     check_length(table, answer);
+    if (answer.refusal == 0) check_again(table, (bytes_t){out, written, 0});
 }
 
-/* A file read into these lists and written again. */
-static void file_out(bytes_t file, lists_t lists, size_t room) {
+/* A file read into these lists and written again in a version. */
+static void file_out(bytes_t file, lists_t lists, uint64_t version, size_t room) {
     sp3_reading_t reading = read_into(file, false, lists);
-    printf("read %zu %" PRIu64 " %zu\n", reading.refusal, reading.line, reading.column);
+    printf("read %zu %" PRIu64 " %zu", reading.refusal, reading.line, reading.column);
+    version_out(reading.version);
     check_reading(reading);
-    if (reading.refusal == 0) write_out(reading.header, lists, room);
+    if (reading.refusal == 0) write_out(table_of(version, reading.header, lists), room);
 }
 
 /* Lists with the room that the format says: for a satellite more than there can be, for 1,000 rows. */
@@ -152,7 +181,7 @@ static lists_t lists_of(bytes_t *text, const uint64_t lengths[4]) {
 }
 
 /* A table made by numbers: its header, then the table written. */
-static void table_out(bytes_t text, size_t room) {
+static void table_out(bytes_t text, uint64_t version, size_t room) {
     uint64_t n[ARGUMENTS], rest[6];
     for (size_t k = 0; k < ARGUMENTS; k++) n[k] = take_number(&text);
     for (size_t k = 0; k < 6; k++) rest[k] = take_number(&text);
@@ -163,18 +192,19 @@ static void table_out(bytes_t text, size_t room) {
         return;
     }
     check(same_header(answer.header, header_with(n, answer.header.start8)), "a header and what it was made of");
-    write_out(changed(answer.header, n, rest[0], rest[1]), lists_of(&text, rest + 2), room);
+    write_out(table_of(version, changed(answer.header, n, rest[0], rest[1]), lists_of(&text, rest + 2)), room);
 }
 
 void forms_case(bytes_t *batch) {
-    uint64_t kind = take_number(batch), room = take_number(batch), length = take_number(batch);
+    uint64_t kind = take_number(batch), version = take_number(batch), room = take_number(batch), length = take_number(batch);
     if (kind > 2) stop("a case is a file (0, 2) or a table (1)");
+    if (version != 'c' && version != 'd') stop("a form is written in c (99) or d (100)");
     bytes_t bytes = take_bytes(batch, length);
     printf("%s %" PRIu64 " %" PRIu64 "\n", kind == 1 ? "table" : "file", room, length);
     if (kind == 1) {
-        table_out(bytes, room);
+        table_out(bytes, version, room);
         return;
     }
     bytes_t file = shown_bytes(bytes);
-    file_out(file, kind == 0 ? roomy_lists() : needed_lists(file), room);
+    file_out(file, kind == 0 ? roomy_lists() : needed_lists(file), version, room);
 }

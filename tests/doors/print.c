@@ -29,6 +29,8 @@ void identifier_out(uint64_t identifier) {
     printf("%c%" PRIu64 "%" PRIu64, (int)(identifier / 100 % 256), identifier % 100 / 10, identifier % 10);
 }
 
+void version_out(uint8_t letter) { printf(" |%c|\n", letter); }
+
 void mark(bool wrong) {
     if (wrong) putchar('?');
 }

@@ -48,7 +48,9 @@ bool is_no_row(sp3_row_t row) { return same_row(row, (sp3_row_t){NAN, NAN, NAN, 
 void check_reading(sp3_reading_t reading) {
     if (reading.refusal == 0) {
         check(reading.line == 0 && reading.column == 0, "a line or a column beside no refusal");
+        check(reading.version == 'c' || reading.version == 'd', "no version beside no refusal");
     } else {
+        check(reading.version == ' ', "a version beside a refusal");
         check(reading.length == 0, "a length beside a refusal");
         check(is_no_header(reading.header), "a header beside a refusal");
     }

@@ -216,7 +216,7 @@ static void told(const char *word, sp3_reading_t reading) {
     value(reading.line);
     value(reading.column);
     value(reading.length);
-    putchar('\n');
+    version_out(reading.version);
     check_reading(reading);
 }
 
@@ -318,6 +318,7 @@ static void read_out(const char *word, bytes_t file, bool front, const size_t ro
     sums_out(lists);
     if (reading.refusal != 0) return;
     check(reading.length == judged.length && same_header(reading.header, judged.header), "a reading and its judgement");
+    check(reading.version == judged.version, "the version of a reading and of its judgement");
     if (!front) table_out(reading.header, lists);
 }
 

@@ -116,8 +116,8 @@ fn taken(room: &mut [u8]) {
     batch(&room[..n]);
 }
 
-// Standard input, of at most 800,000 bytes.
+// Standard input, of at most 1,000,000 bytes.
 pub(crate) fn all() {
-    let mut room = [0u8; 800_000];
+    let mut room = [0u8; 1_000_000];
     taken(&mut room);
 }

@@ -22,6 +22,14 @@ pub(crate) fn identifier(n: u64) {
     text(b"\n");
 }
 
+// The letter of a version, and the end of a line.
+pub(crate) fn version(letter: u8) {
+    let one = [letter];
+    text(b" |");
+    text(&one);
+    text(b"|\n");
+}
+
 // A mark that something is not as it must be.
 pub(crate) fn mark(wrong: bool) {
     if wrong {

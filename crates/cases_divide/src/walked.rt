@@ -163,7 +163,7 @@ fn truth(b: bool) -> u64 {
 // line there repeats an identifier.
 fn due(word: &[u8], file: &[u8], at: Spot, identifiers: &[u64]) {
     let state = at.state;
-    let found = machine::due_at(Rules::d(), file, at.at, state, identifiers);
+    let found = machine::due_at(Rules::told_by(file), file, at.at, state, identifiers);
     print::text(word);
     print::value(found.kind);
     print::value(found.also);
@@ -243,7 +243,7 @@ fn into<'a>(file: &'a [u8], identifiers: &mut [u64], given: &'a [u64]) {
     print::value(reading.length as u64);
     print::value(header.satellites);
     print::value(header.epochs);
-    print::text(b"\n");
+    print::version(reading.version);
     lent::shown(true, identifiers, header.satellites);
     if reading.refusal == 0 {
         rows(file, identifiers);

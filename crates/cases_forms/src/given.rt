@@ -5,6 +5,7 @@ ghost use lib.ListN.{length};
 use crate::fields;
 use crate::print;
 use crate::shown;
+use crate::shown::Wanted;
 use crate::words;
 use crate::words::at_most;
 use header::Header;
@@ -32,7 +33,7 @@ fn lists(
     exponents: &mut [u64],
     comments: &mut [u8],
     rows: &mut [i64],
-    size: u64,
+    wanted: Wanted,
 )
     requires { ⌜ at ≤ length (now text) ⌝ }
 {
@@ -40,11 +41,11 @@ fn lists(
     let second = words::numbers(text, first, exponents);
     let third = words::signed_numbers(text, second, rows);
     words::bytes(text, third, comments);
-    shown::table(h, identifiers, exponents, comments, rows, size);
+    shown::table(h, identifiers, exponents, comments, rows, wanted);
 }
 
 // Lists of the lengths that the text says.
-fn body(h: Header, text: &[u8], at: usize, lengths: &[u64], size: u64)
+fn body(h: Header, text: &[u8], at: usize, lengths: &[u64], wanted: Wanted)
     requires { ⌜ at ≤ length (now text) ⌝ }
     requires { ⌜ length (now lengths) ≡ 4 ⌝ }
 {
@@ -64,22 +65,22 @@ fn body(h: Header, text: &[u8], at: usize, lengths: &[u64], size: u64)
         &mut exponents[0..x],
         &mut comments[0..c],
         &mut rows[0..r],
-        size,
+        wanted,
     );
 }
 
 // The table of an accepted header: `rest` has the field that is another, its value and the lengths of the lists, which stand at `at`.
-fn accepted(h: Header, n: &mut [u64], rest: &[u64], text: &[u8], at: usize, size: u64)
+fn accepted(h: Header, n: &mut [u64], rest: &[u64], text: &[u8], at: usize, wanted: Wanted)
     requires { ⌜ length (now n) ≡ 34 ⌝ }
     requires { ⌜ length (now rest) ≡ 6 ⌝ }
     requires { ⌜ at ≤ length (now text) ⌝ }
 {
     let other = changed(h, n, rest[0], rest[1]);
-    body(other, text, at, &rest[2..6], size);
+    body(other, text, at, &rest[2..6], wanted);
 }
 
 // The header's answer, and what is written where it is accepted.
-fn answered(n: &mut [u64], rest: &[u64], text: &[u8], at: usize, size: u64)
+fn answered(n: &mut [u64], rest: &[u64], text: &[u8], at: usize, wanted: Wanted)
     requires { ⌜ length (now n) ≡ 34 ⌝ }
     requires { ⌜ length (now rest) ≡ 6 ⌝ }
     requires { ⌜ at ≤ length (now text) ⌝ }
@@ -89,15 +90,15 @@ fn answered(n: &mut [u64], rest: &[u64], text: &[u8], at: usize, size: u64)
     print::value(answer.refusal);
     print::text(b"\n");
     if answer.refusal == 0 {
-        accepted(answer.header, n, rest, text, at, size);
+        accepted(answer.header, n, rest, text, at, wanted);
     }
 }
 
 // One table.
-pub(crate) fn table(text: &[u8], size: u64) {
+pub(crate) fn table(text: &[u8], wanted: Wanted) {
     let mut n = [0u64; 34];
     let mut rest = [0u64; 6];
     let first = words::numbers(text, 0, &mut n);
     let second = words::numbers(text, first, &mut rest);
-    answered(&mut n, &rest, text, second, size);
+    answered(&mut n, &rest, text, second, wanted);
 }

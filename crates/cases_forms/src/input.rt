@@ -1,21 +1,22 @@
-// The cases of standard input, one after the other: a line of three numbers (kind, room, length), then so many bytes.
+// The cases of standard input, one after the other: a line of four numbers (kind, letter of the version wanted, room, length), then so many bytes.
 ghost use Prim.Native.Nat.{_+_, _≤_};
 ghost use lib.ListN.{length};
 use crate::given;
 use crate::print;
 use crate::shown;
+use crate::shown::Wanted;
 use crate::words;
 use crate::words::at_most;
 use libc::STDIN_FILENO;
 
 // The answers to one case.
-fn answer(kind: u64, size: u64, bytes: &[u8]) {
+fn answer(kind: u64, wanted: Wanted, bytes: &[u8]) {
     if kind == 0 {
-        print::told(b"file", size, bytes.len() as u64);
-        shown::file(bytes, size);
+        print::told(b"file", wanted.size, bytes.len() as u64);
+        shown::file(bytes, wanted);
     } else {
-        print::told(b"table", size, bytes.len() as u64);
-        given::table(bytes, size);
+        print::told(b"table", wanted.size, bytes.len() as u64);
+        given::table(bytes, wanted);
     }
 }
 
@@ -25,10 +26,14 @@ fn case(input: &[u8], at: usize) -> usize
     ensures { λ r. ⌜ (at + 1 ≤ r) × (r ≤ length (now (input .entry))) ⌝ }
 {
     let second = words::next(input, at);
-    let mut front = [0u64; 2];
+    let mut front = [0u64; 3];
     let from = words::numbers(input, second, &mut front);
-    let to = from + at_most(front[1], input.len() - from);
-    answer(words::value(input, at), front[0], &input[from..to]);
+    let to = from + at_most(front[2], input.len() - from);
+    let wanted = Wanted {
+        letter: (front[0] % 256) as u8,
+        size: front[1],
+    };
+    answer(words::value(input, at), wanted, &input[from..to]);
     to
 }
 
@@ -46,8 +51,8 @@ fn taken(room: &mut [u8]) {
     batch(&room[..n]);
 }
 
-// Standard input, of at most 800,000 bytes.
+// Standard input, of at most 1,000,000 bytes.
 pub(crate) fn all() {
-    let mut room = [0u8; 800_000];
+    let mut room = [0u8; 1_000_000];
     taken(&mut room);
 }

@@ -1,4 +1,4 @@
-// A line by its kind: judged, read, and written again into 81 bytes that held a mark in each. A line that has a fault is read and written
+// A line by its kind and version: judged, read, and written again into 81 bytes that held a mark in each. A line that has a fault is read and written
 // too, as the readers and writers take any line and any value; it is not shown.
 ghost use mathlib.Core.Path.{_≡_};
 ghost use Rattle.record.specs.LineKinds.{toldKind};
@@ -29,10 +29,10 @@ use record::rows;
 use record::slots;
 
 // Line 1.
-fn first(line: &[u8; 80]) {
-    let read = opening::read_first(Rules::d(), line);
+fn first(rules: Rules, line: &[u8; 80]) {
+    let read = opening::read_first(rules, line);
     let mut out = [35u8; 81];
-    let n = draw::opening::write_first(Rules::d(), read, &mut out);
+    let n = draw::opening::write_first(rules, read, &mut out);
     print::written(read.fault, &out, n);
 }
 
@@ -45,10 +45,10 @@ fn second(line: &[u8; 80]) {
 }
 
 // The first `+ ` line.
-fn satellites(line: &[u8; 80]) {
-    let read = slots::read_satellites(Rules::d(), line);
+fn satellites(rules: Rules, line: &[u8; 80]) {
+    let read = slots::read_satellites(rules, line);
     let mut out = [35u8; 81];
-    let n = draw::slots::write_satellites(Rules::d(), read, &mut out);
+    let n = draw::slots::write_satellites(rules, read, &mut out);
     print::written(read.fault, &out, n);
 }
 
@@ -160,18 +160,18 @@ fn kind_number(k: LineKind) -> u64
 }
 
 // The kind of a line.
-fn which(line: &[u8; 80]) {
+fn which(rules: Rules, line: &[u8; 80]) {
     print::text(b"kind ");
-    print::number(kind_number(kind::kind_of(Rules::d(), line)));
+    print::number(kind_number(kind::kind_of(rules, line)));
     print::text(b"\n");
 }
 
 // The line by the letter of its kind.
-pub(crate) fn answer(letter: u8, left: u64, line: &[u8; 80]) {
+fn told(rules: Rules, letter: u8, left: u64, line: &[u8; 80]) {
     match letter {
-        b'a' => first(line),
+        b'a' => first(rules, line),
         b'b' => second(line),
-        b'c' => satellites(line),
+        b'c' => satellites(rules, line),
         b'd' => more(line, false, left),
         b'e' => more(line, true, left),
         b'f' => descriptor(line),
@@ -186,7 +186,16 @@ pub(crate) fn answer(letter: u8, left: u64, line: &[u8; 80]) {
         b'o' => note(line, false),
         b'p' => note(line, true),
         b'q' => end(line),
-        b'z' => which(line),
+        b'z' => which(rules, line),
         _ => print::text(b"?\n"),
+    }
+}
+
+// The line by the letter of its kind: a capital letter asks for it by the rules of SP3-c.
+pub(crate) fn answer(letter: u8, left: u64, line: &[u8; 80]) {
+    if letter < b'a' {
+        told(Rules::c(), letter + 32, left, line);
+    } else {
+        told(Rules::d(), letter, left, line);
     }
 }

@@ -49,8 +49,8 @@ fn taken(room: &mut [u8]) {
     lines(&room[..n]);
 }
 
-// Standard input, of at most 700,000 bytes.
+// Standard input, of at most 800,000 bytes.
 pub(crate) fn all() {
-    let mut room = [0u8; 700_000];
+    let mut room = [0u8; 800_000];
     taken(&mut room);
 }

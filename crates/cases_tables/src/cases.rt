@@ -16,12 +16,14 @@ pub(crate) struct Case {
     pub name: u64,
 }
 
-// A judgement or a reading: the refusal, its line, its column, and the length.
+// A judgement or a reading: the refusal, its line, its column, the length, and the letter of the version.
 pub(crate) fn told(name: &[u8], reading: Reading) {
     print::text(name);
     print::refusal(reading.refusal, reading.line, reading.column);
     print::value(reading.length as u64);
-    print::text(b"\n");
+    print::text(b" |");
+    print::byte(reading.version);
+    print::text(b"|\n");
 }
 
 // Every answer about some bytes.
