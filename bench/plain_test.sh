@@ -32,7 +32,7 @@ same() {
 
 kept() {
     ./files answer | awk '/^case / { on = 0 } /^read / { on = 1 } /^read_front/ { on = 0 }
-        /^(front|whole|read) / { print $1, $2, $3, $5 }
+        /^(front|whole|read) / { print $1, $2, $3, $5, substr($0, index($0, "|")) }
         /^case / || on && /^(sums|mode|start8|epochs|interval8|texts|type|time|bases|satellites|comments) /'
 }
 same files ./reader files

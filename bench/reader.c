@@ -1,4 +1,4 @@
-// A plain scalar reader and divider of SP3-d files in C, the yardstick of bench/run.sh. It is written from the documents alone and shares with the
+// A scalar reader and divider of SP3-c and SP3-d: plain C, the yardstick of bench/run.sh. It is written from the documents alone and shares with the
 // library its header and no code: one line at a time, every column judged in a first pass, the lent lists filled in a second. Of a
 // refusal it tells number and line; the column is 0.
 #include <string.h>
@@ -24,6 +24,7 @@ enum { NO_LF = 1, BYTE, TOO_LONG, KIND, UNUSED, MALFORMED, BOUNDS, DISAGREES, IN
 struct file {
     const uint8_t *bytes;
     size_t length, spot;   // the next line begins at this spot
+    bool older;             // it is judged as SP3-c
     size_t number;          // the line that was taken last, counted from 1
     const uint8_t *line;    // its 80 columns
     unsigned fault;         // the lowest fault of that line
@@ -51,6 +52,11 @@ static void show(struct file *f, size_t spot, size_t count) {
     }
 }
 
+// whether a line of so many characters has too many; in SP3-c those of comments have 60 at most
+static bool too_long(const struct file *f, const uint8_t *line, size_t count) {
+    return count > COLUMNS || (f->older && count > SP3_COMMENT_COLUMNS_C && line[0] == '/' && line[1] == '*');
+}
+
 // Takes the next line; whether it may be a line at all.
 static bool take(struct file *f) {
     const uint8_t *s = f->bytes;
@@ -63,7 +69,7 @@ static bool take(struct file *f) {
         f->fault = NO_LF;
     } else if (!plain) {
         f->fault = BYTE;
-    } else if (i - first > COLUMNS) {
+    } else if (too_long(f, s + first, i - first)) {
         f->fault = TOO_LONG;
     } else {
         f->fault = NO_FAULT;
@@ -194,7 +200,7 @@ static uint64_t instant(struct file *f) {
 }
 
 static bool first_line(struct file *f, struct header *h) {
-    if (!take_kind(f, "#d")) return false;
+    if (!take_kind(f, f->older ? "#c" : "#d")) return false;
     if (f->line[2] != 'P' && f->line[2] != 'V') fault(f, MALFORMED);
     h->said.velocity = f->line[2] == 'V';
     h->said.start8 = instant(f);
@@ -273,7 +279,7 @@ static bool identifier_lines(struct file *f, struct header *h) {
         fault(f, MALFORMED);
         return false;
     }
-    if (n < 1 || n > MOST_SATELLITES) fault(f, BOUNDS);
+    if (n < 1 || n > (f->older ? SP3_MOST_SATELLITES_C : MOST_SATELLITES)) fault(f, BOUNDS);
     h->said.satellites = n;
     memset(h->named, 0, sizeof h->named);
     identifier_slots(f, h, 0);
@@ -381,11 +387,11 @@ static bool integer_lines(struct file *f) {
     return true;
 }
 
-// Four comments or more; the line after them is taken.
+// Four comments or more, in SP3-c four; the line after them is taken.
 static bool comment_lines(struct file *f, struct header *h) {
     for (h->said.comments = 0;; h->said.comments++) {
         if (!take(f)) return false;
-        if (!begins(f, "/*")) break;
+        if (!begins(f, "/*") || (f->older && h->said.comments == SP3_COMMENTS_C)) break;
         unused(f, 3, 3);
         if (f->fault != NO_FAULT) return false;
     }
@@ -515,13 +521,13 @@ static bool records(struct file *f, struct header *h) {
         && float_lines(f, h) && integer_lines(f) && comment_lines(f, h) && epochs(f, h) && last_line(f);
 }
 
-static sp3_reading_t refused(size_t number, uint64_t line) { return (sp3_reading_t){.refusal = number, .line = line}; }
+static sp3_reading_t refused(size_t number, uint64_t line) { return (sp3_reading_t){.refusal = number, .line = line, .version = ' '}; }
 
 static sp3_reading_t judged(const uint8_t *bytes, size_t length, bool whole, struct header *h) {
-    struct file f = {.bytes = bytes, .length = length};
+    struct file f = {.bytes = bytes, .length = length, .older = length >= 2 && bytes[0] == '#' && bytes[1] == 'c'};
     if (!records(&f, h)) return refused(f.fault, f.number);
     if (whole && f.spot < length) return refused(AFTER, f.number + 1);
-    return (sp3_reading_t){.length = f.spot, .header = h->said};
+    return (sp3_reading_t){.length = f.spot, .header = h->said, .version = f.older ? 'c' : 'd'};
 }
 
 sp3_reading_t PLAIN(judge_front)(const uint8_t *stretch, size_t length) {

@@ -22,7 +22,9 @@ static uint8_t *bytes(size_t count) {
     return p;
 }
 
-static void told(const char *what, sp3_reading_t r) { printf("%s %zu %" PRIu64 " %zu\n", what, r.refusal, r.line, r.length); }
+static void told(const char *what, sp3_reading_t r) {
+    printf("%s %zu %" PRIu64 " %zu |%c|\n", what, r.refusal, r.line, r.length, r.version);
+}
 
 static void told_header(const sp3_header_t *h) {
     const sp3_texts_t *t = &h->texts;

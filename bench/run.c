@@ -103,7 +103,8 @@ static bool same_header(const sp3_header_t *a, const sp3_header_t *b) {
 }
 
 static bool same_reading(const sp3_reading_t *a, const sp3_reading_t *b) {
-    return a->refusal == b->refusal && a->line == b->line && a->length == b->length && (a->refusal != 0 || same_header(&a->header, &b->header));
+    return a->refusal == b->refusal && a->line == b->line && a->length == b->length && a->version == b->version
+        && (a->refusal != 0 || same_header(&a->header, &b->header));
 }
 
 // every answer, and every lent place

@@ -1,4 +1,4 @@
-// A plain scalar writer of SP3-d files in C, the yardstick of bench/run.sh. It is written from the documents alone and shares with the library its
+// A scalar writer of SP3-c and SP3-d: plain C, the yardstick of bench/run.sh. It is written from the documents alone and shares with the library its
 // header and no code: a table is judged and its form measured in a first pass, then written in a second, one line at a time.
 #include <string.h>
 
@@ -144,14 +144,26 @@ static bool rows_valid(const sp3_header_t *h, const int64_t *rows, size_t *lengt
     return true;
 }
 
+// the last column of a comment line that isn't blank
+static size_t comment_columns(const uint8_t *text) {
+    size_t n = TEXT;
+    while (n > 0 && text[n - 1] == ' ') n--;
+    return n > 0 ? n + 3 : 2;
+}
+
 static bool comments_valid(const sp3_header_t *h, const uint8_t *text, size_t *length) {
     for (size_t k = 0; k < h->comments; k++, text += TEXT) {
-        size_t n = TEXT;
         if (!printable(text, TEXT)) return false;
-        while (n > 0 && text[n - 1] == ' ') n--;
-        *length += (n > 0 ? n + 3 : 2) + 1;
+        *length += comment_columns(text) + 1;
     }
     return true;
+}
+
+// whether a valid table is within the bounds of SP3-c
+static bool fits_older(const sp3_header_t *h, const uint8_t *text) {
+    for (size_t k = 0; k < h->comments; k++)
+        if (comment_columns(text + TEXT * k) > SP3_COMMENT_COLUMNS_C) return false;
+    return h->satellites <= SP3_MOST_SATELLITES_C && h->comments == SP3_COMMENTS_C;
 }
 
 // the last column of line 1 that isn't blank
@@ -252,9 +264,10 @@ static void moment(struct pen *p, uint64_t instant) {
     decimal(p, 31, 8, time % (60 * SECOND));
 }
 
-static void write_start(struct pen *p, const sp3_header_t *h) {
+static void write_start(struct pen *p, const sp3_header_t *h, bool older) {
     uint64_t day = h->start8 / DAY, time = h->start8 % DAY;
-    begin(p, h->velocity ? "#dV" : "#dP");
+    begin(p, older ? "#c" : "#d");
+    p->line[2] = h->velocity ? 'V' : 'P';
     moment(p, h->start8);
     integer(p, 39, h->epochs);
     text(p, 41, h->texts.data_used, 5);
@@ -359,23 +372,35 @@ static void write_comments(struct pen *p, const sp3_header_t *h, const uint8_t *
     }
 }
 
+// writes in SP3-c or in SP3-d
+static sp3_measured_t write_as(bool older, const sp3_header_t *h, const struct lists *t, uint8_t *out, size_t out_room) {
+    size_t length = 0;
+    struct pen p;
+    if (!valid(h, t, &length)) return (sp3_measured_t){13, 0};
+    if (older && !fits_older(h, t->comments)) return (sp3_measured_t){17, 0};
+    if (length > out_room) return (sp3_measured_t){12, 0};
+    p.out = out;
+    write_start(&p, h, older);
+    write_slots(&p, h, "+", t->identifiers, true);
+    write_slots(&p, h, "++", t->exponents, false);
+    write_fixed(&p, h);
+    write_comments(&p, h, t->comments);
+    write_epochs(&p, h, t);
+    begin(&p, "EOF");
+    end(&p);
+    return (sp3_measured_t){0, (size_t)(p.out - out)};
+}
+
 sp3_measured_t PLAIN(write)(sp3_header_t header, const uint64_t *identifiers, size_t identifier_count, const uint64_t *exponents,
                             size_t exponent_count, const uint8_t *comments, size_t comment_bytes, const int64_t *rows, size_t row_numbers,
                             uint8_t *out, size_t out_room) {
     const struct lists t = {identifiers, exponents, comments, rows, identifier_count, exponent_count, comment_bytes, row_numbers};
-    const sp3_header_t *h = &header;
-    size_t length = 0;
-    struct pen p;
-    if (!valid(h, &t, &length)) return (sp3_measured_t){13, 0};
-    if (length > out_room) return (sp3_measured_t){12, 0};
-    p.out = out;
-    write_start(&p, h);
-    write_slots(&p, h, "+", identifiers, true);
-    write_slots(&p, h, "++", exponents, false);
-    write_fixed(&p, h);
-    write_comments(&p, h, comments);
-    write_epochs(&p, h, &t);
-    begin(&p, "EOF");
-    end(&p);
-    return (sp3_measured_t){0, (size_t)(p.out - out)};
+    return write_as(false, &header, &t, out, out_room);
+}
+
+sp3_measured_t PLAIN(write_c)(sp3_header_t header, const uint64_t *identifiers, size_t identifier_count, const uint64_t *exponents,
+                              size_t exponent_count, const uint8_t *comments, size_t comment_bytes, const int64_t *rows, size_t row_numbers,
+                              uint8_t *out, size_t out_room) {
+    const struct lists t = {identifiers, exponents, comments, rows, identifier_count, exponent_count, comment_bytes, row_numbers};
+    return write_as(true, &header, &t, out, out_room);
 }

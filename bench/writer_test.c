@@ -58,12 +58,12 @@ static unsigned made(const uint64_t n[ARGUMENTS]) {
     return h.start8 == 0 || !numbers_bounded(&h) ? 7 : 0;
 }
 
-static void table(sp3_header_t h, const struct lists *t, size_t size) {
+static void table(bool older, sp3_header_t h, const struct lists *t, size_t size) {
     uint8_t *out = room(size, 1);
     size_t kept = 0;
     memset(out, MARK, size);
-    sp3_measured_t w = PLAIN(write)(h, t->identifiers, t->identifier_count, t->exponents, t->exponent_count, t->comments, t->comment_count, t->rows,
-                                    t->row_count, out, size);
+    sp3_measured_t w = (older ? PLAIN(write_c) : PLAIN(write))(h, t->identifiers, t->identifier_count, t->exponents, t->exponent_count, t->comments,
+                                                               t->comment_count, t->rows, t->row_count, out, size);
     printf("write %zu %zu\n", w.refusal, w.length);
     fwrite(out, 1, w.length, stdout);
     for (size_t i = w.length; i < size; i++) kept += out[i] == MARK;
@@ -71,7 +71,7 @@ static void table(sp3_header_t h, const struct lists *t, size_t size) {
     free(out);
 }
 
-static void table_case(size_t size) {
+static void table_case(bool older, size_t size) {
     uint64_t n[ARGUMENTS];
     for (size_t i = 0; i < ARGUMENTS; i++) n[i] = number();
     uint64_t start = start_of(n), field = number(), value = number();
@@ -86,7 +86,7 @@ static void table_case(size_t size) {
     printf("new %u\n", refusal);
     if (refusal == 0) {
         if (field < ARGUMENTS) n[field] = value;
-        table(head_of(n, field == 1 ? value : start), &t, size);
+        table(older, head_of(n, field == 1 ? value : start), &t, size);
     }
     free(identifiers), free(exponents), free(comments), free(rows);
 }
@@ -150,13 +150,13 @@ static int compare_clocks(void) {
 }
 
 int main(int count, char **words) {
-    size_t kind, size, length;
+    size_t kind, version, size, length;
     if (count == 2 && strcmp(words[1], "clocks") == 0) return compare_clocks();
-    while (scanf("%zu %zu %zu", &kind, &size, &length) == 3) {
+    while (scanf("%zu %zu %zu %zu", &kind, &version, &size, &length) == 4) {
         if (getchar() != '\n') return 2;
         if (kind == 1) {
             printf("table %zu %zu\n", size, length);
-            table_case(size);
+            table_case(version == 'c', size);
         } else {
             for (size_t i = 0; i < length; i++) getchar();
         }

@@ -2,9 +2,17 @@
 
 #include "desk.h"
 
-// The refusals of which the library tells more, and the kinds of line that tell the causes of 8 apart.
-enum { WRONG_KIND = 4, DISAGREES = 8, WRONG_INSTANT = 9, OTHER_SATELLITE = 10 };
+// The refusals of which more is said, and the kinds of line that tell the causes of 8 apart.
+enum { TOO_LONG = 3, WRONG_KIND = 4, OUT_OF_BOUNDS = 7, DISAGREES = 8, WRONG_INSTANT = 9, OTHER_SATELLITE = 10 };
 enum { SECOND_LINE = 2, SATELLITE_LINE = 3, TYPE_LINE = 5 };
+
+// The bounds of SP3-c, as the header has them, in words.
+#define AS_TEXT(number) DIGITS_OF(number)
+#define DIGITS_OF(digits) #digits
+static const char comment_too_long[] = "a comment line of SP3-c has more than " AS_TEXT(SP3_COMMENT_COLUMNS_C) " characters";
+static const char satellites_of_c[] = " (a file in SP3-c has 1 to " AS_TEXT(SP3_MOST_SATELLITES_C) " satellites)";
+static const char bounds_of_c[] = " (at most " AS_TEXT(SP3_MOST_SATELLITES_C) " satellites, " AS_TEXT(SP3_COMMENTS_C)
+                                  " comments, comment lines of " AS_TEXT(SP3_COMMENT_COLUMNS_C) " characters)";
 
 // ---- What the bytes make plain ----
 
@@ -20,16 +28,30 @@ static bool is_compressed(const uint8_t *bytes, size_t length) {
     return length >= 2 && bytes[0] == 0x1f && (bytes[1] == 0x8b || bytes[1] == 0x9d);
 }
 
+// Whether bytes begin with `#` and this letter.
+static bool begins_with(const uint8_t *bytes, size_t length, char letter) { return length >= 2 && bytes[0] == '#' && bytes[1] == letter; }
+
+// What is said of a first line that is none.
+static const char *version_hint(line_t line) {
+    if (begins_with(line.at, line.length, 'a')) return " (this is SP3-a; SP3-c and SP3-d are read)";
+    if (begins_with(line.at, line.length, 'b')) return " (this is SP3-b; SP3-c and SP3-d are read)";
+    return " (`#c` or `#d` is due; SP3-c and SP3-d are read)";
+}
+
+// Whether it is the number of satellites, in the third line of a file in SP3-c, that is outside its bounds.
+static bool is_satellite_bound(const refusal_t *refusal) {
+    return refusal->number == OUT_OF_BOUNDS && refusal->line == 3 && refusal->column == 4 && begins_with(refusal->bytes, refusal->length, 'c');
+}
+
 // What a refusal plainly comes from; "" where that is not plain.
 static const char *hint_of(const refusal_t *refusal, line_t line) {
-    static const char *const versions[] = {" (this is SP3-a; only SP3-d is read)", " (this is SP3-b; only SP3-d is read)",
-                                           " (this is SP3-c; only SP3-d is read)"};
     uint64_t number = refusal->number;
     if (is_compressed(refusal->bytes, refusal->length)) return " (compressed: zcat FILE | sp3 check -)";
     if (number == 2 && ends_in_cr(line)) return " (the line ends in CR LF: tr -d '\\r' < FILE | sp3 check -)";
-    bool mark = line.length >= 2 && line.at[0] == '#';
-    if (number == WRONG_KIND && refusal->line == 1 && mark && line.at[1] >= 'a' && line.at[1] <= 'c') return versions[line.at[1] - 'a'];
+    if (number == WRONG_KIND && refusal->line == 1) return version_hint(line);
+    if (is_satellite_bound(refusal)) return satellites_of_c;
     if (number == 11 && line.length >= 1 && line.at[0] == '#') return " (another file follows: sp3 divide FILE)";
+    if (number == OUTSIDE_C) return bounds_of_c;
     return "";
 }
 
@@ -49,9 +71,9 @@ static const char *disagreement(const sp3_due_t *due) {
     return due->kind == SATELLITE_LINE && due->repeats ? "an identifier repeats" : "a slot after the last satellite is not `  0`";
 }
 
-// How a line of a kind begins.
+// How a line of a kind after the first begins.
 static const char *symbol(uint64_t kind) {
-    static const char *const symbols[] = {"", "#d", "##", "+ ", "++", "%c", "%f", "%i", "/*", "* ", "P", "V", "EP", "EV", "EOF"};
+    static const char *const symbols[] = {"", "", "##", "+ ", "++", "%c", "%f", "%i", "/*", "* ", "P", "V", "EP", "EV", "EOF"};
     return kind < sizeof symbols / sizeof *symbols ? symbols[kind] : "";
 }
 
@@ -88,6 +110,13 @@ static void say_satellites(FILE *to, line_t line, const sp3_due_t *due) {
     fprintf(to, " (%s stands here, %s is due)", columns_of(here, line, 2, "   "), identifier(text, due->identifier));
 }
 
+// A refusal in words: of 8 which of its causes it was, of 3 which bound, as its column tells.
+static const char *words_for(const refusal_t *refusal, const sp3_due_t *due) {
+    if (refusal->number == DISAGREES) return disagreement(due);
+    bool comment = refusal->number == TOO_LONG && refusal->column == SP3_COMMENT_COLUMNS_C + 1;
+    return comment ? comment_too_long : words_of(refusal->number);
+}
+
 // Whether the library tells more of a refusal than its number.
 static bool is_told(uint64_t number) { return number == WRONG_KIND || (number >= DISAGREES && number <= OTHER_SATELLITE); }
 
@@ -96,7 +125,7 @@ void say_cause(FILE *to, const refusal_t *refusal) {
     line_t line = line_of(refusal);
     const char *hint = hint_of(refusal, line);
     sp3_due_t due = is_told(number) ? due_at(refusal) : (sp3_due_t){0};
-    fprintf(to, ": %s%s", number == DISAGREES ? disagreement(&due) : words_of(number), hint);
+    fprintf(to, ": %s%s", words_for(refusal, &due), hint);
     if (number == WRONG_KIND && *hint == '\0') say_kinds(to, &due);
     if (number == WRONG_INSTANT) say_instants(to, line, &due);
     if (number == OTHER_SATELLITE) say_satellites(to, line, &due);

@@ -12,6 +12,9 @@
 // The statuses that the tool ends with, each graver than the one before.
 enum { ACCEPTED = 0, REFUSED = 1, UNUSABLE = 2 };
 
+// The refusal of a table that SP3-c cannot hold.
+enum { OUTSIDE_C = 17 };
+
 // A refusal in words.
 const char *words_of(uint64_t number);
 
@@ -69,10 +72,11 @@ typedef struct {
     size_t length;
 } input_t;
 
-// An accepted file with its header; read_table fills the lists, read_identifiers the identifiers alone.
+// An accepted file with its header and version; read_table fills the lists, read_identifiers the identifiers alone.
 typedef struct {
     input_t file;
     sp3_header_t header;
+    uint8_t version;
     uint64_t *identifiers, *exponents;
     uint8_t *comments;
     int64_t *rows;
@@ -89,7 +93,7 @@ int out_of_memory(const input_t *file);
 int take_input(input_t *input, const char *argument);
 void drop_input(input_t *input);
 
-// A file judged, and its header; where it is refused, that is said there. Then either its identifiers or its whole table.
+// A file judged, its header and version; where it is refused, that is said there. Then either its identifiers or its whole table.
 int judge_file(table_t *table, const char *argument, FILE *refusals);
 int read_identifiers(table_t *table);
 int read_table(table_t *table);

@@ -71,6 +71,7 @@ int judge_file(table_t *table, const char *argument, FILE *refusals) {
     if (status != ACCEPTED) return status;
     sp3_reading_t judged = sp3_judge(file->bytes, file->length);
     table->header = judged.header;
+    table->version = judged.version;
     return status_of(file, judged, refusals);
 }
 

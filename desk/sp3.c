@@ -1,4 +1,5 @@
-// sp3: SP3-d files at the desk. It lends memory to the functions of include/sp3.h and prints what they answer; every rule of the format is theirs.
+// sp3: SP3-c and SP3-d files at the desk. It lends memory to the functions of include/sp3.h and prints what they answer; every rule of the format is
+// theirs.
 #define _POSIX_C_SOURCE 200809L
 #include <inttypes.h>
 #include <signal.h>
@@ -10,6 +11,9 @@
 
 // The refusal after which more is lent.
 enum { ROOM_TOO_SMALL = 12 };
+
+// The version that `rewrite` is to write; 0 where none was asked for.
+static uint8_t asked_version;
 
 // Whether a word is digits alone and its number fits.
 static bool is_number(uint64_t *number, const char *word) {
@@ -45,9 +49,9 @@ static int show_checked(const table_t *table) {
     const sp3_header_t *header = &table->header;
     tally_t tally = tally_of(table);
     char start[TEXT_ROOM], interval[TEXT_ROOM];
-    printf("%s: accepted, mode %c, start %s, epochs %" PRIu64 ", interval %s s, satellites %" PRIu64 ", time system %.3s, ", table->file.name,
-           header->velocity ? 'V' : 'P', moment(start, header->start8), header->epochs, decimal(interval, (int64_t)header->interval8, 8),
-           header->satellites, (const char *)header->time_system);
+    printf("%s: accepted, SP3-%c, mode %c, start %s, epochs %" PRIu64 ", interval %s s, satellites %" PRIu64 ", time system %.3s, ",
+           table->file.name, table->version, header->velocity ? 'V' : 'P', moment(start, header->start8), header->epochs,
+           decimal(interval, (int64_t)header->interval8, 8), header->satellites, (const char *)header->time_system);
     show_tally(&tally, true);
     return ACCEPTED;
 }
@@ -64,19 +68,36 @@ static int check(char **arguments) {
 
 // ---- rewrite and table ----
 
-// Writes the canonical form into just as many bytes as it has.
-static int show_form(const table_t *table) {
+// How long the canonical form of a table in a version is.
+static sp3_measured_t measure_form(const table_t *table, uint8_t version) {
     size_t satellites = table->header.satellites;
-    sp3_measured_t written = sp3_form_length(table->header, table->identifiers, satellites, table->exponents, satellites, table->comments,
-                                             table->comment_bytes, table->rows, table->row_numbers);
+    return (version == 'c' ? sp3_form_length_c : sp3_form_length)(table->header, table->identifiers, satellites, table->exponents, satellites,
+                                                                  table->comments, table->comment_bytes, table->rows, table->row_numbers);
+}
+
+static sp3_measured_t write_form(const table_t *table, uint8_t version, uint8_t *form, size_t room) {
+    size_t satellites = table->header.satellites;
+    return (version == 'c' ? sp3_write_c : sp3_write)(table->header, table->identifiers, satellites, table->exponents, satellites, table->comments,
+                                                      table->comment_bytes, table->rows, table->row_numbers, form, room);
+}
+
+// The table of an accepted file is valid; in SP3-c it may still be refused.
+static int refused_form(const input_t *file, uint64_t number) {
+    refusal_t refusal = {number, 0, 0, file->bytes, file->length};
+    return number == OUTSIDE_C ? refused(stderr, &refusal, "%s", file->name) : unusable("the table to be written is not valid", "%s", file->name);
+}
+
+// Writes the canonical form, in the version of the file where no other was asked for, into just as many bytes as it has.
+static int show_form(const table_t *table) {
+    uint8_t version = asked_version == 0 ? table->version : asked_version;
+    sp3_measured_t written = measure_form(table, version);
+    if (written.refusal != 0) return refused_form(&table->file, written.refusal);
     uint8_t *form = lend(written.length, 1);
     if (form == NULL) return out_of_memory(&table->file);
-    if (written.refusal == 0)
-        written = sp3_write(table->header, table->identifiers, satellites, table->exponents, satellites, table->comments, table->comment_bytes,
-                            table->rows, table->row_numbers, form, written.length);
+    written = write_form(table, version, form, written.length);
     fwrite(form, 1, written.length, stdout);
     free(form);
-    return written.refusal == 0 ? ACCEPTED : unusable("the table to be written is not valid", "%s", table->file.name);
+    return written.refusal == 0 ? ACCEPTED : refused_form(&table->file, written.refusal);
 }
 
 static int rewrite(char **arguments) { return with_table(arguments[0], stderr, show_form); }
@@ -224,7 +245,7 @@ typedef struct {
 
 static const command_t commands[] = {
     {"check", "FILE..", "judge each file: what an accepted one holds, or why it is refused", 1, true, check},
-    {"rewrite", "FILE", "write a file's canonical form", 1, false, rewrite},
+    {"rewrite", "[--as c|d] FILE", "write a file's canonical form, in its own version or as SP3-c or SP3-d", 1, false, rewrite},
     {"table", "FILE", "show the header, every row and its EP or EV; absent as a word", 1, false, table},
     {"row", "FILE EPOCH SAT", "show a satellite's place and clock at an epoch; SAT is G07 or a number", 3, false, row},
     {"comment", "FILE K", "write the text of a comment", 2, false, comment},
@@ -236,12 +257,19 @@ enum { COMMANDS = sizeof commands / sizeof *commands };
 static int usage(FILE *to, int status) {
     fputs("usage: sp3 COMMAND ARGUMENTS\n\n", to);
     for (size_t k = 0; k < COMMANDS; k++) fprintf(to, "  sp3 %-7s %-15s %s\n", commands[k].name, commands[k].arguments, commands[k].meaning);
-    fputs("\nFILE may be - for standard input; a name that begins with - comes after --. Epochs, satellites\n"
-          "and comments are counted from 0. Results, for check the refusals too, go to standard output,\n"
-          "messages to standard error.\n"
+    fputs("\nFILE, in SP3-c or SP3-d, may be - for standard input; a name that begins with - comes after --.\n"
+          "Epochs, satellites and comments are counted from 0. Results, for check the refusals too, go to\n"
+          "standard output, messages to standard error.\n"
           "Status: 0 accepted, 1 refused, 2 wrong arguments or an input or output that fails.\n",
           to);
     return status;
+}
+
+// The version that the word after `--as` must be.
+static int take_version(const char *word) {
+    if (word == NULL || (strcmp(word, "c") != 0 && strcmp(word, "d") != 0)) return unusable("c or d must come after it", "--as");
+    asked_version = (uint8_t)*word;
+    return ACCEPTED;
 }
 
 // Takes the options, and `--` that ends them, out of the words.
@@ -253,7 +281,8 @@ static int take_options(bool *help, char **words) {
         if (!option) *kept++ = *words;
         else if (strcmp(*words, "--") == 0) ended = true;
         else if (strcmp(*words, "-h") == 0 || strcmp(*words, "--help") == 0) *help = true;
-        else return unusable("no such option; a name that begins with - comes after --", "%s", *words);
+        else if (strcmp(*words, "--as") != 0) return unusable("no such option; a name that begins with - comes after --", "%s", *words);
+        else if (take_version(*++words) != ACCEPTED) return UNUSABLE;
     }
     *kept = NULL;
     return ACCEPTED;
@@ -266,6 +295,7 @@ static int run(char **words) {
     if (count == 0) return usage(stderr, UNUSABLE);
     for (const command_t *command = commands; command < commands + COMMANDS; command++) {
         if (strcmp(words[0], command->name) != 0) continue;
+        if (asked_version != 0 && command->run != rewrite) return unusable("for rewrite alone", "--as");
         if (count - 1 == command->fewest || (command->more && count - 1 > command->fewest)) return command->run(words + 1);
         return unusable(command->arguments, "the arguments of %s are", command->name);
     }

@@ -25,8 +25,10 @@ const char *words_of(uint64_t number) {
         "bytes stand after the EOF line",
         "lent room is too small",
         "what is asked by number is not there",
+        [OUTSIDE_C] = "the table to be written is outside the bounds of SP3-c",
     };
-    return number < sizeof words / sizeof *words ? words[number] : "no words are known for this number";
+    bool known = number < sizeof words / sizeof *words && words[number] != NULL;
+    return known ? words[number] : "no words are known for this number";
 }
 
 static void flush_results(void) {

@@ -1,4 +1,4 @@
-/* sp3.h: the SP3-d reader and writer for C.
+/* sp3.h: the reader and writer of SP3-c and SP3-d files for C.
  *
  * Every function here is a door to one function of the proved library (crates/sp3); docs/STATEMENTS.md says what is proved of each. Link with
  * target/staticlib/libsp3.a, which `rt staticlib sp3` proves and builds for x86-64.
@@ -10,6 +10,11 @@
  * THREADS. No function keeps a state: an answer follows from what the call is given. So they may be called from several threads at once, each call
  * with lent memory of its own; a slice that is only looked at (`const`) may be lent to several calls at the same time.
  *
+ * VERSIONS. SP3-c and SP3-d are read and written. Each function that is lent a file tells its version by its first two bytes, SP3-c where they are
+ * `#c`, else SP3-d, and judges it by the rules of that version; a division does so at the first byte of each file. A file in SP3-c has at most
+ * SP3_MOST_SATELLITES_C satellites, exactly SP3_COMMENTS_C comments, and comment lines of at most SP3_COMMENT_COLUMNS_C characters; all else is
+ * alike. A reading tells the version, a table keeps none, and each version has a function that writes it.
+ *
  * REFUSALS. Each answer has a `refusal`, 0 for accepted, and where a file is judged its `line` and `column`, counted from 1 (0 where the refusal
  * names none). A refusal changes nothing that was lent, and every other part of the answer is then empty: 0, blank, or absent. After success the
  * places past those that are filled are unchanged too. The first faulty line decides, in a line the lowest number, of several faults with that
@@ -18,18 +23,19 @@
  *    0  accepted
  *    1  no line end is left before the file's EOF line is complete
  *    2  a byte outside 32 to 126 stands in the line; column: that byte, also past 80
- *    3  the line has more than 80 characters; column: 81
+ *    3  the line has more than 80 characters, or a comment line of SP3-c more than 60; column: 81, or 61
  *    4  the line is not of a kind that may stand here
  *    5  an unused column is not blank, or a placeholder is not all `c` or a zero; column: that column, or the placeholder's first
  *    6  a field is malformed, or a letter, file type or time system is not listed; column: the field's first, also where the line ends before it;
  *       4 for year, month and day
- *    7  a number or date is outside its bounds; column: as for 6
+ *    7  a number or date is outside its bounds; column: as for 6, so 4 for 86 satellites in SP3-c
  *    8  line 2 disagrees with the start, a slot after the last satellite is not `  0`, an identifier repeats, or the file type disagrees
  *    9  an epoch stands at the wrong instant
  *   10  a row names another satellite than the header has here
  *   11  bytes stand after the EOF line (whole files only; the line is the one after EOF)
  *   12  lent room is too small (line 0; after all other checks)
  *   13  the table to be written is not valid, or what is asked by number is not there (line 0; before 12)
+ *   17  the table to be written is outside the bounds of SP3-c (line 0; after 13, before 12; in writing SP3-c alone)
  *
  * ABSENCE has a mark of its own (`absent`, `place_absent`, `clock_absent`). The number that stands beside a set mark is no coordinate: NaN for a
  * double, INT64_MIN for a whole number, which no file can hold. A place of which one or two coordinates are 0 is not absent. A clock or rate is
@@ -63,6 +69,11 @@ enum { SP3_ROW_WIDTH = 23, SP3_COMMENT_WIDTH = 77, SP3_UNKNOWN = 1000, SP3_UNNOT
 /* So many satellites a file has at most: room for as many identifiers always suffices. */
 #define SP3_MOST_SATELLITES 999
 
+/* In SP3-c: its most satellites, the number of its comments, and the most characters of a comment line, whose text begins in column 4. */
+#define SP3_MOST_SATELLITES_C 85
+#define SP3_COMMENTS_C 4
+#define SP3_COMMENT_COLUMNS_C 60
+
 /* A date and a time of day, the seconds in 10^-8 s. */
 typedef struct {
     uint64_t year, month, day, hour, minute, second8;
@@ -91,15 +102,17 @@ typedef struct {
 
 /* ---- Reading ---- */
 
-/* `length` is the length of the file in bytes, LF of its EOF line included. */
+/* `length` is the length of the file in bytes, LF of its EOF line included; `version` is 'c' or 'd', a blank beside a refusal. */
 typedef struct {
     size_t refusal;
     uint64_t line;
     size_t column, length;
     sp3_header_t header;
+    uint8_t version;
 } sp3_reading_t;
 
-/* Judges one whole file; nothing is lent but its bytes. Refused: no bytes at all are 1 at line 1; a blank after the last LF is 11. */
+/* Judges one whole file and tells its version; nothing is lent but its bytes. Refused: no bytes at all are 1 at line 1, `#a` or `#C` is 4 there; a
+ * blank after the last LF is 11. */
 sp3_reading_t sp3_judge(const uint8_t *file, size_t length);
 
 /* Judges the file at the front of a stretch of files laid end to end and tells its length. Refused: as sp3_judge, but never 11. */
@@ -123,8 +136,8 @@ typedef struct {
     size_t refusal, length;
 } sp3_measured_t;
 
-/* Writes the canonical form of a table into the first bytes of `out`, an absent clock as ` 999999.999999`. Places of the lists past the header's
- * counts are not looked at.
+/* Writes the canonical form of a table in SP3-d into the first bytes of `out`, an absent clock as ` 999999.999999`. Places of the lists past the
+ * header's counts are not looked at.
  * Refused: 13 where the table is not valid (1000 among the exponents of the header, a flag of 2, a clock above 999,998,999,999 that is not
  * SP3_NO_CLOCK, a deviation beside a row without its record, a list shorter than its count); then 12 where `out` is one byte too short. */
 sp3_measured_t sp3_write(sp3_header_t header, const uint64_t *identifiers, size_t identifier_count, const uint64_t *exponents,
@@ -134,6 +147,16 @@ sp3_measured_t sp3_write(sp3_header_t header, const uint64_t *identifiers, size_
 /* How many bytes sp3_write would write, so that just so many can be lent. Refused: 13 where the table is not valid. */
 sp3_measured_t sp3_form_length(sp3_header_t header, const uint64_t *identifiers, size_t identifier_count, const uint64_t *exponents,
                                size_t exponent_count, const uint8_t *comments, size_t comment_bytes, const int64_t *rows, size_t row_numbers);
+
+/* The same in SP3-c: that form but for its second byte, which is `c`.
+ * Refused: 13 as sp3_write; then 17 where there are 86 satellites, five comments, or a comment of 58 bytes before its trailing blanks; then 12. */
+sp3_measured_t sp3_write_c(sp3_header_t header, const uint64_t *identifiers, size_t identifier_count, const uint64_t *exponents,
+                           size_t exponent_count, const uint8_t *comments, size_t comment_bytes, const int64_t *rows, size_t row_numbers,
+                           uint8_t *out, size_t out_room);
+
+/* How many bytes sp3_write_c would write. Refused: 13, then 17, as sp3_write_c. */
+sp3_measured_t sp3_form_length_c(sp3_header_t header, const uint64_t *identifiers, size_t identifier_count, const uint64_t *exponents,
+                                 size_t exponent_count, const uint8_t *comments, size_t comment_bytes, const int64_t *rows, size_t row_numbers);
 
 /* What a header is made of; `mode` is 'P' or 'V'. */
 typedef struct {
@@ -230,9 +253,9 @@ typedef struct {
     size_t column;
 } sp3_division_t;
 
-/* Divides a stretch of files laid end to end; their lengths go to the first places of `lengths`, also where the rest is refused. An empty stretch
- * is 0 files, refusal 0. Refused: 12 alone, all other parts 0, where there are more files than places; the rest itself is never refused with 11 or
- * 12. */
+/* Divides a stretch of files laid end to end, of both versions mixed; their lengths go to the first places of `lengths`, also where the rest is
+ * refused. An empty stretch is 0 files, refusal 0. Refused: 12 alone, all other parts 0, where there are more files than places; the rest itself is
+ * never refused with 11 or 12. */
 sp3_division_t sp3_divide(const uint8_t *stretch, size_t length, uint64_t *lengths, size_t room);
 
 /* ---- Questions about one whole file, which is judged at each call: its own refusal first, then 13 with line 0 ---- */
@@ -298,8 +321,8 @@ sp3_moment_answer_t sp3_moment(uint64_t instant8);
 
 /* ---- A file line by line ---- */
 
-/* What must stand next in a file. Kinds of line have the numbers 1 (`#d`) to 14 (`EOF`). Made by the functions below; to be handed on, not altered.
- */
+/* What must stand next in a file. Kinds of line have the numbers 1 (`#c`, `#d`) to 14 (`EOF`). Made by the functions below; to be handed on, not
+ * altered. */
 typedef struct {
     uint64_t due, also, lines, left, comments;
     bool velocity;
@@ -333,10 +356,10 @@ sp3_line_answer_t sp3_read_line(const uint8_t *file, size_t length, sp3_spot_t s
  * 12. */
 sp3_line_answer_t sp3_next_line(const uint8_t *file, size_t length, const uint64_t *identifiers, size_t identifier_count, sp3_spot_t spot);
 
-/* What must stand at a spot: the kind of line that must come, and the kind that may stand there before it (0 for none). Kinds are 1 `#d`, 2 `##`,
- * 3 `+ `, 4 `++`, 5 `%c`, 6 `%f`, 7 `%i`, 8 comment, 9 epoch, 10 P, 11 V, 12 EP, 13 EV, 14 EOF. `instant8` is the instant at which the epoch that
- * comes next must stand, `identifier` the satellite that the row that comes next must name; each is 0 where no epoch (no row) must come, the latter
- * also where fewer identifiers are lent. `repeats` says that a `+ ` line stands there which is refused with 8 though its slots after the last
+/* What must stand at a spot: the kind of line that must come, and the kind that may stand there before it (0 for none). Kinds are 1 `#c` or `#d`, 2
+ * `##`, 3 `+ `, 4 `++`, 5 `%c`, 6 `%f`, 7 `%i`, 8 comment, 9 epoch, 10 P, 11 V, 12 EP, 13 EV, 14 EOF. `instant8` is the instant at which the epoch
+ * that comes next must stand, `identifier` the satellite that the row that comes next must name; each is 0 where no epoch (no row) must come, the
+ * latter also where fewer identifiers are lent. `repeats` says that a `+ ` line stands there which is refused with 8 though its slots after the last
  * satellite are right: it names an identifier again. */
 typedef struct {
     uint64_t kind, also, instant8, identifier;

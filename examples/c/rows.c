@@ -1,4 +1,4 @@
-/* Walks the rows of an SP3-d file in order and prints them: places in mm, clocks in ps, absent as a word. In the repository:
+/* Walks the rows of a file in SP3-c or SP3-d in order and prints them: places in mm, clocks in ps, absent as a word. In the repository:
  *
  *   gcc -std=c11 -Wall -Wextra -O2 -I include -o target/rows examples/c/rows.c target/staticlib/libsp3.a
  *   target/rows samples/paper.sp3

@@ -81,6 +81,7 @@ pub struct Reading {
     pub column: usize,
     pub length: usize,
     pub header: Header,
+    pub version: u8,
 }
 
 // ---- Writing ----
@@ -351,6 +352,30 @@ unsafe extern "C" {
         out_room: usize,
     ) -> Measured;
     pub fn sp3_form_length(
+        header: Header,
+        identifiers: *const u64,
+        identifier_count: usize,
+        exponents: *const u64,
+        exponent_count: usize,
+        comments: *const u8,
+        comment_bytes: usize,
+        rows: *const i64,
+        row_numbers: usize,
+    ) -> Measured;
+    pub fn sp3_write_c(
+        header: Header,
+        identifiers: *const u64,
+        identifier_count: usize,
+        exponents: *const u64,
+        exponent_count: usize,
+        comments: *const u8,
+        comment_bytes: usize,
+        rows: *const i64,
+        row_numbers: usize,
+        out: *mut u8,
+        out_room: usize,
+    ) -> Measured;
+    pub fn sp3_form_length_c(
         header: Header,
         identifiers: *const u64,
         identifier_count: usize,

@@ -78,7 +78,7 @@ structs! {
     sp3_header_t = Header {
         velocity start8 epochs interval8 texts satellites comments file_type time_system bases
     }
-    sp3_reading_t = Reading { refusal line column length header }
+    sp3_reading_t = Reading { refusal line column length header version }
     sp3_measured_t = Measured { refusal length }
     sp3_header_parts_t = HeaderParts {
         mode start epochs interval8 texts satellites comments file_type time_system bases
@@ -147,6 +147,8 @@ functions! {
     sp3_read_front(_ _ _ _ _ _ _ _ _ _)
     sp3_write(_ _ _ _ _ _ _ _ _ _ _)
     sp3_form_length(_ _ _ _ _ _ _ _ _)
+    sp3_write_c(_ _ _ _ _ _ _ _ _ _ _)
+    sp3_form_length_c(_ _ _ _ _ _ _ _ _)
     sp3_header(_)
     sp3_place_of(_ _ _)
     sp3_clock_of(_ _ _)
@@ -183,8 +185,12 @@ fn layout() {
         format!("constant SP3_UNNOTED {}", crate::notes::UNNOTED),
         format!("constant SP3_NO_CLOCK {}", crate::stored::ABSENT_CLOCK),
         format!("constant SP3_MOST_SATELLITES {}", crate::MOST_SATELLITES),
+        format!("constant SP3_MOST_SATELLITES_C {}", crate::MOST_SATELLITES_C),
+        format!("constant SP3_COMMENTS_C {}", crate::COMMENTS_C),
+        format!("constant SP3_COMMENT_COLUMNS_C {}", crate::COMMENT_COLUMNS_C),
     ];
-    let words = (0..=13).map(|number| format!("words {number} {}", crate::words(number)));
+    let known = (0..=u8::MAX).filter(|&number| crate::words(number) != crate::words(u8::MAX));
+    let words = known.map(|number| format!("words {number} {}", crate::words(number)));
     println!();
     for line in structs().into_iter().chain(constants).chain(functions()).chain(words) {
         println!("{line}");

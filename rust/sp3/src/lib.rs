@@ -1,5 +1,5 @@
-//! The proved SP3-d reader and writer for Rust: the functions of include/sp3.h under their names, with absence as an `Option` and refusals as a
-//! `Result`. The crate judges nothing: it lends memory and hands answers on.
+//! The proved reader and writer of SP3-c and SP3-d for Rust: the functions of include/sp3.h under their names, with absence as an `Option` and
+//! refusals as a `Result`. The crate judges nothing: it lends memory and hands answers on.
 //! It knows how a row and a comment are stored (`include/sp3.h`), so that rows can be made out of `Option`s; whether they are right the library says.
 //!
 //! ```
@@ -28,7 +28,10 @@
 //! **Correlation records.** What an EP line says of the P row before it, and an EV line of the V row before it, is the row's [`Note`]: `None`
 //! where no such line stands, and in it `None` for what is unknown; neither is 0.
 //!
-//! **Refusals.** [`Refusal`] has the number in the paper's table, 1 to 13, the line and the column; [`words`] says what each number means.
+//! **Versions.** SP3-c and SP3-d are read, told by the first two bytes of a file: `#c`, or else SP3-d. [`Reading`] tells which it was; a table keeps
+//! none. [`write()`] and [`Table::write`] write SP3-d, [`write_c`] SP3-c, and [`Table::write_as`] the [`Version`] that is asked for.
+//!
+//! **Refusals.** [`Refusal`] has the number in the paper's table, 1 to 13 or 17, the line and the column; [`words`] says what each number means.
 //!
 //! **Threads.** No function keeps a state: an answer follows from what the call is given. So they may be called from several threads at once, each
 //! call with lent memory of its own; what is borrowed shared, such as a file's bytes, may be lent to several calls at the same time.
@@ -49,6 +52,7 @@ mod refusal;
 mod stored;
 mod stretch;
 mod table;
+mod version;
 mod walk;
 mod writing;
 
@@ -67,5 +71,6 @@ pub use stored::{
 };
 pub use stretch::{divide, divide_all, Divided, Division};
 pub use table::{Table, TableRow};
+pub use version::{Version, COMMENTS_C, COMMENT_COLUMNS_C, MOST_SATELLITES_C};
 pub use walk::{begin, first_row, next_row, rows, RowAt, Rows};
-pub use writing::{form_length, write};
+pub use writing::{form_length, form_length_c, write, write_c};

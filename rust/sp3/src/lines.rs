@@ -100,8 +100,8 @@ pub fn next_line(file: &[u8], identifiers: &[u64], spot: Spot) -> Result<Line, L
 /// What must stand at a spot.
 #[derive(Clone, Copy, Debug, PartialEq, Eq, Hash)]
 pub struct Due {
-    /// The kind of line that must come: 1 `#d`, 2 `##`, 3 `+ `, 4 `++`, 5 `%c`, 6 `%f`, 7 `%i`, 8 comment, 9 epoch, 10 P, 11 V, 12 EP, 13 EV,
-    /// 14 `EOF`.
+    /// The kind of line that must come: 1 `#c` or `#d`, 2 `##`, 3 `+ `, 4 `++`, 5 `%c`, 6 `%f`, 7 `%i`, 8 comment, 9 epoch, 10 P, 11 V, 12 EP,
+    /// 13 EV, 14 `EOF`.
     pub kind: u64,
     /// The kind that may stand there before it.
     pub also: Option<u64>,

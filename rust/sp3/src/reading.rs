@@ -2,7 +2,7 @@
 
 use crate::ffi;
 use crate::refusal::accepted;
-use crate::{Header, Refusal};
+use crate::{Header, Refusal, Version};
 
 /// So many satellites a file has at most: room for as many identifiers always suffices.
 ///
@@ -22,24 +22,27 @@ pub struct Reading {
     pub length: usize,
     /// What its header lines say.
     pub header: Header,
+    /// Its version, by its first two bytes.
+    pub version: Version,
 }
 
 impl ffi::Reading {
     /// The answer as a result.
     pub(crate) fn told(self) -> Result<Reading, Refusal> {
         accepted(self.refusal, self.line, self.column)?;
-        Ok(Reading { length: self.length, header: self.header })
+        let version = Version::by(self.version);
+        Ok(Reading { length: self.length, header: self.header, version })
     }
 }
 
-/// Judges one whole file.
+/// Judges one whole file, and tells its version.
 ///
-/// Refused: no bytes at all are 1 at line 1; a blank after the last LF is 11.
+/// Refused: no bytes at all are 1 at line 1, and `#a` or `#C` is 4 there; a blank after the last LF is 11.
 ///
 /// ```
 /// let file = include_bytes!("../../../samples/paper.sp3");
 /// let reading = sp3::judge(file)?;
-/// assert_eq!(reading.header.satellites, 1);
+/// assert_eq!((reading.header.satellites, reading.version), (1, sp3::Version::D));
 ///
 /// let longer = [&file[..], b" "].concat();
 /// assert_eq!(sp3::judge(&longer), Err(sp3::Refusal { number: 11, line: 26, column: 0 }));

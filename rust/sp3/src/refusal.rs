@@ -3,37 +3,37 @@
 use std::error::Error;
 use std::fmt;
 
-/// The numbers in words, 0 first.
-const WORDS: [&str; 14] = [
-    "accepted",
-    "no line end is left before the file's EOF line is complete",
-    "a byte outside 32 to 126 stands in the line",
-    "the line has more than 80 characters",
-    "the line is not of a kind that may stand here",
-    "an unused column is not blank, or a placeholder is not all `c` or a zero",
-    "a field is malformed, or a letter, file type or time system is not listed",
-    "a number or date is outside its bounds",
-    "line 2 disagrees with the start, a slot after the last satellite is not `  0`, an identifier repeats, or the file type disagrees",
-    "an epoch stands at the wrong instant",
-    "a row names another satellite than the header has here",
-    "bytes stand after the EOF line",
-    "lent room is too small",
-    "the table to be written is not valid, or what is asked by number is not there",
-];
-
-/// A refusal's number in words. A number above 13, which the library never gives, has the words `an unknown number`.
+/// A refusal's number in words. A number other than 0 to 13 and 17, which the library never gives, has the words `an unknown number`.
 ///
 /// ```
 /// assert_eq!(sp3::words(9), "an epoch stands at the wrong instant");
+/// assert_eq!(sp3::words(17), "the table to be written is outside the bounds of SP3-c");
 /// ```
 pub fn words(number: u8) -> &'static str {
-    WORDS.get(usize::from(number)).unwrap_or(&"an unknown number")
+    match number {
+        0 => "accepted",
+        1 => "no line end is left before the file's EOF line is complete",
+        2 => "a byte outside 32 to 126 stands in the line",
+        3 => "the line has more than 80 characters, or a comment line of SP3-c more than 60",
+        4 => "the line is not of a kind that may stand here",
+        5 => "an unused column is not blank, or a placeholder is not all `c` or a zero",
+        6 => "a field is malformed, or a letter, file type or time system is not listed",
+        7 => "a number or date is outside its bounds",
+        8 => "line 2 disagrees with the start, a slot after the last satellite is not `  0`, an identifier repeats, or the file type disagrees",
+        9 => "an epoch stands at the wrong instant",
+        10 => "a row names another satellite than the header has here",
+        11 => "bytes stand after the EOF line",
+        12 => "lent room is too small",
+        13 => "the table to be written is not valid, or what is asked by number is not there",
+        17 => "the table to be written is outside the bounds of SP3-c",
+        _ => "an unknown number",
+    }
 }
 
 /// Why something was refused. Whatever was lent is then as it was before.
 ///
-/// The first faulty line of a file decides, in a line the lowest number, of several faults with that number the leftmost. 13 and then 12 come
-/// after all other numbers. In words a column of 0 is left out.
+/// The first faulty line of a file decides, in a line the lowest number, of several faults with that number the leftmost. 13, then 17,
+/// then 12 come after all other numbers. In words a column of 0 is left out.
 ///
 /// ```
 /// let file = include_str!("../../../samples/paper.sp3").replace("  5000.000001", " 5000.0000001");
@@ -53,12 +53,12 @@ pub fn words(number: u8) -> &'static str {
 /// ```
 #[derive(Clone, Copy, Debug, PartialEq, Eq, Hash)]
 pub struct Refusal {
-    /// 1 to 13; [`words`] says what each means.
+    /// 1 to 13, or 17; [`words`] says what each means.
     pub number: u8,
     /// The line, counted from 1; 0 where the refusal names none.
     pub line: u64,
-    /// The column in that line, counted from 1; 0 where the refusal names none. Of 2 the byte itself, also past column 80; of 3 column 81; of 5
-    /// the unused column or the placeholder's first; of 6 and 7 the field's first, 4 for year, month and day.
+    /// The column in that line, counted from 1; 0 where the refusal names none. Of 2 the byte itself, also past column 80; of 3 column 81,
+    /// or 61 in a comment line of SP3-c; of 5 the unused column or the placeholder's first; of 6 and 7 the field's first, 4 for year, month and day.
     pub column: usize,
 }
 

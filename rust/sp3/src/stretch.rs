@@ -16,8 +16,8 @@ pub struct Divided {
     pub refusal: Option<Refusal>,
 }
 
-/// Divides a stretch of files laid end to end; their lengths in bytes go to the first places of `lengths`, also where the rest is refused.
-/// [`divide_all`] lends the places itself.
+/// Divides a stretch of files laid end to end, of both versions mixed; their lengths in bytes go to the first places of `lengths`, also where the
+/// rest is refused. [`divide_all`] lends the places itself.
 ///
 /// Refused: 12 where there are more files than places; then no length is written. 11 never occurs.
 ///

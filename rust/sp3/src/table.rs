@@ -3,9 +3,9 @@
 use crate::refusal::{NOT_THERE, NO_ROOM};
 use crate::stored::{COMMENT_WIDTH, ROW_WIDTH};
 use crate::{
-    clock_of, exponent_of, flag_of, form_length, judge, judge_front, note_correlation_of,
-    note_deviation_of, note_of, place_of, read, read_front, stored_row, write, Deviation, Exponent,
-    Header, Note, Refusal, StoredRow,
+    clock_of, exponent_of, flag_of, form_length, form_length_c, judge, judge_front,
+    note_correlation_of, note_deviation_of, note_of, place_of, read, read_front, stored_row, write,
+    write_c, Deviation, Exponent, Header, Note, Refusal, StoredRow, Version,
 };
 
 /// What a file holds: its header and the four lists, as [`read`] leaves them. All parts may be altered; [`Table::write`] says whether they are
@@ -137,7 +137,7 @@ impl Table {
         Ok((table, reading.length))
     }
 
-    /// The canonical form of the table.
+    /// The canonical form of the table in SP3-d.
     ///
     /// Refused: 13 with line 0 where the table is not valid; 12 where memory does not suffice.
     ///
@@ -150,10 +150,36 @@ impl Table {
     /// # Ok::<(), sp3::Refusal>(())
     /// ```
     pub fn write(&self) -> Result<Vec<u8>, Refusal> {
+        self.write_as(Version::D)
+    }
+
+    /// The canonical form of the table in a version; [`judge`] tells that of a file.
+    ///
+    /// Refused: 13 with line 0 where the table is not valid; then 17 where the version is SP3-c and the table is outside its bounds; 12 where memory
+    /// does not suffice.
+    ///
+    /// ```
+    /// use sp3::{judge, Table, Version};
+    /// let table = Table::read(include_bytes!("../../../samples/paper.sp3"))?;
+    /// let older = table.write_as(Version::C)?;
+    /// assert_eq!(Table::read(&older)?.write_as(judge(&older)?.version)?, older);
+    ///
+    /// let table = Table::read(include_bytes!("../../../samples/combined.sp3"))?;
+    /// let refused = table.write_as(Version::C);
+    /// assert_eq!(refused, Err(sp3::Refusal { number: 17, line: 0, column: 0 }));
+    /// # Ok::<(), sp3::Refusal>(())
+    /// ```
+    pub fn write_as(&self, version: Version) -> Result<Vec<u8>, Refusal> {
         let Table { header, identifiers, exponents, comments, rows } = self;
-        let length = form_length(header, identifiers, exponents, comments, rows)?;
+        let length = match version {
+            Version::C => form_length_c(header, identifiers, exponents, comments, rows),
+            Version::D => form_length(header, identifiers, exponents, comments, rows),
+        }?;
         let mut out = room(&[length as u64])?;
-        write(header, identifiers, exponents, comments, rows, &mut out)?;
+        match version {
+            Version::C => write_c(header, identifiers, exponents, comments, rows, &mut out),
+            Version::D => write(header, identifiers, exponents, comments, rows, &mut out),
+        }?;
         Ok(out)
     }
 

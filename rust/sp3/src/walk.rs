@@ -65,7 +65,7 @@ pub struct Rows<'a> {
 }
 
 impl Rows<'_> {
-    /// The length and the header of the file.
+    /// The length, the header and the version of the file.
     pub fn reading(&self) -> Reading {
         self.reading
     }

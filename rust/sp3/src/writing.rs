@@ -58,7 +58,7 @@ impl Header {
     }
 }
 
-/// How many bytes the canonical form of a table has, so that just so many can be lent to [`write()`].
+/// How many bytes the canonical form of a table in SP3-d has, so that just so many can be lent to [`write()`].
 ///
 /// Refused: 13 with line 0 where the table is not valid.
 ///
@@ -79,9 +79,55 @@ pub fn form_length(
     comments: &[u8],
     rows: &[i64],
 ) -> Result<usize, Refusal> {
+    length_by(ffi::sp3_form_length, header, identifiers, exponents, comments, rows)
+}
+
+/// How many bytes the canonical form of a table in SP3-c has: as many as in SP3-d.
+///
+/// Refused, with line 0: 13 where the table is not valid, then 17 where it is outside the bounds of SP3-c.
+///
+/// ```
+/// let table = sp3::Table::read(include_bytes!("../../../samples/paper.sp3"))?;
+/// let (identifiers, comments) = (&table.identifiers, &table.comments);
+/// let length = sp3::form_length_c(&table.header, identifiers, &table.exponents, comments, &table.rows);
+/// assert_eq!(length, Ok(1215));
+/// # Ok::<(), sp3::Refusal>(())
+/// ```
+pub fn form_length_c(
+    header: &Header,
+    identifiers: &[u64],
+    exponents: &[u64],
+    comments: &[u8],
+    rows: &[i64],
+) -> Result<usize, Refusal> {
+    length_by(ffi::sp3_form_length_c, header, identifiers, exponents, comments, rows)
+}
+
+/// A function of the library that measures a form.
+type LengthDoor = unsafe extern "C" fn(
+    Header,
+    *const u64,
+    usize,
+    *const u64,
+    usize,
+    *const u8,
+    usize,
+    *const i64,
+    usize,
+) -> ffi::Measured;
+
+/// Measures by one of the two functions that do.
+fn length_by(
+    door: LengthDoor,
+    header: &Header,
+    identifiers: &[u64],
+    exponents: &[u64],
+    comments: &[u8],
+    rows: &[i64],
+) -> Result<usize, Refusal> {
     // SAFETY: each pointer and its number are of one slice.
     let answer = unsafe {
-        ffi::sp3_form_length(
+        door(
             *header,
             identifiers.as_ptr(),
             identifiers.len(),
@@ -97,8 +143,8 @@ pub fn form_length(
     Ok(answer.length)
 }
 
-/// Writes the canonical form of a table into the first bytes of `out` and gives their number. [`Table::write`](crate::Table::write) lends the
-/// output itself.
+/// Writes the canonical form of a table in SP3-d into the first bytes of `out` and gives their number. [`Table::write`](crate::Table::write)
+/// lends the output itself.
 ///
 /// The lists are as [`read`](crate::read) leaves them; places past the header's counts are not looked at, bytes of `out` past those written
 /// stay as they were. An absent clock is written as ` 999999.999999`.
@@ -126,9 +172,68 @@ pub fn write(
     rows: &[i64],
     out: &mut [u8],
 ) -> Result<usize, Refusal> {
+    write_by(ffi::sp3_write, header, identifiers, exponents, comments, rows, out)
+}
+
+/// Writes the canonical form of a table in SP3-c, as [`write()`] does that in SP3-d; the second byte alone differs.
+/// [`Table::write_as`](crate::Table::write_as) lends the output itself.
+///
+/// Refused, with line 0: 13 as [`write()`], then 17 where the table is outside the bounds of SP3-c (86 satellites, five comments, a comment of 58
+/// bytes before its trailing blanks), then 12 where `out` is one byte too short; `out` is then as it was.
+///
+/// ```
+/// let file = include_bytes!("../../../samples/paper.sp3");
+/// let table = sp3::Table::read(file)?;
+/// let (identifiers, comments) = (&table.identifiers, &table.comments);
+/// let mut out = [0; 2000];
+/// let length = sp3::write_c(&table.header, identifiers, &table.exponents, comments, &table.rows, &mut out)?;
+/// assert_eq!((&out[..2], &out[2..length]), (&b"#c"[..], &file[2..]));
+///
+/// let long = sp3::stored_comment("A comment of 58 bytes: SP3-c has no room for more than 57.")?;
+/// let comments = [long; 4].concat();
+/// let refused = sp3::write_c(&table.header, identifiers, &table.exponents, &comments, &table.rows, &mut []);
+/// assert_eq!(refused, Err(sp3::Refusal { number: 17, line: 0, column: 0 }));
+/// # Ok::<(), sp3::Refusal>(())
+/// ```
+pub fn write_c(
+    header: &Header,
+    identifiers: &[u64],
+    exponents: &[u64],
+    comments: &[u8],
+    rows: &[i64],
+    out: &mut [u8],
+) -> Result<usize, Refusal> {
+    write_by(ffi::sp3_write_c, header, identifiers, exponents, comments, rows, out)
+}
+
+/// A function of the library that writes a form.
+type WriteDoor = unsafe extern "C" fn(
+    Header,
+    *const u64,
+    usize,
+    *const u64,
+    usize,
+    *const u8,
+    usize,
+    *const i64,
+    usize,
+    *mut u8,
+    usize,
+) -> ffi::Measured;
+
+/// Writes by one of the two functions that do.
+fn write_by(
+    door: WriteDoor,
+    header: &Header,
+    identifiers: &[u64],
+    exponents: &[u64],
+    comments: &[u8],
+    rows: &[i64],
+    out: &mut [u8],
+) -> Result<usize, Refusal> {
     // SAFETY: each pointer and its number are of one slice; the output is borrowed for this call alone.
     let answer = unsafe {
-        ffi::sp3_write(
+        door(
             *header,
             identifiers.as_ptr(),
             identifiers.len(),

@@ -53,7 +53,7 @@ fn refused_files() -> Vec<(u8, u64, usize, Vec<u8>)> {
         of(2, 19, 200, paper().put(19, 300, "-").put(19, 200, "\x7f")),
         of(3, 19, 81, paper().put(19, 81, " ")),
         of(3, 19, 81, paper().put(19, 300, "-")),
-        of(4, 1, 0, paper().put(1, 2, "c")),
+        of(4, 1, 0, paper().put(1, 2, "a")),
         of(4, 24, 0, paper().without(24)),
         of(4, 25, 0, paper().with(25, "EV")),
         of(4, 26, 0, paper().with(25, "EP").with(26, "EP")),
@@ -177,7 +177,8 @@ fn places_past_those_filled_stay() {
     expected.comments[..4 * 77].copy_from_slice(&table.comments);
     expected.rows[..23].copy_from_slice(&table.rows);
     let reading = lent.read(SAMPLE).unwrap();
-    assert_eq!(reading, sp3::Reading { length: SAMPLE.len(), header: common::paper_header() });
+    let (length, header) = (SAMPLE.len(), common::paper_header());
+    assert_eq!(reading, sp3::Reading { length, header, version: sp3::Version::D });
     assert_eq!(lent, expected);
     let mut front = Lent::marked(PAPER_ROOM.map(|room| room + 3));
     assert_eq!(front.read_front(&SAMPLE.repeat(2)), Ok(reading));
@@ -371,7 +372,9 @@ fn words_and_errors() {
     assert_eq!(line, sp3::LineRefusal { number: 6, column: 19 }, "the y field of line 24");
     let words = "refused 6 column 19: a field is malformed, or a letter, file type or time system is not listed";
     assert_eq!(line.to_string(), words);
-    assert_eq!(sp3::words(255), "an unknown number");
+    for number in [14, 15, 16, 18, 255] {
+        assert_eq!(sp3::words(number), "an unknown number");
+    }
 }
 
 /// Headers that nobody can have read: nothing stops, nothing is made up.
