@@ -3,75 +3,29 @@
 use mathlib.Core.Path.{_≡_, refl, ap, _∙_}
 use mathlib.Core.Bool.{Bool, true, false, Bool·beq}
 use mathlib.Core.List.{List, [], _∷_, _++_}
-use Prim.Native.Nat.{ℕ, zero, suc, _+_, _*_, _/_, _%_, _≤_, _<_}
+use Prim.Native.Nat.{ℕ, zero, suc, _+_, _*_, _/_, _≤_, _<_}
 use native.Mathlib.Omega.{arith}
 use borrow.Author.Tests.{le-leb, lt-ltb, ltb-true, ne-eqb}
 use lib.Dec.{T, leb, ltb, eqb}
-use lib.IntN.{ℤ, pos}
-use lib.ListN.{length, take, replicate, length-replicate, length-append}
+use lib.ListN.{length, take, length-replicate, length-append}
 use lib.Seq.{take-all}
 use Rattle.laws.specs.Tests.{everyBelow}
 use Rattle.laws.specs.Texts.{every}
 use Rattle.laws.proofs.Bools.{and-left, and-right, and-both, same-bool}
 use Rattle.laws.proofs.Bounds.{true-within, below}
 use Rattle.header.specs.Rules.{d, maxSatellites}
-use Rattle.layout.specs.Kind.{isOneOf, isIdentifier, unnoted}
+use Rattle.layout.specs.Kind.{isOneOf, isIdentifier}
 use Rattle.lines.specs.Lines.{linesOf}
 use Rattle.record.specs.Agrees.{repeats, typeAgrees}
 use Rattle.record.specs.Rows.{rowWidth}
 use Rattle.scan.specs.Run.{IsFile}
-use Rattle.canon.specs.Table.{Table, tableOf}
 use Rattle.canon.specs.Valid.{isInstant, textsFit, timesValid, countsValid, wordsValid, headerValid, listsLong, identifiersValid, exponentsValid, commentValid, commentsValid, rowValid, noteValid, notedValid, cellValid, rowsValid, countsHold, valid}
 use Rattle.canon_laws.specs.Held.{Holds}
 use Rattle.header.specs.declared.types.Header.{Header}
 use Rattle.theorems.specs.Files as file
-use Rattle.theorems.proofs.Exist.{header}
+use Rattle.theorems.specs.Made.{paperHeader, nthIdentifier, identifiersFrom, absentRow, absentRows, headerOfMany, zeros, fourBlank, tableOfMany}
 use Rattle.theorems.proofs.Rewritten.{valid-exactly}
 use Rattle.canon_laws.proofs.Versions.{d-proper}
-
--- the identifier of number k, by letter and then number: A01 to A99, B01 and so on
-unfoldable pub nthIdentifier : ℕ → ℕ
-nthIdentifier k = (65 + k / 99) * 100 + 1 + k % 99
-
--- so many of them, from number k on
-unfoldable pub identifiersFrom : ℕ → ℕ → List ℕ
-identifiersFrom k zero = []
-identifiersFrom k (suc n) = nthIdentifier k ∷ identifiersFrom (suc k) n
-
--- a row of which nothing is known: no place, no clock, no exponent, no flag, no note
-abbrev pub absentRow : List ℤ
-absentRow =
-    pos 0 ∷ pos 0 ∷ pos 0 ∷ pos 999_999_999_999 ∷ pos 1000 ∷ pos 1000 ∷ pos 1000 ∷ pos 1000 ∷ pos 0 ∷ pos 0 ∷ pos 0 ∷ pos 0 ∷ pos 0 ∷ replicate 10 (pos unnoted)
-
-unfoldable pub absentRows : ℕ → List ℤ
-absentRows zero = []
-absentRows (suc n) = absentRow ++ absentRows n
-
--- the paper's own header with n satellites, of type M (77)
-abbrev pub headerOfMany : ℕ → Header
-headerOfMany n = record {
-  velocity = false;
-  start8 = header .start8;
-  epochs = 1;
-  interval8 = header .interval8;
-  texts = header .texts;
-  satellites = n;
-  comments = 4;
-  «file_type» = 77;
-  «time_system» = header .«time_system»;
-  bases = header .bases;
-}
-
--- so many exponents of 0, and four blank comments
-abbrev pub zeros : ℕ → List ℕ
-zeros n = replicate n 0
-
-abbrev pub fourBlank : List ℕ
-fourBlank = replicate 308 32
-
--- the table of n such satellites, of one epoch
-abbrev pub tableOfMany : ℕ → Table
-tableOfMany n = tableOf (headerOfMany n) (identifiersFrom 0 n) (zeros n) fourBlank (absentRows n)
 
 -- there are so many of each
 many-identifiers : (k n : ℕ) → length (identifiersFrom k n) ≡ n
@@ -143,7 +97,7 @@ absent-valid (suc n) = absent-valid n
 
 module _ (n : ℕ) (some : 1 ≤ n) (few : n ≤ maxSatellites) where
   header-valid : headerValid d (headerOfMany n) ≡ true
-  unfolding headerValid timesValid countsValid wordsValid isInstant textsFit header
+  unfolding headerValid timesValid countsValid wordsValid isInstant textsFit paperHeader
   header-valid = rw (true-within 1 maxSatellites n some few)
 
   lists-long : listsLong (headerOfMany n) (length (identifiersFrom 0 n)) (length (zeros n)) (length fourBlank) (length (absentRows n)) ≡ true

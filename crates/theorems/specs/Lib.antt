@@ -7,3 +7,4 @@ pub mod Divided
 pub mod Walked
 pub mod Before
 pub mod Bounds
+pub mod Made

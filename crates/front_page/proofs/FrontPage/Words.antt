@@ -90,7 +90,7 @@ pub use Rattle.theorems.specs.Before.{satellitesBefore, before, foundBefore}
 pub use Rattle.theorems.proofs.Larger as larger
 pub use Rattle.theorems.proofs.Most as most
 pub use Rattle.theorems.proofs.EveryNumber as everyNumber
-pub use Rattle.theorems.proofs.EveryNumber.{tableOfMany}
+pub use Rattle.theorems.specs.Made.{oneRow, tableOfMany}
 pub use Rattle.record.specs.SlotLines.{countItem, satellitesOf}
 pub use Rattle.theorems.proofs.Correlations as correlations
 pub use Rattle.theorems.proofs.LentNotes as lent-notes
@@ -142,6 +142,5 @@ pub use Rattle.theorems.proofs.Room.{headerTo}
 pub use Rattle.theorems.proofs.Answers as answers
 pub use Rattle.theorems.proofs.Filled as filling
 pub use Rattle.theorems.proofs.Lent as lent
-pub use Rattle.theorems.proofs.Exist.{oneRow}
 pub use Rattle.record.specs.declared.types.Row.{Row}
 pub use Rattle.float_row.specs.Floats.{Exactly}
