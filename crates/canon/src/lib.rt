@@ -1,4 +1,5 @@
 // A table to be written: whether it is valid, and how long its canonical form is.
+#![tactic(auto)]
 mod bounds;
 mod lists;
 mod measuring;

@@ -2,6 +2,7 @@
 // dates, every day of the bounds, every second of a day, and each spelling of a field that stands on standard input.
 // What it must print is made by tests/fields.py, out of Python's own dates, its regular expressions and its whole numbers; the
 // spellings too. It shares no code with this.
+#![tactic(auto)]
 mod cases;
 mod days;
 mod print;

@@ -1,4 +1,5 @@
 // A table filled into lent memory from the lines of a file.
+#![tactic(auto)]
 mod fill;
 mod rows;
 

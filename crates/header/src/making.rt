@@ -82,12 +82,12 @@ impl Header {
     // The bounds of the type are those of the definitions.
     pub fn bounds_hold() -> bool
         ensures result { result ≡ true }
-        ensures* satellites { do ⌜ (← (⟦Header::MAX_SATELLITES⟧).entry) ≡ max_satellites ⌝ }
-        ensures* epochs { do ⌜ (← (⟦Header::MAX_EPOCHS⟧).entry) ≡ max_epochs ⌝ }
-        ensures* comments { do ⌜ (← (⟦Header::MIN_COMMENTS⟧).entry) ≡ min_comments ⌝ }
-        ensures* interval { do ⌜ (← (⟦Header::MAX_INTERVAL⟧).entry) ≡ max_interval ⌝ }
-        ensures* place { do ⌜ (← (⟦Header::MAX_PLACE_BASE⟧).entry) ≡ max_place_base ⌝ }
-        ensures* clock { do ⌜ (← (⟦Header::MAX_CLOCK_BASE⟧).entry) ≡ max_clock_base ⌝ }
+        ensures satellites { Header.MAX_SATELLITES ≡ max_satellites }
+        ensures epochs { Header.MAX_EPOCHS ≡ max_epochs }
+        ensures comments { Header.MIN_COMMENTS ≡ min_comments }
+        ensures interval { Header.MAX_INTERVAL ≡ max_interval }
+        ensures place { Header.MAX_PLACE_BASE ≡ max_place_base }
+        ensures clock { Header.MAX_CLOCK_BASE ≡ max_clock_base }
     {
         true
     }

@@ -1,4 +1,5 @@
 // Reading: one file judged, then its table filled into lent memory.
+#![tactic(auto)]
 mod delivery;
 mod judging;
 mod types;

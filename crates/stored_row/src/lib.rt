@@ -1,4 +1,5 @@
 // A row in lent memory, asked for by name.
+#![tactic(auto)]
 mod notes;
 mod rows;
 mod types;

@@ -1,4 +1,5 @@
 // Writing: a table judged and measured, then its canonical form laid into the lent output, line directly after line.
+#![tactic(auto)]
 mod epochs;
 mod heads;
 mod shown;
