@@ -6,7 +6,7 @@ use crate::{divided, print, walked};
 use libc::STDIN_FILENO;
 
 // A number, and where the text goes on after the byte that ended it.
-#[derive(Drop)]
+#[derive(Clone, Copy)]
 struct Read {
     value: u64,
     next: usize,

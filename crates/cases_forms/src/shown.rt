@@ -5,7 +5,7 @@ use header::{Header, Version};
 use reader::Reading;
 
 // What is wanted of a writing: the version by its letter, and the size of the room.
-#[derive(Drop)]
+#[derive(Clone, Copy)]
 pub(crate) struct Wanted {
     pub letter: u8,
     pub size: u64,

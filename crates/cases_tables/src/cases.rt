@@ -3,7 +3,7 @@ use crate::{asked, lent, print};
 use reader::Reading;
 
 // How much of each list is lent, and what is asked: the comment, epoch and satellite by number, the satellite's identifier as a number.
-#[derive(Drop)]
+#[derive(Clone, Copy)]
 pub(crate) struct Case {
     pub identifiers: u64,
     pub exponents: u64,

@@ -13,7 +13,7 @@ use scan::Front;
 // What a stretch divides into: the number of accepted files at its front, the byte where the rest begins, and the refusal, line and column
 // there, counted from that byte; all 0 where nothing is left.
 #[repr(C)]
-#[derive(Drop)]
+#[derive(Clone, Copy)]
 pub struct Division {
     pub count: u64,
     pub rest: usize,

@@ -10,21 +10,21 @@ pub mod write;
 pub const WIDEST: usize = 18;
 
 // An integer field: its value, or that it is malformed.
-#[derive(Drop)]
+#[derive(Clone, Copy)]
 pub enum Whole {
     Value(u64),
     Malformed,
 }
 
 // A signed integer or a decimal, in units of its last place: its sign and magnitude, or that it is malformed. Zero has no minus.
-#[derive(Drop)]
+#[derive(Clone, Copy)]
 pub enum Amount {
     Value { negative: bool, magnitude: u64 },
     Malformed,
 }
 
 // An exponent field: its value, that it is blank, or that it is neither.
-#[derive(Drop)]
+#[derive(Clone, Copy)]
 pub enum Exponent {
     Value(u64),
     Unknown,
@@ -32,7 +32,7 @@ pub enum Exponent {
 }
 
 // A number of the table, or that its magnitude is above the largest.
-#[derive(Drop)]
+#[derive(Clone, Copy)]
 pub enum Number {
     Value(i64),
     OutOfBounds,

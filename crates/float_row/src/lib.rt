@@ -11,7 +11,7 @@ use record::{Row, Signed};
 // Three coordinates in mm and the clock in ps, each exactly the whole number of the file. What is absent is marked and is no number (NaN), so
 // that whoever uses it by mistake spoils the result.
 #[repr(C)]
-#[derive(Drop)]
+#[derive(Clone, Copy)]
 pub struct FloatRow {
     pub x: f64,
     pub y: f64,

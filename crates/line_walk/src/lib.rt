@@ -12,14 +12,14 @@ use machine::{LineRead, State};
 
 // Between two lines of a file: the byte at which the next line begins, and what must stand there.
 #[repr(C)]
-#[derive(Drop)]
+#[derive(Clone, Copy)]
 pub struct Spot {
     pub at: usize,
     pub state: State,
 }
 
 // A file, and a spot in it.
-#[derive(Drop)]
+#[derive(Clone, Copy)]
 pub struct Walker<'a> {
     pub file: &'a [u8],
     pub spot: Spot,

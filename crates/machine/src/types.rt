@@ -1,6 +1,6 @@
 // What must stand next in a file and what its lines have said so far. Kinds of line are told by their numbers (`record::kind`).
 #[repr(C)]
-#[derive(Drop)]
+#[derive(Clone, Copy)]
 pub struct State {
     // The kind of line that must come, and the kind that may stand here before it (none: `NO_KIND`).
     pub due: u64,
@@ -26,7 +26,7 @@ pub struct State {
 // epoch must stand and the satellite that a row must name, each 0 where none must come; whether the `+ ` line that stands there is refused
 // with 8 though its slots are right: it names an identifier again.
 #[repr(C)]
-#[derive(Drop)]
+#[derive(Clone, Copy)]
 pub struct Due {
     pub kind: u64,
     pub also: u64,
@@ -36,7 +36,7 @@ pub struct Due {
 }
 
 // What a line does: its fault, by the paper's number and the column that it names (0 for none), or the state after it, or it ends the file.
-#[derive(Drop)]
+#[derive(Clone, Copy)]
 pub enum Verdict {
     Fault { number: usize, column: usize },
     Next(State),
@@ -44,7 +44,7 @@ pub enum Verdict {
 }
 
 // What the line reader finds at a byte: no complete line, a fault, the byte and the state after the line, or the byte after the file.
-#[derive(Drop)]
+#[derive(Clone, Copy)]
 pub enum LineRead {
     NoLine,
     Fault { number: usize, column: usize },
@@ -52,7 +52,7 @@ pub enum LineRead {
     Finished { at: usize },
 }
 // The identifiers that a `+ ` line brings: as many as `count` says, of the 17 of its slots.
-#[derive(Drop)]
+#[derive(Clone, Copy)]
 pub(crate) struct Brought {
     pub identifiers: [u64; 17],
     pub count: usize,

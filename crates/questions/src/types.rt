@@ -2,7 +2,7 @@ use float_row::FloatRow;
 
 // Where the text of a comment lies in its file: first byte and length, both 0 beside a refusal.
 #[repr(C)]
-#[derive(Drop)]
+#[derive(Clone, Copy)]
 pub struct CommentAnswer {
     pub refusal: usize,
     pub line: u64,
@@ -13,7 +13,7 @@ pub struct CommentAnswer {
 
 // The number of a satellite in the header, counted from 0; 0 beside a refusal.
 #[repr(C)]
-#[derive(Drop)]
+#[derive(Clone, Copy)]
 pub struct SatelliteAnswer {
     pub refusal: usize,
     pub line: u64,
@@ -23,7 +23,7 @@ pub struct SatelliteAnswer {
 
 // Where the P line of an epoch and a satellite begins in its file; 0 beside a refusal.
 #[repr(C)]
-#[derive(Drop)]
+#[derive(Clone, Copy)]
 pub struct RowBegins {
     pub refusal: usize,
     pub line: u64,
@@ -33,7 +33,7 @@ pub struct RowBegins {
 
 // The row of the adjustment; beside a refusal both place and clock are absent.
 #[repr(C)]
-#[derive(Drop)]
+#[derive(Clone, Copy)]
 pub struct RowAnswer {
     pub refusal: usize,
     pub line: u64,

@@ -1,7 +1,7 @@
 use header::{Bases, Moment, Texts};
 
 // The kinds of line, by columns 1 and 2; P and V by column 1, the end of the file by columns 1 to 3.
-#[derive(Drop)]
+#[derive(Clone, Copy)]
 pub enum LineKind {
     Other,
     First,
@@ -21,21 +21,21 @@ pub enum LineKind {
 }
 
 // A field's fault, after those before it, and its number.
-#[derive(Drop)]
+#[derive(Clone, Copy)]
 pub struct Judged {
     pub fault: usize,
     pub value: u64,
 }
 
 // A letter's fault, after those before it, and the letter.
-#[derive(Drop)]
+#[derive(Clone, Copy)]
 pub struct Lettered {
     pub fault: usize,
     pub letter: u8,
 }
 
 // Line 1, its mode a letter. A fault is a key: the paper's number times 128, and a column; 0 for none.
-#[derive(Drop)]
+#[derive(Clone, Copy)]
 pub struct First {
     pub fault: usize,
     pub mode: u8,
@@ -45,7 +45,7 @@ pub struct First {
 }
 
 // Line 2: seconds of week and interval in 10^-8 s, the fraction in 10^-13 day.
-#[derive(Drop)]
+#[derive(Clone, Copy)]
 pub struct Second {
     pub fault: usize,
     pub week: u64,
@@ -56,7 +56,7 @@ pub struct Second {
 }
 
 // An epoch line.
-#[derive(Drop)]
+#[derive(Clone, Copy)]
 pub struct Epoch {
     pub fault: usize,
     pub moment: Moment,
@@ -64,7 +64,7 @@ pub struct Epoch {
 
 // The first `+ ` line: how many satellites there are, and the identifiers of its 17 slots, 0 in those after the last. An identifier is its
 // letter's byte times 100 and its number: G07 is 7107.
-#[derive(Drop)]
+#[derive(Clone, Copy)]
 pub struct Satellites {
     pub fault: usize,
     pub count: u64,
@@ -72,14 +72,14 @@ pub struct Satellites {
 }
 
 // A further `+ ` line or a `++` line: the identifiers or accuracy exponents of its 17 slots, 0 in those after the last.
-#[derive(Drop)]
+#[derive(Clone, Copy)]
 pub struct Slots {
     pub fault: usize,
     pub values: [u64; 17],
 }
 
 // The first `%c` line: the file type as its letter, the time system as it stands.
-#[derive(Drop)]
+#[derive(Clone, Copy)]
 pub struct Descriptor {
     pub fault: usize,
     pub file_type: u8,
@@ -87,21 +87,21 @@ pub struct Descriptor {
 }
 
 // The first `%f` line.
-#[derive(Drop)]
+#[derive(Clone, Copy)]
 pub struct BaseLine {
     pub fault: usize,
     pub bases: Bases,
 }
 
 // A number with a sign, in units of its last place.
-#[derive(Drop)]
+#[derive(Clone, Copy)]
 pub struct Signed {
     pub negative: bool,
     pub magnitude: u64,
 }
 
 // A P or V line: x, y, z and clock in mm and ps, or 10^-4 mm/s and 10^-16 s/s; an exponent of 1000 is unknown.
-#[derive(Drop)]
+#[derive(Clone, Copy)]
 pub struct Row {
     pub satellite: u64,
     pub x: Signed,
@@ -119,7 +119,7 @@ pub struct Row {
 }
 
 // An EP or EV line: deviations in mm and ps, or 10^-4 mm/s and 10^-4 ps/s; correlations in 10^-7. A magnitude of 100,000,000 is unknown.
-#[derive(Drop)]
+#[derive(Clone, Copy)]
 pub struct Note {
     pub x_deviation: u64,
     pub y_deviation: u64,

@@ -18,7 +18,7 @@ use record::kind::{COMMENT_KIND, NO_KIND, POSITION_KIND, SATELLITES_KIND, VELOCI
 const FEW: u64 = 51;
 
 // What has been read so far: lines, bytes, comments, and rows of both kinds.
-#[derive(Drop)]
+#[derive(Clone, Copy)]
 pub struct Tally {
     pub lines: u64,
     pub end: usize,
@@ -27,7 +27,7 @@ pub struct Tally {
 }
 
 // What stands at the front of some bytes: a file, or a refusal with its number, line and column (0 for none).
-#[derive(Drop)]
+#[derive(Clone, Copy)]
 pub enum Front {
     File(Tally),
     Refused {

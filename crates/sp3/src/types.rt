@@ -6,7 +6,7 @@ use row_walk::RowWalk;
 
 // What a date names: the refusal (0 or 7), MJD in days, GPS week, seconds of week in whole s; 0 beside a refusal.
 #[repr(C)]
-#[derive(Drop)]
+#[derive(Clone, Copy)]
 pub struct DateAnswer {
     pub refusal: usize,
     pub mjd: u64,
@@ -16,7 +16,7 @@ pub struct DateAnswer {
 
 // The date and time of day of an instant: the refusal (0 or 7); all parts 0 beside a refusal.
 #[repr(C)]
-#[derive(Drop)]
+#[derive(Clone, Copy)]
 pub struct MomentAnswer {
     pub refusal: usize,
     pub moment: Moment,
@@ -24,7 +24,7 @@ pub struct MomentAnswer {
 
 // Everything that a header is made of.
 #[repr(C)]
-#[derive(Drop)]
+#[derive(Clone, Copy)]
 pub struct HeaderParts {
     pub mode: u8,
     pub start: Moment,
@@ -41,7 +41,7 @@ pub struct HeaderParts {
 // A stored place in mm, or velocity in 10^-4 mm/s: the refusal (0 or 13) and the mark of absence. What is absent or not there has the least
 // number of 64 bits three times, which no field of a file can hold.
 #[repr(C)]
-#[derive(Drop)]
+#[derive(Clone, Copy)]
 pub struct StoredPlace {
     pub refusal: usize,
     pub absent: bool,
@@ -52,7 +52,7 @@ pub struct StoredPlace {
 
 // A stored clock in ps, or rate in 10^-16 s/s, in the same way.
 #[repr(C)]
-#[derive(Drop)]
+#[derive(Clone, Copy)]
 pub struct StoredClock {
     pub refusal: usize,
     pub absent: bool,
@@ -62,7 +62,7 @@ pub struct StoredClock {
 // A stored exponent: the refusal (0 or 13), unknown and too large each a mark of its own; the value is 0 beside any of them, and what is not there
 // is marked unknown.
 #[repr(C)]
-#[derive(Drop)]
+#[derive(Clone, Copy)]
 pub struct StoredExponent {
     pub refusal: usize,
     pub unknown: bool,
@@ -72,7 +72,7 @@ pub struct StoredExponent {
 
 // A stored flag: the refusal (0 or 13), and whether it is set.
 #[repr(C)]
-#[derive(Drop)]
+#[derive(Clone, Copy)]
 pub struct StoredFlag {
     pub refusal: usize,
     pub set: bool,
@@ -80,7 +80,7 @@ pub struct StoredFlag {
 
 // Whether an EP or EV line stood after a stored row: the refusal (0 or 13); beside one none stands.
 #[repr(C)]
-#[derive(Drop)]
+#[derive(Clone, Copy)]
 pub struct StoredNote {
     pub refusal: usize,
     pub stands: bool,
@@ -89,7 +89,7 @@ pub struct StoredNote {
 // A deviation of such a line: the refusal (0 or 13); no record, unknown and too large each a mark of its own, beside which the value is the largest
 // number of 64 bits; what is not there is marked as no record.
 #[repr(C)]
-#[derive(Drop)]
+#[derive(Clone, Copy)]
 pub struct NoteDeviationAnswer {
     pub refusal: usize,
     pub no_record: bool,
@@ -100,7 +100,7 @@ pub struct NoteDeviationAnswer {
 
 // A correlation of such a line in 10^-7, in the same way; beside a mark the value is the least number of 64 bits.
 #[repr(C)]
-#[derive(Drop)]
+#[derive(Clone, Copy)]
 pub struct NoteCorrelationAnswer {
     pub refusal: usize,
     pub no_record: bool,
@@ -111,7 +111,7 @@ pub struct NoteCorrelationAnswer {
 // What a line does: the refusal (0, 1 where no complete line is left, 2 to 10) and its column (0 for none), whether the line ends the file, and the
 // spot after the line; where the line is refused the spot before it, where it ends the file the state before it.
 #[repr(C)]
-#[derive(Drop)]
+#[derive(Clone, Copy)]
 pub struct LineAnswer {
     pub refusal: usize,
     pub column: usize,
@@ -122,7 +122,7 @@ pub struct LineAnswer {
 // The next row of a walk: the refusal, its line and its column, whether the file is at its end, epoch and satellite counted from 0, the row, and the walk
 // after it. Beside a refusal and at the end both parts of the row are absent and the walk is as it was.
 #[repr(C)]
-#[derive(Drop)]
+#[derive(Clone, Copy)]
 pub struct RowStepAnswer {
     pub refusal: usize,
     pub line: u64,

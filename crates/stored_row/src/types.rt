@@ -1,5 +1,5 @@
 // A stored place or velocity: mm, or 10^-4 mm/s. A row that is not there is 13.
-#[derive(Drop)]
+#[derive(Clone, Copy)]
 pub enum Place {
     At { x: i64, y: i64, z: i64 },
     Absent,
@@ -7,7 +7,7 @@ pub enum Place {
 }
 
 // A stored clock or rate: ps, or 10^-16 s/s.
-#[derive(Drop)]
+#[derive(Clone, Copy)]
 pub enum ClockRead {
     At(i64),
     Absent,
@@ -15,7 +15,7 @@ pub enum ClockRead {
 }
 
 // The exponent of a standard deviation.
-#[derive(Drop)]
+#[derive(Clone, Copy)]
 pub enum ExponentRead {
     Value(u64),
     Unknown,
@@ -24,7 +24,7 @@ pub enum ExponentRead {
 }
 
 // A flag of a P row.
-#[derive(Drop)]
+#[derive(Clone, Copy)]
 pub enum Flag {
     Set,
     NotSet,
@@ -32,7 +32,7 @@ pub enum Flag {
 }
 
 // Whether an EP or EV line stood directly after the row's own.
-#[derive(Drop)]
+#[derive(Clone, Copy)]
 pub enum NoteMark {
     Stands,
     NoRecord,
@@ -40,7 +40,7 @@ pub enum NoteMark {
 }
 
 // A deviation of such a line: mm or ps, or 10^-4 mm/s or 10^-4 ps/s.
-#[derive(Drop)]
+#[derive(Clone, Copy)]
 pub enum NoteDeviation {
     Value(u64),
     Unknown,
@@ -50,7 +50,7 @@ pub enum NoteDeviation {
 }
 
 // A correlation of such a line, in 10^-7.
-#[derive(Drop)]
+#[derive(Clone, Copy)]
 pub enum NoteCorrelation {
     Value(i64),
     Unknown,
