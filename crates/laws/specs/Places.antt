@@ -5,7 +5,7 @@ use Rattle.std.specs.Borrow.{Bor}
 
 -- the address of a byte of some lent bytes, counted from 0
 abbrev pub byte_of : Bor (List ℕ) → ℕ → ℕ × ℕ
-byte_of lent i = (lent.ptr.0, i + lent.ptr.1)
+byte_of lent i = (lent.ref_ptr.0, i + lent.ref_ptr.1)
 
 -- r is the part of some lent bytes from a byte on, of n bytes
 abbrev pub PartAt : Bor (List ℕ) → ℕ → ℕ → Bor (List ℕ) → Type 0

@@ -10,5 +10,5 @@ returns : tie.Need-returns
 unfolding day_answer told_date
 returns c = refl
 
-pub day-of-spec : {M : Type 1} → statement M
-day-of-spec = tie.close (tie.spec (λ c. search rules) (λ c. search rules) returns)
+pub day_of_spec : {M : Type 1} → statement M
+day_of_spec = tie.close (tie.spec (λ c. search rules) (λ c. search rules) returns)

@@ -7,13 +7,13 @@ use Rattle.calendar.proofs.Fractions.{fraction-at, no_fraction}
 use Rattle.calendar.proofs.fraction_of.Statement.{statement}
 use Rattle.calendar.proofs.fraction_of.Tie as tie
 
-returns : tie.Need-returns
+returns : tie.Need-returns-then-s-lt-DAY
 unfolding told_fraction
-returns c = sym (fraction-at c.before.args.s c.if1.true)
+returns c = sym (fraction-at c.args.s c.if-s-lt-DAY.true)
 
-returns-2 : tie.Need-returns-2
+returns-2 : tie.Need-returns
 unfolding told_fraction
-returns-2 c = sym (no_fraction c.before.args.s c.if1.false)
+returns-2 c = sym (no_fraction c.args.s c.if-s-lt-DAY.false)
 
-pub fraction-of-spec : {M : Type 1} → statement M
-fraction-of-spec = tie.close (tie.spec (λ c. search rules) (λ c. search rules) returns returns-2)
+pub fraction_of_spec : {M : Type 1} → statement M
+fraction_of_spec = tie.close (tie.spec (λ c. search rules) (λ c. search rules) returns returns-2)

@@ -10,43 +10,43 @@ use Rattle.laws.proofs.Bounds.{within-true}
 use Rattle.calendar.proofs.is_day.Statement.{statement}
 use Rattle.calendar.proofs.is_day.Tie as tie
 
-returns : tie.Need-returns
+returns : tie.Need-returns-then-not-within
 unfolding is_day
-returns c = simp (sym c.before.within.ensures ∙ not-true _ c.if1.true)
+returns c = simp (sym c.within.ensures ∙ not-true _ c.if-not-within.true)
 
 -- the year and the month passed their tests
-year-in : (c : tie.Else2) → within 1980 2099 c.before.before.before.before.args.year ≡ true
-year-in c = sym c.before.before.before.within.ensures ∙ not-false _ c.before.before.if1.false
+year-in : (c : tie.Else-not-within-2) → within 1980 2099 c.args.year ≡ true
+year-in c = sym c.within.ensures ∙ not-false _ c.if-not-within.false
 
-month-in : (c : tie.Else2) → within 1 12 c.before.before.before.before.args.month ≡ true
-month-in c = sym c.before.within2.ensures ∙ not-false _ c.if2.false
+month-in : (c : tie.Else-not-within-2) → within 1 12 c.args.month ≡ true
+month-in c = sym c.within-2.ensures ∙ not-false _ c.if-not-within-2.false
 
-returns-2 : tie.Need-returns-2
+returns-2 : tie.Need-returns-then-not-within-2
 unfolding is_day
 returns-2 c =
     simp (
-      sym c.before.before.before.within.ensures ∙ not-false _ c.before.before.if1.false,
-      sym c.before.within2.ensures ∙ not-true _ c.if2.true,
+      sym c.within.ensures ∙ not-false _ c.if-not-within.false,
+      sym c.within-2.ensures ∙ not-true _ c.if-not-within-2.true,
     )
 
-is-leap-requires : tie.Need-is-leap-requires
+is-leap-requires : tie.Need-is_leap-requires
 is-leap-requires c κs = within-true _ _ _ (year-in c)
 
-month-length-requires : tie.Need-month-length-requires
+month-length-requires : tie.Need-month_length-requires
 month-length-requires c κs = within-true _ _ _ (month-in c.before)
 
-returns-3 : tie.Need-returns-3
+returns-3 : tie.Need-returns
 unfolding is_day
 returns-3 c =
-    let e = c.before.before.before in
-    let a = e.before.before.before.before.args in
-    simp (year-in e, month-in e)
-    (c.within3.ensures
-    ∙ ap (λ k. within 1 k a.day) c.before.month-length.ensures
-    ∙ ap (λ (l : Bool). within 1 (month_length l a.month) a.day) c.before.before.is-leap.ensures)
+    let e = c in
+    let a = e.args in
+    simp (year-in c.before.before.before, month-in c.before.before.before)
+    (c.within-3.ensures
+    ∙ ap (λ k. within 1 k a.day) c.month_length.ensures
+    ∙ ap (λ (l : Bool). within 1 (month_length l a.month) a.day) c.is_leap.ensures)
 
-pub is-day-spec : {M : Type 1} → statement M
-is-day-spec =
+pub is_day_spec : {M : Type 1} → statement M
+is_day_spec =
     tie.close
     (tie.spec
     (λ c κs. search rules)

@@ -13,20 +13,20 @@ use Rattle.calendar.proofs.Weeks.{no-week, week-at}
 use Rattle.calendar.proofs.week_of.Statement.{statement}
 use Rattle.calendar.proofs.week_of.Tie as tie
 
-returns : tie.Need-returns
+returns : tie.Need-returns-then-not-within
 unfolding told_week
-returns c = sym (no-week _ (sym c.before.within.ensures ∙ not-true _ c.if1.true))
+returns c = sym (no-week _ (sym c.within.ensures ∙ not-true _ c.if-not-within.true))
 
 -- past the test the day lies within the bounds
-passed : (c : tie.Else1) → within 44244 88068 (c.before.before.args.at / day_units) ≡ true
-passed c = sym c.before.within.ensures ∙ not-false _ c.if1.false
+passed : (c : tie.Else-not-within) → within 44244 88068 (c.args.at / day_units) ≡ true
+passed c = sym c.within.ensures ∙ not-false _ c.if-not-within.false
 
-sub-since : tie.Need-overflow-sub-since
-sub-since c = omega (arith, within-true 44244 88068 (c.before.before.args.at / day_units) (passed c))
+sub-since : tie.Need-overflow_sub-since
+sub-since c = omega (arith, within-true 44244 88068 (c.args.at / day_units) (passed c))
 
-returns-2 : tie.Need-returns-2
+returns-2 : tie.Need-returns
 unfolding told_week
 returns-2 c = sym (week-at _ (passed c))
 
-pub week-of-spec : {M : Type 1} → statement M
-week-of-spec = tie.close (tie.spec (λ c κs. search rules) returns sub-since (λ c. search rules) (λ c. search rules) returns-2)
+pub week_of_spec : {M : Type 1} → statement M
+week_of_spec = tie.close (tie.spec (λ c κs. search rules) returns sub-since (λ c. search rules) (λ c. search rules) returns-2)

@@ -12,20 +12,20 @@ use Rattle.divide.proofs.file_length.Statement.{statement}
 use Rattle.divide.proofs.file_length.Tie as tie
 
 -- the place after the line that was found is the file's end
-found : (c : tie.After-line-end) → c.line-end.result + 1 ≡ c.before.before.before.before.requires.0.end
+found : (c : tie.After-line_end) → c.line_end.result + 1 ≡ c.requires.0.end
 found c =
-    let start = c.before.before.before.before in
+    let start = c in
     let bytes = start.args.bytes.now in
-    let there = c.before.line-begins.ensures in
-    rw (c.line-end.ensures, there, c.before.before.told-by.ensures) (file-ends (rules_in bytes) bytes start.requires.0 start.requires.1)
+    let there = c.line_begins-last.ensures in
+    rw (c.line_end.ensures, there, c.told_by.ensures) (file-ends (rules_in bytes) bytes start.requires.0 start.requires.1)
 
-add-result : tie.Need-overflow-add-result
+add-result : tie.Need-overflow_add-result
 add-result c =
-    let start = c.before.before.before.before in
+    let start = c in
     omega (arith, found c, (accepted-front (rules_in start.args.bytes.now) start.args.bytes.now start.requires.0 start.requires.1).within)
 
 returns : tie.Need-returns
-returns c = found c ∙ ap end_of (sym c.before.before.before.before.requires.1)
+returns c = found c ∙ ap end_of (sym c.requires.1)
 
-pub file-length-spec : {M : Type 1} → statement M
-file-length-spec = tie.close (tie.spec (λ c κs. search rules) (λ c κs. search rules) (λ c κs. search rules) add-result returns)
+pub file_length_spec : {M : Type 1} → statement M
+file_length_spec = tie.close (tie.spec (λ c κs. search rules) (λ c κs. search rules) (λ c κs. search rules) add-result returns)

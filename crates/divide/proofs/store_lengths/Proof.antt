@@ -9,65 +9,65 @@ use Rattle.divide.proofs.Cutting.{Cut, Storing, storing-first, stored-all, file-
 use Rattle.divide.proofs.store_lengths.Statement.{statement}
 use Rattle.divide.proofs.store_lengths.Tie as tie
 
-abbrev invariant-loop : tie.invariant-loop
+abbrev invariant-loop : tie.invariant-loop-stored
 invariant-loop stretch count lengths₀ stored₀ rest₀ lengths stored rest =
     (stored ≤ count) × (length lengths ≡ length lengths₀) × Storing stretch lengths₀ lengths stored rest
 
-abbrev decreases-loop : tie.decreases-loop
+abbrev decreases-loop : tie.decreases-loop-stored
 decreases-loop stretch count lengths₀ stored₀ rest₀ lengths stored rest = count - stored
 
-loop-holds : tie.Need-loop-init invariant-loop decreases-loop
+loop-holds : tie.Need-loop-stored-init invariant-loop decreases-loop
 loop-holds c =
-    let a = c.before.before.args in
+    let a = c.args in
     (search rules, search rules, storing-first a.stretch.now a.lengths.now)
 
-file-length-requires : tie.Need-file-length-requires invariant-loop decreases-loop
+file-length-requires : tie.Need-file_length-size-requires invariant-loop decreases-loop
 file-length-requires c κs =
     let at-loop = c.before.before in
     let start = at-loop.before.before.before in
     let a = start.args in
-    file-lent a.stretch.now a.lengths.now at-loop.loop.lengths at-loop.loop.stored at-loop.loop.rest at-loop.loop.invariant.2 (omega (arith, c.before.loop-test.true, start.requires.0))
+    file-lent a.stretch.now a.lengths.now at-loop.loop-stored.lengths at-loop.loop-stored.stored at-loop.loop-stored.rest at-loop.loop-stored.invariant.2 (omega (arith, c.loop-stored-test.true, start.requires.0))
 
 -- the file there
-cut-here : (c : tie.After-file-length invariant-loop decreases-loop)
-    → Cut c.before.before.before.before.before.before.args.stretch.now
-    c.before.before.before.loop.rest c.file-length.result
+cut-here : (c : tie.After-file_length-size invariant-loop decreases-loop)
+    → Cut c.args.stretch.now
+    c.loop-stored.rest c.file_length-size.result
 cut-here c =
-    let turn = c.before.before in
+    let turn = c in
     let at-loop = turn.before in
     let start = at-loop.before.before.before in
     let a = start.args in
-    cut-there a.stretch.now a.lengths.now at-loop.loop.lengths at-loop.loop.stored at-loop.loop.rest at-loop.loop.invariant.2
-    (omega (arith, turn.loop-test.true, start.requires.0)) c.file-length.result c.file-length.ensures
+    cut-there a.stretch.now a.lengths.now at-loop.loop-stored.lengths at-loop.loop-stored.stored at-loop.loop-stored.rest at-loop.loop-stored.invariant.2
+    (omega (arith, turn.loop-stored-test.true, start.requires.0)) c.file_length-size.result c.file_length-size.ensures
 
-add-rest : tie.Need-overflow-add-rest invariant-loop decreases-loop
+add-rest : tie.Need-overflow_add-rest invariant-loop decreases-loop
 add-rest c = omega (arith, (cut-here c).within)
 
-loop-again : tie.Need-loop-preserved invariant-loop decreases-loop
+loop-again : tie.Need-loop-stored-preserved invariant-loop decreases-loop
 loop-again c =
-    let turn = c.before.before in
+    let turn = c in
     let at-loop = turn.before in
     let start = at-loop.before.before.before in
     let a = start.args in
     let next =
-    stores-length a.stretch.now a.lengths.now at-loop.loop.lengths at-loop.loop.stored at-loop.loop.rest at-loop.loop.invariant.2
-    (omega (arith, turn.loop-test.true, start.requires.0)) c.file-length.result c.file-length.ensures
-    (omega (arith, turn.loop-test.true, start.requires.1, at-loop.loop.invariant.1)) in
+    stores-length a.stretch.now a.lengths.now at-loop.loop-stored.lengths at-loop.loop-stored.stored at-loop.loop-stored.rest at-loop.loop-stored.invariant.2
+    (omega (arith, turn.loop-stored-test.true, start.requires.0)) c.file_length-size.result c.file_length-size.ensures
+    (omega (arith, turn.loop-stored-test.true, start.requires.1, at-loop.loop-stored.invariant.1)) in
     (search rules, next.has.kept, next)
 
-same_length : tie.Need-same-length invariant-loop decreases-loop
-same_length c = c.before.loop.invariant.1
+same_length : tie.Need-shape_of-lengths invariant-loop decreases-loop
+same_length c = c.loop-stored.invariant.1
 
 returns : tie.Need-returns invariant-loop decreases-loop
 returns c =
     let at-loop = c.before in
     let start = at-loop.before.before.before in
     let a = start.args in
-    stored-all a.stretch.now a.lengths.now at-loop.loop.lengths at-loop.loop.stored at-loop.loop.rest at-loop.loop.invariant.2
-    a.count (omega (arith, c.loop-test.false, at-loop.loop.invariant.0)) start.requires.1
+    stored-all a.stretch.now a.lengths.now at-loop.loop-stored.lengths at-loop.loop-stored.stored at-loop.loop-stored.rest at-loop.loop-stored.invariant.2
+    a.count (omega (arith, c.loop-stored-test.false, at-loop.loop-stored.invariant.0)) start.requires.1
 
-pub store-lengths-spec : {M : Type 1} → statement M
-store-lengths-spec =
+pub store_lengths_spec : {M : Type 1} → statement M
+store_lengths_spec =
     tie.close
     (tie.spec
     invariant-loop

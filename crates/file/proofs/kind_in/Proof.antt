@@ -9,16 +9,16 @@ use Rattle.file.proofs.kind_in.Tie as tie
 
 returns : tie.Need-returns
 returns c =
-    let kinded = c.before in
-    let third = kinded.before in
-    let second = third.before in
-    let first = second.before in
-    let a = first.before.before.args in
-    c.kind-number.ensures
-    ∙ (kinded.kind-by.ensures
-    ∙ ap told_kind (kind-told a.rules a.line.now _ _ _ first.byte_at.ensures second.byte-at2.ensures third.byte-at3.ensures))
+    let kinded = c in
+    let third = c in
+    let second = c in
+    let first = c in
+    let a = first.args in
+    c.kind_number.ensures
+    ∙ (kinded.kind_by-kind.ensures
+    ∙ ap told_kind (kind-told a.rules a.line.now _ _ _ first.byte_at.ensures second.byte_at-2.ensures third.byte_at-3.ensures))
 
-pub kind-in-spec : {M : Type 1} → statement M
-kind-in-spec =
+pub kind_in_spec : {M : Type 1} → statement M
+kind_in_spec =
     tie.close
     (tie.spec (λ c κs. search rules) (λ c κs. search rules) (λ c κs. search rules) (λ c κs. search rules) (λ c κs. search rules) returns)

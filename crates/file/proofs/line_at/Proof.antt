@@ -10,26 +10,26 @@ use Rattle.file.proofs.Finding.{no-line-at, line-there}
 use Rattle.file.proofs.line_at.Statement.{statement}
 use Rattle.file.proofs.line_at.Tie as tie
 
-returns : tie.Need-returns
+returns : tie.Need-returns-then-bytes-end
 returns c =
-    let short = c.before in
-    let ended = short.before in
-    let a = ended.before.before.args in (
-      c.nothing-at.ensures.0 ∙ no-line-at a.bytes.now a.at ended.line-end.result ended.line-end.ensures short.if1.true,
-      c.nothing-at.ensures.1,
+    let short = c in
+    let ended = c in
+    let a = ended.args in (
+      c.nothing_at.ensures.0 ∙ no-line-at a.bytes.now a.at ended.line_end-end.result ended.line_end-end.ensures short.if-bytes-end.true,
+      c.nothing_at.ensures.1,
     )
 
-returns-2 : tie.Need-returns-2
+returns-2 : tie.Need-returns
 returns-2 c =
-    let ended = c.before.before in
-    let a = ended.before.before.args in
+    let ended = c in
+    let a = ended.args in
     let here : a.at ≡ min a.at (length a.bytes.now) = omega arith in (
-      line-there a.bytes.now a.at ended.line-end.result ended.line-end.ensures c.before.if1.false,
+      line-there a.bytes.now a.at ended.line_end-end.result ended.line_end-end.ensures c.if-bytes-end.false,
       ap (byte_of a.bytes) here,
     )
 
-pub line-at-spec : {M : Type 1} → statement M
-line-at-spec =
+pub line_at_spec : {M : Type 1} → statement M
+line_at_spec =
     tie.close
     (tie.spec
     (λ c κs. search rules)

@@ -11,48 +11,48 @@ use Rattle.file.specs.Kinds.{is_kind}
 use Rattle.file.proofs.line_begins.Statement.{statement}
 use Rattle.file.proofs.line_begins.Tie as tie
 
-abbrev invariant-loop : tie.invariant-loop
+abbrev invariant-loop : tie.invariant-loop-rules
 invariant-loop rules bytes kind k at₀ left₀ at left = Seeking (is_kind rules kind) bytes k at left
 
-abbrev decreases-loop : tie.decreases-loop
+abbrev decreases-loop : tie.decreases-loop-rules
 decreases-loop rules bytes kind k at₀ left₀ at left = length bytes - at
 
-loop-holds : tie.Need-loop-init invariant-loop decreases-loop
-loop-holds c = let a = c.before.args in seeking-first (is_kind a.rules a.kind) a.bytes.now a.k
+loop-holds : tie.Need-loop-rules-init invariant-loop decreases-loop
+loop-holds c = let a = c.args in seeking-first (is_kind a.rules a.kind) a.bytes.now a.k
 
-returns : tie.Need-returns invariant-loop decreases-loop
+returns : tie.Need-returns-then-end-bytes invariant-loop decreases-loop
 returns c =
-    let ended = c.before in
-    seeking-none ended.before.loop.invariant ended.line-end.result ended.line-end.ensures c.if1.true
+    let ended = c in
+    seeking-none ended.loop-rules.invariant ended.line_end-end.result ended.line_end-end.ensures c.if-end-bytes.true
 
-returns-2 : tie.Need-returns-2 invariant-loop decreases-loop
+returns-2 : tie.Need-returns-then-left-eq0 invariant-loop decreases-loop
 returns-2 c =
-    let told = c.before.before in
-    let ended = told.before.before.before in
-    let a = ended.before.before.before.args in
-    seeking-place ended.before.loop.invariant ended.line-end.result ended.line-end.ensures told.before.before.if1.false
-    (eq-eqb _ a.kind (sym told.kind-in.ensures ∙ c.before.if2.true)) c.if3.true
+    let told = c in
+    let ended = c in
+    let a = ended.args in
+    seeking-place ended.loop-rules.invariant ended.line_end-end.result ended.line_end-end.ensures told.if-end-bytes.false
+    (eq-eqb _ a.kind (sym told.kind_in.ensures ∙ c.if-kind_in-kind.true)) c.if-left-eq0.true
 
-loop-again : tie.Need-loop-preserved invariant-loop decreases-loop
+loop-again : tie.Need-loop-rules-preserved invariant-loop decreases-loop
 loop-again c =
-    let told = c.before in
-    let ended = told.before.before.before in
-    let a = ended.before.before.before.args in
-    let inv = ended.before.loop.invariant in
-    let found = told.before.before.if1.false in
+    let told = c in
+    let ended = c in
+    let a = ended.args in
+    let inv = ended.loop-rules.invariant in
+    let found = told.if-end-bytes.false in
     ⊎_elim
     (λ w.
     rw w.2
-    (seeking-later inv ended.line-end.result ended.line-end.ensures found
-    (eq-eqb _ a.kind (sym told.kind-in.ensures ∙ w.0.taken)) w.1.left))
+    (seeking-later inv ended.line_end-end.result ended.line_end-end.ensures found
+    (eq-eqb _ a.kind (sym told.kind_in.ensures ∙ w.0.taken)) w.1.left))
     (λ w.
     rw w.1
-    (seeking-other inv ended.line-end.result ended.line-end.ensures found
-    (ne_eqb _ a.kind (λ e. w.0.left (told.kind-in.ensures ∙ e)))))
-    c.if2.branch
+    (seeking-other inv ended.line_end-end.result ended.line_end-end.ensures found
+    (ne_eqb _ a.kind (λ e. w.0.left (told.kind_in.ensures ∙ e)))))
+    c.if-kind_in-kind.branch
 
-pub line-begins-spec : {M : Type 1} → statement M
-line-begins-spec =
+pub line_begins_spec : {M : Type 1} → statement M
+line_begins_spec =
     tie.close
     (tie.spec
     invariant-loop

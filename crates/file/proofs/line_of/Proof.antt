@@ -14,9 +14,9 @@ use Rattle.file.proofs.line_of.Tie as tie
 
 returns : tie.Need-returns
 returns c =
-    let a = c.before.before.before.args in
-    let at = c.before.line-begins.result in
-    let told = c.before.line-begins.ensures in
+    let a = c.args in
+    let at = c.line_begins-at.result in
+    let told = c.line_begins-at.ensures in
     let test = is_kind a.rules a.kind in
     let here : min at (length a.bytes.now) ≡ begins_from test a.k 0 (lines_of a.bytes.now) = omega (arith, told, line-within test a.k a.bytes.now) in (
       c.line_at_lem.ensures.0
@@ -25,5 +25,5 @@ returns c =
       c.line_at_lem.ensures.1 ∙ ap (byte_of a.bytes) here,
     )
 
-pub line-of-spec : {M : Type 1} → statement M
-line-of-spec = tie.close (tie.spec (λ c κs. search rules) (λ c κs. search rules) returns)
+pub line_of_spec : {M : Type 1} → statement M
+line_of_spec = tie.close (tie.spec (λ c κs. search rules) (λ c κs. search rules) returns)

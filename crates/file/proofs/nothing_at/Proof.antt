@@ -11,12 +11,12 @@ use Rattle.file.proofs.nothing_at.Tie as tie
 
 returns : tie.Need-returns
 returns c =
-    let told = c.before in
-    let a = told.before.before.args in
-    let here = told.fewer.result in
+    let told = c in
+    let a = told.args in
+    let here = told.fewer-here.result in
     let none : here - here ≡ 0 = omega arith in
-    (ap (λ (n : ℕ). take n (drop here a.bytes.now)) none, ap (byte_of a.bytes) told.fewer.ensures)
+    (ap (λ (n : ℕ). take n (drop here a.bytes.now)) none, ap (byte_of a.bytes) told.fewer-here.ensures)
 
-pub nothing-at-spec : {M : Type 1} → statement M
-nothing-at-spec =
-    tie.close (tie.spec (λ c κs. search rules) (λ c. search rules) (λ c. search rules) (λ c. omega (arith, c.fewer.ensures)) returns)
+pub nothing_at_spec : {M : Type 1} → statement M
+nothing_at_spec =
+    tie.close (tie.spec (λ c κs. search rules) (λ c. search rules) (λ c. search rules) (λ c. omega (arith, c.fewer-here.ensures)) returns)

@@ -8,8 +8,8 @@ use Rattle.float_row.proofs.float_of.Tie as tie
 
 returns : tie.Need-returns
 returns c =
-    let s = c.before.before.args.s in
-    c.nearest-i64-to-f64.ensures ∙ ap (of_int binary64) (stored-kept s.negative s.magnitude c.before.stored-number.ensures)
+    let s = c.args.s in
+    c.nearest_i64_to_f64.ensures ∙ ap (of_int binary64) (stored-kept s.negative s.magnitude c.stored_number.ensures)
 
-pub float-of-spec : {M : Type 1} → statement M
-float-of-spec = tie.close (tie.spec (λ c κs. search rules) (λ c κs. search rules) returns)
+pub float_of_spec : {M : Type 1} → statement M
+float_of_spec = tie.close (tie.spec (λ c κs. search rules) (λ c κs. search rules) returns)

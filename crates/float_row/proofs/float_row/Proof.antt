@@ -7,13 +7,13 @@ use Rattle.float_row.proofs.float_row.Tie as tie
 
 returns : tie.Need-returns
 returns c =
-    let marked = c.before.before.before.before in
-    let start = marked.before.before.before.before.before.before in
-    row-floats start.args.row marked.before.place-absent.ensures marked.clock-absent.ensures c.before.before.before.float-unless.ensures
-    c.before.before.float-unless2.ensures c.before.float-unless3.ensures c.float-unless4.ensures
+    let marked = c in
+    let start = c in
+    row-floats start.args.row marked.place_absent-place_absent.ensures marked.clock_absent-clock_absent.ensures c.float_unless.ensures
+    c.float_unless-2.ensures c.float_unless-3.ensures c.float_unless-4.ensures
 
-pub float-row-spec : {M : Type 1} → statement M
-float-row-spec =
+pub float_row_spec : {M : Type 1} → statement M
+float_row_spec =
     tie.close
     (tie.spec
     (λ c κs. search rules)

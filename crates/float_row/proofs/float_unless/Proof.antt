@@ -5,13 +5,13 @@ use Rattle.float_row.specs.Floats.{float_unless}
 use Rattle.float_row.proofs.float_unless.Statement.{statement}
 use Rattle.float_row.proofs.float_unless.Tie as tie
 
-returns : tie.Need-returns
+returns : tie.Need-returns-then-absent
 unfolding float_unless
-returns c = rw c.before.if1.true c.no_number.ensures
+returns c = rw c.if-absent.true c.no_number.ensures
 
-returns-2 : tie.Need-returns-2
+returns-2 : tie.Need-returns
 unfolding float_unless
-returns-2 c = rw c.before.if1.false c.float_of.ensures
+returns-2 c = rw c.if-absent.false c.float_of.ensures
 
-pub float-unless-spec : {M : Type 1} → statement M
-float-unless-spec = tie.close (tie.spec (λ c κs. search rules) returns (λ c κs. search rules) returns-2)
+pub float_unless_spec : {M : Type 1} → statement M
+float_unless_spec = tie.close (tie.spec (λ c κs. search rules) returns (λ c κs. search rules) returns-2)

@@ -7,5 +7,5 @@ use Rattle.header.proofs.is_file_type.Tie as tie
 returns : tie.Need-returns
 returns c = simp (or_assoc, or-false)
 
-pub is-file-type-spec : {M : Type 1} → statement M
-is-file-type-spec = tie.close (tie.spec returns)
+pub is_file_type_spec : {M : Type 1} → statement M
+is_file_type_spec = tie.close (tie.spec returns)

@@ -7,5 +7,5 @@ use Rattle.header.proofs.is_mode.Tie as tie
 returns : tie.Need-returns
 returns c = simp or-false
 
-pub is-mode-spec : {M : Type 1} → statement M
-is-mode-spec = tie.close (tie.spec returns)
+pub is_mode_spec : {M : Type 1} → statement M
+is_mode_spec = tie.close (tie.spec returns)

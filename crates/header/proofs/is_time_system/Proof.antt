@@ -8,5 +8,5 @@ use Rattle.header.proofs.is_time_system.Tie as tie
 returns : tie.Need-returns
 returns c = simp (or_assoc, or-false) (simp (and_assoc, and-true))
 
-pub is-time-system-spec : {M : Type 1} → statement M
-is-time-system-spec = tie.close (tie.spec returns)
+pub is_time_system_spec : {M : Type 1} → statement M
+is_time_system_spec = tie.close (tie.spec returns)

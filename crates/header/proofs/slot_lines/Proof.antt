@@ -6,13 +6,13 @@ use Rattle.header.specs.Rules.{slot_lines}
 use Rattle.header.proofs.slot_lines.Statement.{statement}
 use Rattle.header.proofs.slot_lines.Tie as tie
 
-returns : tie.Need-returns
+returns : tie.Need-returns-then-n-le85
 unfolding slot_lines
 returns c = omega arith
 
-returns-2 : tie.Need-returns-2
+returns-2 : tie.Need-returns
 unfolding slot_lines
 returns-2 c = omega arith
 
-pub slot-lines-spec : {M : Type 1} → statement M
-slot-lines-spec = tie.close (tie.spec returns (λ c. search rules) (λ c. search rules) returns-2)
+pub slot_lines_spec : {M : Type 1} → statement M
+slot_lines_spec = tie.close (tie.spec returns (λ c. search rules) (λ c. search rules) returns-2)

@@ -11,35 +11,35 @@ use Rattle.layout.proofs.Lines.{copy_more, copied}
 use Rattle.layout.proofs.copy_front.Statement.{statement}
 use Rattle.layout.proofs.copy_front.Tie as tie
 
-abbrev invariant-loop : tie.invariant-loop
+abbrev invariant-loop : tie.invariant-loop-i
 invariant-loop out₀ bytes n i₀ out i =
     (n ≡ min (length out₀) (length bytes)) × (i ≤ n) × (length out ≡ length out₀) × (out ≡ take i bytes ++ drop i out₀)
 
-abbrev decreases-loop : tie.decreases-loop
+abbrev decreases-loop : tie.decreases-loop-i
 decreases-loop out₀ bytes n i₀ out i = n - i
 
-loop-holds : tie.Need-loop-init invariant-loop decreases-loop
-loop-holds c = (c.fewer.ensures, search rules, refl, refl)
+loop-holds : tie.Need-loop-i-init invariant-loop decreases-loop
+loop-holds c = (c.fewer-n.ensures, search rules, refl, refl)
 
-loop-again : tie.Need-loop-preserved invariant-loop decreases-loop
+loop-again : tie.Need-loop-i-preserved invariant-loop decreases-loop
 loop-again c =
     let at-loop = c.before.before in
     let start = at-loop.before.before.before.before in
-    let step = copy_more start.args.bytes.now start.args.out.now at-loop.loop.i (omega arith) (omega arith) in
-    (at-loop.loop.invariant.0, search rules, simp length-set at-loop.loop.invariant.2, rw (at-loop.loop.invariant.3, step, add-one))
+    let step = copy_more start.args.bytes.now start.args.out.now at-loop.loop-i.i (omega arith) (omega arith) in
+    (at-loop.loop-i.invariant.0, search rules, simp length-set at-loop.loop-i.invariant.2, rw (at-loop.loop-i.invariant.3, step, add-one))
 
-same_length : tie.Need-same-length invariant-loop decreases-loop
-same_length c = c.before.loop.invariant.2
+same_length : tie.Need-shape_of-out invariant-loop decreases-loop
+same_length c = c.loop-i.invariant.2
 
 returns : tie.Need-returns invariant-loop decreases-loop
 returns c =
     let at-loop = c.before in
-    let a = at-loop.before.before.before.before.args in
-    let here : at-loop.loop.i ≡ min (length a.out.now) (length a.bytes.now) = omega arith in
-    at-loop.loop.invariant.3 ∙ rw here (copied a.bytes.now a.out.now)
+    let a = at-loop.args in
+    let here : at-loop.loop-i.i ≡ min (length a.out.now) (length a.bytes.now) = omega arith in
+    at-loop.loop-i.invariant.3 ∙ rw here (copied a.bytes.now a.out.now)
 
-pub copy-front-spec : {M : Type 1} → statement M
-copy-front-spec =
+pub copy_front_spec : {M : Type 1} → statement M
+copy_front_spec =
     tie.close
     (tie.spec
     invariant-loop

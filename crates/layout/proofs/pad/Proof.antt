@@ -9,7 +9,7 @@ use Rattle.layout.proofs.pad.Tie as tie
 
 returns : tie.Need-returns
 unfolding padded
-returns c = c.before.copy-front.ensures ∙ filled_copy c.before.before.before.before.args.line.now 80
+returns c = c.copy_front.ensures ∙ filled_copy c.args.line.now 80
 
-pub pad-spec : {M : Type 1} → statement M
-pad-spec = tie.close (tie.spec (λ c. search rules) (λ c κs. search rules) returns)
+pub pad_spec : {M : Type 1} → statement M
+pad_spec = tie.close (tie.spec (λ c. search rules) (λ c κs. search rules) returns)

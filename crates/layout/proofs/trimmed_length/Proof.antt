@@ -11,36 +11,36 @@ use Rattle.layout.proofs.Lines.{trim-on, trim-stop}
 use Rattle.layout.proofs.trimmed_length.Statement.{statement}
 use Rattle.layout.proofs.trimmed_length.Tie as tie
 
-abbrev invariant-loop : tie.invariant-loop
+abbrev invariant-loop : tie.invariant-loop-n
 invariant-loop s n₀ n = (n ≤ length s) × (trimmed s ≡ trimmed (take n s))
 
-abbrev decreases-loop : tie.decreases-loop
+abbrev decreases-loop : tie.decreases-loop-n
 decreases-loop s n₀ n = n
 
-loop-holds : tie.Need-loop-init invariant-loop decreases-loop
+loop-holds : tie.Need-loop-n-init invariant-loop decreases-loop
 loop-holds c = (search rules, ap trimmed (sym (take-length c.args.line.now)))
 
-returns : tie.Need-returns invariant-loop decreases-loop
+returns : tie.Need-returns-then-line-n-ne32 invariant-loop decreases-loop
 returns c =
     let at-loop = c.before.before.before in
-    let n = at-loop.loop.n in
+    let n = at-loop.loop-n.n in
     let one : n ≡ suc (n - 1) = omega arith in
-    sym (ap length at-loop.loop.invariant.1 ∙ trim-stop at-loop.before.args.line.now n (n - 1) one (omega arith) c.if1.true)
+    sym (ap length at-loop.loop-n.invariant.1 ∙ trim-stop at-loop.args.line.now n (n - 1) one (omega arith) c.if-line-n-ne32.true)
 
-loop-again : tie.Need-loop-preserved invariant-loop decreases-loop
+loop-again : tie.Need-loop-n-preserved invariant-loop decreases-loop
 loop-again c =
     let at-loop = c.before.before.before in
-    let n = at-loop.loop.n in
+    let n = at-loop.loop-n.n in
     let one : n ≡ suc (n - 1) = omega arith in
-    (search rules, at-loop.loop.invariant.1 ∙ trim-on at-loop.before.args.line.now n (n - 1) one (omega arith) c.if1.false)
+    (search rules, at-loop.loop-n.invariant.1 ∙ trim-on at-loop.args.line.now n (n - 1) one (omega arith) c.if-line-n-ne32.false)
 
-returns-2 : tie.Need-returns-2 invariant-loop decreases-loop
+returns-2 : tie.Need-returns invariant-loop decreases-loop
 returns-2 c =
-    let here : c.before.loop.n ≡ 0 = omega arith in
-    sym (ap length c.before.loop.invariant.1 ∙ ap (λ (k : ℕ). length (trimmed (take k c.before.before.args.line.now))) here)
+    let here : c.loop-n.n ≡ 0 = omega arith in
+    sym (ap length c.loop-n.invariant.1 ∙ ap (λ (k : ℕ). length (trimmed (take k c.args.line.now))) here)
 
-pub trimmed-length-spec : {M : Type 1} → statement M
-trimmed-length-spec =
+pub trimmed_length_spec : {M : Type 1} → statement M
+trimmed_length_spec =
     tie.close
     (tie.spec
     invariant-loop

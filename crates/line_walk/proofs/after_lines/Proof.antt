@@ -386,9 +386,9 @@ module _ {M : Type 1} {𝓤 : Ura M} (𝓛 : Logic 𝓤) (mem : Memory → SProp
   after-meets = walk_Meets 𝓛 after.ended stayed (Goes-none_slice 𝓛 2 (0 ∷ []) tt (plain (λ _. u8)) yes, (Goes-none 𝓛 2 (λ _. S.the_row) yes (λ κs x f. refl), (Goes-none 𝓛 2 (λ _. usize) yes (λ κs x f. refl), (Goes-slice 𝓛 2 1 tt (plain (λ _. u64)), tt))))
       (after.clauses 𝓛 mem run) (WpFn 𝓤 H 𝓣.C 𝓣.Λ code.function) (WpFn-mono 𝓤 H 𝓛.laws 𝓣 code.function) after-walks
 
-pub after-lines-spec : {M : Type 1} → stated.statement M
+pub after_lines_spec : {M : Type 1} → stated.statement M
 unfolding code.routine tables_of
-after-lines-spec 𝓤 𝓛 𝓜 𝓡 =
+after_lines_spec 𝓤 𝓛 𝓜 𝓡 =
     entered 𝓤 𝓛.H (triple_of 𝓛 after.signature (after.spec 𝓛 𝓜.mem 𝓡.run))
     (tables 𝓤 𝓛.H 𝓜 𝓡 code.env).C (tables 𝓤 𝓛.H 𝓜 𝓡 code.env).Λ #line-walk·after-lines code.function (code.unfolded 𝓤 𝓛.H 𝓜 𝓡)
     (after-meets 𝓛 𝓜.mem 𝓡.run (tables_of 𝓤 𝓛.H 𝓜 (tables 𝓤 𝓛.H 𝓜 𝓡 code.env))

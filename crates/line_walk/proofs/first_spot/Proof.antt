@@ -14,5 +14,5 @@ begins s = record { at = 0; state = s }
 returns : tie.Need-returns
 returns c = ap begins c.start.ensures
 
-pub first-spot-spec : {M : Type 1} → statement M
-first-spot-spec = tie.close (tie.spec (λ c κs. search rules) returns)
+pub first_spot_spec : {M : Type 1} → statement M
+first_spot_spec = tie.close (tie.spec (λ c κs. search rules) returns)

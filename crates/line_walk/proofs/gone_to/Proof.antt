@@ -4,20 +4,20 @@ use borrow.Author.Rules.{rules}
 use Rattle.line_walk.proofs.gone_to.Statement.{statement}
 use Rattle.line_walk.proofs.gone_to.Tie as tie
 
-returns : tie.Need-returns
-returns c = rw c.before.found.given.1
+returns : tie.Need-returns-in-Next
+returns c = rw c.found.given.1
 
-returns-2 : tie.Need-returns-2
+returns-2 : tie.Need-returns-in-NoLine
 returns-2 c = rw c.enum_told.given.1
 
-returns-3 : tie.Need-returns-3
-returns-3 c = rw c.enum-told2.given.1
+returns-3 : tie.Need-returns-in-Fault
+returns-3 c = rw c.enum_told-in-Fault-1.given.1
 
-returns-4 : tie.Need-returns-4
-returns-4 c = rw c.enum-told3.given.1
+returns-4 : tie.Need-returns-in-Finished
+returns-4 c = rw c.enum_told-in-Finished-1.given.1
 
-pub gone-to-spec : {M : Type 1} → statement M
-gone-to-spec =
+pub gone_to_spec : {M : Type 1} → statement M
+gone_to_spec =
     tie.close
     (tie.spec
     (λ c. search rules)

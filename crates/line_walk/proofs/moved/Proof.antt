@@ -172,9 +172,9 @@ moved-meets : {M : Type 1} {𝓤 : Ura M} (𝓛 : Logic 𝓤) (mem : Memory → 
 moved-meets {𝓤 = 𝓤} 𝓛 mem run 𝓣 known = walk_Meets 𝓛 own.ended stayed (Goes-none 𝓛 2 B yes (λ κs x f. refl), (Goes-gave_slice 𝓛 2 1 tt (plain (λ _. u64)), tt)) (own.clauses 𝓛 mem run) (WpFn 𝓤 𝓛.H 𝓣.C 𝓣.Λ code.function) (WpFn-mono 𝓤 𝓛.H 𝓛.laws 𝓣 code.function)
     (moved-walks 𝓛 mem run 𝓣.C 𝓣.Λ (fm_of 𝓤 𝓛.H 𝓛.laws 𝓣) known)
 
-pub moved-spec : {M : Type 1} → stated.statement M
+pub moved_spec : {M : Type 1} → stated.statement M
 unfolding code.routine tables_of
-moved-spec 𝓤 𝓛 𝓜 𝓡 =
+moved_spec 𝓤 𝓛 𝓜 𝓡 =
     entered 𝓤 𝓛.H (triple_of 𝓛 own.signature (own.spec 𝓛 𝓜.mem 𝓡.run))
     (tables 𝓤 𝓛.H 𝓜 𝓡 code.env).C (tables 𝓤 𝓛.H 𝓜 𝓡 code.env).Λ #line-walk·moved code.function (code.unfolded 𝓤 𝓛.H 𝓜 𝓡)
     (moved-meets 𝓛 𝓜.mem 𝓡.run (tables_of 𝓤 𝓛.H 𝓜 (tables 𝓤 𝓛.H 𝓜 𝓡 code.env))

@@ -10,12 +10,12 @@ use Rattle.line_walk.proofs.read_at.Tie as tie
 
 returns : tie.Need-returns
 returns c =
-    let done = c.before.before in
-    let ruled = done.before.before in
-    let a = ruled.before.before.before.before.args in (
-      done.read-line.ensures.0 ∙ ap (λ (k : Rules). told_read (line_read k a.file.now a.spot.at a.spot.state a.identifiers.now)) ruled.told-by.ensures,
-      done.read-line.ensures.1 ∙ ap (λ (k : Rules). line_identifiers k a.file.now a.spot.at a.spot.state a.identifiers.now) ruled.told-by.ensures,
+    let done = c in
+    let ruled = c in
+    let a = ruled.args in (
+      done.read_line.ensures.0 ∙ ap (λ (k : Rules). told_read (line_read k a.file.now a.spot.at a.spot.state a.identifiers.now)) ruled.told_by.ensures,
+      done.read_line.ensures.1 ∙ ap (λ (k : Rules). line_identifiers k a.file.now a.spot.at a.spot.state a.identifiers.now) ruled.told_by.ensures,
     )
 
-pub read-at-spec : {M : Type 1} → statement M
-read-at-spec = tie.close (tie.spec (λ c κs. search rules) (λ c κs. search rules) (λ c. search rules) returns)
+pub read_at_spec : {M : Type 1} → statement M
+read_at_spec = tie.close (tie.spec (λ c κs. search rules) (λ c κs. search rules) (λ c. search rules) returns)

@@ -73,9 +73,9 @@ spot-of-meets : {M : Type 1} {𝓤 : Ura M} (𝓛 : Logic 𝓤) → (mem : Memor
     → Meets 𝓛 own.signature (WpFn 𝓤 𝓛.H 𝓣.C 𝓣.Λ code.function) (own.spec 𝓛 mem run)
 spot-of-meets {𝓤 = 𝓤} 𝓛 mem run 𝓣 = walk_Meets 𝓛 own.ended stayed (Goes-none 𝓛 1 B yes (λ κs x f. refl), tt) (own.clauses 𝓛 mem run) (WpFn 𝓤 𝓛.H 𝓣.C 𝓣.Λ code.function) (WpFn-mono 𝓤 𝓛.H 𝓛.laws 𝓣 code.function) (spot-of-walks 𝓛 mem run 𝓣.C 𝓣.Λ)
 
-pub spot-of-spec : {M : Type 1} → stated.statement M
+pub spot_of_spec : {M : Type 1} → stated.statement M
 unfolding code.routine tables_of
-spot-of-spec 𝓤 𝓛 𝓜 𝓡 =
+spot_of_spec 𝓤 𝓛 𝓜 𝓡 =
     entered 𝓤 𝓛.H (triple_of 𝓛 own.signature (own.spec 𝓛 𝓜.mem 𝓡.run))
     (tables 𝓤 𝓛.H 𝓜 𝓡 code.env).C (tables 𝓤 𝓛.H 𝓜 𝓡 code.env).Λ #line-walk·spot-of code.function (code.unfolded 𝓤 𝓛.H 𝓜 𝓡)
     (spot-of-meets 𝓛 𝓜.mem 𝓡.run (tables_of 𝓤 𝓛.H 𝓜 (tables 𝓤 𝓛.H 𝓜 𝓡 code.env)))

@@ -7,43 +7,43 @@ use Rattle.lines.proofs.Ends.{no-full-end, no-full-lf, no-full-first, full-secon
 use Rattle.lines.proofs.is_full_line.Statement.{statement}
 use Rattle.lines.proofs.is_full_line.Tie as tie
 
-returns : tie.Need-returns
-returns c = let a = c.before.before.args in no-full-end a.bytes.now a.at (omega (arith, c.if1.true))
+returns : tie.Need-returns-then-at-bytes
+returns c = let a = c.args in no-full-end a.bytes.now a.at (omega (arith, c.if-at-bytes.true))
 
-returns-2 : tie.Need-returns-2
-returns-2 c = let a = c.before.before.before.args in no-full-end a.bytes.now a.at (omega (arith, c.if2.true, c.before.if1.false))
+returns-2 : tie.Need-returns-then-bytes-at-le80
+returns-2 c = let a = c.args in no-full-end a.bytes.now a.at (omega (arith, c.if-bytes-at-le80.true, c.if-at-bytes.false))
 
-returns-3 : tie.Need-returns-3
+returns-3 : tie.Need-returns-then-bytes-at-ne10
 returns-3 c =
-    let short = c.before.before in
-    let a = short.before.before.before.args in
-    no-full-lf a.bytes.now a.at (omega (arith, short.if2.false, short.before.if1.false)) (ne_eqb _ 10 c.if3.true)
+    let short = c in
+    let a = short.args in
+    no-full-lf a.bytes.now a.at (omega (arith, short.if-bytes-at-le80.false, short.if-at-bytes.false)) (ne_eqb _ 10 c.if-bytes-at-ne10.true)
 
-returns-4 : tie.Need-returns-4
+returns-4 : tie.Need-returns-then-lf_in
 returns-4 c =
-    let looked = c.before in
-    let ended = looked.before in
-    let short = ended.before.before in
-    let a = short.before.before.before.args in
-    no-full-first a.bytes.now a.at (omega (arith, short.if2.false, short.before.if1.false)) (eq-eqb _ 10 ended.if3.false) looked.lf-in.result
-    looked.lf-in.ensures
-    c.if4.true
+    let looked = c in
+    let ended = c in
+    let short = c in
+    let a = short.args in
+    no-full-first a.bytes.now a.at (omega (arith, short.if-bytes-at-le80.false, short.if-at-bytes.false)) (eq-eqb _ 10 ended.if-bytes-at-ne10.false) looked.lf_in.result
+    looked.lf_in.ensures
+    c.if-lf_in.true
 
-returns-5 : tie.Need-returns-5
+returns-5 : tie.Need-returns
 returns-5 c =
-    let first = c.before in
-    let looked = first.before in
-    let ended = looked.before in
-    let short = ended.before.before in
-    let a = short.before.before.before.args in
-    full-second a.bytes.now a.at (omega (arith, short.if2.false, short.before.if1.false)) (eq-eqb _ 10 ended.if3.false) looked.lf-in.result
-    c.lf-in2.result
-    looked.lf-in.ensures
-    first.if4.false
-    c.lf-in2.ensures
+    let first = c in
+    let looked = c in
+    let ended = c in
+    let short = c in
+    let a = short.args in
+    full-second a.bytes.now a.at (omega (arith, short.if-bytes-at-le80.false, short.if-at-bytes.false)) (eq-eqb _ 10 ended.if-bytes-at-ne10.false) looked.lf_in.result
+    c.lf_in-2.result
+    looked.lf_in.ensures
+    first.if-lf_in.false
+    c.lf_in-2.ensures
 
-pub is-full-line-spec : {M : Type 1} → statement M
-is-full-line-spec =
+pub is_full_line_spec : {M : Type 1} → statement M
+is_full_line_spec =
     tie.close
     (tie.spec
     returns

@@ -10,38 +10,38 @@ use Rattle.marks.proofs.Comparing.{among-step, among-end}
 use Rattle.marks.proofs.is_among.Statement.{statement}
 use Rattle.marks.proofs.is_among.Tie as tie
 
-abbrev invariant-loop : tie.invariant-loop
+abbrev invariant-loop : tie.invariant-loop-i
 invariant-loop identifier identifiers i₀ i = is_one_of identifier (drop i identifiers) ≡ is_one_of identifier identifiers
 
-abbrev decreases-loop : tie.decreases-loop
+abbrev decreases-loop : tie.decreases-loop-i
 decreases-loop identifier identifiers i₀ i = length identifiers - i
 
-returns : tie.Need-returns invariant-loop decreases-loop
+returns : tie.Need-returns-then-identifier-identifiers invariant-loop decreases-loop
 returns c =
     let at-loop = c.before.before.before in
-    let a = at-loop.before.args in
+    let a = at-loop.args in
     sym
-    (sym at-loop.loop.invariant
-    ∙ among-step a.identifier a.identifiers.now at-loop.loop.i c.before.before.loop-test.true
-    ∙ rw (eq-eqb _ _ c.if1.true))
+    (sym at-loop.loop-i.invariant
+    ∙ among-step a.identifier a.identifiers.now at-loop.loop-i.i c.loop-i-test.true
+    ∙ rw (eq-eqb _ _ c.if-identifier-identifiers.true))
 
-loop-again : tie.Need-loop-preserved invariant-loop decreases-loop
+loop-again : tie.Need-loop-i-preserved invariant-loop decreases-loop
 loop-again c =
     let at-loop = c.before.before.before in
-    let a = at-loop.before.args in
+    let a = at-loop.args in
     sym
-    (sym at-loop.loop.invariant
-    ∙ among-step a.identifier a.identifiers.now at-loop.loop.i c.before.before.loop-test.true
-    ∙ rw (ne_eqb _ _ c.if1.false))
+    (sym at-loop.loop-i.invariant
+    ∙ among-step a.identifier a.identifiers.now at-loop.loop-i.i c.loop-i-test.true
+    ∙ rw (ne_eqb _ _ c.if-identifier-identifiers.false))
 
-returns-2 : tie.Need-returns-2 invariant-loop decreases-loop
+returns-2 : tie.Need-returns invariant-loop decreases-loop
 returns-2 c =
     let at-loop = c.before in
-    let a = at-loop.before.args in
-    sym (sym at-loop.loop.invariant ∙ among-end a.identifier a.identifiers.now at-loop.loop.i c.loop-test.false)
+    let a = at-loop.args in
+    sym (sym at-loop.loop-i.invariant ∙ among-end a.identifier a.identifiers.now at-loop.loop-i.i c.loop-i-test.false)
 
-pub is-among-spec : {M : Type 1} → statement M
-is-among-spec =
+pub is_among_spec : {M : Type 1} → statement M
+is_among_spec =
     tie.close
     (tie.spec
     invariant-loop

@@ -8,31 +8,31 @@ use Rattle.marks.proofs.Marking.{Marking, marking-one, marking-end}
 use Rattle.marks.proofs.mark_identifiers.Statement.{statement}
 use Rattle.marks.proofs.mark_identifiers.Tie as tie
 
-abbrev invariant-loop : tie.invariant-loop
+abbrev invariant-loop : tie.invariant-loop-i
 invariant-loop marks₀ identifiers all₀ i₀ marks all i = Marking marks₀ identifiers marks all i
 
-abbrev decreases-loop : tie.decreases-loop
+abbrev decreases-loop : tie.decreases-loop-i
 decreases-loop marks₀ identifiers all₀ i₀ marks all i = length identifiers - i
 
-loop-again : tie.Need-loop-preserved invariant-loop decreases-loop
+loop-again : tie.Need-loop-i-preserved invariant-loop decreases-loop
 loop-again c =
-    let marking = c.before.before in
+    let marking = c in
     let at-loop = marking.before.before.before.before in
-    let a = at-loop.before.before.before.args in
-    marking-one a.marks.now a.identifiers.now at-loop.loop.marks at-loop.loop.all at-loop.loop.i at-loop.loop.invariant
-    (search rules) marking.mark.result marking.mark.new.0 marking.mark.ensures.0 marking.mark.ensures.1
+    let a = at-loop.args in
+    marking-one a.marks.now a.identifiers.now at-loop.loop-i.marks at-loop.loop-i.all at-loop.loop-i.i at-loop.loop-i.invariant
+    (search rules) marking.mark-all.result marking.mark-all.new.marks marking.mark-all.ensures.0 marking.mark-all.ensures.1
 
-same_length : tie.Need-same-length invariant-loop decreases-loop
-same_length c = c.before.loop.invariant.many
+same_length : tie.Need-shape_of-marks invariant-loop decreases-loop
+same_length c = c.loop-i.invariant.many
 
 returns : tie.Need-returns invariant-loop decreases-loop
 returns c =
     let at-loop = c.before in
-    let a = at-loop.before.before.before.args in
-    marking-end a.marks.now a.identifiers.now at-loop.loop.marks at-loop.loop.all at-loop.loop.i at-loop.loop.invariant c.loop-test.false
+    let a = at-loop.args in
+    marking-end a.marks.now a.identifiers.now at-loop.loop-i.marks at-loop.loop-i.all at-loop.loop-i.i at-loop.loop-i.invariant c.loop-i-test.false
 
-pub mark-identifiers-spec : {M : Type 1} → statement M
-mark-identifiers-spec =
+pub mark_identifiers_spec : {M : Type 1} → statement M
+mark_identifiers_spec =
     tie.close
     (tie.spec
     invariant-loop

@@ -10,29 +10,29 @@ use Rattle.picture.proofs.Blocks.{below_more, below_end}
 use Rattle.picture.proofs.fits.Statement.{statement}
 use Rattle.picture.proofs.fits.Tie as tie
 
-abbrev invariant-loop : tie.invariant-loop
+abbrev invariant-loop : tie.invariant-loop-i
 invariant-loop line at low high also sign ok₀ i₀ ok i = (i ≤ 32) × (ok ≡ every_below i (fits_at low high also sign line at))
 
-abbrev decreases-loop : tie.decreases-loop
+abbrev decreases-loop : tie.decreases-loop-i
 decreases-loop line at low high also sign ok₀ i₀ ok i = 32 - i
 
-loop-holds : tie.Need-loop-init invariant-loop decreases-loop
+loop-holds : tie.Need-loop-i-init invariant-loop decreases-loop
 loop-holds c = (omega arith, refl)
 
-loop-again : tie.Need-loop-preserved invariant-loop decreases-loop
+loop-again : tie.Need-loop-i-preserved invariant-loop decreases-loop
 loop-again c =
-    let l = c.before.before.before.before.before.before.before in
-    let a = l.before.args in
-    (omega arith, below_more (fits_at a.low.now a.high.now a.also.now a.sign.now a.line.now a.at) l.loop.i l.loop.ok l.loop.invariant.1)
+    let l = c in
+    let a = l.args in
+    (omega arith, below_more (fits_at a.low.now a.high.now a.also.now a.sign.now a.line.now a.at) l.loop-i.i l.loop-i.ok l.loop-i.invariant.1)
 
 returns : tie.Need-returns invariant-loop decreases-loop
 returns c =
-    let l = c.before in
-    let a = l.before.args in
-    below_end (fits_at a.low.now a.high.now a.also.now a.sign.now a.line.now a.at) 32 l.loop.i l.loop.ok l.loop.invariant.0 c.loop-test.false l.loop.invariant.1
+    let l = c in
+    let a = l.args in
+    below_end (fits_at a.low.now a.high.now a.also.now a.sign.now a.line.now a.at) 32 l.loop-i.i l.loop-i.ok l.loop-i.invariant.0 c.loop-i-test.false l.loop-i.invariant.1
 
-pub fits-spec : {M : Type 1} → statement M
-fits-spec =
+pub fits_spec : {M : Type 1} → statement M
+fits_spec =
     tie.close
     (tie.spec
     invariant-loop

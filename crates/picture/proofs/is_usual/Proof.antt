@@ -8,16 +8,16 @@ use Rattle.picture.proofs.is_usual.Tie as tie
 
 returns : tie.Need-returns
 returns c =
-    let last = c.before.before.before.before in
-    let middle = last.before.before.before.before.before in
-    let front = middle.before.before.before.before.before in
-    let line = front.before.before.before.before.before.args.line.now in
-    usual-by line front.fits2.result middle.fits3.result last.fits4.result (front.fits2.ensures ∙ block-is line 0 refl)
-    (middle.fits3.ensures ∙ block-is line 32 refl)
+    let last = c in
+    let middle = c in
+    let front = c in
+    let line = front.args.line.now in
+    usual-by line front.fits-middle.result middle.fits-last.result last.fits4.result (front.fits-middle.ensures ∙ block-is line 0 refl)
+    (middle.fits-last.ensures ∙ block-is line 32 refl)
     (last.fits4.ensures ∙ block-is line 47 refl)
 
-pub is-usual-spec : {M : Type 1} → statement M
-is-usual-spec =
+pub is_usual_spec : {M : Type 1} → statement M
+is_usual_spec =
     tie.close
     (tie.spec
     (λ c κs. search rules)

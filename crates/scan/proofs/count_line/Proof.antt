@@ -12,12 +12,12 @@ returns c =
     let rows-counted = c.before.before in
     let comments-counted = rows-counted.before in
     let told = comments-counted.before in
-    let a = told.before.before.args in
-    counted-as a.rules a.tally a.line.now told.kind-told.result comments-counted.if1.comments rows-counted.if2.rows told.kind-told.ensures
-    (⊎_elim (λ w. rw (eq-eqb told.kind-told.result 8 w.0.taken) w.2) (λ w. rw (ne_eqb told.kind-told.result 8 w.0.left) w.1) comments-counted.if1.branch)
-    (⊎_elim (λ w. rw w.0.taken w.2) (λ w. rw w.0.left w.1) rows-counted.if2.branch)
+    let a = told.args in
+    counted-as a.rules a.tally a.line.now told.kind_told-kind.result comments-counted.if-kind-eq-COMMENT_KIND.comments rows-counted.if-kind.rows told.kind_told-kind.ensures
+    (⊎_elim (λ w. rw (eq-eqb told.kind_told-kind.result 8 w.0.taken) w.2) (λ w. rw (ne_eqb told.kind_told-kind.result 8 w.0.left) w.1) comments-counted.if-kind-eq-COMMENT_KIND.branch)
+    (⊎_elim (λ w. rw w.0.taken w.2) (λ w. rw w.0.left w.1) rows-counted.if-kind.branch)
 
-pub count-line-spec : {M : Type 1} → statement M
-count-line-spec =
+pub count_line_spec : {M : Type 1} → statement M
+count_line_spec =
     tie.close
     (tie.spec (λ c κs. search rules) (λ c. search rules) (λ c. search rules) (λ c. search rules) (λ c. search rules) (λ c. search rules) returns)

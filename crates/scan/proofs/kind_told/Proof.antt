@@ -7,10 +7,10 @@ use Rattle.scan.proofs.Turn.{position-told}
 use Rattle.scan.proofs.kind_told.Statement.{statement}
 use Rattle.scan.proofs.kind_told.Tie as tie
 
-returns : tie.Need-returns
+returns : tie.Need-returns-then-line-eq80
 returns c =
-    let a = c.before.before.before.before.args in
-    position-told a.rules a.line.now (sym (any-default a.line.now 0 0 32 c.before.before.if1.true) ∙ c.if2.true)
+    let a = c.args in
+    position-told a.rules a.line.now (sym (any-default a.line.now 0 0 32 c.if-line-gt0.true) ∙ c.if-line-eq80.true)
 
-pub kind-told-spec : {M : Type 1} → statement M
-kind-told-spec = tie.close (tie.spec (λ c. search rules) returns (λ c κs. search rules) (λ c. c.kind-in.ensures))
+pub kind_told_spec : {M : Type 1} → statement M
+kind_told_spec = tie.close (tie.spec (λ c. search rules) returns (λ c κs. search rules) (λ c. c.kind_in.ensures))

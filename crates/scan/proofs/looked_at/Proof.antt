@@ -7,49 +7,49 @@ use Rattle.scan.proofs.Looked.{all-enough, none-enough, covers-brought}
 use Rattle.scan.proofs.looked_at.Statement.{statement}
 use Rattle.scan.proofs.looked_at.Tie as tie
 
-returns : tie.Need-returns
+returns : tie.Need-returns-then-state-le-FEW
 returns c =
-    let start = c.before.before.before.before.before in
+    let start = c in
     let a = start.args in
     (all-enough a.rules a.bytes.now a.at a.state a.identifiers.now _ refl, start.requires.1)
 
-returns-2 : tie.Need-returns-2
+returns-2 : tie.Need-returns-then-state-ne-NO_KIND
 returns-2 c =
-    let start = c.before.before.before.before.before.before.before in
+    let start = c in
     let a = start.args in
     (all-enough a.rules a.bytes.now a.at a.state a.identifiers.now _ refl, start.requires.1)
 
-returns-3 : tie.Need-returns-3
+returns-3 : tie.Need-returns-then-end-bytes
 returns-3 c =
-    let start = c.before.before.before.before.before.before.before.before.before in
+    let start = c in
     let a = start.args in
     (all-enough a.rules a.bytes.now a.at a.state a.identifiers.now _ refl, start.requires.1)
 
 -- after the line's own identifiers are marked
-returns-4 : tie.Need-returns-4
+returns-4 : tie.Need-returns-then-mark_brought
 returns-4 c =
-    let marking = c.before.before.before in
-    let here = marking.before.before.before in
-    let ended = here.before in
-    let alone = ended.before in
-    let start = alone.before.before.before.before.before.before.before in
+    let marking = c in
+    let here = c in
+    let ended = c in
+    let alone = c in
+    let start = c in
     let a = start.args in (
-      none-enough a.rules a.bytes.now a.at a.state a.identifiers.now a.marks.now ended.line-end.result start.requires.0 alone.if2.false start.requires.1
-          ended.line-end.ensures here.if3.false (sym c.if4.true ∙ marking.mark-brought.ensures.0),
-      covers-brought (known_identifiers a.state a.identifiers.now) _ a.marks.now _ start.requires.1 marking.mark-brought.ensures.1,
+      none-enough a.rules a.bytes.now a.at a.state a.identifiers.now a.marks.now ended.line_end-end.result start.requires.0 alone.if-state-ne-NO_KIND.false start.requires.1
+          ended.line_end-end.ensures here.if-end-bytes.false (sym c.if-mark_brought.true ∙ marking.mark_brought.ensures.0),
+      covers-brought (known_identifiers a.state a.identifiers.now) _ a.marks.now _ start.requires.1 marking.mark_brought.ensures.1,
     )
 
-returns-5 : tie.Need-returns-5
+returns-5 : tie.Need-returns
 returns-5 c =
-    let marking = c.before.before.before in
-    let start = marking.before.before.before.before.before.before.before.before.before.before.before.before in
+    let marking = c in
+    let start = c in
     let a = start.args in (
       all-enough a.rules a.bytes.now a.at a.state a.identifiers.now _ refl,
-      covers-brought (known_identifiers a.state a.identifiers.now) _ a.marks.now _ start.requires.1 marking.mark-brought.ensures.1,
+      covers-brought (known_identifiers a.state a.identifiers.now) _ a.marks.now _ start.requires.1 marking.mark_brought.ensures.1,
     )
 
-pub looked-at-spec : {M : Type 1} → statement M
-looked-at-spec =
+pub looked_at_spec : {M : Type 1} → statement M
+looked_at_spec =
     tie.close
     (tie.spec
     returns

@@ -19,113 +19,113 @@ use Rattle.scan.proofs.Turn.{Going, going-first, Turned, turned, brought-so, non
 use Rattle.scan.proofs.scan_front.Statement.{statement}
 use Rattle.scan.proofs.scan_front.Tie as tie
 
-abbrev invariant-loop : tie.invariant-loop
+abbrev invariant-loop : tie.invariant-loop-state
 invariant-loop rules bytes identifiers₀ marks₀ marked₀ state₀ tally₀ identifiers marks marked state tally =
     Going rules bytes identifiers state tally × Covers (take marked identifiers) marks × (length marks ≡ marks_many)
 
-abbrev decreases-loop : tie.decreases-loop
+abbrev decreases-loop : tie.decreases-loop-state
 decreases-loop rules bytes identifiers₀ marks₀ marked₀ state₀ tally₀ identifiers marks marked state tally = length bytes - tally.end
 
-loop-holds : tie.Need-loop-init invariant-loop decreases-loop
+loop-holds : tie.Need-loop-state-init invariant-loop decreases-loop
 loop-holds c =
-    let a = c.before.before.before.args in
-    (going-first a.rules a.bytes.now c.before.start.result c.nothing_Seen.result c.before.start.ensures c.nothing_Seen.ensures, none-covered _, refl)
+    let a = c.args in
+    (going-first a.rules a.bytes.now c.start-state.result c.nothing_Seen.result c.start-state.ensures c.nothing_Seen.ensures, none-covered _, refl)
 
 -- where a `+ ` line is due, those known are marked
-marked-known : (c : tie.After-mark-known invariant-loop decreases-loop)
+marked-known : (c : tie.After-mark_known-marked invariant-loop decreases-loop)
     → let here = c.before.before.before.before.before.before in
-    Covers (known_identifiers here.loop.state here.loop.identifiers) c.mark-known.new.1.1.1.0
+    Covers (known_identifiers here.loop-state.state here.loop-state.identifiers) c.mark_known-marked.new.1.1.1.0
 marked-known c =
     let here = c.before.before.before.before.before.before in
-    subst (λ (m : List ℕ). Covers (known_identifiers here.loop.state here.loop.identifiers) m) (sym c.mark-known.ensures.1)
-    (covers-front here.loop.marked (seen here.loop.state) here.loop.identifiers here.loop.marks here.loop.invariant.1)
+    subst (λ (m : List ℕ). Covers (known_identifiers here.loop-state.state here.loop-state.identifiers) m) (sym c.mark_known-marked.ensures.1)
+    (covers-front here.loop-state.marked (seen here.loop-state.state) here.loop-state.identifiers here.loop-state.marks here.loop-state.invariant.1)
 
 -- before the line is read: enough of the identifiers, and the marks
-looked : (c : tie.Joined1 invariant-loop decreases-loop)
+looked : (c : tie.Joined-state-eq-SATELLITES_KIND invariant-loop decreases-loop)
     → let here = c.before.before.before in
-    let a = here.before.before.before.before.args in
-    Looked a.rules a.bytes.now here.loop.tally.end here.loop.identifiers c.if1.marks c.if1.marked here.loop.state c.if1.many
+    let a = here.args in
+    Looked a.rules a.bytes.now here.loop-state.tally.end here.loop-state.identifiers c.if-state-eq-SATELLITES_KIND.marks c.if-state-eq-SATELLITES_KIND.marked here.loop-state.state c.if-state-eq-SATELLITES_KIND.many
 looked c =
     let here = c.before.before.before in
-    let a = here.before.before.before.before.args in
+    let a = here.args in
     ⊎_elim
-    (λ w. looked-due a.rules a.bytes.now here.loop.tally.end here.loop.identifiers here.loop.state _ c.if1.marks c.if1.marked _ c.if1.many
+    (λ w. looked-due a.rules a.bytes.now here.loop-state.tally.end here.loop-state.identifiers here.loop-state.state _ c.if-state-eq-SATELLITES_KIND.marks c.if-state-eq-SATELLITES_KIND.marked _ c.if-state-eq-SATELLITES_KIND.many
     w.7.ensures.0 w.7.ensures.1 w.9 (w.10 ∙ w.3.ensures.0) w.11)
-    (λ w. looked-else a.rules a.bytes.now here.loop.tally.end here.loop.identifiers here.loop.state here.loop.marks c.if1.marks here.loop.marked c.if1.marked
-    c.if1.many w.0.left here.loop.invariant.1 w.1 w.2 (w.3 ∙ sym here.loop.invariant.0.size))
-    c.if1.branch
+    (λ w. looked-else a.rules a.bytes.now here.loop-state.tally.end here.loop-state.identifiers here.loop-state.state here.loop-state.marks c.if-state-eq-SATELLITES_KIND.marks here.loop-state.marked c.if-state-eq-SATELLITES_KIND.marked
+    c.if-state-eq-SATELLITES_KIND.many w.0.left here.loop-state.invariant.1 w.1 w.2 (w.3 ∙ sym here.loop-state.invariant.0.size))
+    c.if-state-eq-SATELLITES_KIND.branch
 
 -- as many marks as before
-marks-many : (c : tie.Joined1 invariant-loop decreases-loop) → length c.if1.marks ≡ marks_many
+marks-many : (c : tie.Joined-state-eq-SATELLITES_KIND invariant-loop decreases-loop) → length c.if-state-eq-SATELLITES_KIND.marks ≡ marks_many
 marks-many c =
-    let many = c.before.before.before.loop.invariant.2 in
+    let many = c.loop-state.invariant.2 in
     ⊎_elim
     (λ w. ap length w.9 ∙ w.7.kept.1.1.1.1.1.0 ∙ w.3.kept.1.1.1.0 ∙ many)
     (λ w. ap length w.1 ∙ many)
-    c.if1.branch
+    c.if-state-eq-SATELLITES_KIND.branch
 
 -- where the line has been read
-after_read : (c : tie.After-line-known invariant-loop decreases-loop) (w : LineRead) → c.Line-known.result ≡ w
+after_read : (c : tie.After-line_known invariant-loop decreases-loop) (w : LineRead) → c.Line-known.result ≡ w
     → let here = c.before.before.before.before.before.before.before in
-    let a = here.before.before.before.before.args in
-    Turned a.rules a.bytes.now here.loop.identifiers here.loop.state here.loop.tally w
+    let a = here.args in
+    Turned a.rules a.bytes.now here.loop-state.identifiers here.loop-state.state here.loop-state.tally w
 after_read c w e =
-    let joined = c.before.before.before.before in
+    let joined = c in
     let here = joined.before.before.before in
-    let a = here.before.before.before.before.args in
-    turned a.rules a.bytes.now here.loop.identifiers here.loop.state here.loop.tally here.loop.invariant.0
+    let a = here.args in
+    turned a.rules a.bytes.now here.loop-state.identifiers here.loop-state.state here.loop-state.tally here.loop-state.invariant.0
     c.Line-known.result w (told_read-one _ _ c.Line-known.ensures
-    ∙ ap (λ (n : ℕ). line_known a.rules a.bytes.now here.loop.tally.end here.loop.state (take n here.loop.identifiers)) (sub-zero joined.if1.many)
-    ∙ (looked joined).enough.same) e
+    ∙ ap (λ (n : ℕ). line_known a.rules a.bytes.now here.loop-state.tally.end here.loop-state.state (take n here.loop-state.identifiers)) (sub-zero joined.if-state-eq-SATELLITES_KIND.many)
+    ∙ (looked c.before.before.before.before).enough.same) e
 
-returns : tie.Need-returns invariant-loop decreases-loop
-returns c = ap told_front (c.refused.ensures ∙ after_read c.before.before.before _ c.before.enum_told.given.1)
+returns : tie.Need-returns-in-NoLine invariant-loop decreases-loop
+returns c = ap told_front (c.refused.ensures ∙ after_read c.before.before.before _ c.enum_told.given.1)
 
-returns-2 : tie.Need-returns-2 invariant-loop decreases-loop
-returns-2 c = let known = c.before.before in ap told_front (c.refused2.ensures ∙ after_read known.before.before _ known.number.given.1)
+returns-2 : tie.Need-returns-in-Fault invariant-loop decreases-loop
+returns-2 c = let known = c in ap told_front (c.refused-in-Fault.ensures ∙ after_read c.before.before.before.before _ known.number.given.1)
 
-returns-3 : tie.Need-returns-3 invariant-loop decreases-loop
+returns-3 : tie.Need-returns-in-Finished invariant-loop decreases-loop
 returns-3 c =
-    let known = c.before.before.before in
-    ap told_front ((after_read known.before.before _ known.end.given.1).finished c.count-line.result c.count-line.ensures)
+    let known = c in
+    ap told_front ((after_read c.before.before.before.before.before _ known.end.given.1).finished c.count_line.result c.count_line.ensures)
 
 -- no count can overflow, since there are no more lines than bytes
-counts : tie.Need-count-line-requires-2 invariant-loop decreases-loop
+counts : tie.Need-count_line-tally-requires invariant-loop decreases-loop
 counts c κs =
-    let known = c.before.before.before.before in
-    let here = known.before.before.before.before.before.before.before.before.before in
-    let a = here.before.before.before.before.args in
-    let p = after_read known.before.before _ known.end2.given.1 in
-    no_overflow a.rules a.bytes.now here.loop.identifiers here.loop.state here.loop.tally here.loop.invariant.0 known.end2.given.0.0 p.starts p.within
+    let known = c in
+    let here = c in
+    let a = here.args in
+    let p = after_read c.before.before.before.before.before.before _ known.end-in-Next-1.given.1 in
+    no_overflow a.rules a.bytes.now here.loop-state.identifiers here.loop-state.state here.loop-state.tally here.loop-state.invariant.0 known.end-in-Next-1.given.0.0 p.starts p.within
     (search rules)
 
-loop-less : tie.Need-loop-smaller invariant-loop decreases-loop
+loop-less : tie.Need-loop-state-smaller invariant-loop decreases-loop
 loop-less c =
-    let known = c.before.before.before.before.before in
-    (after_read known.before.before _ known.end2.given.1).falls c.count-line2.result c.count-line2.ensures
+    let known = c in
+    (after_read c.before.before.before.before.before.before.before _ known.end-in-Next-1.given.1).falls c.count_line-tally.result c.count_line-tally.ensures
 
 -- the identifiers that the line brings are kept, where a `+ ` line was due
-loop-again : tie.Need-loop-preserved invariant-loop decreases-loop
+loop-again : tie.Need-loop-state-preserved invariant-loop decreases-loop
 loop-again c =
-    let kept = c.before in
-    let known = kept.before.before.before.before in
-    let joined = known.before.before.before.before.before.before in
-    let here = joined.before.before.before in
-    let a = here.before.before.before.before.args in
-    let text = take (known.end2.given.0.0 - 1 - here.loop.tally.end) (drop here.loop.tally.end a.bytes.now) in
-    let brought : kept.if2.identifiers ≡ identifiers_brought a.rules here.loop.state here.loop.identifiers text =
+    let kept = c in
+    let known = c in
+    let joined = c in
+    let here = c in
+    let a = here.args in
+    let text = take (known.end-in-Next-1.given.0.0 - 1 - here.loop-state.tally.end) (drop here.loop-state.tally.end a.bytes.now) in
+    let brought : kept.if-state-eq-SATELLITES_KIND-2.identifiers ≡ identifiers_brought a.rules here.loop-state.state here.loop-state.identifiers text =
     ⊎_elim
-    (λ w. w.4 ∙ brought-so a.rules here.loop.state here.loop.identifiers text _ w.0.taken w.2.ensures.1)
-    (λ w. w.1 ∙ none-brought a.rules here.loop.state here.loop.identifiers text w.0.left)
-    kept.if2.branch in (
-      (after_read known.before.before _ known.end2.given.1).goes_on kept.if2.identifiers c.count-line2.result brought c.count-line2.ensures,
-      covers-on a.rules a.bytes.now here.loop.tally.end here.loop.identifiers joined.if1.marks joined.if1.marked here.loop.state joined.if1.many
-          (looked joined) text kept.if2.identifiers brought,
-      marks-many joined,
+    (λ w. w.4 ∙ brought-so a.rules here.loop-state.state here.loop-state.identifiers text _ w.0.taken w.2.ensures.1)
+    (λ w. w.1 ∙ none-brought a.rules here.loop-state.state here.loop-state.identifiers text w.0.left)
+    kept.if-state-eq-SATELLITES_KIND-2.branch in (
+      (after_read c.before.before.before.before.before.before.before _ known.end-in-Next-1.given.1).goes_on kept.if-state-eq-SATELLITES_KIND-2.identifiers c.count_line-tally.result brought c.count_line-tally.ensures,
+      covers-on a.rules a.bytes.now here.loop-state.tally.end here.loop-state.identifiers joined.if-state-eq-SATELLITES_KIND.marks joined.if-state-eq-SATELLITES_KIND.marked here.loop-state.state joined.if-state-eq-SATELLITES_KIND.many
+          (looked c.before.before.before.before.before.before.before.before.before.before.before) text kept.if-state-eq-SATELLITES_KIND-2.identifiers brought,
+      marks-many c.before.before.before.before.before.before.before.before.before.before.before,
     )
 
-pub scan-front-spec : {M : Type 1} → statement M
-scan-front-spec =
+pub scan_front_spec : {M : Type 1} → statement M
+scan_front_spec =
     tie.close
     (tie.spec
     invariant-loop
@@ -133,13 +133,13 @@ scan-front-spec =
     (λ c κs. search rules)
     (λ c κs. search rules)
     loop-holds
-    (λ c. let g = c.before.loop.invariant.0 in search rules)
+    (λ c. let g = c.loop-state.invariant.0 in search rules)
     (λ c. search rules)
     (λ c. search rules)
     (λ c κs. search rules)
     (λ c. search rules)
     (λ c. search rules)
-    (λ c κs. let known = c.before.before.before in (known.before.before.before.if1.true, marked-known known))
+    (λ c κs. let known = c.before.before.before in (known.if-state-eq-SATELLITES_KIND.true, marked-known known))
     (λ c. search rules)
     (λ c. search rules)
     (λ c. search rules)
@@ -152,17 +152,17 @@ scan-front-spec =
     (λ c κs. search rules)
     returns-2
     (λ c. search rules)
-    (λ c. let p = after_read c.before.before.before _ c.before.end.given.1 in search rules)
-    (λ c. let p = after_read c.before.before.before _ c.before.end.given.1 in search rules)
-    (λ c. let p = after_read c.before.before.before _ c.before.end.given.1 in search rules)
-    (λ c. let p = after_read c.before.before.before _ c.before.end.given.1 in search rules)
-    (λ c κs. let p = after_read c.before.before.before.before _ c.before.before.end.given.1 in search rules)
+    (λ c. let p = after_read c.before.before.before _ c.end.given.1 in search rules)
+    (λ c. let p = after_read c.before.before.before _ c.end.given.1 in search rules)
+    (λ c. let p = after_read c.before.before.before _ c.end.given.1 in search rules)
+    (λ c. let p = after_read c.before.before.before _ c.end.given.1 in search rules)
+    (λ c κs. let p = after_read c.before.before.before.before _ c.end.given.1 in search rules)
     returns-3
     (λ c. search rules)
-    (λ c. let p = after_read c.before.before.before _ c.before.end2.given.1 in search rules)
-    (λ c. let p = after_read c.before.before.before _ c.before.end2.given.1 in search rules)
-    (λ c. let p = after_read c.before.before.before _ c.before.end2.given.1 in search rules)
-    (λ c. let p = after_read c.before.before.before _ c.before.end2.given.1 in search rules)
+    (λ c. let p = after_read c.before.before.before _ c.end-in-Next-1.given.1 in search rules)
+    (λ c. let p = after_read c.before.before.before _ c.end-in-Next-1.given.1 in search rules)
+    (λ c. let p = after_read c.before.before.before _ c.end-in-Next-1.given.1 in search rules)
+    (λ c. let p = after_read c.before.before.before _ c.end-in-Next-1.given.1 in search rules)
     (λ c. search rules)
     (λ c κs. search rules)
     counts

@@ -11,31 +11,31 @@ use Rattle.scan.proofs.Turn.{lines-within}
 use Rattle.scan.proofs.scan_whole.Statement.{statement}
 use Rattle.scan.proofs.scan_whole.Tie as tie
 
-add-t11 : tie.Need-overflow-add-t11
+add-t11 : tie.Need-overflow_add-result
 add-t11 c =
-    let known = c.before.before.before.before in
-    let ran = known.before.before in
-    let a = ran.before.before.args in
-    omega (arith, lines-within a.rules a.bytes.now known.tally.given.0.0 (sym (told_front-one _ _ ran.scan-front.ensures) ∙ known.tally.given.1))
+    let known = c in
+    let ran = c in
+    let a = ran.args in
+    omega (arith, lines-within a.rules a.bytes.now known.tally.given.0.0 (sym (told_front-one _ _ ran.scan_front.ensures) ∙ known.tally.given.1))
 
-returns : tie.Need-returns
+returns : tie.Need-returns-then-tally-bytes
 unfolding whole_front
 returns c =
-    let known = c.before.before.before.before in
-    let ran = known.before.before in
-    rw (sym (told_front-one _ _ ran.scan-front.ensures) ∙ known.tally.given.1, lt-ltb known.tally.given.0.0.end (length ran.before.before.args.bytes.now) c.before.if1.true)
+    let known = c in
+    let ran = c in
+    rw (sym (told_front-one _ _ ran.scan_front.ensures) ∙ known.tally.given.1, lt-ltb known.tally.given.0.0.end (length ran.args.bytes.now) c.if-tally-bytes.true)
 
-returns-2 : tie.Need-returns-2
+returns-2 : tie.Need-returns-in-Refused
 unfolding whole_front
-returns-2 c = let known = c.before in rw (sym (told_front-one _ _ known.before.before.scan-front.ensures) ∙ known.number.given.1)
+returns-2 c = let known = c in rw (sym (told_front-one _ _ known.scan_front.ensures) ∙ known.number.given.1)
 
-returns-3 : tie.Need-returns-3
+returns-3 : tie.Need-returns-else-tally-bytes
 unfolding whole_front
 returns-3 c =
-    let known = c.before.before.before in
-    let ran = known.before.before in
-    rw (sym (told_front-one _ _ ran.scan-front.ensures) ∙ known.tally.given.1, le-ltb known.tally.given.0.0.end (length ran.before.before.args.bytes.now) c.if1.false)
+    let known = c in
+    let ran = c in
+    rw (sym (told_front-one _ _ ran.scan_front.ensures) ∙ known.tally.given.1, le-ltb known.tally.given.0.0.end (length ran.args.bytes.now) c.if-tally-bytes.false)
 
-pub scan-whole-spec : {M : Type 1} → statement M
-scan-whole-spec =
+pub scan_whole_spec : {M : Type 1} → statement M
+scan_whole_spec =
     tie.close (tie.spec (λ c κs. search rules) (λ c. search rules) (λ c. search rules) add-t11 returns returns-2 returns-3)

@@ -8,7 +8,7 @@ use Rattle.canon.proofs.bounds.counts_valid.Tie as tie
 
 returns : tie.Need-returns
 unfolding counts_valid
-returns c = both c.before.within.ensures c.within2.ensures
+returns c = both c.within.ensures c.within-2.ensures
 
-pub counts-valid-spec : {M : Type 1} → statement M
-counts-valid-spec = tie.close (tie.spec (λ c κs. search rules) (λ c κs. search rules) returns)
+pub counts_valid_spec : {M : Type 1} → statement M
+counts_valid_spec = tie.close (tie.spec (λ c κs. search rules) (λ c κs. search rules) returns)

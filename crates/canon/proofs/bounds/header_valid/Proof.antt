@@ -8,7 +8,7 @@ use Rattle.canon.proofs.bounds.header_valid.Tie as tie
 
 returns : tie.Need-returns
 unfolding header_valid
-returns c = both c.before.before.times-valid.ensures (both c.before.counts-valid.ensures c.words-valid.ensures)
+returns c = both c.times_valid.ensures (both c.counts_valid.ensures c.words_valid.ensures)
 
-pub header-valid-spec : {M : Type 1} → statement M
-header-valid-spec = tie.close (tie.spec (λ c κs. search rules) (λ c κs. search rules) (λ c κs. search rules) returns)
+pub header_valid_spec : {M : Type 1} → statement M
+header_valid_spec = tie.close (tie.spec (λ c κs. search rules) (λ c κs. search rules) (λ c κs. search rules) returns)

@@ -9,5 +9,5 @@ returns : tie.Need-returns
 unfolding is_instant
 returns c = c.within.ensures
 
-pub is-instant-spec : {M : Type 1} → statement M
-is-instant-spec = tie.close (tie.spec (λ c κs. search rules) returns)
+pub is_instant_spec : {M : Type 1} → statement M
+is_instant_spec = tie.close (tie.spec (λ c κs. search rules) returns)

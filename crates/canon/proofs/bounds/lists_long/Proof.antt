@@ -9,5 +9,5 @@ returns : tie.Need-returns
 unfolding lists_long
 returns c = rw c.rows_long.ensures
 
-pub lists-long-spec : {M : Type 1} → statement M
-lists-long-spec = tie.close (tie.spec (λ c κs. search rules) returns)
+pub lists_long_spec : {M : Type 1} → statement M
+lists_long_spec = tie.close (tie.spec (λ c κs. search rules) returns)

@@ -10,21 +10,21 @@ use Rattle.canon.proofs.Counting.{some-width, no_cells, cells-each}
 use Rattle.canon.proofs.bounds.rows_long.Statement.{statement}
 use Rattle.canon.proofs.bounds.rows_long.Tie as tie
 
-returns : tie.Need-returns
+returns : tie.Need-returns-then-h-eq0
 returns c =
-    let a = c.before.before.args in
-    sym (no_cells a.h.satellites a.h.epochs (a.r / cell_width a.h.velocity) c.if1.true)
+    let a = c.args in
+    sym (no_cells a.h.satellites a.h.epochs (a.r / cell_width a.h.velocity) c.if-h-eq0.true)
 
-div-cells : tie.Need-nonzero-div-cells
-div-cells c = omega (arith, c.cell-width.ensures, some-width c.before.before.before.args.h.velocity)
+div-cells : tie.Need-nonzero_div-cells
+div-cells c = omega (arith, c.cell_width.ensures, some-width c.args.h.velocity)
 
-returns-2 : tie.Need-returns-2
+returns-2 : tie.Need-returns
 returns-2 c =
-    let wide = c.before.before in
-    let start = wide.before.before.before in
+    let wide = c in
+    let start = c in
     let h = start.args.h in
-    cells-each h.satellites h.epochs (start.args.r / wide.cell-width.result) wide.before.if1.false
-    ∙ ap (λ (w : ℕ). leb (h.satellites * h.epochs) (start.args.r / w)) wide.cell-width.ensures
+    cells-each h.satellites h.epochs (start.args.r / wide.cell_width.result) wide.if-h-eq0.false
+    ∙ ap (λ (w : ℕ). leb (h.satellites * h.epochs) (start.args.r / w)) wide.cell_width.ensures
 
-pub rows-long-spec : {M : Type 1} → statement M
-rows-long-spec = tie.close (tie.spec returns (λ c κs. search rules) div-cells (λ c. search rules) returns-2)
+pub rows_long_spec : {M : Type 1} → statement M
+rows_long_spec = tie.close (tie.spec returns (λ c κs. search rules) div-cells (λ c. search rules) returns-2)

@@ -10,12 +10,12 @@ use Rattle.canon.proofs.bounds.texts_fit.Tie as tie
 returns : tie.Need-returns
 unfolding texts_fit
 returns c =
-    let texts = c.before.args.texts in
+    let texts = c.args.texts in
     let used : length texts.data_used ≡ 5 = search rules in
     let coordinates : length texts.coordinates ≡ 5 = search rules in
     let orbit : length texts.orbit ≡ 3 = search rules in
     let agency : length texts.agency ≡ 4 = search rules in
-    rw (used, coordinates, orbit, agency) c.texts-printable.ensures
+    rw (used, coordinates, orbit, agency) c.texts_printable.ensures
 
-pub texts-fit-spec : {M : Type 1} → statement M
-texts-fit-spec = tie.close (tie.spec (λ c κs. search rules) returns)
+pub texts_fit_spec : {M : Type 1} → statement M
+texts_fit_spec = tie.close (tie.spec (λ c κs. search rules) returns)

@@ -15,31 +15,31 @@ use Rattle.canon.proofs.bounds.times_valid.Statement.{statement}
 use Rattle.canon.proofs.bounds.times_valid.Tie as tie
 
 -- the three tests by their own answers
-tested : (c : tie.After-within2) → (((c.before.before.is-instant.result && c.before.within.result) && c.within2.result)
-    ≡ ((is_instant c.before.before.before.args.h.start8 && within 1 max_epochs c.before.before.before.args.h.epochs)
-    && within 1 max_interval c.before.before.before.args.h.interval8))
-tested c = both (both c.before.before.is-instant.ensures c.before.within.ensures) c.within2.ensures
+tested : (c : tie.After-within-2) → (((c.is_instant.result && c.within.result) && c.within-2.result)
+    ≡ ((is_instant c.args.h.start8 && within 1 max_epochs c.args.h.epochs)
+    && within 1 max_interval c.args.h.interval8))
+tested c = both (both c.is_instant.ensures c.within.ensures) c.within-2.ensures
 
-bounded : (c : tie.Else1) → Begun c.before.before.before.before.args.h
-bounded c = begun c.before.before.before.before.args.h (sym (tested c.before) ∙ not-false _ c.if1.false)
+bounded : (c : tie.Else-not-begun-within) → Begun c.args.h
+bounded c = begun c.args.h (sym (tested c.before) ∙ not-false _ c.if-not-begun-within.false)
 
-returns : tie.Need-returns
+returns : tie.Need-returns-then-not-begun-within
 unfolding times_valid
 returns c =
-    let h = c.before.before.before.before.args.h in
+    let h = c.args.h in
     sym
     (three-fail (is_instant h.start8) (within 1 max_epochs h.epochs) (within 1 max_interval h.interval8) (is_instant (last_epoch h))
-    (sym (tested c.before) ∙ not-true _ c.if1.true))
+    (sym (tested c.before) ∙ not-true _ c.if-not-begun-within.true))
 
-returns-2 : tie.Need-returns-2
+returns-2 : tie.Need-returns
 unfolding times_valid
 returns-2 c =
-    let other = c.before.before.before.before in
-    let h = other.before.before.before.before.args.h in
-    c.is-instant2.ensures
+    let other = c in
+    let h = other.args.h in
+    c.is_instant-2.ensures
     ∙ sym
     (three-pass (is_instant h.start8) (within 1 max_epochs h.epochs) (within 1 max_interval h.interval8) (is_instant (last_epoch h))
-    (sym (tested other.before) ∙ not-false _ other.if1.false))
+    (sym (tested c.before.before.before.before.before) ∙ not-false _ other.if-not-begun-within.false))
 
-pub times-valid-spec : {M : Type 1} → statement M
-times-valid-spec = tie.close (tie.spec (λ c κs. search rules) (λ c κs. search rules) (λ c κs. search rules) returns (λ c. let b = bounded c.before in omega arith) (λ c. let b = bounded c.before.before in omega (arith, last_within _ b)) (λ c. let b = bounded c.before.before.before in omega (arith, last_within _ b)) (λ c κs. search rules) returns-2)
+pub times_valid_spec : {M : Type 1} → statement M
+times_valid_spec = tie.close (tie.spec (λ c κs. search rules) (λ c κs. search rules) (λ c κs. search rules) returns (λ c. let b = bounded c.before in omega arith) (λ c. let b = bounded c.before.before in omega (arith, last_within _ b)) (λ c. let b = bounded c.before.before.before in omega (arith, last_within _ b)) (λ c κs. search rules) returns-2)

@@ -19,13 +19,13 @@ three c = search rules
 returns : tie.Need-returns
 unfolding words_valid
 returns c =
-    let timed = c.before.before.before in
-    let start = timed.before.before.before.before in
-    both c.before.before.texts-fit.ensures
-    (both c.before.is-file-type.ensures
+    let timed = c in
+    let start = c in
+    both c.texts_fit.ensures
+    (both c.is_file_type.ensures
     (both
-    (timed.is-time-system.ensures ∙ ap (λ (s : List ℕ). is_listed s time_systems) (three-bytes start.args.h.time_system (three start)))
-    c.bases-fit.ensures))
+    (timed.is_time_system-timed.ensures ∙ ap (λ (s : List ℕ). is_listed s time_systems) (three-bytes start.args.h.time_system (three c.before.before.before.before.before.before.before)))
+    c.bases_fit.ensures))
 
-pub words-valid-spec : {M : Type 1} → statement M
-words-valid-spec = tie.close (tie.spec (λ c. search rules) (λ c. search rules) (λ c. search rules) (λ c κs. search rules) (λ c κs. search rules) (λ c κs. search rules) (λ c κs. search rules) returns)
+pub words_valid_spec : {M : Type 1} → statement M
+words_valid_spec = tie.close (tie.spec (λ c. search rules) (λ c. search rules) (λ c. search rules) (λ c κs. search rules) (λ c κs. search rules) (λ c κs. search rules) (λ c κs. search rules) returns)

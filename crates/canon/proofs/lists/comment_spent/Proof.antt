@@ -11,21 +11,21 @@ use Rattle.canon.proofs.Tests.{both}
 use Rattle.canon.proofs.lists.comment_spent.Statement.{statement}
 use Rattle.canon.proofs.lists.comment_spent.Tie as tie
 
-comment-length-requires : tie.Need-comment-length-requires
+comment-length-requires : tie.Need-comment_length-requires
 comment-length-requires c κs =
-    let cut = c.before.before in
-    omega (arith, trimmed-shorter cut.before.before.args.text.now, cut.trimmed-length.ensures)
+    let cut = c in
+    omega (arith, trimmed-shorter cut.args.text.now, cut.trimmed_length-n.ensures)
 
 returns : tie.Need-returns
 unfolding comment_valid comment_length
 returns c =
-    let long = c.before in
-    let columns = long.before in
-    let plain = columns.before in
-    let cut = plain.before in (
-      both plain.is-printable.ensures (ap₂ leb cut.trimmed-length.ensures columns.comment-columns.ensures),
-      c.spend.ensures ∙ rw (long.comment-length.ensures, cut.trimmed-length.ensures),
+    let long = c in
+    let columns = c in
+    let plain = c in
+    let cut = c in (
+      both plain.is_printable.ensures (ap₂ leb cut.trimmed_length-n.ensures columns.comment_columns.ensures),
+      c.spend.ensures ∙ rw (long.comment_length.ensures, cut.trimmed_length-n.ensures),
     )
 
-pub comment-spent-spec : {M : Type 1} → statement M
-comment-spent-spec = tie.close (tie.spec (λ c κs. search rules) (λ c κs. search rules) (λ c κs. search rules) comment-length-requires (λ c κs. search rules) returns)
+pub comment_spent_spec : {M : Type 1} → statement M
+comment_spent_spec = tie.close (tie.spec (λ c κs. search rules) (λ c κs. search rules) (λ c κs. search rules) comment-length-requires (λ c κs. search rules) returns)

@@ -12,49 +12,49 @@ use Rattle.canon.proofs.Spending.{Spending, spending-first, part-there, part-lon
 use Rattle.canon.proofs.lists.comments_spent.Statement.{statement}
 use Rattle.canon.proofs.lists.comments_spent.Tie as tie
 
-abbrev invariant-loop : tie.invariant-loop
+abbrev invariant-loop : tie.invariant-loop-more
 invariant-loop rules count bytes room valid₀ left₀ at₀ more₀ valid left at more =
     Spending (comments_valid rules) comments_length comment_width count room bytes valid left at more
 
-abbrev decreases-loop : tie.decreases-loop
+abbrev decreases-loop : tie.decreases-loop-more
 decreases-loop rules count bytes room valid₀ left₀ at₀ more₀ valid left at more = more
 
-loop-holds : tie.Need-loop-init invariant-loop decreases-loop
+loop-holds : tie.Need-loop-more-init invariant-loop decreases-loop
 loop-holds c =
-    let a = c.before.args in
-    spending-first (comments_valid a.rules) comments_length comment_width a.count a.room a.bytes.now c.before.requires
+    let a = c.args in
+    spending-first (comments_valid a.rules) comments_length comment_width a.count a.room a.bytes.now c.requires
 
-there : (c : tie.In-loop invariant-loop decreases-loop) → c.before.loop.at + comment_width ≤ length c.before.before.before.args.bytes.now
+there : (c : tie.In-loop-more invariant-loop decreases-loop) → c.loop-more.at + comment_width ≤ length c.args.bytes.now
 there c =
-    let a = c.before.before.before.args in
-    let l = c.before.loop in
-    part-there (comments_valid a.rules) comments_length comment_width a.count a.room a.bytes.now l.valid l.left l.at l.more l.invariant c.loop-test.true
+    let a = c.args in
+    let l = c.loop-more in
+    part-there (comments_valid a.rules) comments_length comment_width a.count a.room a.bytes.now l.valid l.left l.at l.more l.invariant c.loop-more-test.true
 
-comment-spent-requires : tie.Need-comment-spent-requires invariant-loop decreases-loop
+comment-spent-requires : tie.Need-comment_spent-one-requires invariant-loop decreases-loop
 comment-spent-requires c κs =
     let in-loop = c.before in
-    let a = in-loop.before.before.before.args in
-    let l = in-loop.before.loop in
-    part-long (comments_valid a.rules) comments_length comment_width a.count a.room a.bytes.now l.valid l.left l.at l.more l.invariant in-loop.loop-test.true
+    let a = in-loop.args in
+    let l = in-loop.loop-more in
+    part-long (comments_valid a.rules) comments_length comment_width a.count a.room a.bytes.now l.valid l.left l.at l.more l.invariant in-loop.loop-more-test.true
 
-loop-again : tie.Need-loop-preserved invariant-loop decreases-loop
+loop-again : tie.Need-loop-more-preserved invariant-loop decreases-loop
 unfolding comments_valid comments_length
 loop-again c =
-    let one = c.before in
+    let one = c in
     let in-loop = one.before.before in
-    let a = in-loop.before.before.before.args in
-    let l = in-loop.before.loop in
+    let a = in-loop.args in
+    let l = in-loop.loop-more in
     spending-next (comments_valid a.rules) comments_length comment_width a.count a.room a.bytes.now l.valid l.left l.at l.more l.invariant
-    (comment_valid a.rules) comment_length (λ k s. refl) (λ k s. refl) in-loop.loop-test.true one.comment-spent.result.valid
-    one.comment-spent.result.left one.comment-spent.ensures.0 one.comment-spent.ensures.1
+    (comment_valid a.rules) comment_length (λ k s. refl) (λ k s. refl) in-loop.loop-more-test.true one.comment_spent-one.result.valid
+    one.comment_spent-one.result.left one.comment_spent-one.ensures.0 one.comment_spent-one.ensures.1
 
 returns : tie.Need-returns invariant-loop decreases-loop
 unfolding comments_valid comments_length
 returns c =
-    let a = c.before.before.before.args in
-    let l = c.before.loop in
+    let a = c.args in
+    let l = c.loop-more in
     spending-last (comments_valid a.rules) comments_length comment_width a.count a.room a.bytes.now l.valid l.left l.at l.more l.invariant
     (λ s. refl) (λ s. refl) (λ p. omega arith)
 
-pub comments-spent-spec : {M : Type 1} → statement M
-comments-spent-spec = tie.close (tie.spec invariant-loop decreases-loop loop-holds (λ c. let h = there c in omega arith) (λ c. search rules) (λ c. search rules) (λ c. let h = there c in search rules) comment-spent-requires (λ c. search rules) (λ c. search rules) loop-again returns)
+pub comments_spent_spec : {M : Type 1} → statement M
+comments_spent_spec = tie.close (tie.spec invariant-loop decreases-loop loop-holds (λ c. let h = there c in omega arith) (λ c. search rules) (λ c. search rules) (λ c. let h = there c in search rules) comment-spent-requires (λ c. search rules) (λ c. search rules) loop-again returns)

@@ -12,23 +12,23 @@ use Rattle.layout.proofs.Lines.{flag-more, flag-end}
 use Rattle.canon.proofs.lists.exponents_valid.Statement.{statement}
 use Rattle.canon.proofs.lists.exponents_valid.Tie as tie
 
-abbrev invariant-loop : tie.invariant-loop
+abbrev invariant-loop : tie.invariant-loop-i
 invariant-loop exponents all₀ i₀ all i = (all && every (λ n. leb n 999) (drop i exponents)) ≡ every (λ n. leb n 999) exponents
 
-abbrev decreases-loop : tie.decreases-loop
+abbrev decreases-loop : tie.decreases-loop-i
 decreases-loop exponents all₀ i₀ all i = length exponents - i
 
-loop-again : tie.Need-loop-preserved invariant-loop decreases-loop
+loop-again : tie.Need-loop-i-preserved invariant-loop decreases-loop
 loop-again c =
     let in-loop = c.before in
     let at-loop = in-loop.before in
-    flag-more (λ n. leb n 999) at-loop.before.args.exponents.now at-loop.loop.i at-loop.loop.all in-loop.loop-test.true ∙ at-loop.loop.invariant
+    flag-more (λ n. leb n 999) at-loop.args.exponents.now at-loop.loop-i.i at-loop.loop-i.all in-loop.loop-i-test.true ∙ at-loop.loop-i.invariant
 
 returns : tie.Need-returns invariant-loop decreases-loop
 unfolding exponents_valid
 returns c =
     let at-loop = c.before in
-    flag-end (λ n. leb n 999) at-loop.before.args.exponents.now at-loop.loop.i at-loop.loop.all c.loop-test.false ∙ at-loop.loop.invariant
+    flag-end (λ n. leb n 999) at-loop.args.exponents.now at-loop.loop-i.i at-loop.loop-i.all c.loop-i-test.false ∙ at-loop.loop-i.invariant
 
-pub exponents-valid-spec : {M : Type 1} → statement M
-exponents-valid-spec = tie.close (tie.spec invariant-loop decreases-loop (λ c. refl) (λ c. search rules) (λ c. search rules) (λ c. search rules) (λ c. search rules) loop-again returns)
+pub exponents_valid_spec : {M : Type 1} → statement M
+exponents_valid_spec = tie.close (tie.spec invariant-loop decreases-loop (λ c. refl) (λ c. search rules) (λ c. search rules) (λ c. search rules) (λ c. search rules) loop-again returns)

@@ -9,18 +9,18 @@ use Rattle.canon.proofs.Tests.{both}
 use Rattle.canon.proofs.lists.identifiers_valid.Statement.{statement}
 use Rattle.canon.proofs.lists.identifiers_valid.Tie as tie
 
-returns : tie.Need-returns
+returns : tie.Need-returns-then-not-are_identifiers
 unfolding identifiers_valid
-returns c = rw (sym c.before.are-identifiers.ensures ∙ not-true _ c.if1.true)
+returns c = rw (sym c.are_identifiers.ensures ∙ not-true _ c.if-not-are_identifiers.true)
 
-returns-2 : tie.Need-returns-2
+returns-2 : tie.Need-returns
 unfolding identifiers_valid
 returns-2 c =
-    let different = c.before in
-    let each = different.before.before in
-    rw (sym each.before.are-identifiers.ensures ∙ not-false _ each.if1.false) (both (ap not different.repeats-identifier.ensures) c.type-agrees.ensures)
+    let different = c in
+    let each = c in
+    rw (sym each.are_identifiers.ensures ∙ not-false _ each.if-not-are_identifiers.false) (both (ap not different.repeats_identifier-different.ensures) c.type_agrees.ensures)
 
-pub identifiers-valid-spec : {M : Type 1} → statement M
-identifiers-valid-spec =
+pub identifiers_valid_spec : {M : Type 1} → statement M
+identifiers_valid_spec =
     tie.close
     (tie.spec (λ c κs. search rules) returns (λ c. search rules) (λ c. search rules) (λ c. search rules) (λ c κs. search rules) (λ c κs. search rules) returns-2)

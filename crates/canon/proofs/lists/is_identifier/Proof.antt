@@ -9,5 +9,5 @@ use Rattle.canon.proofs.lists.is_identifier.Tie as tie
 returns : tie.Need-returns
 returns c = both c.within.ensures refl
 
-pub is-identifier-spec : {M : Type 1} → statement M
-is-identifier-spec = tie.close (tie.spec (λ c κs. search rules) (λ c. search rules) (λ c. search rules) returns)
+pub is_identifier_spec : {M : Type 1} → statement M
+is_identifier_spec = tie.close (tie.spec (λ c κs. search rules) (λ c. search rules) (λ c. search rules) returns)

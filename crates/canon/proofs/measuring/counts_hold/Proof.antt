@@ -6,7 +6,7 @@ use Rattle.canon.proofs.measuring.counts_hold.Statement.{statement}
 use Rattle.canon.proofs.measuring.counts_hold.Tie as tie
 
 returns : tie.Need-returns
-returns c = both c.before.header-valid.ensures c.lists-long.ensures
+returns c = both c.header_valid.ensures c.lists_long.ensures
 
-pub counts-hold-spec : {M : Type 1} → statement M
-counts-hold-spec = tie.close (tie.spec (λ c κs. search rules) (λ c κs. search rules) returns)
+pub counts_hold_spec : {M : Type 1} → statement M
+counts_hold_spec = tie.close (tie.spec (λ c κs. search rules) (λ c κs. search rules) returns)

@@ -22,36 +22,36 @@ orbit c = search rules
 agency : (c : tie.Start) → length c.args.t.agency ≡ 4
 agency c = search rules
 
-text-end-requires : tie.Need-text-end-requires
+text-end-requires : tie.Need-text_end-a-requires
 text-end-requires c κs = (search rules, omega (arith, used c.before.before.before.before.before))
 
-text-end-requires-2 : tie.Need-text-end-requires-2
+text-end-requires-2 : tie.Need-text_end-b-requires
 text-end-requires-2 c κs = (search rules, omega (arith, coordinates c.before.before.before.before.before.before.before))
 
-text-end-requires-3 : tie.Need-text-end-requires-3
+text-end-requires-3 : tie.Need-text_end-c-requires
 text-end-requires-3 c κs = (search rules, omega (arith, orbit c.before.before.before.before.before.before.before.before.before))
 
-text-end-requires-4 : tie.Need-text-end-requires-4
+text-end-requires-4 : tie.Need-text_end-requires
 text-end-requires-4 c κs = (search rules, omega (arith, agency c.before.before.before.before.before.before.before.before.before.before.before))
 
-measured : (c : tie.After-text-end4) → c.text-end4.result + 1 ≡ first_length c.before.before.before.before.before.before.before.before.before.before.before.before.args.t
+measured : (c : tie.After-text_end) → c.text_end.result + 1 ≡ first_length c.args.t
 unfolding first_length
 measured c =
-    let third = c.before.before in
-    let second = third.before.before in
-    let first = second.before.before in
-    rw (c.text-end4.ensures, third.text-end3.ensures, second.text-end2.ensures, first.text-end.ensures)
+    let third = c in
+    let second = c in
+    let first = c in
+    rw (c.text_end.ensures, third.text_end-c.ensures, second.text_end-b.ensures, first.text_end-a.ensures)
 
-reach : (c : tie.After-text-end4) → c.text-end4.result + 1 ≤ 61
+reach : (c : tie.After-text_end) → c.text_end.result + 1 ≤ 61
 reach c =
-    let start = c.before.before.before.before.before.before.before.before.before.before.before.before in
-    rw (measured c) (first_reach start.args.t (used start) (coordinates start) (orbit start) (agency start))
+    let start = c in
+    rw (measured c) (first_reach start.args.t (used c.before.before.before.before.before.before.before.before.before.before.before.before) (coordinates c.before.before.before.before.before.before.before.before.before.before.before.before) (orbit c.before.before.before.before.before.before.before.before.before.before.before.before) (agency c.before.before.before.before.before.before.before.before.before.before.before.before))
 
-add-result : tie.Need-overflow-add-result
+add-result : tie.Need-overflow_add-result
 add-result c = omega (arith, reach c)
 
 returns : tie.Need-returns
 returns c = (measured c, reach c)
 
-pub first-length-spec : {M : Type 1} → statement M
-first-length-spec = tie.close (tie.spec (λ c. search rules) text-end-requires (λ c. search rules) text-end-requires-2 (λ c. search rules) text-end-requires-3 (λ c. search rules) text-end-requires-4 add-result returns)
+pub first_length_spec : {M : Type 1} → statement M
+first_length_spec = tie.close (tie.spec (λ c. search rules) text-end-requires (λ c. search rules) text-end-requires-2 (λ c. search rules) text-end-requires-3 (λ c. search rules) text-end-requires-4 add-result returns)

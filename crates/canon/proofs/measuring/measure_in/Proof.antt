@@ -17,64 +17,64 @@ use Rattle.canon.proofs.measuring.measure_in.Tie as tie
 abbrev table : tie.Start → Table
 table c = table_of c.args.h c.args.identifiers.now c.args.exponents.now c.args.comments.now c.args.rows.now
 
-abbrev begun : tie.After-measure-within → tie.Start
+abbrev begun : tie.After-measure_within-answer → tie.Start
 begun c = c.before.before.before.before.before
 
 -- the answer by the rules of the version
-first : (c : tie.After-measure-within) → (
+first : (c : tie.After-measure_within-answer) → (
     let start = begun c in
-    c.measure-within.result ≡ measured (rules_of start.args.version) (table start) start.args.most)
+    c.measure_within-answer.result ≡ measured (rules_of start.args.version) (table start) start.args.most)
 first c =
     let start = begun c in
-    c.measure-within.ensures ∙ ap (λ (rules : Rules). measured rules (table start) start.args.most) c.before.of.ensures
+    c.measure_within-answer.ensures ∙ ap (λ (rules : Rules). measured rules (table start) start.args.most) c.of-rules.ensures
 
 -- the test after it, on that answer and those rules
-abbrev Test : tie.After-measure-within → Bool → Type 0
+abbrev Test : tie.After-measure_within-answer → Bool → Type 0
 Test c b =
     let start = begun c in
     (not (eqb (measured (rules_of start.args.version) (table start) start.args.most).refusal 13) || eqb (rules_of start.args.version).letter 100) ≡ b
 
-tested : (c : tie.After-measure-within) (b : Bool) → (not (eqb c.measure-within.result.refusal 13) || eqb c.before.of.result.letter 100) ≡ b → Test c b
+tested : (c : tie.After-measure_within-answer) (b : Bool) → (not (eqb c.measure_within-answer.result.refusal 13) || eqb c.of-rules.result.letter 100) ≡ b → Test c b
 tested c b e =
-    sym (ap₂ (λ (m : Measured) (rules : Rules). not (eqb m.refusal 13) || eqb rules.letter 100) (first c) c.before.of.ensures) ∙ e
+    sym (ap₂ (λ (m : Measured) (rules : Rules). not (eqb m.refusal 13) || eqb rules.letter 100) (first c) c.of-rules.ensures) ∙ e
 
 -- the answer by the rules of SP3-d
-second : (c : tie.After-measure-within2) → (
+second : (c : tie.After-measure_within-widest) → (
     let start = begun c.before.before.before.before.before in
-    c.measure-within2.result ≡ measured d (table start) start.args.most)
+    c.measure_within-widest.result ≡ measured d (table start) start.args.most)
 second c =
     let start = begun c.before.before.before.before.before in
-    c.measure-within2.ensures ∙ ap (λ (rules : Rules). measured rules (table start) start.args.most) c.before.d.ensures
+    c.measure_within-widest.ensures ∙ ap (λ (rules : Rules). measured rules (table start) start.args.most) c.d.ensures
 
-returns : tie.Need-returns
+returns : tie.Need-returns-then-answer-rules
 returns c =
     let read = c.before.before.before in
     let start = begun read in
-    first read ∙ version-stays start.args.version (table start) start.args.most (tested read true c.if1.true)
+    first c.before.before.before ∙ version-stays start.args.version (table start) start.args.most (tested c.before.before.before true c.if-answer-rules.true)
 
-returns-2 : tie.Need-returns-2
+returns-2 : tie.Need-returns-then-widest-eq13
 returns-2 c =
-    let again = c.before.before in
+    let again = c in
     let read = again.before.before.before.before.before in
     let start = begun read in
-    first read
+    first c.before.before.before.before.before.before.before
     ∙ invalid (rules_of start.args.version) (table start) start.args.most
-    (thirteen-invalid d (table start) start.args.most (sym (ap (λ (m : Measured). m.refusal) (second again)) ∙ c.if2.true))
+    (thirteen-invalid d (table start) start.args.most (sym (ap (λ (m : Measured). m.refusal) (second c.before.before)) ∙ c.if-widest-eq13.true))
 
-returns-3 : tie.Need-returns-3
+returns-3 : tie.Need-returns
 returns-3 c =
-    let left = c.before in
-    let again = left.before.before in
-    let wide = again.before.before in
+    let left = c in
+    let again = c in
+    let wide = c in
     let read = wide.before.before.before in
     let start = begun read in
     c.refuse.ensures
     ∙ outside (rules_of start.args.version) (table start) start.args.most
-    (other-valid d (table start) start.args.most (λ e. left.if2.false (ap (λ (m : Measured). m.refusal) (second again) ∙ e)))
-    (version-goes start.args.version (table start) start.args.most (tested read false wide.if1.false))
+    (other-valid d (table start) start.args.most (λ e. left.if-widest-eq13.false (ap (λ (m : Measured). m.refusal) (second c.before.before.before) ∙ e)))
+    (version-goes start.args.version (table start) start.args.most (tested c.before.before.before.before.before.before.before.before false wide.if-answer-rules.false))
 
-pub measure-in-spec : {M : Type 1} → statement M
-measure-in-spec =
+pub measure_in_spec : {M : Type 1} → statement M
+measure_in_spec =
     tie.close
     (tie.spec
     (λ c κs. search rules)

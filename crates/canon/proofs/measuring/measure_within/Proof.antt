@@ -17,83 +17,83 @@ use Rattle.canon.proofs.Answers.{no-counts, no-lists, too_long, written}
 use Rattle.canon.proofs.measuring.measure_within.Statement.{statement}
 use Rattle.canon.proofs.measuring.measure_within.Tie as tie
 
-abbrev start : tie.After-counts-hold → tie.Start
+abbrev start : tie.After-counts_hold-hold → tie.Start
 start c = c.before.before.before.before
 
-abbrev table : tie.After-counts-hold → Table
+abbrev table : tie.After-counts_hold-hold → Table
 table c =
     let a = (start c).args in
     table_of a.h a.identifiers.now a.exponents.now a.comments.now a.rows.now
 
-answer : (c : tie.After-counts-hold) → c.counts-hold.result ≡ counts_hold (start c).args.rules (table c)
+answer : (c : tie.After-counts_hold-hold) → c.counts_hold-hold.result ≡ counts_hold (start c).args.rules (table c)
 unfolding counts_hold
-answer c = c.counts-hold.ensures
+answer c = c.counts_hold-hold.ensures
 
-hold : (c : tie.Else1) → counts_hold (start c.before).args.rules (table c.before) ≡ true
-hold c = sym (answer c.before) ∙ not-false _ c.if1.false
+hold : (c : tie.Else-not-hold) → counts_hold (start c.before).args.rules (table c.before) ≡ true
+hold c = sym (answer c.before) ∙ not-false _ c.if-not-hold.false
 
-lists : (c : tie.Else1) → (
+lists : (c : tie.Else-not-hold) → (
     let a = (start c.before).args in
     Long a.h (length a.identifiers.now) (length a.exponents.now) (length a.comments.now) (length a.rows.now))
 unfolding counts_hold
 lists c = let a = (start c.before).args in long a.rules a.h _ _ _ _ (hold c)
 
-returns : tie.Need-returns
+returns : tie.Need-returns-then-not-hold
 returns c =
     let asked = c.before.before in
     let a = (start asked).args in
-    c.refuse.ensures ∙ no-counts a.rules (table asked) a.most (sym (answer asked) ∙ not-true _ c.before.if1.true)
+    c.refuse.ensures ∙ no-counts a.rules (table asked) a.most (sym (answer c.before.before) ∙ not-true _ c.if-not-hold.true)
 
-table-spent-requires : tie.Need-table-spent-requires
+table-spent-requires : tie.Need-table_spent-spent-requires
 table-spent-requires c κs = let l = lists c.before.before in (l.said, l.placed, omega (arith, l.named), l.few)
 
-abbrev known : tie.After-exponents-valid → tie.Else1
+abbrev known : tie.After-exponents_valid → tie.Else-not-hold
 known c = c.before.before.before.before.before
 
 -- what the tests of the lists say together
-judged : (c : tie.After-exponents-valid) → (
+judged : (c : tie.After-exponents_valid) → (
     let t = table (known c).before in
-    (c.before.before.before.identifiers-valid.result && (c.exponents-valid.result && c.before.before.table-spent.result.valid))
+    (c.identifiers_valid-named.result && (c.exponents_valid.result && c.table_spent-spent.result.valid))
     ≡ (identifiers_valid t.header.file_type (table_identifiers t)
     && (exponents_valid (exponents_of t)
     && (comments_valid (start (known c).before).args.rules t.header.comments (comments_of t) && rows_valid t.header.velocity (cells_in t.header) (rows_of t)))))
 judged c =
     let t = table (known c).before in
     let whole = sub-zero t.header.satellites in
-    both (c.before.before.before.identifiers-valid.ensures ∙ ap (λ (n : ℕ). identifiers_valid t.header.file_type (take n t.identifiers)) whole)
-    (both (c.exponents-valid.ensures ∙ ap (λ (n : ℕ). exponents_valid (take n t.exponents)) whole) c.before.before.table-spent.ensures.0)
+    both (c.identifiers_valid-named.ensures ∙ ap (λ (n : ℕ). identifiers_valid t.header.file_type (take n t.identifiers)) whole)
+    (both (c.exponents_valid.ensures ∙ ap (λ (n : ℕ). exponents_valid (take n t.exponents)) whole) c.table_spent-spent.ensures.0)
 
 -- what is left of the room
-left : (c : tie.After-exponents-valid) → c.before.before.table-spent.result.left ≡ (start (known c).before).args.most + 1 - form_length (table (known c).before)
+left : (c : tie.After-exponents_valid) → c.table_spent-spent.result.left ≡ (start (known c).before).args.most + 1 - form_length (table (known c).before)
 unfolding form_length
-left c = c.before.before.table-spent.ensures.1
+left c = c.table_spent-spent.ensures.1
 
-returns-2 : tie.Need-returns-2
+returns-2 : tie.Need-returns-then-not-named-exponents_valid
 returns-2 c =
     let read = c.before.before.before in
     let asked = (known read).before in
     let a = (start asked).args in
-    c.refuse2.ensures
-    ∙ no-lists a.rules (table asked) a.most (hold (known read)) _ (judged read) (not-true _ c.before.if2.true)
+    c.refuse-then-not-named-exponents_valid.ensures
+    ∙ no-lists a.rules (table asked) a.most (hold (known read)) _ (judged c.before.before.before) (not-true _ c.if-not-named-exponents_valid.true)
 
-returns-3 : tie.Need-returns-3
+returns-3 : tie.Need-returns-then-spent-eq0
 returns-3 c =
-    let other = c.before.before.before in
+    let other = c in
     let read = other.before.before in
     let asked = (known read).before in
     let a = (start asked).args in
-    c.refuse3.ensures
-    ∙ too_long a.rules (table asked) a.most (hold (known read)) _ (judged read) (not-false _ other.if2.false)
-    read.before.before.table-spent.result.left (left read) c.before.if3.true
+    c.refuse-then-spent-eq0.ensures
+    ∙ too_long a.rules (table asked) a.most (hold (known read)) _ (judged c.before.before.before.before.before) (not-false _ other.if-not-named-exponents_valid.false)
+    read.table_spent-spent.result.left (left c.before.before.before.before.before) c.if-spent-eq0.true
 
-returns-4 : tie.Need-returns-4
+returns-4 : tie.Need-returns
 returns-4 c =
-    let other = c.before.before.before in
+    let other = c in
     let read = other.before.before in
     let asked = (known read).before in
     let a = (start asked).args in
-    written a.rules (table asked) a.most (hold (known read)) _ (judged read) (not-false _ other.if2.false)
-    read.before.before.table-spent.result.left (left read) c.before.if3.false
+    written a.rules (table asked) a.most (hold (known read)) _ (judged c.before.before.before.before.before) (not-false _ other.if-not-named-exponents_valid.false)
+    read.table_spent-spent.result.left (left c.before.before.before.before.before) c.if-spent-eq0.false
 
-pub measure-within-spec : {M : Type 1} → statement M
-measure-within-spec = tie.close (tie.spec (λ c κs. search rules) (λ c κs. search rules) returns (λ c. search rules) (λ c. search rules) (λ c. let l = lists c in search rules) (λ c κs. search rules) (λ c. search rules) table-spent-requires (λ c. search rules) (λ c. search rules) (λ c. let l = lists c.before.before.before in search rules) (λ c κs. search rules) (λ c κs. search rules) returns-2 (λ c κs. search rules) returns-3 (λ c. search rules) returns-4)
+pub measure_within_spec : {M : Type 1} → statement M
+measure_within_spec = tie.close (tie.spec (λ c κs. search rules) (λ c κs. search rules) returns (λ c. search rules) (λ c. search rules) (λ c. let l = lists c in search rules) (λ c κs. search rules) (λ c. search rules) table-spent-requires (λ c. search rules) (λ c. search rules) (λ c. let l = lists c.before.before.before in search rules) (λ c κs. search rules) (λ c κs. search rules) returns-2 (λ c κs. search rules) returns-3 (λ c. search rules) returns-4)

@@ -8,18 +8,18 @@ use Rattle.layout.proofs.Lines.{trimmed-shorter}
 use Rattle.canon.proofs.measuring.text_end.Statement.{statement}
 use Rattle.canon.proofs.measuring.text_end.Tie as tie
 
-returns : tie.Need-returns
-returns c = rw (eq-eqb _ 0 (sym c.before.trimmed-length.ensures ∙ c.if1.true))
+returns : tie.Need-returns-then-n-eq0
+returns c = rw (eq-eqb _ 0 (sym c.trimmed_length-n.ensures ∙ c.if-n-eq0.true))
 
-add-result : tie.Need-overflow-add-result
+add-result : tie.Need-overflow_add-result
 add-result c =
-    let cut = c.before in
-    omega (arith, trimmed-shorter cut.before.before.args.text.now, cut.trimmed-length.ensures)
+    let cut = c in
+    omega (arith, trimmed-shorter cut.args.text.now, cut.trimmed_length-n.ensures)
 
-returns-2 : tie.Need-returns-2
+returns-2 : tie.Need-returns
 returns-2 c =
-    let cut = c.before in
-    rw (ne_eqb _ 0 (λ e. c.if1.false (cut.trimmed-length.ensures ∙ e)), cut.trimmed-length.ensures)
+    let cut = c in
+    rw (ne_eqb _ 0 (λ e. c.if-n-eq0.false (cut.trimmed_length-n.ensures ∙ e)), cut.trimmed_length-n.ensures)
 
-pub text-end-spec : {M : Type 1} → statement M
-text-end-spec = tie.close (tie.spec (λ c κs. search rules) returns add-result returns-2)
+pub text_end_spec : {M : Type 1} → statement M
+text_end_spec = tie.close (tie.spec (λ c κs. search rules) returns add-result returns-2)

@@ -12,12 +12,12 @@ use Rattle.canon.proofs.notes.correlation_valid.Tie as tie
 
 returns : tie.Need-returns
 returns c =
-    let a = c.before.before.before.args in
-    one_of (ap (λ (m : ℕ). leb m largest_correlation) (magnitude-read a.note.now a.i c.before.before.magnitude-of-arg.given c.before.magnitude-of.ensures))
-    c.is-unnoted.ensures
+    let a = c.args in
+    one_of (ap (λ (m : ℕ). leb m largest_correlation) (magnitude-read a.note.now a.i c.magnitude-of-arg.given c.magnitude_of.ensures))
+    c.is_unnoted.ensures
 
-pub correlation-valid-spec : {M : Type 1} → statement M
-correlation-valid-spec =
+pub correlation_valid_spec : {M : Type 1} → statement M
+correlation_valid_spec =
     tie.close
     (tie.spec
     (λ c. search rules)

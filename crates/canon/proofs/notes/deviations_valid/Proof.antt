@@ -6,10 +6,10 @@ use Rattle.canon.proofs.notes.deviations_valid.Statement.{statement}
 use Rattle.canon.proofs.notes.deviations_valid.Tie as tie
 
 returns : tie.Need-returns
-returns c = two-pairs c.before.before.before.known-valid.ensures c.before.before.known-valid2.ensures c.before.known-valid3.ensures c.known-valid4.ensures
+returns c = two-pairs c.known_valid.ensures c.known_valid-2.ensures c.known_valid-3.ensures c.known_valid-4.ensures
 
-pub deviations-valid-spec : {M : Type 1} → statement M
-deviations-valid-spec =
+pub deviations_valid_spec : {M : Type 1} → statement M
+deviations_valid_spec =
     tie.close
     (tie.spec
     (λ c κs. search rules)

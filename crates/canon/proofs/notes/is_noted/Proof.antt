@@ -6,10 +6,10 @@ use Rattle.canon.proofs.notes.is_noted.Statement.{statement}
 use Rattle.canon.proofs.notes.is_noted.Tie as tie
 
 returns : tie.Need-returns
-returns c = mark-read c.before.args.note.now 0 c.result.given
+returns c = mark-read c.args.note.now 0 c.result.given
 
-pub is-noted-spec : {M : Type 1} → statement M
-is-noted-spec =
+pub is_noted_spec : {M : Type 1} → statement M
+is_noted_spec =
     tie.close
     (tie.spec
     (λ c. search rules)

@@ -9,27 +9,27 @@ use Rattle.canon.proofs.Reach.{note-reach}
 use Rattle.canon.proofs.notes.line_length.Statement.{statement}
 use Rattle.canon.proofs.notes.line_length.Tie as tie
 
-measured : (c : tie.After-end-at6) → c.end-at6.result ≡ correlations_end c.before.before.before.before.before.before.before.args.note.now
+measured : (c : tie.After-end_at) → c.end_at.result ≡ correlations_end c.args.note.now
 unfolding correlations_end
 measured c =
     rw (
-      c.end-at6.ensures,
-      c.before.end-at5.ensures,
-      c.before.before.end-at4.ensures,
-      c.before.before.before.end-at3.ensures,
-      c.before.before.before.before.end-at2.ensures,
-      c.before.before.before.before.before.end-at.ensures,
-      c.before.before.before.before.before.before.deviations-end.ensures,
+      c.end_at.ensures,
+      c.end_at-yc.ensures,
+      c.end_at-yz.ensures,
+      c.end_at-xc.ensures,
+      c.end_at-xz.ensures,
+      c.end_at-xy.ensures,
+      c.deviations_end-none.ensures,
     )
 
-add-result : tie.Need-overflow-add-result
-add-result c = omega (arith, measured c, note-reach c.before.before.before.before.before.before.before.args.note.now)
+add-result : tie.Need-overflow_add-result
+add-result c = omega (arith, measured c, note-reach c.args.note.now)
 
 returns : tie.Need-returns
 returns c = ap (λ (n : ℕ). n + 1) (measured c)
 
-pub line-length-spec : {M : Type 1} → statement M
-line-length-spec =
+pub line_length_spec : {M : Type 1} → statement M
+line_length_spec =
     tie.close
     (tie.spec
     (λ c κs. search rules)

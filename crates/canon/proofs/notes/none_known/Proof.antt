@@ -7,12 +7,12 @@ use Rattle.canon.proofs.notes.none_known.Tie as tie
 
 returns : tie.Need-returns
 returns c =
-    both (two-pairs c.before.before.before.before.before.before.before.before.before.is-unnoted.ensures c.before.before.before.before.before.before.before.before.is-unnoted2.ensures c.before.before.before.before.before.before.before.is-unnoted3.ensures c.before.before.before.before.before.before.is-unnoted4.ensures)
-    (both (two-pairs c.before.before.before.before.before.is-unnoted5.ensures c.before.before.before.before.is-unnoted6.ensures c.before.before.before.is-unnoted7.ensures c.before.before.is-unnoted8.ensures)
-    (both c.before.is-unnoted9.ensures c.is-unnoted10.ensures))
+    both (two-pairs c.is_unnoted.ensures c.is_unnoted-2.ensures c.is_unnoted-3.ensures c.is_unnoted-4.ensures)
+    (both (two-pairs c.is_unnoted-5.ensures c.is_unnoted-6.ensures c.is_unnoted-7.ensures c.is_unnoted-8.ensures)
+    (both c.is_unnoted-9.ensures c.is_unnoted-10.ensures))
 
-pub none-known-spec : {M : Type 1} → statement M
-none-known-spec =
+pub none_known_spec : {M : Type 1} → statement M
+none_known_spec =
     tie.close
     (tie.spec
     (λ c κs. search rules)

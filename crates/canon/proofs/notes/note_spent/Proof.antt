@@ -13,28 +13,28 @@ use Rattle.canon.proofs.Reading.{unmarked}
 use Rattle.canon.proofs.notes.note_spent.Statement.{statement}
 use Rattle.canon.proofs.notes.note_spent.Tie as tie
 
-returns : tie.Need-returns
+returns : tie.Need-returns-then-not-is_noted
 unfolding note_valid note_length
 returns c =
-    let asked = c.before.before in
-    let note = asked.before.args.note.now in
-    let none : is_noted note ≡ false = sym asked.is-noted.ensures ∙ not-true _ c.before.if1.true in
-    rw (unmarked (entry note 0) none, none) (c.none-known.ensures, omega arith)
+    let asked = c in
+    let note = asked.args.note.now in
+    let none : is_noted note ≡ false = sym asked.is_noted.ensures ∙ not-true _ c.if-not-is_noted.true in
+    rw (unmarked (entry note 0) none, none) (c.none_known.ensures, omega arith)
 
-returns-2 : tie.Need-returns-2
+returns-2 : tie.Need-returns
 unfolding note_valid note_length
 returns-2 c =
-    let ten = c.before.before in
-    let asked = ten.before.before.before in
-    let start = asked.before in
-    let stood : is_noted start.args.note.now ≡ true = sym asked.is-noted.ensures ∙ not-false _ ten.before.before.if1.false in
+    let ten = c in
+    let asked = c in
+    let start = c in
+    let stood : is_noted start.args.note.now ≡ true = sym asked.is_noted.ensures ∙ not-false _ ten.if-not-is_noted.false in
     rw stood (
-      both ten.before.at_most.ensures ten.ten-valid.ensures,
-      c.spend.ensures ∙ ap (λ (n : ℕ). start.args.left - n) c.before.line-length.ensures,
+      both ten.at_most.ensures ten.ten_valid.ensures,
+      c.spend.ensures ∙ ap (λ (n : ℕ). start.args.left - n) c.line_length.ensures,
     )
 
-pub note-spent-spec : {M : Type 1} → statement M
-note-spent-spec =
+pub note_spent_spec : {M : Type 1} → statement M
+note_spent_spec =
     tie.close
     (tie.spec
     (λ c κs. search rules)

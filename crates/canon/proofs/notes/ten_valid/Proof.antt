@@ -7,12 +7,12 @@ use Rattle.canon.proofs.notes.ten_valid.Tie as tie
 
 returns : tie.Need-returns
 returns c =
-    both c.before.before.before.before.before.before.deviations-valid.ensures
-    (both (two-pairs c.before.before.before.before.before.correlation-valid.ensures c.before.before.before.before.correlation-valid2.ensures c.before.before.before.correlation-valid3.ensures c.before.before.correlation-valid4.ensures)
-    (both c.before.correlation-valid5.ensures c.correlation-valid6.ensures))
+    both c.deviations_valid-a.ensures
+    (both (two-pairs c.correlation_valid.ensures c.correlation_valid-2.ensures c.correlation_valid-3.ensures c.correlation_valid-4.ensures)
+    (both c.correlation_valid-5.ensures c.correlation_valid-6.ensures))
 
-pub ten-valid-spec : {M : Type 1} → statement M
-ten-valid-spec =
+pub ten_valid_spec : {M : Type 1} → statement M
+ten_valid_spec =
     tie.close
     (tie.spec
     (λ c κs. search rules)

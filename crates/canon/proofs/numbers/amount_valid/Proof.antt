@@ -6,7 +6,7 @@ use Rattle.canon.proofs.numbers.amount_valid.Statement.{statement}
 use Rattle.canon.proofs.numbers.amount_valid.Tie as tie
 
 returns : tie.Need-returns
-returns c = let a = c.before.before.args in amount-read a.row.now a.i c.result2.given
+returns c = let a = c.args in amount-read a.row.now a.i c.result-2-1.given
 
-pub amount-valid-spec : {M : Type 1} → statement M
-amount-valid-spec = tie.close (tie.spec (λ c. search rules) (λ c. search rules) (λ c. search rules) (λ c. search rules) returns)
+pub amount_valid_spec : {M : Type 1} → statement M
+amount_valid_spec = tie.close (tie.spec (λ c. search rules) (λ c. search rules) (λ c. search rules) (λ c. search rules) returns)

@@ -7,9 +7,9 @@ use Rattle.canon.proofs.numbers.amounts_valid.Tie as tie
 
 returns : tie.Need-returns
 returns c =
-    let third = c.before in
-    let second = third.before in
-    two-pairs second.before.amount-valid.ensures second.amount-valid2.ensures third.amount-valid3.ensures c.clock-valid.ensures
+    let third = c in
+    let second = c in
+    two-pairs second.amount_valid.ensures second.amount_valid-2.ensures third.amount_valid-3.ensures c.clock_valid.ensures
 
-pub amounts-valid-spec : {M : Type 1} → statement M
-amounts-valid-spec = tie.close (tie.spec (λ c κs. search rules) (λ c κs. search rules) (λ c κs. search rules) (λ c κs. search rules) returns)
+pub amounts_valid_spec : {M : Type 1} → statement M
+amounts_valid_spec = tie.close (tie.spec (λ c κs. search rules) (λ c κs. search rules) (λ c κs. search rules) (λ c κs. search rules) returns)

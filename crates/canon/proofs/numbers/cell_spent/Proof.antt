@@ -15,28 +15,28 @@ use Rattle.canon.proofs.Tests.{both}
 use Rattle.canon.proofs.numbers.cell_spent.Statement.{statement}
 use Rattle.canon.proofs.numbers.cell_spent.Tie as tie
 
-row-spent-requires : tie.Need-row-spent-requires
-row-spent-requires c κs = c.before.requires ∙ ap cell_width (not-true c.before.args.velocity c.if1.true)
+row-spent-requires : tie.Need-row_spent-requires
+row-spent-requires c κs = c.requires ∙ ap cell_width (not-true c.args.velocity c.if-not-velocity.true)
 
-returns : tie.Need-returns
+returns : tie.Need-returns-then-not-velocity
 unfolding cell_valid cell_length
-returns c = rw (not-true c.before.before.args.velocity c.before.if1.true) c.row-spent.ensures
+returns c = rw (not-true c.args.velocity c.if-not-velocity.true) c.row_spent.ensures
 
-long : (c : tie.Else1) → length c.before.args.cell.now ≡ both_width
-long c = c.before.requires ∙ ap cell_width (not-false c.before.args.velocity c.if1.false)
+long : (c : tie.Else-not-velocity) → length c.args.cell.now ≡ both_width
+long c = c.requires ∙ ap cell_width (not-false c.args.velocity c.if-not-velocity.false)
 
-returns-2 : tie.Need-returns-2
+returns-2 : tie.Need-returns
 unfolding cell_valid cell_length
 returns-2 c =
-    let motion = c.before.before in
-    let place = motion.before.before in
-    let mode = place.before.before in
-    let cell = mode.before.args.cell.now in
-    let second = take_all row_width (drop row_width cell) (omega (arith, length-drop row_width cell, long mode)) in
-    rw (not-false mode.before.args.velocity mode.if1.false) (
-      both place.row-spent2.ensures.0 (motion.row-spent3.ensures.0 ∙ ap (noted_valid true) second),
-      omega (arith, place.row-spent2.ensures.1, motion.row-spent3.ensures.1, ap noted_length second),
+    let motion = c in
+    let place = c in
+    let mode = c in
+    let cell = mode.args.cell.now in
+    let second = take_all row_width (drop row_width cell) (omega (arith, length-drop row_width cell, long c.before.before.before.before.before.before)) in
+    rw (not-false mode.args.velocity mode.if-not-velocity.false) (
+      both place.row_spent-place.ensures.0 (motion.row_spent-motion.ensures.0 ∙ ap (noted_valid true) second),
+      omega (arith, place.row_spent-place.ensures.1, motion.row_spent-motion.ensures.1, ap noted_length second),
     )
 
-pub cell-spent-spec : {M : Type 1} → statement M
-cell-spent-spec = tie.close (tie.spec row-spent-requires returns (λ c. search rules) (λ c. search rules) (λ c. let h = long c in search rules) (λ c κs. let h = long c.before in search rules) (λ c. search rules) (λ c. search rules) (λ c. let h = long c.before.before in search rules) (λ c κs. let h = long c.before.before.before in search rules) returns-2)
+pub cell_spent_spec : {M : Type 1} → statement M
+cell_spent_spec = tie.close (tie.spec row-spent-requires returns (λ c. search rules) (λ c. search rules) (λ c. let h = long c in search rules) (λ c κs. let h = long c.before in search rules) (λ c. search rules) (λ c. search rules) (λ c. let h = long c.before.before in search rules) (λ c κs. let h = long c.before.before.before in search rules) returns-2)

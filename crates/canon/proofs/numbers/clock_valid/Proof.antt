@@ -6,9 +6,9 @@ use Rattle.canon.proofs.numbers.clock_valid.Statement.{statement}
 use Rattle.canon.proofs.numbers.clock_valid.Tie as tie
 
 returns : tie.Need-returns
-returns c = let a = c.before.before.before.args in clock-read a.row.now a.i c.result3.given
+returns c = let a = c.args in clock-read a.row.now a.i c.result-3-1.given
 
-pub clock-valid-spec : {M : Type 1} → statement M
-clock-valid-spec =
+pub clock_valid_spec : {M : Type 1} → statement M
+clock_valid_spec =
     tie.close
     (tie.spec (λ c. search rules) (λ c. search rules) (λ c. search rules) (λ c. search rules) (λ c. search rules) (λ c. search rules) returns)

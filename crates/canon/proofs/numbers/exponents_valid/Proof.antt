@@ -7,10 +7,10 @@ use Rattle.canon.proofs.numbers.exponents_valid.Tie as tie
 
 returns : tie.Need-returns
 returns c =
-    let third = c.before in
-    let second = third.before in
-    two-pairs second.before.known-valid.ensures second.known-valid2.ensures third.known-valid3.ensures
-    c.known-valid4.ensures
+    let third = c in
+    let second = c in
+    two-pairs second.known_valid.ensures second.known_valid-2.ensures third.known_valid-3.ensures
+    c.known_valid-4.ensures
 
-pub exponents-valid-spec : {M : Type 1} → statement M
-exponents-valid-spec = tie.close (tie.spec (λ c κs. search rules) (λ c κs. search rules) (λ c κs. search rules) (λ c κs. search rules) returns)
+pub exponents_valid_spec : {M : Type 1} → statement M
+exponents_valid_spec = tie.close (tie.spec (λ c κs. search rules) (λ c κs. search rules) (λ c κs. search rules) (λ c κs. search rules) returns)

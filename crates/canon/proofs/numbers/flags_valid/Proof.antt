@@ -7,11 +7,11 @@ use Rattle.canon.proofs.numbers.flags_valid.Tie as tie
 
 returns : tie.Need-returns
 returns c =
-    let third = c.before in
-    let second = third.before in
-    let first = second.before in
-    rw (← first.before.most-flag.ensures)
-    (two-pairs first.at_most.ensures second.at-most2.ensures third.at-most3.ensures c.at-most4.ensures)
+    let third = c in
+    let second = c in
+    let first = c in
+    rw (← first.most_flag-most.ensures)
+    (two-pairs first.at_most.ensures second.at_most-2.ensures third.at_most-3.ensures c.at_most-4.ensures)
 
-pub flags-valid-spec : {M : Type 1} → statement M
-flags-valid-spec = tie.close (tie.spec (λ c κs. search rules) (λ c κs. search rules) (λ c κs. search rules) (λ c κs. search rules) (λ c κs. search rules) returns)
+pub flags_valid_spec : {M : Type 1} → statement M
+flags_valid_spec = tie.close (tie.spec (λ c κs. search rules) (λ c κs. search rules) (λ c κs. search rules) (λ c κs. search rules) (λ c κs. search rules) returns)

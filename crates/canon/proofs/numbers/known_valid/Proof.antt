@@ -12,10 +12,10 @@ use Rattle.canon.proofs.numbers.known_valid.Tie as tie
 
 returns : tie.Need-returns
 returns c =
-    let a = c.before.before.args in
+    let a = c.args in
     let v = entry a.row.now a.i in
-    one_of c.before.at_most.ensures c.is-count.ensures
+    one_of c.at_most.ensures c.is_count.ensures
     ∙ both-not (is_negative v) (leb (nat_abs v) a.most) (eqb (nat_abs v) a.unknown)
 
-pub known-valid-spec : {M : Type 1} → statement M
-known-valid-spec = tie.close (tie.spec (λ c κs. search rules) (λ c κs. search rules) returns)
+pub known_valid_spec : {M : Type 1} → statement M
+known_valid_spec = tie.close (tie.spec (λ c κs. search rules) (λ c κs. search rules) returns)

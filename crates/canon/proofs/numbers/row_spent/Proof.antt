@@ -15,18 +15,18 @@ use Rattle.canon.proofs.numbers.row_spent.Tie as tie
 returns : tie.Need-returns
 unfolding noted_valid noted_length
 returns c =
-    let measured = c.before in
-    let judged = measured.before.before in
-    let note = judged.before in
-    let start = note.before.before in
+    let measured = c in
+    let judged = c in
+    let note = c in
+    let start = c in
     let row = start.args.row.now in
     let all = take_all note_width (drop bare_width row) (omega (arith, length-drop bare_width row, start.requires)) in (
-      both judged.row-valid.ensures (note.note-spent.ensures.0 ∙ ap note_valid all),
-      omega (arith, c.spend.ensures, measured.row-length.ensures.0, note.note-spent.ensures.1, ap note_length all),
+      both judged.row_valid.ensures (note.note_spent-note.ensures.0 ∙ ap note_valid all),
+      omega (arith, c.spend.ensures, measured.row_length.ensures.0, note.note_spent-note.ensures.1, ap note_length all),
     )
 
-pub row-spent-spec : {M : Type 1} → statement M
-row-spent-spec =
+pub row_spent_spec : {M : Type 1} → statement M
+row_spent_spec =
     tie.close
     (tie.spec
     (λ c. search rules)

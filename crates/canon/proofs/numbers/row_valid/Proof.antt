@@ -8,7 +8,7 @@ use Rattle.canon.proofs.numbers.row_valid.Tie as tie
 
 returns : tie.Need-returns
 unfolding row_valid
-returns c = both c.before.before.amounts-valid.ensures (both c.before.exponents-valid.ensures c.flags-valid.ensures)
+returns c = both c.amounts_valid.ensures (both c.exponents_valid.ensures c.flags_valid.ensures)
 
-pub row-valid-spec : {M : Type 1} → statement M
-row-valid-spec = tie.close (tie.spec (λ c κs. search rules) (λ c κs. search rules) (λ c κs. search rules) returns)
+pub row_valid_spec : {M : Type 1} → statement M
+row_valid_spec = tie.close (tie.spec (λ c κs. search rules) (λ c κs. search rules) (λ c κs. search rules) returns)

@@ -5,5 +5,5 @@ use lib.ListN.{length-replicate}
 use Rattle.cases_divide.proofs.input.all.Statement.{statement}
 use Rattle.cases_divide.proofs.input.all.Tie as tie
 
-pub all-spec : {M : Type 1} → statement M
-all-spec = tie.close (tie.spec (λ c. sym (length-replicate {0} {A = ℕ} 1_000_000 0)) (λ c κs. search rules) (λ c. search rules))
+pub all_spec : {M : Type 1} → statement M
+all_spec = tie.close (tie.spec (λ c. sym (length-replicate {0} {A = ℕ} 1_000_000 0)) (λ c κs. search rules) (λ c. search rules))

@@ -4,14 +4,14 @@ use Rattle.std.proofs.Common.{◌-◌, ◌≤◌, length, rules}
 use Rattle.cases_divide.proofs.lent.filled.Statement.{statement}
 use Rattle.cases_divide.proofs.lent.filled.Tie as tie
 
-abbrev invariant-loop : tie.invariant-loop
+abbrev invariant-loop : tie.invariant-loop-i
 invariant-loop named numbers i₀ i = i ≤ length numbers
 
-abbrev decreases-loop : tie.decreases-loop
+abbrev decreases-loop : tie.decreases-loop-i
 decreases-loop named numbers i₀ i = length numbers - i
 
-pub filled-spec : {M : Type 1} → statement M
-filled-spec =
+pub filled_spec : {M : Type 1} → statement M
+filled_spec =
     tie.close
     (tie.spec
     invariant-loop

@@ -4,14 +4,14 @@ use Rattle.std.proofs.Common.{◌-◌, ◌≤◌, length, rules}
 use Rattle.cases_divide.proofs.walked.line_count.Statement.{statement}
 use Rattle.cases_divide.proofs.walked.line_count.Tie as tie
 
-abbrev invariant-loop : tie.invariant-loop
+abbrev invariant-loop : tie.invariant-loop-i
 invariant-loop bytes count₀ i₀ count i = (count ≤ i) × (i ≤ length bytes)
 
-abbrev decreases-loop : tie.decreases-loop
+abbrev decreases-loop : tie.decreases-loop-i
 decreases-loop bytes count₀ i₀ count i = length bytes - i
 
-pub line-count-spec : {M : Type 1} → statement M
-line-count-spec =
+pub line_count_spec : {M : Type 1} → statement M
+line_count_spec =
     tie.close
     (tie.spec
     invariant-loop

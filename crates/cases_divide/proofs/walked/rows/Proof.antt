@@ -4,14 +4,14 @@ use Rattle.std.proofs.Common.{◌≤◌, rules}
 use Rattle.cases_divide.proofs.walked.rows.Statement.{statement}
 use Rattle.cases_divide.proofs.walked.rows.Tie as tie
 
-abbrev invariant-loop : tie.invariant-loop
+abbrev invariant-loop : tie.invariant-loop-epoch
 invariant-loop file header from₀ left₀ t15 t16 from left = left ≤ left₀
 
-abbrev decreases-loop : tie.decreases-loop
+abbrev decreases-loop : tie.decreases-loop-epoch
 decreases-loop file header from₀ left₀ t15 t16 from left = left
 
-pub rows-spec : {M : Type 1} → statement M
-rows-spec =
+pub rows_spec : {M : Type 1} → statement M
+rows_spec =
     tie.close
     (tie.spec
     invariant-loop

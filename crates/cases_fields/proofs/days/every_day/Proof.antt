@@ -5,14 +5,14 @@ use borrow.Author.Rules.{rules}
 use Rattle.cases_fields.proofs.days.every_day.Statement.{statement}
 use Rattle.cases_fields.proofs.days.every_day.Tie as tie
 
-abbrev invariant-loop : tie.invariant-loop
+abbrev invariant-loop : tie.invariant-loop-mjd
 invariant-loop sum₀ mjd₀ sum mjd = mjd ≤ 88070
 
-abbrev decreases-loop : tie.decreases-loop
+abbrev decreases-loop : tie.decreases-loop-mjd
 decreases-loop sum₀ mjd₀ sum mjd = 88070 - mjd
 
-pub every-day-spec : {M : Type 1} → statement M
-every-day-spec =
+pub every_day_spec : {M : Type 1} → statement M
+every_day_spec =
     tie.close
     (tie.spec
     invariant-loop

@@ -5,14 +5,14 @@ use borrow.Author.Rules.{rules}
 use Rattle.cases_fields.proofs.days.every_second.Statement.{statement}
 use Rattle.cases_fields.proofs.days.every_second.Tie as tie
 
-abbrev invariant-loop : tie.invariant-loop
+abbrev invariant-loop : tie.invariant-loop-second
 invariant-loop sum₀ second₀ sum second = second ≤ 86401
 
-abbrev decreases-loop : tie.decreases-loop
+abbrev decreases-loop : tie.decreases-loop-second
 decreases-loop sum₀ second₀ sum second = 86401 - second
 
-pub every-second-spec : {M : Type 1} → statement M
-every-second-spec =
+pub every_second_spec : {M : Type 1} → statement M
+every_second_spec =
     tie.close
     (tie.spec
     invariant-loop

@@ -5,14 +5,14 @@ use borrow.Author.Rules.{rules}
 use Rattle.cases_fields.proofs.days.with_agreement.Statement.{statement}
 use Rattle.cases_fields.proofs.days.with_agreement.Tie as tie
 
-abbrev invariant-loop : tie.invariant-loop
+abbrev invariant-loop : tie.invariant-loop-above
 invariant-loop sum f s least all₀ above₀ all above = (least < 10_000_000_000_000) × (above ≤ 5)
 
-abbrev decreases-loop : tie.decreases-loop
+abbrev decreases-loop : tie.decreases-loop-above
 decreases-loop sum f s least all₀ above₀ all above = 5 - above
 
-pub with-agreement-spec : {M : Type 1} → statement M
-with-agreement-spec =
+pub with_agreement_spec : {M : Type 1} → statement M
+with_agreement_spec =
     tie.close
     (tie.spec
     invariant-loop

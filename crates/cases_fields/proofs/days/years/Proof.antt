@@ -5,14 +5,14 @@ use borrow.Author.Rules.{rules}
 use Rattle.cases_fields.proofs.days.years.Statement.{statement}
 use Rattle.cases_fields.proofs.days.years.Tie as tie
 
-abbrev invariant-loop : tie.invariant-loop
+abbrev invariant-loop : tie.invariant-loop-year
 invariant-loop year₀ year = year ≤ 2101
 
-abbrev decreases-loop : tie.decreases-loop
+abbrev decreases-loop : tie.decreases-loop-year
 decreases-loop year₀ year = 2101 - year
 
-pub years-spec : {M : Type 1} → statement M
-years-spec =
+pub years_spec : {M : Type 1} → statement M
+years_spec =
     tie.close
     (tie.spec
     invariant-loop

@@ -4,14 +4,14 @@ use Rattle.std.proofs.Common.{◌≡◌, ◌-◌, ◌≤◌, length, rules}
 use Rattle.cases_forms.proofs.words.numbers.Statement.{statement}
 use Rattle.cases_forms.proofs.words.numbers.Tie as tie
 
-abbrev invariant-loop : tie.invariant-loop
+abbrev invariant-loop : tie.invariant-loop-k
 invariant-loop text at list₀ from₀ k₀ list from k = ((at ≤ from) × (from ≤ length text)) × (k ≤ length list₀) × (length list ≡ length list₀)
 
-abbrev decreases-loop : tie.decreases-loop
+abbrev decreases-loop : tie.decreases-loop-k
 decreases-loop text at list₀ from₀ k₀ list from k = length list₀ - k
 
-pub numbers-spec : {M : Type 1} → statement M
-numbers-spec =
+pub numbers_spec : {M : Type 1} → statement M
+numbers_spec =
     tie.close
     (tie.spec
     invariant-loop

@@ -4,14 +4,14 @@ use Rattle.std.proofs.Common.{◌≡◌, ◌-◌, ◌≤◌, length, rules}
 use Rattle.cases_forms.proofs.words.signed_numbers.Statement.{statement}
 use Rattle.cases_forms.proofs.words.signed_numbers.Tie as tie
 
-abbrev invariant-loop : tie.invariant-loop
+abbrev invariant-loop : tie.invariant-loop-k
 invariant-loop text at list₀ from₀ k₀ list from k = ((at ≤ from) × (from ≤ length text)) × (k ≤ length list₀) × (length list ≡ length list₀)
 
-abbrev decreases-loop : tie.decreases-loop
+abbrev decreases-loop : tie.decreases-loop-k
 decreases-loop text at list₀ from₀ k₀ list from k = length list₀ - k
 
-pub signed-numbers-spec : {M : Type 1} → statement M
-signed-numbers-spec =
+pub signed_numbers_spec : {M : Type 1} → statement M
+signed_numbers_spec =
     tie.close
     (tie.spec
     invariant-loop

@@ -4,14 +4,14 @@ use Rattle.std.proofs.Common.{◌-◌, ◌≤◌, length, rules}
 use Rattle.cases_forms.proofs.words.word_end.Statement.{statement}
 use Rattle.cases_forms.proofs.words.word_end.Tie as tie
 
-abbrev invariant-loop : tie.invariant-loop
+abbrev invariant-loop : tie.invariant-loop-end
 invariant-loop text at end₀ end = (at ≤ end) × (end ≤ length text)
 
-abbrev decreases-loop : tie.decreases-loop
+abbrev decreases-loop : tie.decreases-loop-end
 decreases-loop text at end₀ end = length text - end
 
-pub word-end-spec : {M : Type 1} → statement M
-word-end-spec =
+pub word_end_spec : {M : Type 1} → statement M
+word_end_spec =
     tie.close
     (tie.spec
     invariant-loop

@@ -4,14 +4,14 @@ use Rattle.std.proofs.Common.{◌-◌, ◌≤◌, length, rules}
 use Rattle.cases_lines.proofs.words.signed.Statement.{statement}
 use Rattle.cases_lines.proofs.words.signed.Tie as tie
 
-abbrev invariant-loop : tie.invariant-loop
+abbrev invariant-loop : tie.invariant-loop-at
 invariant-loop s k told₀ word₀ at₀ told word at = at ≤ length s
 
-abbrev decreases-loop : tie.decreases-loop
+abbrev decreases-loop : tie.decreases-loop-at
 decreases-loop s k told₀ word₀ at₀ told word at = length s - at
 
-pub signed-spec : {M : Type 1} → statement M
-signed-spec =
+pub signed_spec : {M : Type 1} → statement M
+signed_spec =
     tie.close
     (tie.spec
     invariant-loop

@@ -4,14 +4,14 @@ use Rattle.std.proofs.Common.{◌≡◌, ◌-◌, ◌≤◌, length, rules}
 use Rattle.cases_lines.proofs.words.slots.Statement.{statement}
 use Rattle.cases_lines.proofs.words.slots.Tie as tie
 
-abbrev invariant-loop : tie.invariant-loop
+abbrev invariant-loop : tie.invariant-loop-k
 invariant-loop s values₀ k₀ values k = (k ≤ 17) × (length values ≡ 17)
 
-abbrev decreases-loop : tie.decreases-loop
+abbrev decreases-loop : tie.decreases-loop-k
 decreases-loop s values₀ k₀ values k = 17 - k
 
-pub slots-spec : {M : Type 1} → statement M
-slots-spec =
+pub slots_spec : {M : Type 1} → statement M
+slots_spec =
     tie.close
     (tie.spec
     invariant-loop

@@ -4,14 +4,14 @@ use Rattle.std.proofs.Common.{◌-◌, ◌≤◌, length, rules}
 use Rattle.cases_tables.proofs.input.batch.Statement.{statement}
 use Rattle.cases_tables.proofs.input.batch.Tie as tie
 
-abbrev invariant-loop : tie.invariant-loop
+abbrev invariant-loop : tie.invariant-loop-at
 invariant-loop input at₀ at = at ≤ length input
 
-abbrev decreases-loop : tie.decreases-loop
+abbrev decreases-loop : tie.decreases-loop-at
 decreases-loop input at₀ at = length input - at
 
-pub batch-spec : {M : Type 1} → statement M
-batch-spec =
+pub batch_spec : {M : Type 1} → statement M
+batch_spec =
     tie.close
     (tie.spec
     invariant-loop

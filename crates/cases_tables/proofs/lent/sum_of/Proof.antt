@@ -4,14 +4,14 @@ use Rattle.std.proofs.Common.{◌-◌, ◌≤◌, length, rules}
 use Rattle.cases_tables.proofs.lent.sum_of.Statement.{statement}
 use Rattle.cases_tables.proofs.lent.sum_of.Tie as tie
 
-abbrev invariant-loop : tie.invariant-loop
+abbrev invariant-loop : tie.invariant-loop-i
 invariant-loop numbers sum₀ i₀ sum i = i ≤ length numbers
 
-abbrev decreases-loop : tie.decreases-loop
+abbrev decreases-loop : tie.decreases-loop-i
 decreases-loop numbers sum₀ i₀ sum i = length numbers - i
 
-pub sum-of-spec : {M : Type 1} → statement M
-sum-of-spec =
+pub sum_of_spec : {M : Type 1} → statement M
+sum_of_spec =
     tie.close
     (tie.spec
     invariant-loop

@@ -5,9 +5,9 @@ use lib.Ieee.{of_bits, neg}
 use Rattle.cases_tables.proofs.print.whole_of.Statement.{statement}
 use Rattle.cases_tables.proofs.print.whole_of.Tie as tie
 
-truncating-f64-to-i64-requires : tie.Need-truncating-f64-to-i64-requires
+truncating-f64-to-i64-requires : tie.Need-truncating_f64_to_i64-requires
 unfolding of_bits neg
-truncating-f64-to-i64-requires c κs = (subst T (sym c.before.if1.true) tt, subst T (sym c.if2.true) tt)
+truncating-f64-to-i64-requires c κs = (subst T (sym c.if-x.true) tt, subst T (sym c.if-x-2.true) tt)
 
-pub whole-of-spec : {M : Type 1} → statement M
-whole-of-spec = tie.close (tie.spec truncating-f64-to-i64-requires (λ c. search rules) (λ c. search rules) (λ c. search rules))
+pub whole_of_spec : {M : Type 1} → statement M
+whole_of_spec = tie.close (tie.spec truncating-f64-to-i64-requires (λ c. search rules) (λ c. search rules) (λ c. search rules))

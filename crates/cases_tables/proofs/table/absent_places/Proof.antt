@@ -4,14 +4,14 @@ use Rattle.std.proofs.Common.{◌-◌, ◌≤◌, rules}
 use Rattle.cases_tables.proofs.table.absent_places.Statement.{statement}
 use Rattle.cases_tables.proofs.table.absent_places.Tie as tie
 
-abbrev invariant-loop : tie.invariant-loop
+abbrev invariant-loop : tie.invariant-loop-k
 invariant-loop rows n absent₀ k₀ absent k = (absent ≤ k) × (k ≤ n)
 
-abbrev decreases-loop : tie.decreases-loop
+abbrev decreases-loop : tie.decreases-loop-k
 decreases-loop rows n absent₀ k₀ absent k = n - k
 
-pub absent-places-spec : {M : Type 1} → statement M
-absent-places-spec =
+pub absent_places_spec : {M : Type 1} → statement M
+absent_places_spec =
     tie.close
     (tie.spec
     invariant-loop

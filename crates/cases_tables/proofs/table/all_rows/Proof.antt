@@ -4,14 +4,14 @@ use Rattle.std.proofs.Common.{◌-◌, ◌≤◌, length, rules}
 use Rattle.cases_tables.proofs.table.all_rows.Statement.{statement}
 use Rattle.cases_tables.proofs.table.all_rows.Tie as tie
 
-abbrev invariant-loop : tie.invariant-loop
+abbrev invariant-loop : tie.invariant-loop-k
 invariant-loop velocity epochs identifiers rows n k₀ k = k ≤ length rows
 
-abbrev decreases-loop : tie.decreases-loop
+abbrev decreases-loop : tie.decreases-loop-k
 decreases-loop velocity epochs identifiers rows n k₀ k = length rows - k
 
-pub all-rows-spec : {M : Type 1} → statement M
-all-rows-spec =
+pub all_rows_spec : {M : Type 1} → statement M
+all_rows_spec =
     tie.close
     (tie.spec
     invariant-loop

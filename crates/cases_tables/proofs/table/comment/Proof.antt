@@ -8,10 +8,10 @@ use Rattle.cases_tables.proofs.table.comment.Tie as tie
 part-text-end : tie.Need-slice-bounds-text-end
 part-text-end c =
     let told = c.before.before in
-    omega (arith, told.trimmed-length.ensures, trimmed-shorter told.before.before.args.text.now)
+    omega (arith, told.trimmed_length-n.ensures, trimmed-shorter told.args.text.now)
 
-pub comment-spec : {M : Type 1} → statement M
-comment-spec =
+pub comment_spec : {M : Type 1} → statement M
+comment_spec =
     tie.close
     (tie.spec
     (λ c κs. search rules)

@@ -4,14 +4,14 @@ use Rattle.std.proofs.Common.{◌-◌, ◌≤◌, rules}
 use Rattle.cases_tables.proofs.table.comments.Statement.{statement}
 use Rattle.cases_tables.proofs.table.comments.Tie as tie
 
-abbrev invariant-loop : tie.invariant-loop
+abbrev invariant-loop : tie.invariant-loop-k
 invariant-loop n bytes k₀ k = k ≤ n
 
-abbrev decreases-loop : tie.decreases-loop
+abbrev decreases-loop : tie.decreases-loop-k
 decreases-loop n bytes k₀ k = n - k
 
-pub comments-spec : {M : Type 1} → statement M
-comments-spec =
+pub comments_spec : {M : Type 1} → statement M
+comments_spec =
     tie.close
     (tie.spec
     invariant-loop

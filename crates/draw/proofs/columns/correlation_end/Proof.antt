@@ -12,23 +12,23 @@ use Rattle.draw.proofs.Filling.{ends_there}
 use Rattle.draw.proofs.columns.correlation_end.Statement.{statement}
 use Rattle.draw.proofs.columns.correlation_end.Tie as tie
 
-returns : tie.Need-returns
+returns : tie.Need-returns-then-n-eq-UNNOTED
 returns c =
-    let a = c.before.before.args in
-    rw (eq-eqb a.n.magnitude unnoted c.if1.true)
+    let a = c.args in
+    rw (eq-eqb a.n.magnitude unnoted c.if-n-eq-UNNOTED.true)
     (ends_there a.first a.last (omega arith) (omega arith) a.earlier (blank-fills (a.last - (a.first - 1))) false refl a.earlier refl)
 
-returns-2 : tie.Need-returns-2
+returns-2 : tie.Need-returns
 returns-2 c =
-    let fits = c.before.fits-signed-whole in
-    let a = c.before.before.before.before.args in
-    rw (ne_eqb a.n.magnitude unnoted c.before.before.if1.false)
+    let fits = c.fits_signed_whole-shown in
+    let a = c.args in
+    rw (ne_eqb a.n.magnitude unnoted c.if-n-eq-UNNOTED.false)
     (ends_there a.first a.last (omega arith) (omega arith) a.earlier
     (signed-fills (a.last - (a.first - 1)) a.n.negative a.n.magnitude)
-    fits.result fits.ensures c.end-if.result c.end-if.ensures)
+    fits.result fits.ensures c.end_if.result c.end_if.ensures)
 
-pub correlation-end-spec : {M : Type 1} → statement M
-correlation-end-spec =
+pub correlation_end_spec : {M : Type 1} → statement M
+correlation_end_spec =
     tie.close
     (tie.spec
     returns

@@ -11,13 +11,13 @@ use Rattle.draw.proofs.columns.decimal_end.Tie as tie
 
 returns : tie.Need-returns
 returns c =
-    let a = c.before.before.args in
-    let fits = c.before.fits-decimal in
+    let a = c.args in
+    let fits = c.fits_decimal-shown in
     ends_there a.first a.last (omega arith) (omega arith) a.earlier (decimal-fills (a.last - (a.first - 1)) a.places false a.m)
-    fits.result fits.ensures c.end-if.result c.end-if.ensures
+    fits.result fits.ensures c.end_if.result c.end_if.ensures
 
-pub decimal-end-spec : {M : Type 1} → statement M
-decimal-end-spec =
+pub decimal_end_spec : {M : Type 1} → statement M
+decimal_end_spec =
     tie.close
     (tie.spec
     (λ c. search rules)

@@ -8,20 +8,20 @@ use Rattle.layout.proofs.Inking.{past-whole, reached}
 use Rattle.draw.proofs.columns.ink_correlation.Statement.{statement}
 use Rattle.draw.proofs.columns.ink_correlation.Tie as tie
 
-returns : tie.Need-returns
+returns : tie.Need-returns-then-line-last
 returns c =
-    let a = c.before.before.args in
-    sym (past-whole a.first a.last _ a.line.now c.if1.true)
+    let a = c.args in
+    sym (past-whole a.first a.last _ a.line.now c.if-line-last.true)
 
-returns-2 : tie.Need-returns-2
+returns-2 : tie.Need-returns
 returns-2 c =
-    let put = c.before.before in
-    let a = put.before.before.before.before.args in
-    let ends : a.first - 1 + 8 ≡ a.last = omega (arith, put.before.before.before.before.requires) in
-    rw (put.put-correlation.ensures, put.before.put-correlation-arg.given.2, ends) (reached a.first a.last _ a.line.now (omega arith))
+    let put = c in
+    let a = put.args in
+    let ends : a.first - 1 + 8 ≡ a.last = omega (arith, put.requires) in
+    rw (put.put_correlation.ensures, put.put-correlation-arg.given.2, ends) (reached a.first a.last _ a.line.now (omega arith))
 
-pub ink-correlation-spec : {M : Type 1} → statement M
-ink-correlation-spec =
+pub ink_correlation_spec : {M : Type 1} → statement M
+ink_correlation_spec =
     tie.close
     (tie.spec
     returns

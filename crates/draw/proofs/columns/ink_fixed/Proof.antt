@@ -11,10 +11,10 @@ use Rattle.layout.proofs.Inking.{past-part, part-put}
 use Rattle.draw.proofs.columns.ink_fixed.Statement.{statement}
 use Rattle.draw.proofs.columns.ink_fixed.Tie as tie
 
-returns : tie.Need-returns
+returns : tie.Need-returns-then-from-line
 returns c =
-    let put = c.before.before in
-    let start = put.before.before.before.before.before in
+    let put = c in
+    let start = c in
     let a = start.args in
     let line = a.line.now in
     let these = a.these.now in
@@ -24,18 +24,18 @@ returns c =
     let none = drop_of_length-le rest {i = length line - (a.first - 1)} (omega (arith, left)) in
     let front = take (a.first - 1) line in
     let part = take (length rest) these in
-    rw (put.copy-front.ensures, whole, none)
+    rw (put.copy_front.ensures, whole, none)
     (ap (λ (l : List ℕ). front ++ l) (append-nil (part ++ drop (length these) rest))
     ∙ ap (λ (n : ℕ). front ++ (part ++ drop n rest)) start.requires.2
     ∙ part-put a.first a.last these line (omega arith) start.requires.2)
 
-returns-2 : tie.Need-returns-2
+returns-2 : tie.Need-returns-else-from-line
 returns-2 c =
-    let a = c.before.before.before.args in
-    sym (past-part a.first a.last a.these.now a.line.now c.if1.false)
+    let a = c.args in
+    sym (past-part a.first a.last a.these.now a.line.now c.if-from-line.false)
 
-pub ink-fixed-spec : {M : Type 1} → statement M
-ink-fixed-spec =
+pub ink_fixed_spec : {M : Type 1} → statement M
+ink_fixed_spec =
     tie.close
     (tie.spec
     (λ c. search rules)

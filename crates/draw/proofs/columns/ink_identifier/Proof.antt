@@ -7,19 +7,19 @@ use Rattle.layout.proofs.Inking.{past-whole, reached}
 use Rattle.draw.proofs.columns.ink_identifier.Statement.{statement}
 use Rattle.draw.proofs.columns.ink_identifier.Tie as tie
 
-returns : tie.Need-returns
+returns : tie.Need-returns-then-line-last
 returns c =
-    let a = c.before.before.args in
-    sym (past-whole a.first a.last _ a.line.now c.if1.true)
+    let a = c.args in
+    sym (past-whole a.first a.last _ a.line.now c.if-line-last.true)
 
-returns-2 : tie.Need-returns-2
+returns-2 : tie.Need-returns
 returns-2 c =
-    let put = c.before.before in
-    let a = put.before.before.before.before.args in
-    rw put.put-identifier.ensures (reached a.first a.last _ a.line.now (omega arith))
+    let put = c in
+    let a = put.args in
+    rw put.put_identifier.ensures (reached a.first a.last _ a.line.now (omega arith))
 
-pub ink-identifier-spec : {M : Type 1} → statement M
-ink-identifier-spec =
+pub ink_identifier_spec : {M : Type 1} → statement M
+ink_identifier_spec =
     tie.close
     (tie.spec
     returns

@@ -11,26 +11,26 @@ use Rattle.layout.proofs.Inking.{past-part, columns-put}
 use Rattle.draw.proofs.columns.ink_text.Statement.{statement}
 use Rattle.draw.proofs.columns.ink_text.Tie as tie
 
-returns : tie.Need-returns
+returns : tie.Need-returns-then-from-to
 returns c =
-    let put = c.before.before in
-    let reach = put.before.before.before in
-    let start = reach.before.before.before in
+    let put = c in
+    let reach = c in
+    let start = c in
     let a = start.args in
     let w = a.last - (a.first - 1) in
-    let to = reach.fewer.result in
+    let to = reach.fewer-to.result in
     let words = a.text.now in
-    rw (put.put-text.ensures, put.before.put-text-arg.given.2, text-part (to - (a.first - 1)) w words (omega arith))
-    (columns-put a.first a.last (shown_text w words) a.line.now (omega arith) (text-wide w words) to reach.fewer.ensures (omega arith))
+    rw (put.put_text.ensures, put.put-text-arg.given.2, text-part (to - (a.first - 1)) w words (omega arith))
+    (columns-put a.first a.last (shown_text w words) a.line.now (omega arith) (text-wide w words) to reach.fewer-to.ensures (omega arith))
 
-returns-2 : tie.Need-returns-2
+returns-2 : tie.Need-returns-else-from-to
 returns-2 c =
-    let a = c.before.before.before.before.args in
+    let a = c.args in
     let words = a.text.now in
     sym (past-part a.first a.last (shown_text (a.last - (a.first - 1)) words) a.line.now (omega arith))
 
-pub ink-text-spec : {M : Type 1} → statement M
-ink-text-spec =
+pub ink_text_spec : {M : Type 1} → statement M
+ink_text_spec =
     tie.close
     (tie.spec
     (λ c. search rules)

@@ -11,16 +11,16 @@ use Rattle.draw.proofs.Filling.{ends_there}
 use Rattle.draw.proofs.columns.known_end.Statement.{statement}
 use Rattle.draw.proofs.columns.known_end.Tie as tie
 
-returns : tie.Need-returns
+returns : tie.Need-returns-then-n-unknown
 returns c =
-    let a = c.before.args in
-    rw (eq-eqb a.n a.unknown c.if1.true)
+    let a = c.args in
+    rw (eq-eqb a.n a.unknown c.if-n-unknown.true)
     (ends_there a.first a.last (omega arith) (omega arith) a.earlier (blank-fills (a.last - (a.first - 1))) false refl a.earlier refl)
 
-returns-2 : tie.Need-returns-2
+returns-2 : tie.Need-returns
 returns-2 c =
-    let a = c.before.before.args in
-    rw (ne_eqb a.n a.unknown c.before.if1.false) c.whole-end.ensures
+    let a = c.args in
+    rw (ne_eqb a.n a.unknown c.if-n-unknown.false) c.whole_end.ensures
 
-pub known-end-spec : {M : Type 1} → statement M
-known-end-spec = tie.close (tie.spec returns (λ c κs. search rules) returns-2)
+pub known_end_spec : {M : Type 1} → statement M
+known_end_spec = tie.close (tie.spec returns (λ c κs. search rules) returns-2)

@@ -5,14 +5,14 @@ use borrow.Author.Rules.{rules}
 use Rattle.draw.proofs.columns.put_correlation.Statement.{statement}
 use Rattle.draw.proofs.columns.put_correlation.Tie as tie
 
-returns : tie.Need-returns
-returns c = rw (eq-eqb _ _ c.before.before.before.before.if1.true) c.before.before.fill-blanks.ensures
+returns : tie.Need-returns-then-m-eq-UNNOTED
+returns c = rw (eq-eqb _ _ c.if-m-eq-UNNOTED.true) c.fill_blanks.ensures
 
-returns-2 : tie.Need-returns-2
-returns-2 c = rw (ne_eqb _ _ c.before.before.before.before.if1.false) c.before.before.put-signed.ensures
+returns-2 : tie.Need-returns
+returns-2 c = rw (ne_eqb _ _ c.if-m-eq-UNNOTED.false) c.put_signed.ensures
 
-pub put-correlation-spec : {M : Type 1} → statement M
-put-correlation-spec =
+pub put_correlation_spec : {M : Type 1} → statement M
+put_correlation_spec =
     tie.close
     (tie.spec
     (λ c κs. search rules)

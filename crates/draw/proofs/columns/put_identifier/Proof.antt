@@ -12,16 +12,16 @@ use Rattle.draw.proofs.columns.put_identifier.Tie as tie
 
 returns : tie.Need-returns
 returns c =
-    let a = c.before.before.before.before.before.before.args in
+    let a = c.args in
     let three : length a.out.now ≡ 3 = search rules in
     let code = a.code in
     let letter : code / 100 ≡ code / 10 / 10 = omega arith in
     let tens : code % 100 / 10 ≡ code / 10 % 10 = omega arith in
     let units : code % 100 % 10 ≡ code % 10 = omega arith in
-    c.before.before.copy-front.ensures ∙ rw (letter, tens, units) (covering (show_identifier code) a.out.now (sym three))
+    c.copy_front.ensures ∙ rw (letter, tens, units) (covering (show_identifier code) a.out.now (sym three))
 
-pub put-identifier-spec : {M : Type 1} → statement M
-put-identifier-spec =
+pub put_identifier_spec : {M : Type 1} → statement M
+put_identifier_spec =
     tie.close
     (tie.spec
     (λ c. search rules)

@@ -8,24 +8,24 @@ use Rattle.draw.proofs.Filling.{fitting, too_wide}
 use Rattle.draw.proofs.columns.put_number.Statement.{statement}
 use Rattle.draw.proofs.columns.put_number.Tie as tie
 
-returns : tie.Need-returns
+returns : tie.Need-returns-then-not-put_whole
 returns c =
-    let put = c.before.before.before.before.before.before.before in
-    let a = put.before.before.before.args in
-    c.before.before.fill-blanks.ensures
+    let put = c in
+    let a = put.args in
+    c.fill_blanks.ensures
     ∙ too_wide (λ (w : ℕ). fits_whole w a.n) (λ (w : ℕ). show_whole w a.n) a.out.now put.put_whole.result put.put_whole.ensures.0
-    put.put_whole.new.0 put.put_whole.ensures.1 c.before.before.before.before.if1.true
+    put.put_whole.new.out put.put_whole.ensures.1 c.if-not-put_whole.true
 
-returns-2 : tie.Need-returns-2
+returns-2 : tie.Need-returns-else-not-put_whole
 returns-2 c =
-    let put = c.before.before.before in
-    let a = put.before.before.before.args in
+    let put = c in
+    let a = put.args in
     put.put_whole.ensures.1
     ∙ fitting (λ (w : ℕ). fits_whole w a.n) (λ (w : ℕ). show_whole w a.n) a.out.now put.put_whole.result put.put_whole.ensures.0
-    c.if1.false
+    c.if-not-put_whole.false
 
-pub put-number-spec : {M : Type 1} → statement M
-put-number-spec =
+pub put_number_spec : {M : Type 1} → statement M
+put_number_spec =
     tie.close
     (tie.spec
     (λ c κs. search rules)

@@ -8,25 +8,25 @@ use Rattle.draw.proofs.Filling.{fitting, too_wide}
 use Rattle.draw.proofs.columns.put_places.Statement.{statement}
 use Rattle.draw.proofs.columns.put_places.Tie as tie
 
-returns : tie.Need-returns
+returns : tie.Need-returns-then-not-put_decimal
 returns c =
-    let put = c.before.before.before.before.before.before.before in
-    let a = put.before.before.before.args in
-    c.before.before.fill-blanks.ensures
+    let put = c in
+    let a = put.args in
+    c.fill_blanks.ensures
     ∙ too_wide (λ (w : ℕ). fits_decimal w a.places a.negative a.m) (λ (w : ℕ). show_decimal w a.places a.negative a.m) a.out.now
-    put.put-decimal.result put.put-decimal.ensures.0 put.put-decimal.new.0 put.put-decimal.ensures.1
-    c.before.before.before.before.if1.true
+    put.put_decimal.result put.put_decimal.ensures.0 put.put_decimal.new.out put.put_decimal.ensures.1
+    c.if-not-put_decimal.true
 
-returns-2 : tie.Need-returns-2
+returns-2 : tie.Need-returns-else-not-put_decimal
 returns-2 c =
-    let put = c.before.before.before in
-    let a = put.before.before.before.args in
-    put.put-decimal.ensures.1
+    let put = c in
+    let a = put.args in
+    put.put_decimal.ensures.1
     ∙ fitting (λ (w : ℕ). fits_decimal w a.places a.negative a.m) (λ (w : ℕ). show_decimal w a.places a.negative a.m) a.out.now
-    put.put-decimal.result put.put-decimal.ensures.0 c.if1.false
+    put.put_decimal.result put.put_decimal.ensures.0 c.if-not-put_decimal.false
 
-pub put-places-spec : {M : Type 1} → statement M
-put-places-spec =
+pub put_places_spec : {M : Type 1} → statement M
+put_places_spec =
     tie.close
     (tie.spec
     (λ c κs. search rules)

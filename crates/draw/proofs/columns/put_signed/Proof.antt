@@ -8,24 +8,24 @@ use Rattle.draw.proofs.Filling.{fitting, too_wide}
 use Rattle.draw.proofs.columns.put_signed.Statement.{statement}
 use Rattle.draw.proofs.columns.put_signed.Tie as tie
 
-returns : tie.Need-returns
+returns : tie.Need-returns-then-not-put_signed_whole
 returns c =
-    let put = c.before.before.before.before.before.before.before in
-    let a = put.before.before.before.args in
-    c.before.before.fill-blanks.ensures
-    ∙ too_wide (λ (w : ℕ). fits_signed w a.negative a.m) (λ (w : ℕ). show_signed w a.negative a.m) a.out.now put.put-signed-whole.result put.put-signed-whole.ensures.0
-    put.put-signed-whole.new.0 put.put-signed-whole.ensures.1 c.before.before.before.before.if1.true
+    let put = c in
+    let a = put.args in
+    c.fill_blanks.ensures
+    ∙ too_wide (λ (w : ℕ). fits_signed w a.negative a.m) (λ (w : ℕ). show_signed w a.negative a.m) a.out.now put.put_signed_whole.result put.put_signed_whole.ensures.0
+    put.put_signed_whole.new.out put.put_signed_whole.ensures.1 c.if-not-put_signed_whole.true
 
-returns-2 : tie.Need-returns-2
+returns-2 : tie.Need-returns-else-not-put_signed_whole
 returns-2 c =
-    let put = c.before.before.before in
-    let a = put.before.before.before.args in
-    put.put-signed-whole.ensures.1
-    ∙ fitting (λ (w : ℕ). fits_signed w a.negative a.m) (λ (w : ℕ). show_signed w a.negative a.m) a.out.now put.put-signed-whole.result put.put-signed-whole.ensures.0
-    c.if1.false
+    let put = c in
+    let a = put.args in
+    put.put_signed_whole.ensures.1
+    ∙ fitting (λ (w : ℕ). fits_signed w a.negative a.m) (λ (w : ℕ). show_signed w a.negative a.m) a.out.now put.put_signed_whole.result put.put_signed_whole.ensures.0
+    c.if-not-put_signed_whole.false
 
-pub put-signed-spec : {M : Type 1} → statement M
-put-signed-spec =
+pub put_signed_spec : {M : Type 1} → statement M
+put_signed_spec =
     tie.close
     (tie.spec
     (λ c κs. search rules)

@@ -9,12 +9,12 @@ use Rattle.draw.proofs.columns.put_text.Tie as tie
 
 returns : tie.Need-returns
 returns c =
-    let a = c.before.before.before.before.before.before.before.before.before.before.args in
-    c.before.before.copy-front.ensures
-    ∙ rw (c.before.before.before.before.before.before.fill-blanks.ensures, blanks-length (length a.out.now)) (filled_copy a.text.now (length a.out.now))
+    let a = c.args in
+    c.copy_front.ensures
+    ∙ rw (c.fill_blanks.ensures, blanks-length (length a.out.now)) (filled_copy a.text.now (length a.out.now))
 
-pub put-text-spec : {M : Type 1} → statement M
-put-text-spec =
+pub put_text_spec : {M : Type 1} → statement M
+put_text_spec =
     tie.close
     (tie.spec
     (λ c κs. search rules)

@@ -14,29 +14,29 @@ use Rattle.layout.proofs.Lines.{trimmed-shorter}
 use Rattle.draw.proofs.columns.text_end.Statement.{statement}
 use Rattle.draw.proofs.columns.text_end.Tie as tie
 
-found : (c : tie.After-trimmed-length) → c.trimmed-length.result
-    ≡ length (trimmed (shown_text (c.before.before.before.before.args.last - (c.before.before.before.before.args.first - 1)) c.before.before.before.before.args.text.now))
+found : (c : tie.After-trimmed_length-n) → c.trimmed_length-n.result
+    ≡ length (trimmed (shown_text (c.args.last - (c.args.first - 1)) c.args.text.now))
 found c =
-    let a = c.before.before.before.before.args in
+    let a = c.args in
     let words = a.text.now in
     let w = a.last - (a.first - 1) in
-    let all : c.before.before.fewer.result - 0 ≡ min (length words) w = omega (arith, c.before.before.fewer.ensures) in
-    c.trimmed-length.ensures ∙ ap (λ (k : ℕ). length (trimmed (take k words))) all ∙ sym (text-ends w words)
+    let all : c.fewer-shown.result - 0 ≡ min (length words) w = omega (arith, c.fewer-shown.ensures) in
+    c.trimmed_length-n.ensures ∙ ap (λ (k : ℕ). length (trimmed (take k words))) all ∙ sym (text-ends w words)
 
-returns : tie.Need-returns
-returns c = rw (← found c.before, c.if1.true)
+returns : tie.Need-returns-then-n-eq0
+returns c = rw (← found c.before, c.if-n-eq0.true)
 
-add-result : tie.Need-overflow-add-result
+add-result : tie.Need-overflow_add-result
 add-result c =
-    let a = c.before.before.before.before.before.args in
+    let a = c.args in
     let w = a.last - (a.first - 1) in
-    omega (arith, found c.before, trimmed-shorter (shown_text w a.text.now), text-wide w a.text.now, c.before.before.before.before.before.requires)
+    omega (arith, found c.before, trimmed-shorter (shown_text w a.text.now), text-wide w a.text.now, c.requires)
 
-returns-2 : tie.Need-returns-2
-returns-2 c = rw (← found c.before, ne_eqb c.before.trimmed-length.result 0 c.if1.false)
+returns-2 : tie.Need-returns
+returns-2 c = rw (← found c.before, ne_eqb c.trimmed_length-n.result 0 c.if-n-eq0.false)
 
-pub text-end-spec : {M : Type 1} → statement M
-text-end-spec =
+pub text_end_spec : {M : Type 1} → statement M
+text_end_spec =
     tie.close
     (tie.spec
     (λ c. search rules)

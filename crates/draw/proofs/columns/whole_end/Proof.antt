@@ -10,13 +10,13 @@ use Rattle.draw.proofs.columns.whole_end.Tie as tie
 
 returns : tie.Need-returns
 returns c =
-    let a = c.before.before.args in
-    let fits = c.before.fits_whole in
+    let a = c.args in
+    let fits = c.fits_whole in
     ends_there a.first a.last (omega arith) (omega arith) a.earlier (whole-fills (a.last - (a.first - 1)) a.n)
-    fits.result fits.ensures c.end-if.result c.end-if.ensures
+    fits.result fits.ensures c.end_if.result c.end_if.ensures
 
-pub whole-end-spec : {M : Type 1} → statement M
-whole-end-spec =
+pub whole_end_spec : {M : Type 1} → statement M
+whole_end_spec =
     tie.close
     (tie.spec
     (λ c. search rules)

@@ -24,32 +24,32 @@ parts =
     ∷ columns 61 80 unused
     ∷ []
 
-same_length : tie.Need-same-length
+same_length : tie.Need-shape_of-line
 same_length c = search rules
 
 returns : tie.Need-returns
 unfolding show_integer fits_integer show_decimal fits_decimal
 returns c =
-    let later = c.before.before in
-    let clock = later.before.before.before.before.before in
-    let blank = clock.before.before.before.before in
-    let place = blank.before.before.before.before in
-    let symbol = place.before.before.before.before in
-    let start = symbol.before.before.before.before.before in
+    let later = c in
+    let clock = c in
+    let blank = c in
+    let place = c in
+    let symbol = c in
+    let start = c in
     let values = base_values start.args.b in
     let line = start.args.line.now in
     inks parts values line
-    (ink symbol.ink-fixed.ensures
-    (ink place.ink-decimal.ensures
-    (ink blank.ink-blank.ensures
-    (ink clock.ink-decimal2.ensures
-    (ink later.ink-fixed2.ensures
+    (ink symbol.ink_fixed.ensures
+    (ink place.ink_decimal.ensures
+    (ink blank.ink_blank.ensures
+    (ink clock.ink_decimal-2.ensures
+    (ink later.ink_fixed-2.ensures
     (ink (sym (past-whole 61 80 _ _ (omega (arith, same_length c, start.requires))))
     inked-all))))))
     ∙ inked-line parts values line refl (start.requires ∙ sym (line-end parts values refl))
 
-pub put-bases-spec : {M : Type 1} → statement M
-put-bases-spec =
+pub put_bases_spec : {M : Type 1} → statement M
+put_bases_spec =
     tie.close
     (tie.spec
     (λ c. search rules)

@@ -24,31 +24,31 @@ parts =
     ∷ columns 61 80 unused
     ∷ []
 
-same_length : tie.Need-same-length
+same_length : tie.Need-shape_of-line
 same_length c = search rules
 
 returns : tie.Need-returns
 returns c =
-    let later = c.before.before in
-    let system = later.before.before.before.before.before in
-    let between = system.before.before.before.before.before in
-    let kind = between.before.before.before.before.before in
-    let symbol = kind.before.before.before.before in
-    let start = symbol.before.before.before.before.before in
+    let later = c in
+    let system = c in
+    let between = c in
+    let kind = c in
+    let symbol = c in
+    let start = c in
     let values = descriptor_values start.args.d in
     let line = start.args.line.now in
     inks parts values line
-    (ink symbol.ink-fixed.ensures
-    (ink kind.ink-letter.ensures
-    (ink between.ink-fixed2.ensures
-    (ink system.ink-text.ensures
-    (ink later.ink-fixed3.ensures
+    (ink symbol.ink_fixed.ensures
+    (ink kind.ink_letter.ensures
+    (ink between.ink_fixed-2.ensures
+    (ink system.ink_text.ensures
+    (ink later.ink_fixed-3.ensures
     (ink (sym (past-whole 61 80 _ _ (omega (arith, same_length c, start.requires))))
     inked-all))))))
     ∙ inked-line parts values line refl (start.requires ∙ sym (line-end parts values refl))
 
-pub put-descriptor-spec : {M : Type 1} → statement M
-put-descriptor-spec =
+pub put_descriptor_spec : {M : Type 1} → statement M
+put_descriptor_spec =
     tie.close
     (tie.spec
     (λ c. search rules)

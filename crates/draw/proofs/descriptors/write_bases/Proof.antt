@@ -17,26 +17,26 @@ ends : (b : BaseLine) → EndsIn base_items (base_values b) 60
 unfolding show_integer fits_integer show_decimal fits_decimal
 ends b = record { tiles = base-tiled; told = sym (line-end base_items (base_values b) base-tiled) }
 
-returns : tie.Need-returns
+returns : tie.Need-returns-then-out-le-LAST
 unfolding base_line
-returns c = let a = c.before.before.args in left_out (ends a.b) a.out.now c.if1.true
+returns c = let a = c.args in left_out (ends a.b) a.out.now c.if-out-le-LAST.true
 
-slice-aggregate-put-bases : tie.Need-slice-aggregate-put-bases
-slice-aggregate-put-bases c = sym (length-take-le 60 c.before.before.before.args.out.now (omega arith))
+slice-aggregate-put-bases : tie.Need-slice_bounds-put_bases-end-2
+slice-aggregate-put-bases c = sym (length-take-le 60 c.args.out.now (omega arith))
 
-put-bases-requires : tie.Need-put-bases-requires
-put-bases-requires c κs = length-take-le 60 c.before.before.before.args.out.now (omega arith)
+put-bases-requires : tie.Need-put_bases-requires
+put-bases-requires c κs = length-take-le 60 c.args.out.now (omega arith)
 
-returns-2 : tie.Need-returns-2
+returns-2 : tie.Need-returns
 unfolding base_line
 returns-2 c =
-    let put = c.before.before in
-    let room = put.before.before in
-    let a = room.before.before.args in
-    cut-laid (ends a.b) a.out.now room.if1.false put.put-bases.ensures
+    let put = c in
+    let room = c in
+    let a = room.args in
+    cut-laid (ends a.b) a.out.now room.if-out-le-LAST.false put.put_bases.ensures
 
-pub write-bases-spec : {M : Type 1} → statement M
-write-bases-spec =
+pub write_bases_spec : {M : Type 1} → statement M
+write_bases_spec =
     tie.close
     (tie.spec
     (λ c. search rules)

@@ -15,26 +15,26 @@ use Rattle.draw.proofs.descriptors.write_descriptor.Tie as tie
 ends : (d : Descriptor) → EndsIn descriptor_items (descriptor_values d) 60
 ends d = record { tiles = descriptor-tiled; told = sym (line-end descriptor_items (descriptor_values d) descriptor-tiled) }
 
-returns : tie.Need-returns
+returns : tie.Need-returns-then-out-le-LAST
 unfolding descriptor_line
-returns c = let a = c.before.before.args in left_out (ends a.d) a.out.now c.if1.true
+returns c = let a = c.args in left_out (ends a.d) a.out.now c.if-out-le-LAST.true
 
-slice-aggregate-put-descriptor : tie.Need-slice-aggregate-put-descriptor
-slice-aggregate-put-descriptor c = sym (length-take-le 60 c.before.before.before.args.out.now (omega arith))
+slice-aggregate-put-descriptor : tie.Need-slice_bounds-put_descriptor-end-2
+slice-aggregate-put-descriptor c = sym (length-take-le 60 c.args.out.now (omega arith))
 
-put-descriptor-requires : tie.Need-put-descriptor-requires
-put-descriptor-requires c κs = length-take-le 60 c.before.before.before.args.out.now (omega arith)
+put-descriptor-requires : tie.Need-put_descriptor-requires
+put-descriptor-requires c κs = length-take-le 60 c.args.out.now (omega arith)
 
-returns-2 : tie.Need-returns-2
+returns-2 : tie.Need-returns
 unfolding descriptor_line
 returns-2 c =
-    let put = c.before.before in
-    let room = put.before.before in
-    let a = room.before.before.args in
-    cut-laid (ends a.d) a.out.now room.if1.false put.put-descriptor.ensures
+    let put = c in
+    let room = c in
+    let a = room.args in
+    cut-laid (ends a.d) a.out.now room.if-out-le-LAST.false put.put_descriptor.ensures
 
-pub write-descriptor-spec : {M : Type 1} → statement M
-write-descriptor-spec =
+pub write_descriptor_spec : {M : Type 1} → statement M
+write_descriptor_spec =
     tie.close
     (tie.spec
     (λ c. search rules)

@@ -8,8 +8,8 @@ use Rattle.draw.proofs.descriptors.write_floats.Tie as tie
 
 returns : tie.Need-returns
 unfolding fixed_line show_integer fits_integer show_decimal fits_decimal
-returns c = c.before.before.write_same.ensures
+returns c = c.write_same.ensures
 
-pub write-floats-spec : {M : Type 1} → statement M
-write-floats-spec =
+pub write_floats_spec : {M : Type 1} → statement M
+write_floats_spec =
     tie.close (tie.spec (λ c. search rules) (λ c κs. search rules) (λ c. search rules) returns)

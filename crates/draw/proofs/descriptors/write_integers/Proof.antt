@@ -8,8 +8,8 @@ use Rattle.draw.proofs.descriptors.write_integers.Tie as tie
 
 returns : tie.Need-returns
 unfolding fixed_line show_integer fits_integer
-returns c = c.before.before.write_same.ensures
+returns c = c.write_same.ensures
 
-pub write-integers-spec : {M : Type 1} → statement M
-write-integers-spec =
+pub write_integers_spec : {M : Type 1} → statement M
+write_integers_spec =
     tie.close (tie.spec (λ c. search rules) (λ c κs. search rules) (λ c. search rules) returns)

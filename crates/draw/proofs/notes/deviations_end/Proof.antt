@@ -9,19 +9,19 @@ use Rattle.draw.proofs.notes.deviations_end.Tie as tie
 
 returns : tie.Need-returns
 returns c =
-    ends deviation_items (deviation_values c.before.before.before.before.args.n) 2
+    ends deviation_items (deviation_values c.args.n) 2
     (end-item refl
-    (end-item c.before.before.before.known-end.ensures
+    (end-item c.known_end-x.ensures
     (end-item refl
-    (end-item c.before.before.known-end2.ensures
+    (end-item c.known_end-y.ensures
     (end-item refl
-    (end-item c.before.known-end3.ensures
+    (end-item c.known_end-z.ensures
     (end-item refl
-    (end-item c.known-end4.ensures
+    (end-item c.known_end.ensures
     ended-all))))))))
 
-pub deviations-end-spec : {M : Type 1} → statement M
-deviations-end-spec =
+pub deviations_end_spec : {M : Type 1} → statement M
+deviations_end_spec =
     tie.close
     (tie.spec
     (λ c κs. search rules)

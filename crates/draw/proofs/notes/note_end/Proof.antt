@@ -17,26 +17,26 @@ symbol-ends false = refl
 
 returns : tie.Need-returns
 returns c =
-    let a = c.before.before.before.before.before.before.before.args in
+    let a = c.args in
     line-ends (correlation_items a.velocity) (note_values a.n) (correlation-tiled a.velocity)
     (end-item (symbol-ends a.velocity)
-    (end-several deviation_items c.before.before.before.before.before.before.deviations-end.ensures
+    (end-several deviation_items c.deviations_end-none.ensures
     (end-item refl
-    (end-item c.before.before.before.before.before.correlation-end.ensures
+    (end-item c.correlation_end-xy.ensures
     (end-item refl
-    (end-item c.before.before.before.before.correlation-end2.ensures
+    (end-item c.correlation_end-xz.ensures
     (end-item refl
-    (end-item c.before.before.before.correlation-end3.ensures
+    (end-item c.correlation_end-xc.ensures
     (end-item refl
-    (end-item c.before.before.correlation-end4.ensures
+    (end-item c.correlation_end-yz.ensures
     (end-item refl
-    (end-item c.before.correlation-end5.ensures
+    (end-item c.correlation_end-yc.ensures
     (end-item refl
-    (end-item c.correlation-end6.ensures
+    (end-item c.correlation_end.ensures
     ended-all))))))))))))))
 
-pub note-end-spec : {M : Type 1} → statement M
-note-end-spec =
+pub note_end_spec : {M : Type 1} → statement M
+note_end_spec =
     tie.close
     (tie.spec
     (λ c κs. search rules)

@@ -8,28 +8,28 @@ use Rattle.draw.proofs.notes.put_deviations.Tie as tie
 
 returns : tie.Need-returns
 returns c =
-    let clock = c.before.before in
-    let blank19 = clock.before.before.before.before in
-    let z = blank19.before.before.before.before in
-    let blank14 = z.before.before.before.before in
-    let y = blank14.before.before.before.before in
-    let blank9 = y.before.before.before.before in
-    let x = blank9.before.before.before.before in
-    let blank3 = x.before.before.before.before in
-    let a = blank3.before.before.before.args in
+    let clock = c in
+    let blank19 = c in
+    let z = c in
+    let blank14 = c in
+    let y = c in
+    let blank9 = c in
+    let x = c in
+    let blank3 = c in
+    let a = blank3.args in
     inks deviation_items (deviation_values a.n) a.line.now
-    (ink blank3.ink-blank.ensures
-    (ink x.ink-known.ensures
-    (ink blank9.ink-blank2.ensures
-    (ink y.ink-known2.ensures
-    (ink blank14.ink-blank3.ensures
-    (ink z.ink-known3.ensures
-    (ink blank19.ink-blank4.ensures
-    (ink clock.ink-known4.ensures
+    (ink blank3.ink_blank.ensures
+    (ink x.ink_known.ensures
+    (ink blank9.ink_blank-2.ensures
+    (ink y.ink_known-2.ensures
+    (ink blank14.ink_blank-3.ensures
+    (ink z.ink_known-3.ensures
+    (ink blank19.ink_blank-4.ensures
+    (ink clock.ink_known-4.ensures
     inked-all))))))))
 
-pub put-deviations-spec : {M : Type 1} → statement M
-put-deviations-spec =
+pub put_deviations_spec : {M : Type 1} → statement M
+put_deviations_spec =
     tie.close
     (tie.spec
     (λ c κs. search rules)

@@ -9,18 +9,18 @@ use Rattle.draw.proofs.notes.put_note.Tie as tie
 
 returns : tie.Need-returns
 returns c =
-    let pairs = c.before.before in
-    let deviations = pairs.before.before.before.before in
-    let fixed = deviations.before.before.before.before in
-    let symbol = fixed.before.before.before in
-    let a = symbol.before.before.args in
+    let pairs = c in
+    let deviations = c in
+    let fixed = c in
+    let symbol = c in
+    let a = symbol.args in
     inks (correlation_items a.velocity) (note_values a.n) a.line.now
-    (ink (symbol-put 1 2 a.line.now fixed.ink-fixed.ensures symbol.symbol-of.ensures)
-    (ink-several deviation_items deviations.put-deviations.ensures
-    (record { same = pairs.put-pairs.ensures })))
+    (ink (symbol-put 1 2 a.line.now fixed.ink_fixed.ensures symbol.symbol_of-symbol.ensures)
+    (ink-several deviation_items deviations.put_deviations.ensures
+    (record { same = pairs.put_pairs.ensures })))
 
-pub put-note-spec : {M : Type 1} → statement M
-put-note-spec =
+pub put_note_spec : {M : Type 1} → statement M
+put_note_spec =
     tie.close
     (tie.spec
     (λ c κs. search rules)

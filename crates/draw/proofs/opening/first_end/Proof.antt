@@ -15,18 +15,18 @@ returns c =
     let moment-end = whole-end.before in
     let text-end2 = moment-end.before in
     let text-end = text-end2.before.before in
-    let a = text-end.before.before.args in
+    let a = text-end.args in
     line-ends (first_items a.rules) (first_values a.f) (first-tiled a.rules)
-    (end-item text-end.text-end.ensures
-    (end-item text-end2.text-end2.ensures
-    (end-several time_items moment-end.moment-end.ensures
+    (end-item text-end.text_end-a.ensures
+    (end-item text-end2.text_end-b.ensures
+    (end-several time_items moment-end.moment_end-c.ensures
     (end-item refl
-    (end-item whole-end.whole-end.ensures
+    (end-item whole-end.whole_end-d.ensures
     (end-item refl
-    (record { same = c.texts-end.ensures })))))))
+    (record { same = c.texts_end.ensures })))))))
 
-pub first-end-spec : {M : Type 1} → statement M
-first-end-spec =
+pub first_end_spec : {M : Type 1} → statement M
+first_end_spec =
     tie.close
     (tie.spec
     (λ c. search rules)

@@ -14,23 +14,23 @@ returns c =
     let whole-end3 = whole-end4.before in
     let whole-end2 = whole-end3.before in
     let whole-end = whole-end2.before in
-    let a = whole-end.before.args in
+    let a = whole-end.args in
     ends time_items (moment_values a.m) a.earlier
-    (end-item whole-end.whole-end.ensures
+    (end-item whole-end.whole_end-a.ensures
     (end-item refl
-    (end-item whole-end2.whole-end2.ensures
+    (end-item whole-end2.whole_end-b.ensures
     (end-item refl
-    (end-item whole-end3.whole-end3.ensures
+    (end-item whole-end3.whole_end-c.ensures
     (end-item refl
-    (end-item whole-end4.whole-end4.ensures
+    (end-item whole-end4.whole_end-d.ensures
     (end-item refl
-    (end-item whole-end5.whole-end5.ensures
+    (end-item whole-end5.whole_end-e.ensures
     (end-item refl
-    (end-item c.decimal-end.ensures
+    (end-item c.decimal_end.ensures
     ended-all)))))))))))
 
-pub moment-end-spec : {M : Type 1} → statement M
-moment-end-spec =
+pub moment_end_spec : {M : Type 1} → statement M
+moment_end_spec =
     tie.close
     (tie.spec
     (λ c κs. search rules)

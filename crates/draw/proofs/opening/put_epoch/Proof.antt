@@ -9,20 +9,20 @@ use Rattle.draw.proofs.opening.put_epoch.Tie as tie
 
 returns : tie.Need-returns
 returns c =
-    let blank2 = c.before.before in
-    let moment = blank2.before.before.before.before in
-    let blank = moment.before.before.before.before in
-    let fixed = blank.before.before.before.before in
-    let a = fixed.before.before.before.before.args in
+    let blank2 = c in
+    let moment = c in
+    let blank = c in
+    let fixed = c in
+    let a = fixed.args in
     inks epoch_items (moment_values a.m) a.line.now
-    (ink fixed.ink-fixed.ensures
-    (ink blank.ink-blank.ensures
-    (ink-several time_items moment.put-moment.ensures
-    (ink blank2.ink-blank2.ensures
+    (ink fixed.ink_fixed.ensures
+    (ink blank.ink_blank.ensures
+    (ink-several time_items moment.put_moment.ensures
+    (ink blank2.ink_blank-2.ensures
     inked-all))))
 
-pub put-epoch-spec : {M : Type 1} → statement M
-put-epoch-spec =
+pub put_epoch_spec : {M : Type 1} → statement M
+put_epoch_spec =
     tie.close
     (tie.spec
     (λ c. search rules)

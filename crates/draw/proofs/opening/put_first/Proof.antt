@@ -9,25 +9,25 @@ use Rattle.draw.proofs.opening.put_first.Tie as tie
 
 returns : tie.Need-returns
 returns c =
-    let texts = c.before.before in
-    let blank2 = texts.before.before.before.before in
-    let whole = blank2.before.before.before.before in
-    let blank = whole.before.before.before.before in
-    let moment = blank.before.before.before.before in
-    let letter = moment.before.before.before.before in
-    let fixed = letter.before.before.before.before in
-    let a = fixed.before.before.before.before.args in
+    let texts = c in
+    let blank2 = c in
+    let whole = c in
+    let blank = c in
+    let moment = c in
+    let letter = c in
+    let fixed = c in
+    let a = fixed.args in
     inks (first_items a.rules) (first_values a.f) a.line.now
-    (ink fixed.ink-fixed.ensures
-    (ink letter.ink-letter.ensures
-    (ink-several time_items moment.put-moment.ensures
-    (ink blank.ink-blank.ensures
-    (ink whole.ink-whole.ensures
-    (ink blank2.ink-blank2.ensures
-    (record { same = texts.put-texts.ensures })))))))
+    (ink fixed.ink_fixed.ensures
+    (ink letter.ink_letter.ensures
+    (ink-several time_items moment.put_moment.ensures
+    (ink blank.ink_blank.ensures
+    (ink whole.ink_whole.ensures
+    (ink blank2.ink_blank-2.ensures
+    (record { same = texts.put_texts.ensures })))))))
 
-pub put-first-spec : {M : Type 1} → statement M
-put-first-spec =
+pub put_first_spec : {M : Type 1} → statement M
+put_first_spec =
     tie.close
     (tie.spec
     (λ c. search rules)

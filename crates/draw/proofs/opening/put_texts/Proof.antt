@@ -11,37 +11,37 @@ use Rattle.draw.proofs.opening.put_texts.Tie as tie
 agency-long : (c : tie.Start) → length c.args.t.agency ≡ 4
 agency-long c = search rules
 
-slice-aggregate-ink-text-4 : tie.Need-slice-aggregate-ink-text-4
+slice-aggregate-ink-text-4 : tie.Need-slice_bounds-ink_text-end-4
 slice-aggregate-ink-text-4 c =
-    let text3 = c.before.before.before.before.before.before.before.before in
-    let text2 = text3.before.before.before.before.before.before.before.before.before in
-    let text = text2.before.before.before.before.before.before.before.before.before in
-    sym (agency-long text.before.before.before.before.before.before.before.before)
+    let text3 = c in
+    let text2 = c in
+    let text = c in
+    sym (agency-long c.before.before.before.before.before.before.before.before.before.before.before.before.before.before.before.before.before.before.before.before.before.before.before.before.before.before.before.before.before.before.before.before.before.before)
 
 returns : tie.Need-returns
 returns c =
-    let blank4 = c.before.before in
-    let text4 = blank4.before.before.before.before in
-    let blank3 = text4.before.before.before.before.before in
-    let text3 = blank3.before.before.before.before in
-    let blank2 = text3.before.before.before.before.before in
-    let text2 = blank2.before.before.before.before in
-    let blank = text2.before.before.before.before.before in
-    let text = blank.before.before.before.before in
-    let a = text.before.before.before.before.before.before.before.before.args in
+    let blank4 = c in
+    let text4 = c in
+    let blank3 = c in
+    let text3 = c in
+    let blank2 = c in
+    let text2 = c in
+    let blank = c in
+    let text = c in
+    let a = text.args in
     inks text_items (text_values a.t) a.line.now
-    (ink text.ink-text.ensures
-    (ink blank.ink-blank.ensures
-    (ink text2.ink-text2.ensures
-    (ink blank2.ink-blank2.ensures
-    (ink text3.ink-text3.ensures
-    (ink blank3.ink-blank3.ensures
-    (ink text4.ink-text4.ensures
-    (ink blank4.ink-blank4.ensures
+    (ink text.ink_text.ensures
+    (ink blank.ink_blank.ensures
+    (ink text2.ink_text-2.ensures
+    (ink blank2.ink_blank-2.ensures
+    (ink text3.ink_text-3.ensures
+    (ink blank3.ink_blank-3.ensures
+    (ink text4.ink_text-4.ensures
+    (ink blank4.ink_blank-4.ensures
     inked-all))))))))
 
-pub put-texts-spec : {M : Type 1} → statement M
-put-texts-spec =
+pub put_texts_spec : {M : Type 1} → statement M
+put_texts_spec =
     tie.close
     (tie.spec
     (λ c. search rules)

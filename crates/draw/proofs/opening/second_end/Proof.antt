@@ -14,24 +14,24 @@ returns c =
     let decimal-end2 = whole-end2.before in
     let decimal-end = decimal-end2.before in
     let whole-end = decimal-end.before in
-    let a = whole-end.before.args in
+    let a = whole-end.args in
     line-ends second_items (second_values a.s) second-tiled
     (end-item refl
     (end-item refl
-    (end-item whole-end.whole-end.ensures
+    (end-item whole-end.whole_end-a.ensures
     (end-item refl
-    (end-item decimal-end.decimal-end.ensures
+    (end-item decimal-end.decimal_end-b.ensures
     (end-item refl
-    (end-item decimal-end2.decimal-end2.ensures
+    (end-item decimal-end2.decimal_end-c.ensures
     (end-item refl
-    (end-item whole-end2.whole-end2.ensures
+    (end-item whole-end2.whole_end-d.ensures
     (end-item refl
-    (end-item c.decimal-end3.ensures
+    (end-item c.decimal_end.ensures
     (end-item refl
     ended-all))))))))))))
 
-pub second-end-spec : {M : Type 1} → statement M
-second-end-spec =
+pub second_end_spec : {M : Type 1} → statement M
+second_end_spec =
     tie.close
     (tie.spec
     (λ c κs. search rules)

@@ -12,20 +12,20 @@ returns c =
     let text-end3 = c.before.before in
     let text-end2 = text-end3.before.before in
     let text-end = text-end2.before.before in
-    let a = text-end.before.before.before.before.before.before.args in
+    let a = text-end.args in
     ends text_items (text_values a.t) a.earlier
-    (end-item text-end.text-end.ensures
+    (end-item text-end.text_end-a.ensures
     (end-item refl
-    (end-item text-end2.text-end2.ensures
+    (end-item text-end2.text_end-b.ensures
     (end-item refl
-    (end-item text-end3.text-end3.ensures
+    (end-item text-end3.text_end-c.ensures
     (end-item refl
-    (end-item c.text-end4.ensures
+    (end-item c.text_end.ensures
     (end-item refl
     ended-all))))))))
 
-pub texts-end-spec : {M : Type 1} → statement M
-texts-end-spec =
+pub texts_end_spec : {M : Type 1} → statement M
+texts_end_spec =
     tie.close
     (tie.spec
     (λ c. search rules)

@@ -10,28 +10,28 @@ use Rattle.draw.proofs.Laying.{EndsIn, length-fits, left_out, put-line}
 use Rattle.draw.proofs.opening.write_first.Statement.{statement}
 use Rattle.draw.proofs.opening.write_first.Tie as tie
 
-ends : (c : tie.After-first-end) → EndsIn (first_items c.before.before.args.rules) (first_values c.before.before.args.f) c.first-end.result
-ends c = record { tiles = first-tiled c.before.before.args.rules; told = c.first-end.ensures }
+ends : (c : tie.After-first_end-n) → EndsIn (first_items c.args.rules) (first_values c.args.f) c.first_end-n.result
+ends c = record { tiles = first-tiled c.args.rules; told = c.first_end-n.ensures }
 
-add-result : tie.Need-overflow-add-result
+add-result : tie.Need-overflow_add-result
 add-result c = record { fits = length-fits (ends c.before) }
 
-returns : tie.Need-returns
+returns : tie.Need-returns-then-n-out
 unfolding first_line
-returns c = left_out (ends c.before) c.before.before.before.args.out.now c.if1.true
+returns c = left_out (ends c.before) c.args.out.now c.if-n-out.true
 
-slice-aggregate-put-first : tie.Need-slice-aggregate-put-first
+slice-aggregate-put-first : tie.Need-slice_bounds-put_first-end-2
 slice-aggregate-put-first c = sym (length-take-le _ _ (omega arith))
 
-returns-2 : tie.Need-returns-2
+returns-2 : tie.Need-returns
 unfolding first_line
 returns-2 c =
-    let put = c.before.before in
-    let room = put.before.before in
-    put-line (ends room.before) room.before.before.before.args.out.now room.if1.false put.put_first.ensures
+    let put = c in
+    let room = c in
+    put-line (ends c.before.before.before.before.before) room.args.out.now room.if-n-out.false put.put_first.ensures
 
-pub write-first-spec : {M : Type 1} → statement M
-write-first-spec =
+pub write_first_spec : {M : Type 1} → statement M
+write_first_spec =
     tie.close
     (tie.spec
     (λ c κs. search rules)

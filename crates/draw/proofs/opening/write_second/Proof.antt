@@ -10,28 +10,28 @@ use Rattle.draw.proofs.Laying.{EndsIn, length-fits, left_out, put-line}
 use Rattle.draw.proofs.opening.write_second.Statement.{statement}
 use Rattle.draw.proofs.opening.write_second.Tie as tie
 
-ends : (c : tie.After-second-end) → EndsIn second_items (second_values c.before.before.args.s) c.second-end.result
-ends c = record { tiles = second-tiled; told = c.second-end.ensures }
+ends : (c : tie.After-second_end-n) → EndsIn second_items (second_values c.args.s) c.second_end-n.result
+ends c = record { tiles = second-tiled; told = c.second_end-n.ensures }
 
-add-result : tie.Need-overflow-add-result
+add-result : tie.Need-overflow_add-result
 add-result c = record { fits = length-fits (ends c.before) }
 
-returns : tie.Need-returns
+returns : tie.Need-returns-then-n-out
 unfolding second_line
-returns c = left_out (ends c.before) c.before.before.before.args.out.now c.if1.true
+returns c = left_out (ends c.before) c.args.out.now c.if-n-out.true
 
-slice-aggregate-put-second : tie.Need-slice-aggregate-put-second
+slice-aggregate-put-second : tie.Need-slice_bounds-put_second-end-2
 slice-aggregate-put-second c = sym (length-take-le _ _ (omega arith))
 
-returns-2 : tie.Need-returns-2
+returns-2 : tie.Need-returns
 unfolding second_line
 returns-2 c =
-    let put = c.before.before in
-    let room = put.before.before in
-    put-line (ends room.before) room.before.before.before.args.out.now room.if1.false put.put_second.ensures
+    let put = c in
+    let room = c in
+    put-line (ends c.before.before.before.before.before) room.args.out.now room.if-n-out.false put.put_second.ensures
 
-pub write-second-spec : {M : Type 1} → statement M
-write-second-spec =
+pub write_second_spec : {M : Type 1} → statement M
+write_second_spec =
     tie.close
     (tie.spec
     (λ c κs. search rules)

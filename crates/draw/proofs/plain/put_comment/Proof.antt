@@ -10,18 +10,18 @@ use Rattle.draw.proofs.plain.put_comment.Tie as tie
 
 returns : tie.Need-returns
 returns c =
-    let text = c.before.before in
-    let blank = text.before.before.before.before in
-    let fixed = blank.before.before.before.before in
-    let a = fixed.before.before.before.before.before.args in
+    let text = c in
+    let blank = c in
+    let fixed = c in
+    let a = fixed.args in
     inks comment_items (words a.text.now ∷ []) a.line.now
-    (ink fixed.ink-fixed.ensures
-    (ink blank.ink-blank.ensures
-    (ink text.ink-text.ensures
+    (ink fixed.ink_fixed.ensures
+    (ink blank.ink_blank.ensures
+    (ink text.ink_text.ensures
     inked-all)))
 
-pub put-comment-spec : {M : Type 1} → statement M
-put-comment-spec =
+pub put_comment_spec : {M : Type 1} → statement M
+put_comment_spec =
     tie.close
     (tie.spec
     (λ c. search rules)

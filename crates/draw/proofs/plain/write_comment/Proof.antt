@@ -13,36 +13,36 @@ use Rattle.draw.proofs.Laying.{EndsIn, length-fits, left_out, put-line}
 use Rattle.draw.proofs.plain.write_comment.Statement.{statement}
 use Rattle.draw.proofs.plain.write_comment.Tie as tie
 
-ends : (c : tie.After-text-end) → EndsIn comment_items (words c.before.before.before.args.text.now ∷ []) c.text-end.result
+ends : (c : tie.After-text_end-n) → EndsIn comment_items (words c.args.text.now ∷ []) c.text_end-n.result
 ends c = record {
   tiles = comment-tiled;
   told =
-      line-ends comment_items (words c.before.before.before.args.text.now ∷ []) comment-tiled
+      line-ends comment_items (words c.args.text.now ∷ []) comment-tiled
       (end-item refl
       (end-item refl
-      (end-item c.text-end.ensures
+      (end-item c.text_end-n.ensures
       ended-all)));
 }
 
-add-result : tie.Need-overflow-add-result
+add-result : tie.Need-overflow_add-result
 add-result c = record { fits = length-fits (ends c.before) }
 
-returns : tie.Need-returns
+returns : tie.Need-returns-then-n-out
 unfolding comment_line
-returns c = left_out (ends c.before) c.before.before.before.before.args.out.now (omega (arith, c.if1.true))
+returns c = left_out (ends c.before) c.args.out.now (omega (arith, c.if-n-out.true))
 
-slice-aggregate-put-comment : tie.Need-slice-aggregate-put-comment
+slice-aggregate-put-comment : tie.Need-slice_bounds-put_comment-end-2
 slice-aggregate-put-comment c = sym (length-take-le _ _ (omega arith))
 
-returns-2 : tie.Need-returns-2
+returns-2 : tie.Need-returns
 unfolding comment_line
 returns-2 c =
-    let put = c.before.before in
-    let room = put.before.before in
-    put-line (ends room.before) room.before.before.before.before.args.out.now room.if1.false put.put-comment.ensures
+    let put = c in
+    let room = c in
+    put-line (ends c.before.before.before.before.before) room.args.out.now room.if-n-out.false put.put_comment.ensures
 
-pub write-comment-spec : {M : Type 1} → statement M
-write-comment-spec =
+pub write_comment_spec : {M : Type 1} → statement M
+write_comment_spec =
     tie.close
     (tie.spec
     (λ c κs. search rules)

@@ -7,8 +7,8 @@ use Rattle.draw.proofs.plain.write_end.Tie as tie
 
 returns : tie.Need-returns
 unfolding fixed_line
-returns c = c.before.before.write_same.ensures
+returns c = c.write_same.ensures
 
-pub write-end-spec : {M : Type 1} → statement M
-write-end-spec =
+pub write_end_spec : {M : Type 1} → statement M
+write_end_spec =
     tie.close (tie.spec (λ c. search rules) (λ c κs. search rules) (λ c. search rules) returns)

@@ -11,23 +11,23 @@ use Rattle.draw.proofs.Laying.{no_room, laid-over}
 use Rattle.draw.proofs.plain.write_same.Statement.{statement}
 use Rattle.draw.proofs.plain.write_same.Tie as tie
 
-returns : tie.Need-returns
+returns : tie.Need-returns-then-length-out
 returns c =
-    let a = c.before.before.before.args in
-    no_room a.line.now a.out.now (length a.line.now) refl (omega (arith, c.if1.true))
+    let a = c.args in
+    no_room a.line.now a.out.now (length a.line.now) refl (omega (arith, c.if-length-out.true))
 
-returns-2 : tie.Need-returns-2
+returns-2 : tie.Need-returns
 returns-2 c =
-    let copied = c.before.before in
-    let room = copied.before.before in
-    let a = room.before.before.before.args in
+    let copied = c in
+    let room = c in
+    let a = room.args in
     let behind = drop (length a.line.now) a.out.now in
-    let whole = take_all (length a.out.now) a.line.now (omega (arith, room.if1.false)) in
-    let all : copied.copy-front.new.0 ≡ a.line.now ++ behind = copied.copy-front.ensures ∙ ap (λ (l : List ℕ). l ++ behind) whole in
-    rw all (laid-over a.line.now a.out.now (length a.line.now) refl room.if1.false)
+    let whole = take_all (length a.out.now) a.line.now (omega (arith, room.if-length-out.false)) in
+    let all : copied.copy_front.new.out ≡ a.line.now ++ behind = copied.copy_front.ensures ∙ ap (λ (l : List ℕ). l ++ behind) whole in
+    rw all (laid-over a.line.now a.out.now (length a.line.now) refl room.if-length-out.false)
 
-pub write-same-spec : {M : Type 1} → statement M
-write-same-spec =
+pub write_same_spec : {M : Type 1} → statement M
+write_same_spec =
     tie.close
     (tie.spec
     (λ c. search rules)

@@ -14,58 +14,58 @@ use Rattle.draw.proofs.rows.body_end.Tie as tie
 abbrev Ends : (Row → ℕ) → Row → Type 0
 Ends last p = last p ≡ end_from 1 body_items (body_values p)
 
-without-clock-exponent : (c : tie.Else1) → Ends end_to_z_exponent c.before.before.args.p
-without-clock-exponent c = ends-before _ c.before.fits_whole.ensures c.if1.false (body-ends c.before.before.args.p)
+without-clock-exponent : (c : tie.Else-fits_whole) → Ends end_to_z_exponent c.args.p
+without-clock-exponent c = ends-before _ c.fits_whole.ensures c.if-fits_whole.false (body-ends c.args.p)
 
-without-z-exponent : (c : tie.Else2) → Ends end_to_y_exponent c.before.before.before.before.args.p
-without-z-exponent c = ends-before _ c.before.fits-whole2.ensures c.if2.false (without-clock-exponent c.before.before)
+without-z-exponent : (c : tie.Else-fits_whole-2) → Ends end_to_y_exponent c.args.p
+without-z-exponent c = ends-before _ c.fits_whole-2.ensures c.if-fits_whole-2.false (without-clock-exponent c.before.before)
 
-without-y-exponent : (c : tie.Else3) → Ends end_to_x_exponent c.before.before.before.before.before.before.args.p
-without-y-exponent c = ends-before _ c.before.fits-whole3.ensures c.if3.false (without-z-exponent c.before.before)
+without-y-exponent : (c : tie.Else-fits_whole-3) → Ends end_to_x_exponent c.args.p
+without-y-exponent c = ends-before _ c.fits_whole-3.ensures c.if-fits_whole-3.false (without-z-exponent c.before.before)
 
-without-x-exponent : (c : tie.Else4) → Ends end_to_clock c.before.before.before.before.before.before.before.before.args.p
-without-x-exponent c = ends-before _ c.before.fits-whole4.ensures c.if4.false (without-y-exponent c.before.before)
+without-x-exponent : (c : tie.Else-fits_whole-4) → Ends end_to_clock c.args.p
+without-x-exponent c = ends-before _ c.fits_whole-4.ensures c.if-fits_whole-4.false (without-y-exponent c.before.before)
 
-without-clock : (c : tie.Else5) → Ends end_to_z c.before.before.before.before.before.before.before.before.before.before.args.p
-without-clock c = ends-before _ c.before.fits2.ensures c.if5.false (without-x-exponent c.before.before)
+without-clock : (c : tie.Else-fits) → Ends end_to_z c.args.p
+without-clock c = ends-before _ c.fits-2.ensures c.if-fits.false (without-x-exponent c.before.before.before)
 
-without-z : (c : tie.Else6)
-    → Ends end_to_y c.before.before.before.before.before.before.before.before.before.before.before.before.args.p
-without-z c = ends-before _ c.before.fits3.ensures c.if6.false (without-clock c.before.before)
+without-z : (c : tie.Else-fits-2)
+    → Ends end_to_y c.args.p
+without-z c = ends-before _ c.fits-3.ensures c.if-fits-2.false (without-clock c.before.before.before)
 
-without-y : (c : tie.Else7)
-    → Ends end_to_x c.before.before.before.before.before.before.before.before.before.before.before.before.before.before.args.p
-without-y c = ends-before _ c.before.fits4.ensures c.if7.false (without-z c.before.before)
+without-y : (c : tie.Else-fits-3)
+    → Ends end_to_x c.args.p
+without-y c = ends-before _ c.fits-4.ensures c.if-fits-3.false (without-z c.before.before.before)
 
-returns : tie.Need-returns
-returns c = ends-here _ c.before.fits_whole.ensures c.if1.true (body-ends c.before.before.args.p)
+returns : tie.Need-returns-then-fits_whole
+returns c = ends-here _ c.fits_whole.ensures c.if-fits_whole.true (body-ends c.args.p)
 
-returns-2 : tie.Need-returns-2
-returns-2 c = ends-here _ c.before.fits-whole2.ensures c.if2.true (without-clock-exponent c.before.before)
+returns-2 : tie.Need-returns-then-fits_whole-2
+returns-2 c = ends-here _ c.fits_whole-2.ensures c.if-fits_whole-2.true (without-clock-exponent c.before.before)
 
-returns-3 : tie.Need-returns-3
-returns-3 c = ends-here _ c.before.fits-whole3.ensures c.if3.true (without-z-exponent c.before.before)
+returns-3 : tie.Need-returns-then-fits_whole-3
+returns-3 c = ends-here _ c.fits_whole-3.ensures c.if-fits_whole-3.true (without-z-exponent c.before.before)
 
-returns-4 : tie.Need-returns-4
-returns-4 c = ends-here _ c.before.fits-whole4.ensures c.if4.true (without-y-exponent c.before.before)
+returns-4 : tie.Need-returns-then-fits_whole-4
+returns-4 c = ends-here _ c.fits_whole-4.ensures c.if-fits_whole-4.true (without-y-exponent c.before.before)
 
-returns-5 : tie.Need-returns-5
-returns-5 c = ends-here _ c.before.fits2.ensures c.if5.true (without-x-exponent c.before.before)
+returns-5 : tie.Need-returns-then-fits
+returns-5 c = ends-here _ c.fits-2.ensures c.if-fits.true (without-x-exponent c.before.before.before)
 
-returns-6 : tie.Need-returns-6
-returns-6 c = ends-here _ c.before.fits3.ensures c.if6.true (without-clock c.before.before)
+returns-6 : tie.Need-returns-then-fits-2
+returns-6 c = ends-here _ c.fits-3.ensures c.if-fits-2.true (without-clock c.before.before.before)
 
-returns-7 : tie.Need-returns-7
-returns-7 c = ends-here _ c.before.fits4.ensures c.if7.true (without-z c.before.before)
+returns-7 : tie.Need-returns-then-fits-3
+returns-7 c = ends-here _ c.fits-4.ensures c.if-fits-3.true (without-z c.before.before.before)
 
-returns-8 : tie.Need-returns-8
-returns-8 c = ends-here _ c.before.fits5.ensures c.if8.true (without-y c.before.before)
+returns-8 : tie.Need-returns-then-fits-4
+returns-8 c = ends-here _ c.fits5.ensures c.if-fits-4.true (without-y c.before.before.before)
 
-returns-9 : tie.Need-returns-9
-returns-9 c = ends-before _ c.before.fits5.ensures c.if8.false (without-y c.before.before)
+returns-9 : tie.Need-returns-else-fits-4
+returns-9 c = ends-before _ c.fits5.ensures c.if-fits-4.false (without-y c.before.before.before)
 
-pub body-end-spec : {M : Type 1} → statement M
-body-end-spec =
+pub body_end_spec : {M : Type 1} → statement M
+body_end_spec =
     tie.close
     (tie.spec
     (λ c κs. search rules)

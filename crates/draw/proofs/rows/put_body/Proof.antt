@@ -7,7 +7,7 @@ use Rattle.layout.proofs.Inking.{ink, inked-all, inks}
 use Rattle.draw.proofs.rows.put_body.Statement.{statement}
 use Rattle.draw.proofs.rows.put_body.Tie as tie
 
-same_length : tie.Need-same-length
+same_length : tie.Need-shape_of-line
 same_length c =
     let clock-exponent = c.before.before in
     let z-exponent = clock-exponent.before.before.before.before in
@@ -18,15 +18,15 @@ same_length c =
     let y = z.before.before.before.before in
     let x = y.before.before.before.before in
     let identifier = x.before.before.before.before in
-    clock-exponent.ink-spaced4.auto.0
-    ∙ z-exponent.ink-spaced3.auto.0
-    ∙ y-exponent.ink-spaced2.auto.0
-    ∙ x-exponent.ink-spaced.auto.0
-    ∙ clock.ink-signed4.auto.0
-    ∙ z.ink-signed3.auto.0
-    ∙ y.ink-signed2.auto.0
-    ∙ x.ink-signed.auto.0
-    ∙ identifier.ink-identifier.auto.0
+    clock-exponent.ink_spaced-4.auto.line
+    ∙ z-exponent.ink_spaced-3.auto.line
+    ∙ y-exponent.ink_spaced-2.auto.line
+    ∙ x-exponent.ink_spaced.auto.line
+    ∙ clock.ink_signed-4.auto.line
+    ∙ z.ink_signed-3.auto.line
+    ∙ y.ink_signed-2.auto.line
+    ∙ x.ink_signed.auto.line
+    ∙ identifier.ink_identifier.auto.line
 
 returns : tie.Need-returns
 returns c =
@@ -39,25 +39,25 @@ returns c =
     let y = z.before.before.before.before in
     let x = y.before.before.before.before in
     let identifier = x.before.before.before.before in
-    let a = identifier.before.before.before.args in
+    let a = identifier.args in
     inks body_items (body_values a.p) a.line.now
-    (ink identifier.ink-identifier.ensures
-    (ink x.ink-signed.ensures
-    (ink y.ink-signed2.ensures
-    (ink z.ink-signed3.ensures
-    (ink clock.ink-signed4.ensures
+    (ink identifier.ink_identifier.ensures
+    (ink x.ink_signed.ensures
+    (ink y.ink_signed-2.ensures
+    (ink z.ink_signed-3.ensures
+    (ink clock.ink_signed-4.ensures
     (ink refl
-    (ink x-exponent.ink-spaced.ensures
+    (ink x-exponent.ink_spaced.ensures
     (ink refl
-    (ink y-exponent.ink-spaced2.ensures
+    (ink y-exponent.ink_spaced-2.ensures
     (ink refl
-    (ink z-exponent.ink-spaced3.ensures
+    (ink z-exponent.ink_spaced-3.ensures
     (ink refl
-    (ink clock-exponent.ink-spaced4.ensures
+    (ink clock-exponent.ink_spaced-4.ensures
     inked-all)))))))))))))
 
-pub put-body-spec : {M : Type 1} → statement M
-put-body-spec =
+pub put_body_spec : {M : Type 1} → statement M
+put_body_spec =
     tie.close
     (tie.spec
     (λ c κs. search rules)

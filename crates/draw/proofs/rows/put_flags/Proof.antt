@@ -8,24 +8,24 @@ use Rattle.draw.proofs.rows.put_flags.Tie as tie
 
 returns : tie.Need-returns
 returns c =
-    let orbit = c.before.before in
-    let maneuver = orbit.before.before.before.before in
-    let blanks = maneuver.before.before.before.before in
-    let predicted = blanks.before.before.before.before in
-    let event = predicted.before.before.before.before in
-    let blank = event.before.before.before.before in
-    let a = blank.before.before.before.args in
+    let orbit = c in
+    let maneuver = c in
+    let blanks = c in
+    let predicted = c in
+    let event = c in
+    let blank = c in
+    let a = blank.args in
     inks flag_items (flag_values a.p) a.line.now
-    (ink blank.ink-blank.ensures
-    (ink event.ink-flag.ensures
-    (ink predicted.ink-flag2.ensures
-    (ink blanks.ink-blank2.ensures
-    (ink maneuver.ink-flag3.ensures
-    (ink orbit.ink-flag4.ensures
+    (ink blank.ink_blank.ensures
+    (ink event.ink_flag.ensures
+    (ink predicted.ink_flag-2.ensures
+    (ink blanks.ink_blank-2.ensures
+    (ink maneuver.ink_flag-3.ensures
+    (ink orbit.ink_flag-4.ensures
     inked-all))))))
 
-pub put-flags-spec : {M : Type 1} → statement M
-put-flags-spec =
+pub put_flags_spec : {M : Type 1} → statement M
+put_flags_spec =
     tie.close
     (tie.spec
     (λ c κs. search rules)

@@ -10,39 +10,39 @@ use Rattle.draw.proofs.Symbols.{symbol-put}
 use Rattle.draw.proofs.rows.put_row.Statement.{statement}
 use Rattle.draw.proofs.rows.put_row.Tie as tie
 
-returns : tie.Need-returns
+returns : tie.Need-returns-then-velocity
 returns c =
-    let blank = c.before.before in
-    let branch = blank.before.before in
-    let body = branch.before.before.before in
-    let fixed = body.before.before.before.before in
-    let symbol = fixed.before.before.before in
-    let a = symbol.before.before.args in
-    let told : symbol.symbol-of.result ≡ 86 ∷ [] = rw branch.if1.true at symbol.symbol-of.ensures in
-    rw branch.if1.true
+    let blank = c in
+    let branch = c in
+    let body = c in
+    let fixed = c in
+    let symbol = c in
+    let a = symbol.args in
+    let told : symbol.symbol_of-symbol.result ≡ 86 ∷ [] = rw branch.if-velocity.true at symbol.symbol_of-symbol.ensures in
+    rw branch.if-velocity.true
     (inks (row_items true) (row_values true a.p) a.line.now
-    (ink (symbol-put 1 1 a.line.now fixed.ink-fixed.ensures told)
-    (ink-several body_items body.put-body.ensures
-    (ink blank.ink-blank.ensures
+    (ink (symbol-put 1 1 a.line.now fixed.ink_fixed.ensures told)
+    (ink-several body_items body.put_body.ensures
+    (ink blank.ink_blank.ensures
     inked-all))))
 
-returns-2 : tie.Need-returns-2
+returns-2 : tie.Need-returns
 returns-2 c =
-    let flags = c.before.before in
-    let branch = flags.before.before in
-    let body = branch.before.before.before in
-    let fixed = body.before.before.before.before in
-    let symbol = fixed.before.before.before in
-    let a = symbol.before.before.args in
-    let told : symbol.symbol-of.result ≡ 80 ∷ [] = rw branch.if1.false at symbol.symbol-of.ensures in
-    rw branch.if1.false
+    let flags = c in
+    let branch = c in
+    let body = c in
+    let fixed = c in
+    let symbol = c in
+    let a = symbol.args in
+    let told : symbol.symbol_of-symbol.result ≡ 80 ∷ [] = rw branch.if-velocity.false at symbol.symbol_of-symbol.ensures in
+    rw branch.if-velocity.false
     (inks (row_items false) (row_values false a.p) a.line.now
-    (ink (symbol-put 1 1 a.line.now fixed.ink-fixed.ensures told)
-    (ink-several body_items body.put-body.ensures
-    (record { same = flags.put-flags.ensures }))))
+    (ink (symbol-put 1 1 a.line.now fixed.ink_fixed.ensures told)
+    (ink-several body_items body.put_body.ensures
+    (record { same = flags.put_flags.ensures }))))
 
-pub put-row-spec : {M : Type 1} → statement M
-put-row-spec =
+pub put_row_spec : {M : Type 1} → statement M
+put_row_spec =
     tie.close
     (tie.spec
     (λ c κs. search rules)

@@ -6,14 +6,14 @@ use Rattle.draw.proofs.RowEnds.{velocity-ends}
 use Rattle.draw.proofs.rows.row_end.Statement.{statement}
 use Rattle.draw.proofs.rows.row_end.Tie as tie
 
-returns : tie.Need-returns
-returns c = rw c.before.if1.true (c.body-end.ensures ∙ velocity-ends c.before.before.args.p)
+returns : tie.Need-returns-then-velocity
+returns c = rw c.if-velocity.true (c.body_end.ensures ∙ velocity-ends c.args.p)
 
-returns-2 : tie.Need-returns-2
-returns-2 c = rw c.before.if1.false c.flagged-end.ensures
+returns-2 : tie.Need-returns
+returns-2 c = rw c.if-velocity.false c.flagged_end.ensures
 
-pub row-end-spec : {M : Type 1} → statement M
-row-end-spec =
+pub row_end_spec : {M : Type 1} → statement M
+row_end_spec =
     tie.close
     (tie.spec
     (λ c κs. search rules)

@@ -3,14 +3,14 @@
 use Rattle.draw.proofs.rows.symbol_of.Statement.{statement}
 use Rattle.draw.proofs.rows.symbol_of.Tie as tie
 
-returns : tie.Need-returns
-returns c = rw c.if1.true
+returns : tie.Need-returns-then-velocity
+returns c = rw c.if-velocity.true
 
-returns-2 : tie.Need-returns-2
-returns-2 c = rw c.if1.false
+returns-2 : tie.Need-returns-else-velocity
+returns-2 c = rw c.if-velocity.false
 
-pub symbol-of-spec : {M : Type 1} → statement M
-symbol-of-spec =
+pub symbol_of_spec : {M : Type 1} → statement M
+symbol_of_spec =
     tie.close
     (tie.spec
     returns

@@ -10,29 +10,29 @@ use Rattle.draw.proofs.Laying.{EndsIn, length-fits, left_out, put-line}
 use Rattle.draw.proofs.rows.write_row.Statement.{statement}
 use Rattle.draw.proofs.rows.write_row.Tie as tie
 
-ends : (c : tie.After-row-end)
-    → EndsIn (row_items c.before.before.args.velocity) (row_values c.before.before.args.velocity c.before.before.args.p) c.row-end.result
-ends c = record { tiles = rows-tiled c.before.before.args.velocity; told = c.row-end.ensures }
+ends : (c : tie.After-row_end-n)
+    → EndsIn (row_items c.args.velocity) (row_values c.args.velocity c.args.p) c.row_end-n.result
+ends c = record { tiles = rows-tiled c.args.velocity; told = c.row_end-n.ensures }
 
-add-result : tie.Need-overflow-add-result
+add-result : tie.Need-overflow_add-result
 add-result c = record { fits = length-fits (ends c.before) }
 
-returns : tie.Need-returns
+returns : tie.Need-returns-then-n-out
 unfolding row_line
-returns c = left_out (ends c.before) c.before.before.before.args.out.now (omega (arith, c.if1.true))
+returns c = left_out (ends c.before) c.args.out.now (omega (arith, c.if-n-out.true))
 
-slice-aggregate-put-row : tie.Need-slice-aggregate-put-row
+slice-aggregate-put-row : tie.Need-slice_bounds-put_row-end-2
 slice-aggregate-put-row c = sym (length-take-le _ _ (omega arith))
 
-returns-2 : tie.Need-returns-2
+returns-2 : tie.Need-returns
 unfolding row_line
 returns-2 c =
-    let put = c.before.before in
-    let room = put.before.before in
-    put-line (ends room.before) room.before.before.before.args.out.now room.if1.false put.put-row.ensures
+    let put = c in
+    let room = c in
+    put-line (ends c.before.before.before.before.before) room.args.out.now room.if-n-out.false put.put_row.ensures
 
-pub write-row-spec : {M : Type 1} → statement M
-write-row-spec =
+pub write_row_spec : {M : Type 1} → statement M
+write_row_spec =
     tie.close
     (tie.spec
     (λ c κs. search rules)

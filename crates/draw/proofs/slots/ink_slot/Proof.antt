@@ -8,19 +8,19 @@ use Rattle.layout.proofs.Inking.{past-whole, reached}
 use Rattle.draw.proofs.slots.ink_slot.Statement.{statement}
 use Rattle.draw.proofs.slots.ink_slot.Tie as tie
 
-returns : tie.Need-returns
+returns : tie.Need-returns-then-line-last
 returns c =
-    let a = c.before.before.args in
-    sym (past-whole a.first (a.first + 2) _ a.line.now c.if1.true)
+    let a = c.args in
+    sym (past-whole a.first (a.first + 2) _ a.line.now c.if-line-last.true)
 
-returns-2 : tie.Need-returns-2
+returns-2 : tie.Need-returns
 returns-2 c =
-    let put = c.before.before in
-    let a = put.before.before.before.before.args in
-    rw put.put-slot.ensures (reached a.first (a.first + 2) _ a.line.now (omega arith))
+    let put = c in
+    let a = put.args in
+    rw put.put_slot.ensures (reached a.first (a.first + 2) _ a.line.now (omega arith))
 
-pub ink-slot-spec : {M : Type 1} → statement M
-ink-slot-spec =
+pub ink_slot_spec : {M : Type 1} → statement M
+ink_slot_spec =
     tie.close
     (tie.spec
     (λ c. search rules)

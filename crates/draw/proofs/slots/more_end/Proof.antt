@@ -21,18 +21,18 @@ symbol_end false = refl
 
 returns : tie.Need-returns
 returns c =
-    let text = c.before.before in
-    let symbol = text.before.before.before in
-    let a = symbol.before.args in
+    let text = c in
+    let symbol = c in
+    let a = symbol.args in
     line-ends (more_items a.accuracies a.left) (ones_of a.s.values) (more-tiled a.accuracies a.left)
-    (end-item (text.text-end.ensures ∙ ap (λ (l : List ℕ). text_end 0 (shown_text 2 l) 0) symbol.symbol-of.ensures ∙ symbol_end a.accuracies)
+    (end-item (text.text_end-first.ensures ∙ ap (λ (l : List ℕ). text_end 0 (shown_text 2 l) 0) symbol.symbol_of-symbol.ensures ∙ symbol_end a.accuracies)
     (end-item refl
     (end-several (slot_items a.accuracies a.left) c.slots_end.ensures
     (end-item refl
     ended-all))))
 
-pub more-end-spec : {M : Type 1} → statement M
-more-end-spec =
+pub more_end_spec : {M : Type 1} → statement M
+more_end_spec =
     tie.close
     (tie.spec
     (λ c κs. search rules)

@@ -10,21 +10,21 @@ use Rattle.draw.proofs.slots.put_more.Tie as tie
 
 returns : tie.Need-returns
 returns c =
-    let blank2 = c.before.before in
-    let slots = blank2.before.before.before.before in
-    let blank = slots.before.before.before.before.before in
-    let fixed = blank.before.before.before.before in
-    let symbol = fixed.before.before.before.before in
-    let a = symbol.before.before.args in
+    let blank2 = c in
+    let slots = c in
+    let blank = c in
+    let fixed = c in
+    let symbol = c in
+    let a = symbol.args in
     inks (more_items a.accuracies a.left) (ones_of a.s.values) a.line.now
-    (ink (symbol-put 1 2 a.line.now fixed.ink-fixed.ensures symbol.symbol-of.ensures)
-    (ink blank.ink-blank.ensures
-    (ink-several (slot_items a.accuracies a.left) slots.put-slots.ensures
-    (ink blank2.ink-blank2.ensures
+    (ink (symbol-put 1 2 a.line.now fixed.ink_fixed.ensures symbol.symbol_of-symbol.ensures)
+    (ink blank.ink_blank.ensures
+    (ink-several (slot_items a.accuracies a.left) slots.put_slots.ensures
+    (ink blank2.ink_blank-2.ensures
     inked-all))))
 
-pub put-more-spec : {M : Type 1} → statement M
-put-more-spec =
+pub put_more_spec : {M : Type 1} → statement M
+put_more_spec =
     tie.close
     (tie.spec
     (λ c κs. search rules)

@@ -9,24 +9,24 @@ use Rattle.draw.proofs.slots.put_satellites.Tie as tie
 
 returns : tie.Need-returns
 returns c =
-    let blank3 = c.before.before in
-    let slots = blank3.before.before.before.before in
-    let blank2 = slots.before.before.before.before.before in
-    let count = blank2.before.before.before.before in
-    let blank = count.before.before.before.before in
-    let fixed = blank.before.before.before.before in
-    let a = fixed.before.before.before.before.before.args in
+    let blank3 = c in
+    let slots = c in
+    let blank2 = c in
+    let count = c in
+    let blank = c in
+    let fixed = c in
+    let a = fixed.args in
     inks (satellite_items a.rules a.s.count) (satellites_values a.s) a.line.now
-    (ink fixed.ink-fixed.ensures
-    (ink blank.ink-blank.ensures
-    (ink count.ink-whole.ensures
-    (ink blank2.ink-blank2.ensures
-    (ink-several (slot_items false a.s.count) slots.put-slots.ensures
-    (ink blank3.ink-blank3.ensures
+    (ink fixed.ink_fixed.ensures
+    (ink blank.ink_blank.ensures
+    (ink count.ink_whole.ensures
+    (ink blank2.ink_blank-2.ensures
+    (ink-several (slot_items false a.s.count) slots.put_slots.ensures
+    (ink blank3.ink_blank-3.ensures
     inked-all))))))
 
-pub put-satellites-spec : {M : Type 1} → statement M
-put-satellites-spec =
+pub put_satellites_spec : {M : Type 1} → statement M
+put_satellites_spec =
     tie.close
     (tie.spec
     (λ c. search rules)

@@ -12,26 +12,26 @@ use Rattle.layout.proofs.Lines.{covering}
 use Rattle.draw.proofs.slots.put_slot.Statement.{statement}
 use Rattle.draw.proofs.slots.put_slot.Tie as tie
 
-returns : tie.Need-returns
+returns : tie.Need-returns-then-not-used
 returns c =
-    let a = c.before.before.before.before.before.before.before.args in
+    let a = c.args in
     let three : length a.out.now ≡ 3 = search rules in
-    rw (not-true a.used c.before.before.before.before.before.if1.true)
-    (c.before.before.copy-front.ensures ∙ covering zero_slot a.out.now (sym three))
+    rw (not-true a.used c.if-not-used.true)
+    (c.copy_front.ensures ∙ covering zero_slot a.out.now (sym three))
 
-returns-2 : tie.Need-returns-2
+returns-2 : tie.Need-returns-then-accuracies
 returns-2 c =
-    let a = c.before.before.before.before.before.before.before.args in
+    let a = c.args in
     let three : length a.out.now ≡ 3 = search rules in
-    rw (not-false a.used c.before.before.before.before.before.if1.false, c.before.before.before.before.if2.true) (c.before.before.put-number.ensures ∙ ap (λ (w : ℕ). shown_in (whole 0 999) w (one a.value)) three)
+    rw (not-false a.used c.if-not-used.false, c.if-accuracies.true) (c.put_number.ensures ∙ ap (λ (w : ℕ). shown_in (whole 0 999) w (one a.value)) three)
 
-returns-3 : tie.Need-returns-3
+returns-3 : tie.Need-returns
 returns-3 c =
-    let a = c.before.before.before.before.before.before.before.args in
-    rw (not-false a.used c.before.before.before.before.before.if1.false, c.before.before.before.before.if2.false) c.before.before.put-identifier.ensures
+    let a = c.args in
+    rw (not-false a.used c.if-not-used.false, c.if-accuracies.false) c.put_identifier.ensures
 
-pub put-slot-spec : {M : Type 1} → statement M
-put-slot-spec =
+pub put_slot_spec : {M : Type 1} → statement M
+put_slot_spec =
     tie.close
     (tie.spec
     (λ c. search rules)

@@ -11,16 +11,16 @@ use Rattle.draw.proofs.slots.satellites_end.Tie as tie
 
 returns : tie.Need-returns
 returns c =
-    let count = c.before.before in
-    let a = count.before.before.args in
+    let count = c in
+    let a = count.args in
     line-ends (satellite_items a.rules a.s.count) (satellites_values a.s) (satellites-tiled a.rules a.s.count)
     (end-item refl
     (end-item refl
-    (end-item count.whole-end.ensures
+    (end-item count.whole_end-count.ensures
     (end-item refl
     (end-several (slot_items false a.s.count) c.slots_end.ensures
     (end-item refl
     ended-all))))))
 
-pub satellites-end-spec : {M : Type 1} → statement M
-satellites-end-spec = tie.close (tie.spec (λ c κs. search rules) (λ c κs. search rules) returns)
+pub satellites_end_spec : {M : Type 1} → statement M
+satellites_end_spec = tie.close (tie.spec (λ c κs. search rules) (λ c κs. search rules) returns)

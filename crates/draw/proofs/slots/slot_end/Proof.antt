@@ -12,28 +12,28 @@ use Rattle.draw.proofs.Filling.{ends_there}
 use Rattle.draw.proofs.slots.slot_end.Statement.{statement}
 use Rattle.draw.proofs.slots.slot_end.Tie as tie
 
-returns : tie.Need-returns
+returns : tie.Need-returns-then-not-used
 returns c =
-    let a = c.before.args in
+    let a = c.args in
     let three : a.first - 1 + 3 ≡ a.first + 2 = omega arith in
-    rw (not-true a.used c.if1.true, three)
+    rw (not-true a.used c.if-not-used.true, three)
 
-returns-2 : tie.Need-returns-2
+returns-2 : tie.Need-returns-then-accuracies
 returns-2 c =
-    let a = c.before.before.before.args in
+    let a = c.args in
     let three : a.first + 2 - (a.first - 1) ≡ 3 = omega arith in
-    rw (not-false a.used c.before.before.if1.false, c.before.if2.true) (rw three at c.whole-end.ensures)
+    rw (not-false a.used c.if-not-used.false, c.if-accuracies.true) (rw three at c.whole_end.ensures)
 
-returns-3 : tie.Need-returns-3
+returns-3 : tie.Need-returns
 returns-3 c =
-    let a = c.before.before.args in
+    let a = c.args in
     let three : a.first + 2 - (a.first - 1) ≡ 3 = omega arith in
     let fills : Fills true (a.first + 2 - (a.first - 1)) (show_identifier a.value) = rw three (identifier-fills a.value) in
-    rw (not-false a.used c.before.if1.false, c.if2.false)
+    rw (not-false a.used c.if-not-used.false, c.if-accuracies.false)
     (ends_there a.first (a.first + 2) (omega arith) (omega arith) a.earlier fills true refl (a.first + 2) refl)
 
-pub slot-end-spec : {M : Type 1} → statement M
-slot-end-spec =
+pub slot_end_spec : {M : Type 1} → statement M
+slot_end_spec =
     tie.close
     (tie.spec
     (λ c. search rules)

@@ -3,14 +3,14 @@
 use Rattle.draw.proofs.slots.symbol_of.Statement.{statement}
 use Rattle.draw.proofs.slots.symbol_of.Tie as tie
 
-returns : tie.Need-returns
-returns c = rw c.if1.true
+returns : tie.Need-returns-then-accuracies
+returns c = rw c.if-accuracies.true
 
-returns-2 : tie.Need-returns-2
-returns-2 c = rw c.if1.false
+returns-2 : tie.Need-returns-else-accuracies
+returns-2 c = rw c.if-accuracies.false
 
-pub symbol-of-spec : {M : Type 1} → statement M
-symbol-of-spec =
+pub symbol_of_spec : {M : Type 1} → statement M
+symbol_of_spec =
     tie.close
     (tie.spec
     returns

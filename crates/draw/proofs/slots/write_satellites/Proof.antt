@@ -10,28 +10,28 @@ use Rattle.draw.proofs.Laying.{EndsIn, length-fits, left_out, put-line}
 use Rattle.draw.proofs.slots.write_satellites.Statement.{statement}
 use Rattle.draw.proofs.slots.write_satellites.Tie as tie
 
-ends : (c : tie.After-satellites-end) → EndsIn (satellite_items c.before.before.args.rules c.before.before.args.s.count) (satellites_values c.before.before.args.s) c.satellites-end.result
-ends c = record { tiles = satellites-tiled c.before.before.args.rules c.before.before.args.s.count; told = c.satellites-end.ensures }
+ends : (c : tie.After-satellites_end-n) → EndsIn (satellite_items c.args.rules c.args.s.count) (satellites_values c.args.s) c.satellites_end-n.result
+ends c = record { tiles = satellites-tiled c.args.rules c.args.s.count; told = c.satellites_end-n.ensures }
 
-add-result : tie.Need-overflow-add-result
+add-result : tie.Need-overflow_add-result
 add-result c = record { fits = length-fits (ends c.before) }
 
-returns : tie.Need-returns
+returns : tie.Need-returns-then-n-out
 unfolding satellites_line
-returns c = left_out (ends c.before) c.before.before.before.args.out.now c.if1.true
+returns c = left_out (ends c.before) c.args.out.now c.if-n-out.true
 
-slice-aggregate-put-satellites : tie.Need-slice-aggregate-put-satellites
+slice-aggregate-put-satellites : tie.Need-slice_bounds-put_satellites-end-2
 slice-aggregate-put-satellites c = sym (length-take-le _ _ (omega arith))
 
-returns-2 : tie.Need-returns-2
+returns-2 : tie.Need-returns
 unfolding satellites_line
 returns-2 c =
-    let put = c.before.before in
-    let room = put.before.before in
-    put-line (ends room.before) room.before.before.before.args.out.now room.if1.false put.put-satellites.ensures
+    let put = c in
+    let room = c in
+    put-line (ends c.before.before.before.before.before) room.args.out.now room.if-n-out.false put.put_satellites.ensures
 
-pub write-satellites-spec : {M : Type 1} → statement M
-write-satellites-spec =
+pub write_satellites_spec : {M : Type 1} → statement M
+write_satellites_spec =
     tie.close
     (tie.spec
     (λ c κs. search rules)

@@ -11,28 +11,28 @@ use Rattle.draw.proofs.Laying.{EndsIn, length-fits, left_out, put-line}
 use Rattle.draw.proofs.slots.write_slots.Statement.{statement}
 use Rattle.draw.proofs.slots.write_slots.Tie as tie
 
-ends : (c : tie.After-more-end) → EndsIn (more_items c.before.before.args.accuracies c.before.before.args.left) (ones_of c.before.before.args.s.values) c.more-end.result
-ends c = record { tiles = more-tiled c.before.before.args.accuracies c.before.before.args.left; told = c.more-end.ensures }
+ends : (c : tie.After-more_end-n) → EndsIn (more_items c.args.accuracies c.args.left) (ones_of c.args.s.values) c.more_end-n.result
+ends c = record { tiles = more-tiled c.args.accuracies c.args.left; told = c.more_end-n.ensures }
 
-add-result : tie.Need-overflow-add-result
+add-result : tie.Need-overflow_add-result
 add-result c = record { fits = length-fits (ends c.before) }
 
-returns : tie.Need-returns
+returns : tie.Need-returns-then-n-out
 unfolding more_line
-returns c = left_out (ends c.before) c.before.before.before.args.out.now c.if1.true
+returns c = left_out (ends c.before) c.args.out.now c.if-n-out.true
 
-slice-aggregate-put-more : tie.Need-slice-aggregate-put-more
+slice-aggregate-put-more : tie.Need-slice_bounds-put_more-end-2
 slice-aggregate-put-more c = sym (length-take-le _ _ (omega arith))
 
-returns-2 : tie.Need-returns-2
+returns-2 : tie.Need-returns
 unfolding more_line
 returns-2 c =
-    let put = c.before.before in
-    let room = put.before.before in
-    put-line (ends room.before) room.before.before.before.args.out.now room.if1.false put.put-more.ensures
+    let put = c in
+    let room = c in
+    put-line (ends c.before.before.before.before.before) room.args.out.now room.if-n-out.false put.put_more.ensures
 
-pub write-slots-spec : {M : Type 1} → statement M
-write-slots-spec =
+pub write_slots_spec : {M : Type 1} → statement M
+write_slots_spec =
     tie.close
     (tie.spec
     (λ c κs. search rules)

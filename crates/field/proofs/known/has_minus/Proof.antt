@@ -10,23 +10,23 @@ use Rattle.field.proofs.KnownGood.{minus-more, minus-over}
 use Rattle.field.proofs.known.has_minus.Statement.{statement}
 use Rattle.field.proofs.known.has_minus.Tie as tie
 
-abbrev invariant-loop : tie.invariant-loop
+abbrev invariant-loop : tie.invariant-loop-i
 invariant-loop s found₀ i₀ found i = (found || has_minus (drop i s)) ≡ has_minus s
 
-abbrev decreases-loop : tie.decreases-loop
+abbrev decreases-loop : tie.decreases-loop-i
 decreases-loop s found₀ i₀ found i = length s - i
 
-loop-again : tie.Need-loop-preserved invariant-loop decreases-loop
+loop-again : tie.Need-loop-i-preserved invariant-loop decreases-loop
 loop-again c =
-    let l = c.before.before in
-    minus-more l.before.args.s.now l.loop.i l.loop.found c.before.loop-test.true ∙ l.loop.invariant
+    let l = c in
+    minus-more l.args.s.now l.loop-i.i l.loop-i.found c.loop-i-test.true ∙ l.loop-i.invariant
 
 returns : tie.Need-returns invariant-loop decreases-loop
 returns c =
-    let l = c.before in
-    minus-over l.before.args.s.now l.loop.i l.loop.found c.loop-test.false ∙ l.loop.invariant
+    let l = c in
+    minus-over l.args.s.now l.loop-i.i l.loop-i.found c.loop-i-test.false ∙ l.loop-i.invariant
 
-pub has-minus-spec : {M : Type 1} → statement M
-has-minus-spec =
+pub has_minus_spec : {M : Type 1} → statement M
+has_minus_spec =
     tie.close
     (tie.spec invariant-loop decreases-loop (λ c. refl) (λ c. search rules) (λ c. search rules) (λ c. search rules) loop-again returns)

@@ -12,16 +12,16 @@ use Rattle.field.specs.Known.{has_minus}
 use Rattle.field.proofs.known.is_negative.Statement.{statement}
 use Rattle.field.proofs.known.is_negative.Tie as tie
 
-slice-aggregate-has-minus : tie.Need-slice-aggregate-has-minus
+slice-aggregate-has-minus : tie.Need-slice_bounds-has_minus-end
 slice-aggregate-has-minus c = sym (length-take-le _ _ (omega arith))
 
 returns : tie.Need-returns
 returns c =
-    let p = c.before.before in
-    let a = p.before.before.args in
+    let p = c in
+    let a = p.args in
     ap (λ (minus : Bool). minus && ltb 0 a.magnitude)
-    (c.has-minus.ensures ∙ ap (λ (point : ℕ). has_minus (take point a.s.now)) p.point-of.ensures)
+    (c.has_minus-minus.ensures ∙ ap (λ (point : ℕ). has_minus (take point a.s.now)) p.point_of-point.ensures)
 
-pub is-negative-spec : {M : Type 1} → statement M
-is-negative-spec =
+pub is_negative_spec : {M : Type 1} → statement M
+is_negative_spec =
     tie.close (tie.spec (λ c κs. search rules) slice-aggregate-has-minus (λ c κs. search rules) returns)

@@ -11,27 +11,27 @@ use Rattle.field.proofs.read.clock.Statement.{statement}
 use Rattle.field.proofs.read.clock.Tie as tie
 
 -- what the reader of decimals found
-read : (c : tie.After-decimal) → c.decimal.result ≡ decimal_of c.before.before.args.s.now c.before.before.args.places true
+read : (c : tie.After-decimal) → c.decimal.result ≡ decimal_of c.args.s.now c.args.places true
 read c = told_amount-one _ _ c.decimal.ensures
 
-returns : tie.Need-returns
+returns : tie.Need-returns-in-Value
 returns c =
-    let n = c.before.before in
-    let d = n.before.before in
-    let a = d.before.before.args in
-    let found = sym (read d) ∙ n.negative.given.1 in
+    let n = c in
+    let d = c in
+    let a = d.args in
+    let found = sym (read c.before.before.before.before) ∙ n.negative.given.1 in
     ap told_amount
-    (ap (amount.Value n.negative.given.0.0) c.clock-held.ensures
+    (ap (amount.Value n.negative.given.0.0) c.clock_held.ensures
     ∙ sym (clock-decimal a.s.now a.places n.negative.given.0.0 n.negative.given.0.1.0 found))
 
-returns-2 : tie.Need-returns-2
+returns-2 : tie.Need-returns-in-Malformed
 returns-2 c =
-    let d = c.before.before.before in
-    let a = d.before.before.args in
-    ap told_amount (c.bare-clock.ensures ∙ sym (clock-bare a.s.now a.places (sym (read d) ∙ c.before.enum_told.given.1)))
+    let d = c in
+    let a = d.args in
+    ap told_amount (c.bare_clock.ensures ∙ sym (clock-bare a.s.now a.places (sym (read c.before.before.before) ∙ c.enum_told.given.1)))
 
-pub clock-spec : {M : Type 1} → statement M
-clock-spec =
+pub clock_spec : {M : Type 1} → statement M
+clock_spec =
     tie.close
     (tie.spec
     (λ c κs. search rules)

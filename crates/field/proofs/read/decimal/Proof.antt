@@ -16,81 +16,81 @@ use Rattle.field.proofs.Reading.{decimal-long, decimal-short, decimal-pointless,
 use Rattle.field.proofs.read.decimal.Statement.{statement}
 use Rattle.field.proofs.read.decimal.Tie as tie
 
-returns : tie.Need-returns
-returns c = ap told_amount (decimal-long _ _ _ c.if1.true)
+returns : tie.Need-returns-then-s-gt-WIDEST
+returns c = ap told_amount (decimal-long _ _ _ c.if-s-gt-WIDEST.true)
 
-returns-2 : tie.Need-returns-2
-returns-2 c = ap told_amount (decimal-short _ _ _ c.before.if1.false c.if2.true)
+returns-2 : tie.Need-returns-then-places-s
+returns-2 c = ap told_amount (decimal-short _ _ _ c.if-s-gt-WIDEST.false c.if-places-s.true)
 
-returns-3 : tie.Need-returns-3
-returns-3 c = ap told_amount (decimal-pointless _ _ _ c.before.before.before.if1.false c.before.before.if2.false c.if3.true)
+returns-3 : tie.Need-returns-then-s-point-ne46
+returns-3 c = ap told_amount (decimal-pointless _ _ _ c.if-s-gt-WIDEST.false c.if-places-s.false c.if-s-point-ne46.true)
 
-slice-aggregate-integer : tie.Need-slice-aggregate-integer
+slice-aggregate-integer : tie.Need-slice_bounds-integer-end
 slice-aggregate-integer c = sym (length-take-le _ _ (omega arith))
 
 integer-requires : tie.Need-integer-requires
 integer-requires c κs =
-    let a = c.before.before.before.before.before.before.args in
+    let a = c.args in
     omega (arith, length-take-le (point_of a.places (length a.s.now)) a.s.now (omega arith))
 
 -- where the point stands, what the reader of integers found and the digits after the point decide
 answer : (c : tie.After-integer) →
-    let a = c.before.before.before.before.before.before.before.args in
+    let a = c.args in
     carried c.integer.result (drop (point_of a.places (length a.s.now) + 1) a.s.now) ≡ decimal_of a.s.now a.places a.signed
 answer c =
-    let told = c.before.before in
-    let a = told.before.before.before.before.before.args in
+    let told = c in
+    let a = told.args in
     ap (λ r. carried r (drop (point_of a.places (length a.s.now) + 1) a.s.now)) c.integer.ensures
-    ∙ decimal-read _ _ _ told.before.before.before.if1.false told.before.before.if2.false told.if3.false
+    ∙ decimal-read _ _ _ told.if-s-gt-WIDEST.false told.if-places-s.false told.if-s-point-ne46.false
 
-returns-4 : tie.Need-returns-4
+returns-4 : tie.Need-returns-in_default
 returns-4 c =
-    let i = c.before.before in
-    let a = i.before.before.before.before.before.before.before.args in
-    ap told_amount (ap (λ r. carried r (drop (point_of a.places (length a.s.now) + 1) a.s.now)) (sym c.enum_told.given.1) ∙ answer i)
+    let i = c in
+    let a = i.args in
+    ap told_amount (ap (λ r. carried r (drop (point_of a.places (length a.s.now) + 1) a.s.now)) (sym c.enum_told.given.1) ∙ answer c.before.before)
 
-digits-from-requires : tie.Need-digits-from-requires
+digits-from-requires : tie.Need-digits_from-requires
 digits-from-requires c κs =
-    let n = c.before.before in
-    let i = n.before.before in
-    let told = i.before.before in
-    let room = told.before.before.if2.false in
-    let a = told.before.before.before.before.before.args in
+    let n = c in
+    let i = c in
+    let told = c in
+    let room = told.if-places-s.false in
+    let a = told.args in
     let high = high-below a.s.now a.places room a.signed _ _ (sym i.integer.ensures ∙ n.negative.given.1) in
     rw (rest_part a.s.now (point_of a.places (length a.s.now) + 1), places-after a.s.now a.places room)
     (omega arith, wider (omega arith) high.1)
 
 -- the integer before the point, carried on by the digits after it
-answers : (c : tie.After-digits-from) →
+answers : (c : tie.After-digits_from) →
     let n = c.before.before.before in
-    let a = n.before.before.before.before.before.before.before.before.before.args in
+    let a = n.args in
     carried (amount.Value n.negative.given.0.0 n.negative.given.0.1.0) (drop (point_of a.places (length a.s.now) + 1) a.s.now)
     ≡ decimal_of a.s.now a.places a.signed
 answers c =
     let n = c.before.before.before in
-    let i = n.before.before in
-    let a = i.before.before.before.before.before.before.before.args in
-    ap (λ r. carried r (drop (point_of a.places (length a.s.now) + 1) a.s.now)) (sym n.negative.given.1) ∙ answer i
+    let i = c in
+    let a = i.args in
+    ap (λ r. carried r (drop (point_of a.places (length a.s.now) + 1) a.s.now)) (sym n.negative.given.1) ∙ answer c.before.before.before.before.before
 
-returns-5 : tie.Need-returns-5
+returns-5 : tie.Need-returns-in_default-digits_from
 returns-5 c =
-    let d = c.before.before in
-    let a = d.before.before.before.before.before.before.before.before.before.before.before.before.args in
-    let n = d.before.before.before.negative in
+    let d = c in
+    let a = d.args in
+    let n = d.negative in
     let none = d.digits_from.ensures ∙ ap (digits_from _) (rest_part a.s.now _) in
-    ap told_amount (carried_none n.given.0.0 n.given.0.1.0 _ (sym none ∙ c.enum-told2.given.1) ∙ answers d)
+    ap told_amount (carried_none n.given.0.0 n.given.0.1.0 _ (sym none ∙ c.enum_told-in_default-digits_from-1.given.1) ∙ answers c.before.before)
 
-returns-6 : tie.Need-returns-6
+returns-6 : tie.Need-returns
 returns-6 c =
-    let m = c.before.before in
-    let d = m.before.before in
-    let a = d.before.before.before.before.before.before.before.before.before.before.before.before.args in
-    let n = d.before.before.before.negative in
+    let m = c in
+    let d = c in
+    let a = d.args in
+    let n = d.negative in
     let read = d.digits_from.ensures ∙ ap (digits_from _) (rest_part a.s.now _) in
-    ap told_amount (c.settle.ensures ∙ carried_some n.given.0.0 n.given.0.1.0 _ _ (sym read ∙ m.magnitude.given.1) ∙ answers d)
+    ap told_amount (c.settle.ensures ∙ carried_some n.given.0.0 n.given.0.1.0 _ _ (sym read ∙ m.magnitude.given.1) ∙ answers c.before.before.before.before)
 
-pub decimal-spec : {M : Type 1} → statement M
-decimal-spec =
+pub decimal_spec : {M : Type 1} → statement M
+decimal_spec =
     tie.close
     (tie.spec
     returns

@@ -9,35 +9,35 @@ use Rattle.field.proofs.Reading.{whole-read, exponent-long, exponent-blank, expo
 use Rattle.field.proofs.read.exponent.Statement.{statement}
 use Rattle.field.proofs.read.exponent.Tie as tie
 
-returns : tie.Need-returns
-returns c = ap told_exponent (exponent-long _ c.if1.true)
+returns : tie.Need-returns-then-s-gt-WIDEST
+returns c = ap told_exponent (exponent-long _ c.if-s-gt-WIDEST.true)
 
-returns-2 : tie.Need-returns-2
-returns-2 c = ap told_exponent (exponent-blank _ c.before.before.if1.false (sym c.before.blanks.ensures ∙ c.if2.true))
+returns-2 : tie.Need-returns-then-start-s
+returns-2 c = ap told_exponent (exponent-blank _ c.if-s-gt-WIDEST.false (sym c.blanks-start.ensures ∙ c.if-start-s.true))
 
-sub_number : tie.Need-overflow-sub-number
-sub_number c = omega (arith, blanks-within c.before.before.before.before.args.s.now)
+sub_number : tie.Need-slice_bounds-number-count
+sub_number c = omega (arith, blanks-within c.args.s.now)
 
-part-number-start : tie.Need-slice-bounds-number-start
-part-number-start c = omega (arith, blanks-within c.before.before.before.before.args.s.now)
+part-number-start : tie.Need-slice_bounds-number-start
+part-number-start c = omega (arith, blanks-within c.args.s.now)
 
 -- what the reader of numbers found decides
-answer : (c : tie.After-number) → as_exponent c.number.result ≡ exponent_of c.before.before.before.before.before.before.args.s.now
+answer : (c : tie.After-number) → as_exponent c.number.result ≡ exponent_of c.args.s.now
 answer c =
-    let blank = c.before.before.before in
-    let s = blank.before.before.before.args.s.now in
-    let narrow = blank.before.if1.false in
-    ap as_exponent (c.number.ensures ∙ ap number_of (part-trim s _ blank.blanks.ensures) ∙ whole-read s narrow)
-    ∙ exponent-read s narrow (λ e. c.before.before.if2.false (blank.blanks.ensures ∙ e))
+    let blank = c in
+    let s = blank.args.s.now in
+    let narrow = blank.if-s-gt-WIDEST.false in
+    ap as_exponent (c.number.ensures ∙ ap number_of (part-trim s _ blank.blanks-start.ensures) ∙ whole-read s narrow)
+    ∙ exponent-read s narrow (λ e. c.if-start-s.false (blank.blanks-start.ensures ∙ e))
 
-returns-3 : tie.Need-returns-3
-returns-3 c = ap told_exponent (ap as_exponent (sym c.before.value.given.1) ∙ answer c.before.before.before)
+returns-3 : tie.Need-returns-in-Value
+returns-3 c = ap told_exponent (ap as_exponent (sym c.value.given.1) ∙ answer c.before.before.before)
 
-returns-4 : tie.Need-returns-4
+returns-4 : tie.Need-returns-in-Malformed
 returns-4 c = ap told_exponent (ap as_exponent (sym c.enum_told.given.1) ∙ answer c.before.before)
 
-pub exponent-spec : {M : Type 1} → statement M
-exponent-spec =
+pub exponent_spec : {M : Type 1} → statement M
+exponent_spec =
     tie.close
     (tie.spec
     returns

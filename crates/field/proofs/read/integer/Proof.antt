@@ -8,20 +8,20 @@ use Rattle.field.proofs.Blanks.{blanks-within, part-trim}
 use Rattle.field.proofs.read.integer.Statement.{statement}
 use Rattle.field.proofs.read.integer.Tie as tie
 
-sub-signed-number : tie.Need-overflow-sub-signed-number
-sub-signed-number c = omega (arith, blanks-within c.before.before.args.s.now)
+sub-signed-number : tie.Need-slice_bounds-signed_number-count
+sub-signed-number c = omega (arith, blanks-within c.args.s.now)
 
-part-signed-number-start : tie.Need-slice-bounds-signed-number-start
-part-signed-number-start c = omega (arith, blanks-within c.before.before.args.s.now)
+part-signed-number-start : tie.Need-slice_bounds-signed_number-start
+part-signed-number-start c = omega (arith, blanks-within c.args.s.now)
 
 returns : tie.Need-returns
 unfolding integer_of
 returns c =
-    let a = c.before.before.before.before.args in
-    c.signed-number.ensures ∙ ap (signed_of a.signed) (part-trim a.s.now _ c.before.before.blanks.ensures)
+    let a = c.args in
+    c.signed_number.ensures ∙ ap (signed_of a.signed) (part-trim a.s.now _ c.blanks-start.ensures)
 
-pub integer-spec : {M : Type 1} → statement M
-integer-spec =
+pub integer_spec : {M : Type 1} → statement M
+integer_spec =
     tie.close
     (tie.spec
     (λ c κs. search rules)

@@ -8,19 +8,19 @@ use Rattle.field.proofs.Reading.{number-none, number-some}
 use Rattle.field.proofs.read.number.Statement.{statement}
 use Rattle.field.proofs.read.number.Tie as tie
 
-returns : tie.Need-returns
-returns c = number-none _ c.if1.true
+returns : tie.Need-returns-then-digits-eq0
+returns c = number-none _ c.if-digits-eq0.true
 
-digits-from-requires : tie.Need-digits-from-requires
+digits-from-requires : tie.Need-digits_from-requires
 digits-from-requires c κs =
-    let a = c.before.before in
+    let a = c in
     (a.requires, ten-pos (18 - length a.args.s.now))
 
-returns-2 : tie.Need-returns-2
-returns-2 c = c.digits_from.ensures ∙ number-some _ c.before.if1.false
+returns-2 : tie.Need-returns
+returns-2 c = c.digits_from.ensures ∙ number-some _ c.if-digits-eq0.false
 
-pub number-spec : {M : Type 1} → statement M
-number-spec =
+pub number_spec : {M : Type 1} → statement M
+number_spec =
     tie.close
     (tie.spec
     returns

@@ -10,27 +10,27 @@ use Rattle.field.proofs.Reading.{minus-long, signed-minus, signed-plain}
 use Rattle.field.proofs.read.signed_number.Statement.{statement}
 use Rattle.field.proofs.read.signed_number.Tie as tie
 
-sub_number : tie.Need-overflow-sub-number
-sub_number c = minus-long _ _ (sym c.before.minus-first.ensures ∙ c.if1.true)
+sub_number : tie.Need-slice_bounds-number-count
+sub_number c = minus-long _ _ (sym c.minus_first.ensures ∙ c.if-minus_first.true)
 
-part-number-start : tie.Need-slice-bounds-number-start
+part-number-start : tie.Need-slice_bounds-number-start
 part-number-start c = omega (arith, sub_number c)
 
-returns : tie.Need-returns
+returns : tie.Need-returns-then-minus_first
 returns c =
-    let s = c.before.before.before.before.before.before.args.s.now in
-    c.with-sign.ensures
-    ∙ ap (with_sign true) (c.before.number.ensures ∙ ap number_of (rest_part s 1))
-    ∙ signed-minus _ s (sym c.before.before.before.before.minus-first.ensures ∙ c.before.before.before.if1.true)
+    let s = c.args.s.now in
+    c.with_sign.ensures
+    ∙ ap (with_sign true) (c.number.ensures ∙ ap number_of (rest_part s 1))
+    ∙ signed-minus _ s (sym c.minus_first.ensures ∙ c.if-minus_first.true)
 
-returns-2 : tie.Need-returns-2
+returns-2 : tie.Need-returns-else-minus_first
 returns-2 c =
-    c.with-sign2.ensures
-    ∙ ap (with_sign false) c.before.number2.ensures
-    ∙ signed-plain _ _ (sym c.before.before.before.minus-first.ensures ∙ c.before.before.if1.false)
+    c.with_sign-else-minus_first.ensures
+    ∙ ap (with_sign false) c.number-else-minus_first.ensures
+    ∙ signed-plain _ _ (sym c.minus_first.ensures ∙ c.if-minus_first.false)
 
-pub signed-number-spec : {M : Type 1} → statement M
-signed-number-spec =
+pub signed_number_spec : {M : Type 1} → statement M
+signed_number_spec =
     tie.close
     (tie.spec
     (λ c κs. search rules)

@@ -8,23 +8,23 @@ use Rattle.field.proofs.Reading.{signed-long, signed-read}
 use Rattle.field.proofs.read.signed_whole.Statement.{statement}
 use Rattle.field.proofs.read.signed_whole.Tie as tie
 
-returns : tie.Need-returns
-returns c = ap told_amount (signed-long _ c.if1.true)
+returns : tie.Need-returns-then-s-gt-WIDEST
+returns c = ap told_amount (signed-long _ c.if-s-gt-WIDEST.true)
 
 -- what the reader of integers found decides
-answer : (c : tie.After-integer) → carried c.integer.result [] ≡ signed_whole_of c.before.before.before.args.s.now
-answer c = ap (λ r. carried r []) c.integer.ensures ∙ signed-read _ c.before.if1.false
+answer : (c : tie.After-integer) → carried c.integer.result [] ≡ signed_whole_of c.args.s.now
+answer c = ap (λ r. carried r []) c.integer.ensures ∙ signed-read _ c.if-s-gt-WIDEST.false
 
-returns-2 : tie.Need-returns-2
+returns-2 : tie.Need-returns-in-Value
 returns-2 c =
-    let n = c.before.before in
-    ap told_amount (c.settle.ensures ∙ ap (λ r. carried r []) (sym n.negative.given.1) ∙ answer n.before.before)
+    let n = c in
+    ap told_amount (c.settle.ensures ∙ ap (λ r. carried r []) (sym n.negative.given.1) ∙ answer c.before.before.before.before)
 
-returns-3 : tie.Need-returns-3
+returns-3 : tie.Need-returns-in-Malformed
 returns-3 c = ap told_amount (ap (λ r. carried r []) (sym c.enum_told.given.1) ∙ answer c.before.before)
 
-pub signed-whole-spec : {M : Type 1} → statement M
-signed-whole-spec =
+pub signed_whole_spec : {M : Type 1} → statement M
+signed_whole_spec =
     tie.close
     (tie.spec
     returns

@@ -9,23 +9,23 @@ use Rattle.field.proofs.Reading.{whole_long, whole-read}
 use Rattle.field.proofs.read.whole.Statement.{statement}
 use Rattle.field.proofs.read.whole.Tie as tie
 
-returns : tie.Need-returns
-returns c = ap told_whole (whole_long _ c.if1.true)
+returns : tie.Need-returns-then-s-gt-WIDEST
+returns c = ap told_whole (whole_long _ c.if-s-gt-WIDEST.true)
 
-sub_number : tie.Need-overflow-sub-number
-sub_number c = omega (arith, blanks-within c.before.before.before.args.s.now)
+sub_number : tie.Need-slice_bounds-number-count
+sub_number c = omega (arith, blanks-within c.args.s.now)
 
-part-number-start : tie.Need-slice-bounds-number-start
-part-number-start c = omega (arith, blanks-within c.before.before.before.args.s.now)
+part-number-start : tie.Need-slice_bounds-number-start
+part-number-start c = omega (arith, blanks-within c.args.s.now)
 
-returns-2 : tie.Need-returns-2
+returns-2 : tie.Need-returns
 returns-2 c =
-    let s = c.before.before.before.before.before.args.s.now in
+    let s = c.args.s.now in
     ap told_whole
-    (c.number.ensures ∙ ap number_of (part-trim s _ c.before.before.blanks.ensures) ∙ whole-read s c.before.before.before.if1.false)
+    (c.number.ensures ∙ ap number_of (part-trim s _ c.blanks-start.ensures) ∙ whole-read s c.if-s-gt-WIDEST.false)
 
-pub whole-spec : {M : Type 1} → statement M
-whole-spec =
+pub whole_spec : {M : Type 1} → statement M
+whole_spec =
     tie.close
     (tie.spec
     returns

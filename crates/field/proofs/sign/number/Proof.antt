@@ -5,23 +5,23 @@ use Rattle.field.proofs.Signs.{number-above, minus-fits, number-told, minus_is, 
 use Rattle.field.proofs.sign.number.Statement.{statement}
 use Rattle.field.proofs.sign.number.Tie as tie
 
-returns : tie.Need-returns
-returns c = number-above _ _ c.if1.true
+returns : tie.Need-returns-then-magnitude-gt-LARGEST
+returns c = number-above _ _ c.if-magnitude-gt-LARGEST.true
 
-sub-t6 : tie.Need-overflow-sub-t6
-sub-t6 c = minus-fits c.before.before.args.negative c.before.before.args.magnitude c.before.if1.false
+sub-t6 : tie.Need-overflow_sub-result
+sub-t6 c = minus-fits c.args.negative c.args.magnitude c.if-magnitude-gt-LARGEST.false
 
-returns-2 : tie.Need-returns-2
+returns-2 : tie.Need-returns-then-negative
 returns-2 c =
-    let a = c.before.before.args in
-    let h = c.before.if1.false in
-    number-told a.negative a.magnitude h _ (minus_is a.negative a.magnitude h c.if2.true)
+    let a = c.args in
+    let h = c.if-magnitude-gt-LARGEST.false in
+    number-told a.negative a.magnitude h _ (minus_is a.negative a.magnitude h c.if-negative.true)
 
-returns-3 : tie.Need-returns-3
+returns-3 : tie.Need-returns-else-negative
 returns-3 c =
-    let a = c.before.before.args in
-    let h = c.before.if1.false in
-    number-told a.negative a.magnitude h _ (plain-is a.negative a.magnitude h c.if2.false)
+    let a = c.args in
+    let h = c.if-magnitude-gt-LARGEST.false in
+    number-told a.negative a.magnitude h _ (plain-is a.negative a.magnitude h c.if-negative.false)
 
-pub number-spec : {M : Type 1} → statement M
-number-spec = tie.close (tie.spec returns (λ c. search rules) sub-t6 (λ c. search rules) returns-2 returns-3)
+pub number_spec : {M : Type 1} → statement M
+number_spec = tie.close (tie.spec returns (λ c. search rules) sub-t6 (λ c. search rules) returns-2 returns-3)

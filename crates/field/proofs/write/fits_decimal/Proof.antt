@@ -11,36 +11,36 @@ use Rattle.field.proofs.Fitting.{decimal-wide, decimal-placeless, decimal-crowde
 use Rattle.field.proofs.write.fits_decimal.Statement.{statement}
 use Rattle.field.proofs.write.fits_decimal.Tie as tie
 
-returns : tie.Need-returns
-returns c = decimal-wide _ _ _ _ c.if1.true
+returns : tie.Need-returns-then-width-gt-WIDEST
+returns c = decimal-wide _ _ _ _ c.if-width-gt-WIDEST.true
 
-returns-2 : tie.Need-returns-2
-returns-2 c = decimal-placeless _ _ _ _ c.before.if1.false c.if2.true
+returns-2 : tie.Need-returns-then-places-width
+returns-2 c = decimal-placeless _ _ _ _ c.if-width-gt-WIDEST.false c.if-places-width.true
 
 -- the columns of the sign
-sign-is : (c : tie.After-sign-width) →
-    let a = c.before.before.before.before.args in
-    c.sign-width.result ≡ sign_width (shown_negative a.negative a.magnitude)
-sign-is c = c.sign-width.ensures ∙ ap sign_width c.before.shown-negative.ensures
+sign-is : (c : tie.After-sign_width-sign) →
+    let a = c.args in
+    c.sign_width-sign.result ≡ sign_width (shown_negative a.negative a.magnitude)
+sign-is c = c.sign_width-sign.ensures ∙ ap sign_width c.shown_negative.ensures
 
-returns-3 : tie.Need-returns-3
+returns-3 : tie.Need-returns-then-width-places
 returns-3 c =
-    let s = c.before in
-    let t = s.before.before in
-    decimal-crowded _ _ _ _ t.before.if1.false t.if2.false (omega (arith, sign-is s))
+    let s = c in
+    let t = c in
+    decimal-crowded _ _ _ _ t.if-width-gt-WIDEST.false t.if-places-width.false (omega (arith, sign-is c.before))
 
-returns-4 : tie.Need-returns-4
+returns-4 : tie.Need-returns
 returns-4 c =
-    let s = c.before.before in
-    let t = s.before.before in
-    let a = t.before.before.args in
-    let room : a.width - 1 - s.sign-width.result ≡ a.width - 1 - sign_width (shown_negative a.negative a.magnitude) =
-    ap (λ (k : ℕ). a.width - 1 - k) (sign-is s) in
-    ap (ltb a.magnitude) (c.ten-to.ensures ∙ ten-to-is _ (omega arith) ∙ ap (λ (k : ℕ). 10 ^ k) room)
-    ∙ decimal-digits a.width a.places a.negative a.magnitude t.before.if1.false t.if2.false (omega (arith, sign-is s))
+    let s = c in
+    let t = c in
+    let a = t.args in
+    let room : a.width - 1 - s.sign_width-sign.result ≡ a.width - 1 - sign_width (shown_negative a.negative a.magnitude) =
+    ap (λ (k : ℕ). a.width - 1 - k) (sign-is c.before.before) in
+    ap (ltb a.magnitude) (c.ten_to.ensures ∙ ten-to-is _ (omega arith) ∙ ap (λ (k : ℕ). 10 ^ k) room)
+    ∙ decimal-digits a.width a.places a.negative a.magnitude t.if-width-gt-WIDEST.false t.if-places-width.false (omega (arith, sign-is c.before.before))
 
-pub fits-decimal-spec : {M : Type 1} → statement M
-fits-decimal-spec =
+pub fits_decimal_spec : {M : Type 1} → statement M
+fits_decimal_spec =
     tie.close
     (tie.spec
     returns

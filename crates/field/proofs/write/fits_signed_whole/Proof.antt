@@ -9,8 +9,8 @@ use Rattle.field.proofs.write.fits_signed_whole.Tie as tie
 
 returns : tie.Need-returns
 returns c =
-    let a = c.before.before.args in
-    c.fits-integer.ensures ∙ ap (λ (minus : Bool). fits_integer a.width minus a.magnitude) c.before.shown-negative.ensures
+    let a = c.args in
+    c.fits_integer.ensures ∙ ap (λ (minus : Bool). fits_integer a.width minus a.magnitude) c.shown_negative.ensures
 
-pub fits-signed-whole-spec : {M : Type 1} → statement M
-fits-signed-whole-spec = tie.close (tie.spec (λ c κs. search rules) (λ c κs. search rules) returns)
+pub fits_signed_whole_spec : {M : Type 1} → statement M
+fits_signed_whole_spec = tie.close (tie.spec (λ c κs. search rules) (λ c κs. search rules) returns)

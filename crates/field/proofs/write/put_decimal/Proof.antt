@@ -21,17 +21,17 @@ use Rattle.field.proofs.Written.{decimal-text}
 use Rattle.field.proofs.write.put_decimal.Statement.{statement}
 use Rattle.field.proofs.write.put_decimal.Tie as tie
 
-returns : tie.Need-returns
-returns c = rw (sym c.before.fits-decimal.ensures ∙ not-true _ c.if1.true) (refl, refl)
+returns : tie.Need-returns-then-not-fits_decimal
+returns c = rw (sym c.fits_decimal.ensures ∙ not-true _ c.if-not-fits_decimal.true) (refl, refl)
 
 -- past the test it fits
-fits : (c : tie.Else1) →
-    let a = c.before.before.before.args in
+fits : (c : tie.Else-not-fits_decimal) →
+    let a = c.args in
     fits_decimal (length a.out.now) a.places a.negative a.magnitude ≡ true
-fits c = sym c.before.fits-decimal.ensures ∙ not-false _ c.if1.false
+fits c = sym c.fits_decimal.ensures ∙ not-false _ c.if-not-fits_decimal.false
 
 -- so there is a column for the point
-room : (c : tie.Else1) → c.before.before.before.args.places < length c.before.before.before.args.out.now
+room : (c : tie.Else-not-fits_decimal) → c.args.places < length c.args.out.now
 room c = (decimal-facts _ _ _ _ (fits c)).1
 
 -- the columns from the point on
@@ -39,75 +39,75 @@ columns : (out : List ℕ) (places : ℕ) → places < length out
     → length (take (length out - point_of places (length out)) (drop (point_of places (length out)) out)) ≡ places + 1
 columns out places h = rw (rest_part out (point_of places (length out))) (omega (arith, length-drop (point_of places (length out)) out))
 
-sub-point : tie.Need-overflow-sub-point
+sub-point : tie.Need-overflow_sub-point
 sub-point c = omega (arith, room c)
 
-sub-point-2 : tie.Need-overflow-sub-point-2
+sub-point-2 : tie.Need-overflow_sub-point-2
 sub-point-2 c = omega (arith, room c)
 
 -- the power of ten that parts the number at its point
-unit-is : (c : tie.After-ten-to) → c.ten-to.result ≡ 10 ^ c.before.before.before.before.args.places
+unit-is : (c : tie.After-ten_to-unit) → c.ten_to-unit.result ≡ 10 ^ c.args.places
 unit-is c =
-    let e = c.before in
-    c.ten-to.ensures ∙ ten-to-is _ (omega (arith, (decimal-facts _ _ _ _ (fits e)).0, room e))
+    let e = c in
+    c.ten_to-unit.ensures ∙ ten-to-is _ (omega (arith, (decimal-facts _ _ _ _ (fits c.before)).0, room c.before))
 
-unit-some : (c : tie.After-ten-to) → 0 < c.ten-to.result
-unit-some c = rw (unit-is c) (ten-pos c.before.before.before.before.args.places)
+unit-some : (c : tie.After-ten_to-unit) → 0 < c.ten_to-unit.result
+unit-some c = rw (unit-is c) (ten-pos c.args.places)
 
-put-point-requires : tie.Need-put-point-requires
+put-point-requires : tie.Need-put_point-requires
 put-point-requires c κs =
-    let e = c.before.before in
-    let a = e.before.before.before.args in
-    omega (arith, columns a.out.now a.places (room e))
+    let e = c in
+    let a = e.args in
+    omega (arith, columns a.out.now a.places (room c.before.before))
 
 -- the columns before the point
-before : (c : tie.After-slice-known2) →
+before : (c : tie.After-slice_known-2-1) →
     let p = c.before.before in
-    let a = p.before.before.before.before.before.before.args in
+    let a = p.args in
     let point = point_of a.places (length a.out.now) in
-    length (take point (put_mid point (length a.out.now - point) a.out.now p.put-point.new.0)) ≡ point
+    length (take point (put_mid point (length a.out.now - point) a.out.now p.put_point.new.out)) ≡ point
 before c =
     let p = c.before.before in
-    let a = p.before.before.before.before.before.before.args in
+    let a = p.args in
     let point = point_of a.places (length a.out.now) in
-    length-take-le point _ (omega (arith, rest-length point a.out.now p.put-point.new.0 (omega arith)))
+    length-take-le point _ (omega (arith, rest-length point a.out.now p.put_point.new.out (omega arith)))
 
-slice-aggregate-put-integer : tie.Need-slice-aggregate-put-integer
+slice-aggregate-put-integer : tie.Need-slice_bounds-put_integer-end-2
 slice-aggregate-put-integer c = sym (before c.before)
 
 -- the places are what stands past the point
-past : (c : tie.Else1) →
-    let a = c.before.before.before.args in
+past : (c : tie.Else-not-fits_decimal) →
+    let a = c.args in
     let point = point_of a.places (length a.out.now) in
     length (take (length a.out.now - point) (drop point a.out.now)) - 1 ≡ a.places
 past c =
-    let a = c.before.before.before.args in
+    let a = c.args in
     omega (arith, columns a.out.now a.places (room c))
 
-put-integer-requires : tie.Need-put-integer-requires
+put-integer-requires : tie.Need-put_integer-requires
 put-integer-requires c κs =
-    let s = c.before.before in
-    let t = s.before.before.before.before in
-    rw (before s, c.shown-negative.ensures, unit-is t) (decimal-facts _ _ _ _ (fits t.before)).2
+    let s = c in
+    let t = c in
+    rw (before c.before.before, c.shown_negative.ensures, unit-is c.before.before.before.before.before.before) (decimal-facts _ _ _ _ (fits c.before.before.before.before.before.before.before)).2
 
-returns-2 : tie.Need-returns-2
+returns-2 : tie.Need-returns
 returns-2 c =
-    let i = c.before.before in
-    let s = i.before.before.before in
-    let p = s.before.before in
-    let t = p.before.before in
-    let e = t.before in
-    let a = e.before.before.before.args in
+    let i = c in
+    let s = c in
+    let p = c in
+    let t = c in
+    let e = c in
+    let a = e.args in
     let point = point_of a.places (length a.out.now) in
-    rw (fits e) (
+    rw (fits c.before.before.before.before.before.before.before.before.before.before) (
       refl,
       decimal-text (length a.out.now) a.places a.negative a.magnitude _ _ _ _ _ _
-          (before s) (past e) i.before.shown-negative.ensures (unit-is t) i.put-integer.ensures
-          (rest-dropped point a.out.now p.put-point.new.0 (omega arith) ∙ p.put-point.ensures),
+          (before c.before.before.before.before.before) (past c.before.before.before.before.before.before.before.before.before.before) i.shown_negative.ensures (unit-is c.before.before.before.before.before.before.before.before.before) i.put_integer.ensures
+          (rest-dropped point a.out.now p.put_point.new.out (omega arith) ∙ p.put_point.ensures),
     )
 
-pub put-decimal-spec : {M : Type 1} → statement M
-put-decimal-spec =
+pub put_decimal_spec : {M : Type 1} → statement M
+put_decimal_spec =
     tie.close
     (tie.spec
     (λ c κs. search rules)

@@ -8,24 +8,24 @@ use Rattle.field.proofs.Fitting.{exponent-wide}
 use Rattle.field.proofs.write.put_exponent.Statement.{statement}
 use Rattle.field.proofs.write.put_exponent.Tie as tie
 
-returns : tie.Need-returns
+returns : tie.Need-returns-then-out-gt-WIDEST
 returns c =
-    let a = c.before.before.args in
-    rw (exponent-wide (length a.out.now) a.exponent c.if1.true) (refl, refl)
+    let a = c.args in
+    rw (exponent-wide (length a.out.now) a.exponent c.if-out-gt-WIDEST.true) (refl, refl)
 
-returns-2 : tie.Need-returns-2
-returns-2 c = rw c.before.before.before.before.before.exponent.given.1 c.before.before.put_whole.ensures
+returns-2 : tie.Need-returns-in-Value
+returns-2 c = rw c.exponent.given.1 c.put_whole.ensures
 
-returns-3 : tie.Need-returns-3
+returns-3 : tie.Need-returns-in-Unknown
 returns-3 c =
-    let fill = c.before.before in
-    let told = fill.before.before in
-    let narrow = told.before.before in
-    let out = narrow.before.before.args.out.now in
-    rw (told.enum_told.given.1, le-leb (length out) 18 narrow.if1.false) (refl, fill.fill-blanks.ensures)
+    let fill = c in
+    let told = c in
+    let narrow = c in
+    let out = narrow.args.out.now in
+    rw (told.enum_told.given.1, le-leb (length out) 18 narrow.if-out-gt-WIDEST.false) (refl, fill.fill_blanks.ensures)
 
-pub put-exponent-spec : {M : Type 1} → statement M
-put-exponent-spec =
+pub put_exponent_spec : {M : Type 1} → statement M
+put_exponent_spec =
     tie.close
     (tie.spec
     returns

@@ -10,7 +10,7 @@ use Rattle.field.specs.Show.{last_digit}
 use Rattle.field.proofs.write.put_pair.Statement.{statement}
 use Rattle.field.proofs.write.put_pair.Tie as tie
 
-slice-write-out-2 : tie.Need-slice-write-out-2
+slice-write-out-2 : tie.Need-bounds-out-at-2
 slice-write-out-2 c =
     let room : c.args.at + 1 < length c.args.out.now = omega arith in
     search (rules, room)
@@ -23,8 +23,8 @@ stores out at pair first last f l = rw (f, l)
 returns : tie.Need-returns
 returns c = stores c.args.out.now c.args.at c.args.pair _ _ (omega arith) (omega arith)
 
-pub put-pair-spec : {M : Type 1} → statement M
-put-pair-spec =
+pub put_pair_spec : {M : Type 1} → statement M
+put_pair_spec =
     tie.close
     (tie.spec
     (λ c. omega arith)

@@ -10,7 +10,7 @@ use Rattle.file.proofs.records.count_of.Statement.{statement}
 use Rattle.file.proofs.records.count_of.Tie as tie
 
 returns : tie.Need-returns
-returns c = ap (λ (x : Satellites). x.count) c.read-satellites.ensures ∙ ap (λ (l : List ℕ). (satellites_of c.before.before.before.before.args.rules l).count) c.before.before.padded-line.ensures
+returns c = ap (λ (x : Satellites). x.count) c.read_satellites-satellites.ensures ∙ ap (λ (l : List ℕ). (satellites_of c.args.rules l).count) c.padded_line-line.ensures
 
-pub count-of-spec : {M : Type 1} → statement M
-count-of-spec = tie.close (tie.spec (λ c κs. search rules) (λ c κs. search rules) returns)
+pub count_of_spec : {M : Type 1} → statement M
+count_of_spec = tie.close (tie.spec (λ c κs. search rules) (λ c κs. search rules) returns)

@@ -7,7 +7,7 @@ use Rattle.file.proofs.records.first_of.Statement.{statement}
 use Rattle.file.proofs.records.first_of.Tie as tie
 
 returns : tie.Need-returns
-returns c = c.read_first.ensures ∙ ap (first_of c.before.before.before.before.args.rules) c.before.before.padded-line.ensures
+returns c = c.read_first.ensures ∙ ap (first_of c.args.rules) c.padded_line-line.ensures
 
-pub first-of-spec : {M : Type 1} → statement M
-first-of-spec = tie.close (tie.spec (λ c κs. search rules) (λ c κs. search rules) returns)
+pub first_of_spec : {M : Type 1} → statement M
+first_of_spec = tie.close (tie.spec (λ c κs. search rules) (λ c κs. search rules) returns)

@@ -17,60 +17,60 @@ use Rattle.fill.proofs.FillingComments.{no-comments, comments-end, comments-done
 use Rattle.fill.proofs.fill.fill_comments.Statement.{statement}
 use Rattle.fill.proofs.fill.fill_comments.Tie as tie
 
-abbrev invariant-loop : tie.invariant-loop
+abbrev invariant-loop : tie.invariant-loop-rules
 invariant-loop rules bytes count out₀ at₀ stored₀ left₀ out at stored left =
     (0 < left)
     × Filling (is_kind rules comment_kind) (parts_left comment_text) bytes (flat (map comment_text (take count (of_kind rules comment_kind (lines_of bytes))))) out₀ out at stored left
 
-abbrev decreases-loop : tie.decreases-loop
+abbrev decreases-loop : tie.decreases-loop-rules
 decreases-loop rules bytes count out₀ at₀ stored₀ left₀ out at stored left = length bytes - at
 
-returns : tie.Need-returns invariant-loop decreases-loop
+returns : tie.Need-returns-then-count-eq0 invariant-loop decreases-loop
 returns c =
-    let a = c.before.before.before.args in
-    no-comments a.count (of_kind a.rules comment_kind (lines_of a.bytes.now)) a.out.now c.if1.true
+    let a = c.args in
+    no-comments a.count (of_kind a.rules comment_kind (lines_of a.bytes.now)) a.out.now c.if-count-eq0.true
 
-loop-holds : tie.Need-loop-init invariant-loop decreases-loop
+loop-holds : tie.Need-loop-rules-init invariant-loop decreases-loop
 loop-holds c =
-    let a = c.before.before.before.args in
+    let a = c.args in
     let all = flat (map comment_text (take a.count (of_kind a.rules comment_kind (lines_of a.bytes.now)))) in
     (search rules, filling-first (is_kind a.rules comment_kind) (parts_left comment_text) a.bytes.now all a.out.now a.count refl)
 
-returns-2 : tie.Need-returns-2 invariant-loop decreases-loop
+returns-2 : tie.Need-returns-then-end-bytes invariant-loop decreases-loop
 returns-2 c =
-    let ended = c.before in
-    comments-end ended.before.loop.invariant.1 ended.line-end.result ended.line-end.ensures c.if2.true
+    let ended = c in
+    comments-end ended.loop-rules.invariant.1 ended.line_end-end.result ended.line_end-end.ensures c.if-end-bytes.true
 
-returns-3 : tie.Need-returns-3 invariant-loop decreases-loop
+returns-3 : tie.Need-returns-then-left-out invariant-loop decreases-loop
 returns-3 c =
-    let laid = c.before.before.before in
-    let told = laid.before.before.before in
-    let ended = told.before.before.before in
-    let inv = ended.before.loop.invariant in
-    comments-done inv.1 ended.line-end.result ended.line-end.ensures told.before.before.if2.false
-    (eq-eqb _ 8 (sym told.kind-in.ensures ∙ laid.before.before.if3.true)) inv.0 laid.lay-comment.ensures c.if4.true
+    let laid = c in
+    let told = c in
+    let ended = c in
+    let inv = ended.loop-rules.invariant in
+    comments-done inv.1 ended.line_end-end.result ended.line_end-end.ensures told.if-end-bytes.false
+    (eq-eqb _ 8 (sym told.kind_in.ensures ∙ laid.if-kind_in-eq-COMMENT_KIND.true)) inv.0 laid.lay_comment.ensures c.if-left-out.true
 
-loop-again : tie.Need-loop-preserved invariant-loop decreases-loop
+loop-again : tie.Need-loop-rules-preserved invariant-loop decreases-loop
 loop-again c =
-    let told = c.before in
-    let ended = told.before.before.before in
-    let inv = ended.before.loop.invariant in
-    let found = told.before.before.if2.false in
+    let told = c in
+    let ended = c in
+    let inv = ended.loop-rules.invariant in
+    let found = told.if-end-bytes.false in
     ⊎_elim
     (λ w.
     rw (w.6, w.7, w.8)
-    (comments-more inv.1 ended.line-end.result ended.line-end.ensures found
-    (eq-eqb _ 8 (sym told.kind-in.ensures ∙ w.0.taken)) inv.0 w.2.ensures w.5.left))
+    (comments-more inv.1 ended.line_end-end.result ended.line_end-end.ensures found
+    (eq-eqb _ 8 (sym told.kind_in.ensures ∙ w.0.taken)) inv.0 w.2.ensures w.5.left))
     (λ w.
     rw (w.1, w.2, w.3) (
       inv.0,
-      filling-other inv.1 ended.line-end.result ended.line-end.ensures found
-          (ne_eqb _ 8 (λ e. w.0.left (told.kind-in.ensures ∙ e))),
+      filling-other inv.1 ended.line_end-end.result ended.line_end-end.ensures found
+          (ne_eqb _ 8 (λ e. w.0.left (told.kind_in.ensures ∙ e))),
     ))
-    c.if3.branch
+    c.if-kind_in-eq-COMMENT_KIND.branch
 
-pub fill-comments-spec : {M : Type 1} → statement M
-fill-comments-spec =
+pub fill_comments_spec : {M : Type 1} → statement M
+fill_comments_spec =
     tie.close
     (tie.spec
     invariant-loop

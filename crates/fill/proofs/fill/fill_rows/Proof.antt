@@ -13,65 +13,65 @@ use Rattle.fill.proofs.FillingRows.{RowsFilling, rows-first, rows_end, rows-full
 use Rattle.fill.proofs.fill.fill_rows.Statement.{statement}
 use Rattle.fill.proofs.fill.fill_rows.Tie as tie
 
-abbrev invariant-loop : tie.invariant-loop
+abbrev invariant-loop : tie.invariant-loop-rules
 invariant-loop rules bytes out₀ at₀ stored₀ out at stored = RowsFilling rules bytes out₀ out at stored
 
-abbrev decreases-loop : tie.decreases-loop
+abbrev decreases-loop : tie.decreases-loop-rules
 decreases-loop rules bytes out₀ at₀ stored₀ out at stored = length bytes - at
 
-loop-holds : tie.Need-loop-init invariant-loop decreases-loop
-loop-holds c = let a = c.before.args in rows-first a.rules a.bytes.now a.out.now
+loop-holds : tie.Need-loop-rules-init invariant-loop decreases-loop
+loop-holds c = let a = c.args in rows-first a.rules a.bytes.now a.out.now
 
 -- a row's two kinds, as the loop tests them
 abbrev is_row_kind : ℕ → Bool
 is_row_kind kind = eqb kind 10 || eqb kind 11
 
-returns : tie.Need-returns invariant-loop decreases-loop
+returns : tie.Need-returns-then-end-bytes invariant-loop decreases-loop
 returns c =
-    let ended = c.before in
+    let ended = c in
     let at-loop = ended.before in
-    let a = at-loop.before.before.args in
-    rows_end a.rules a.bytes.now a.out.now at-loop.loop.out at-loop.loop.at at-loop.loop.stored at-loop.loop.invariant
-    ended.line-end.result ended.line-end.ensures c.if1.true
+    let a = at-loop.args in
+    rows_end a.rules a.bytes.now a.out.now at-loop.loop-rules.out at-loop.loop-rules.at at-loop.loop-rules.stored at-loop.loop-rules.invariant
+    ended.line_end-end.result ended.line_end-end.ensures c.if-end-bytes.true
 
-returns-2 : tie.Need-returns-2 invariant-loop decreases-loop
+returns-2 : tie.Need-returns-then-out-stored-lt-ROW_WIDTH invariant-loop decreases-loop
 returns-2 c =
-    let told = c.before.before in
-    let ended = told.before.before.before in
+    let told = c in
+    let ended = c in
     let at-loop = ended.before in
-    let a = at-loop.before.before.args in
-    rows-full a.rules a.bytes.now a.out.now at-loop.loop.out at-loop.loop.at at-loop.loop.stored at-loop.loop.invariant
-    ended.line-end.result ended.line-end.ensures c.if3.true
+    let a = at-loop.args in
+    rows-full a.rules a.bytes.now a.out.now at-loop.loop-rules.out at-loop.loop-rules.at at-loop.loop-rules.stored at-loop.loop-rules.invariant
+    ended.line_end-end.result ended.line_end-end.ensures c.if-out-stored-lt-ROW_WIDTH.true
 
 -- a row has room, so its end is within 64 bits
-add-stored : tie.Need-overflow-add-stored invariant-loop decreases-loop
+add-stored : tie.Need-overflow_add-stored invariant-loop decreases-loop
 add-stored c =
-    let room = c.before.before.before.before in
+    let room = c in
     let at-loop = room.before.before.before.before.before.before in
-    omega (arith, at-loop.before.before.well-formed, at-loop.loop.invariant.has.kept, room.if3.false)
+    omega (arith, at-loop.well-formed, at-loop.loop-rules.invariant.has.kept, room.if-out-stored-lt-ROW_WIDTH.false)
 
-loop-again : tie.Need-loop-preserved invariant-loop decreases-loop
+loop-again : tie.Need-loop-rules-preserved invariant-loop decreases-loop
 loop-again c =
-    let told = c.before in
-    let ended = told.before.before.before in
+    let told = c in
+    let ended = c in
     let at-loop = ended.before in
-    let a = at-loop.before.before.args in
-    let found = told.before.before.if1.false in
-    let line = take (ended.line-end.result - at-loop.loop.at) (drop at-loop.loop.at a.bytes.now) in
+    let a = at-loop.args in
+    let found = told.if-end-bytes.false in
+    let line = take (ended.line_end-end.result - at-loop.loop-rules.at) (drop at-loop.loop-rules.at a.bytes.now) in
     ⊎_elim
     (λ w.
     rw (w.6, w.7)
-    (rows_more a.rules a.bytes.now a.out.now at-loop.loop.out at-loop.loop.at at-loop.loop.stored at-loop.loop.invariant
-    ended.line-end.result ended.line-end.ensures found (sym (ap is_row_kind told.kind-in.ensures) ∙ w.0.taken) w.1.left
-    w.2.result (w.2.ensures ∙ ap (λ (kind : ℕ). row_of (eqb kind 11) line) told.kind-in.ensures) (w.4.ensures a.rules)))
+    (rows_more a.rules a.bytes.now a.out.now at-loop.loop-rules.out at-loop.loop-rules.at at-loop.loop-rules.stored at-loop.loop-rules.invariant
+    ended.line_end-end.result ended.line_end-end.ensures found (sym (ap is_row_kind told.kind_in-kind.ensures) ∙ w.0.taken) w.1.left
+    w.2.result (w.2.ensures ∙ ap (λ (kind : ℕ). row_of (eqb kind 11) line) told.kind_in-kind.ensures) (w.4.ensures a.rules)))
     (λ w.
     rw (w.1, w.2)
-    (rows-passed a.rules a.bytes.now a.out.now at-loop.loop.out at-loop.loop.at at-loop.loop.stored at-loop.loop.invariant
-    ended.line-end.result ended.line-end.ensures found (sym (ap is_row_kind told.kind-in.ensures) ∙ w.0.left)))
-    c.if2.branch
+    (rows-passed a.rules a.bytes.now a.out.now at-loop.loop-rules.out at-loop.loop-rules.at at-loop.loop-rules.stored at-loop.loop-rules.invariant
+    ended.line_end-end.result ended.line_end-end.ensures found (sym (ap is_row_kind told.kind_in-kind.ensures) ∙ w.0.left)))
+    c.if-kind.branch
 
-pub fill-rows-spec : {M : Type 1} → statement M
-fill-rows-spec =
+pub fill_rows_spec : {M : Type 1} → statement M
+fill_rows_spec =
     tie.close
     (tie.spec
     invariant-loop

@@ -16,63 +16,63 @@ use Rattle.fill.proofs.FillingSlots.{slots_left, slots-first, slots_end, slots-d
 use Rattle.fill.proofs.fill.fill_slots.Statement.{statement}
 use Rattle.fill.proofs.fill.fill_slots.Tie as tie
 
-abbrev invariant-loop : tie.invariant-loop
+abbrev invariant-loop : tie.invariant-loop-rules
 invariant-loop rules bytes accuracies n out₀ kind at₀ stored₀ left₀ out at stored left =
     Filling (is_kind rules kind) (slots_left accuracies) bytes (slots_in rules accuracies n (lines_of bytes)) out₀ out at stored left
 
-abbrev decreases-loop : tie.decreases-loop
+abbrev decreases-loop : tie.decreases-loop-rules
 decreases-loop rules bytes accuracies n out₀ kind at₀ stored₀ left₀ out at stored left = length bytes - at
 
-loop-holds : tie.Need-loop-init invariant-loop decreases-loop
+loop-holds : tie.Need-loop-rules-init invariant-loop decreases-loop
 loop-holds c =
-    let a = c.before.before.before.args in
-    slots-first a.rules a.accuracies c.if1.kind a.n a.bytes.now a.out.now
-    (⊎_elim (λ w. w.1 ∙ sym (ap slot_line_kind w.0.taken)) (λ w. w.1 ∙ sym (ap slot_line_kind w.0.left)) c.if1.branch)
+    let a = c.args in
+    slots-first a.rules a.accuracies c.if-accuracies.kind a.n a.bytes.now a.out.now
+    (⊎_elim (λ w. w.1 ∙ sym (ap slot_line_kind w.0.taken)) (λ w. w.1 ∙ sym (ap slot_line_kind w.0.left)) c.if-accuracies.branch)
 
-returns : tie.Need-returns invariant-loop decreases-loop
+returns : tie.Need-returns-then-end-bytes invariant-loop decreases-loop
 returns c =
-    let ended = c.before in
-    let a = ended.before.before.before.before.before.args in
-    slots_end a.accuracies ended.before.loop.invariant ended.line-end.result ended.line-end.ensures c.if2.true
+    let ended = c in
+    let a = ended.args in
+    slots_end a.accuracies ended.loop-rules.invariant ended.line_end-end.result ended.line_end-end.ensures c.if-end-bytes.true
 
-returns-2 : tie.Need-returns-2 invariant-loop decreases-loop
+returns-2 : tie.Need-returns-then-left-out invariant-loop decreases-loop
 returns-2 c =
-    let laid = c.before.before.before in
-    let told = laid.before.before.before in
-    let ended = told.before.before.before in
-    let joined = ended.before.before in
-    let a = joined.before.before.before.args in
-    slots-done a.accuracies ended.before.loop.invariant ended.line-end.result ended.line-end.ensures told.before.before.if2.false
-    (eq-eqb _ joined.if1.kind (sym told.kind-in.ensures ∙ laid.before.before.if3.true)) laid.lay-slots.ensures c.if4.true
+    let laid = c in
+    let told = c in
+    let ended = c in
+    let joined = c in
+    let a = joined.args in
+    slots-done a.accuracies ended.loop-rules.invariant ended.line_end-end.result ended.line_end-end.ensures told.if-end-bytes.false
+    (eq-eqb _ joined.if-accuracies.kind (sym told.kind_in.ensures ∙ laid.if-kind_in-kind.true)) laid.lay_slots.ensures c.if-left-out.true
 
-sub-left : tie.Need-overflow-sub-left invariant-loop decreases-loop
+sub-left : tie.Need-overflow_sub-left invariant-loop decreases-loop
 sub-left c =
-    let laid = c.before.before.before in
-    let loop = laid.before.before.before.before.before.before.before.loop in
-    let out = put_mid loop.stored (length loop.out - loop.stored) loop.out laid.lay-slots.new.1.1.1.0 in
-    omega (arith, (neither-met loop.left 17 (length out - loop.stored) 17 c.if4.false).0)
+    let laid = c in
+    let loop = laid.loop-rules in
+    let out = put_mid loop.stored (length loop.out - loop.stored) loop.out laid.lay_slots.new.1.1.1.0 in
+    omega (arith, (neither-met loop.left 17 (length out - loop.stored) 17 c.if-left-out.false).0)
 
-loop-again : tie.Need-loop-preserved invariant-loop decreases-loop
+loop-again : tie.Need-loop-rules-preserved invariant-loop decreases-loop
 loop-again c =
-    let told = c.before in
-    let ended = told.before.before.before in
-    let joined = ended.before.before in
-    let a = joined.before.before.before.args in
-    let inv = ended.before.loop.invariant in
-    let found = told.before.before.if2.false in
+    let told = c in
+    let ended = c in
+    let joined = c in
+    let a = joined.args in
+    let inv = ended.loop-rules.invariant in
+    let found = told.if-end-bytes.false in
     ⊎_elim
     (λ w.
     rw (w.6, w.7, w.8)
-    (slots-more a.accuracies inv ended.line-end.result ended.line-end.ensures found
-    (eq-eqb _ joined.if1.kind (sym told.kind-in.ensures ∙ w.0.taken)) w.2.ensures w.5.left))
+    (slots-more a.accuracies inv ended.line_end-end.result ended.line_end-end.ensures found
+    (eq-eqb _ joined.if-accuracies.kind (sym told.kind_in.ensures ∙ w.0.taken)) w.2.ensures w.5.left))
     (λ w.
     rw (w.1, w.2, w.3)
-    (filling-other inv ended.line-end.result ended.line-end.ensures found
-    (ne_eqb _ joined.if1.kind (λ e. w.0.left (told.kind-in.ensures ∙ e)))))
-    c.if3.branch
+    (filling-other inv ended.line_end-end.result ended.line_end-end.ensures found
+    (ne_eqb _ joined.if-accuracies.kind (λ e. w.0.left (told.kind_in.ensures ∙ e)))))
+    c.if-kind_in-kind.branch
 
-pub fill-slots-spec : {M : Type 1} → statement M
-fill-slots-spec =
+pub fill_slots_spec : {M : Type 1} → statement M
+fill_slots_spec =
     tie.close
     (tie.spec
     invariant-loop

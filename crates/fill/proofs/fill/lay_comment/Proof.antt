@@ -12,13 +12,13 @@ use Rattle.fill.proofs.fill.lay_comment.Tie as tie
 
 returns : tie.Need-returns
 returns c =
-    let copied = c.before.before in
-    let padded = copied.before.before.before.before in
-    let start = padded.before.before.before in
-    copied.copy-front.ensures ∙ ap (λ (line : List ℕ). laid (take comment_width (drop 3 line)) start.args.out.now) padded.pad.ensures
+    let copied = c in
+    let padded = c in
+    let start = c in
+    copied.copy_front.ensures ∙ ap (λ (line : List ℕ). laid (take comment_width (drop 3 line)) start.args.out.now) padded.pad-padded.ensures
 
-pub lay-comment-spec : {M : Type 1} → statement M
-lay-comment-spec =
+pub lay_comment_spec : {M : Type 1} → statement M
+lay_comment_spec =
     tie.close
     (tie.spec
     (λ c κs. search rules)

@@ -12,43 +12,43 @@ use Rattle.fill.proofs.FillingSlots.{slots_length, first-slots, all_slots}
 use Rattle.fill.proofs.fill.lay_slots.Statement.{statement}
 use Rattle.fill.proofs.fill.lay_slots.Tie as tie
 
-part-lay-numbers-end : tie.Need-slice-bounds-lay-numbers-end
+part-lay-numbers-end : tie.Need-slice_bounds-lay_numbers-end
 part-lay-numbers-end c =
-    let read = c.before.before.before.before in
-    let padded = read.before.before in
-    let start = padded.before.before.before in
+    let read = c in
+    let padded = c in
+    let start = c in
     omega (
       arith,
-      c.before.if1.true,
-      ap (λ (s : Slots). length s.values) read.read-slots.ensures ∙ slots_length start.args.accuracies padded.pad.result,
+      c.if-left-lt17.true,
+      ap (λ (s : Slots). length s.values) read.read_slots-slots.ensures ∙ slots_length start.args.accuracies padded.pad-padded.result,
     )
 
-returns : tie.Need-returns
+returns : tie.Need-returns-then-left-lt17
 returns c =
-    let laid = c.before.before in
-    let read = laid.before.before.before.before.before.before in
-    let padded = read.before.before in
-    let a = padded.before.before.before.args in
-    laid.lay-numbers.ensures
-    ∙ first-slots a.accuracies a.line.now read.read-slots.result.values a.out.now a.left
-    (ap (λ (s : Slots). s.values) read.read-slots.ensures
-    ∙ ap (λ (line : List ℕ). (more_of a.accuracies 17 line).values) padded.pad.ensures)
+    let laid = c in
+    let read = c in
+    let padded = c in
+    let a = padded.args in
+    laid.lay_numbers.ensures
+    ∙ first-slots a.accuracies a.line.now read.read_slots-slots.result.values a.out.now a.left
+    (ap (λ (s : Slots). s.values) read.read_slots-slots.ensures
+    ∙ ap (λ (line : List ℕ). (more_of a.accuracies 17 line).values) padded.pad-padded.ensures)
 
-returns-2 : tie.Need-returns-2
+returns-2 : tie.Need-returns
 returns-2 c =
-    let laid = c.before.before in
-    let more = laid.before.before in
-    let read = more.before.before.before in
-    let padded = read.before.before in
-    let a = padded.before.before.before.args in
-    laid.lay-numbers2.ensures
-    ∙ all_slots a.accuracies a.line.now read.read-slots.result.values a.out.now a.left
-    (ap (λ (s : Slots). s.values) read.read-slots.ensures
-    ∙ ap (λ (line : List ℕ). (more_of a.accuracies 17 line).values) padded.pad.ensures)
-    more.if1.false
+    let laid = c in
+    let more = c in
+    let read = c in
+    let padded = c in
+    let a = padded.args in
+    laid.lay_numbers-2.ensures
+    ∙ all_slots a.accuracies a.line.now read.read_slots-slots.result.values a.out.now a.left
+    (ap (λ (s : Slots). s.values) read.read_slots-slots.ensures
+    ∙ ap (λ (line : List ℕ). (more_of a.accuracies 17 line).values) padded.pad-padded.ensures)
+    more.if-left-lt17.false
 
-pub lay-slots-spec : {M : Type 1} → statement M
-lay-slots-spec =
+pub lay_slots_spec : {M : Type 1} → statement M
+lay_slots_spec =
     tie.close
     (tie.spec
     (λ c κs. search rules)

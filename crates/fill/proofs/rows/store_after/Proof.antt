@@ -10,33 +10,33 @@ use Rattle.fill.proofs.After.{after_none, after-cut, after-note}
 use Rattle.fill.proofs.rows.store_after.Statement.{statement}
 use Rattle.fill.proofs.rows.store_after.Tie as tie
 
-returns : tie.Need-returns
+returns : tie.Need-returns-then-end-bytes
 returns c rules =
-    let stored = c.before in
-    let noted = stored.before.before in
-    let cut = noted.before.before in
-    let ended = cut.before in
-    let begun = ended.before.before in
-    let a = begun.before.before.args in
-    stored.store-note.ensures
-    ∙ (ap (λ (n : Note). over (note_numbers n) a.out.now) noted.note-of.ensures
-    ∙ after-note rules a.bytes.now a.at begun.begins-note.ensures a.out.now ended.line-end.result ended.line-end.ensures
-    ended.before.if1.true cut.if2.true)
+    let stored = c in
+    let noted = c in
+    let cut = c in
+    let ended = c in
+    let begun = c in
+    let a = begun.args in
+    stored.store_note.ensures
+    ∙ (ap (λ (n : Note). over (note_numbers n) a.out.now) noted.note_of.ensures
+    ∙ after-note rules a.bytes.now a.at begun.begins_note.ensures a.out.now ended.line_end-end.result ended.line_end-end.ensures
+    ended.if-begins_note.true cut.if-end-bytes.true)
 
-returns-2 : tie.Need-returns-2
+returns-2 : tie.Need-returns
 returns-2 c rules =
-    let stored = c.before in
-    let joined = stored.before.before in
-    let begun = joined.before in
-    let a = begun.before.before.args in
-    stored.store-no-note.ensures
+    let stored = c in
+    let joined = c in
+    let begun = c in
+    let a = begun.args in
+    stored.store_no_note.ensures
     ∙ ⊎_elim
-    (λ w. after-cut rules a.bytes.now a.at begun.begins-note.ensures a.out.now w.1.result w.1.ensures w.2.left)
-    (λ w. after_none rules a.bytes.now a.at begun.begins-note.ensures a.out.now w.left)
-    joined.if1.branch
+    (λ w. after-cut rules a.bytes.now a.at begun.begins_note.ensures a.out.now w.1.result w.1.ensures w.2.left)
+    (λ w. after_none rules a.bytes.now a.at begun.begins_note.ensures a.out.now w.left)
+    joined.if-begins_note.branch
 
-pub store-after-spec : {M : Type 1} → statement M
-store-after-spec =
+pub store_after_spec : {M : Type 1} → statement M
+store_after_spec =
     tie.close
     (tie.spec
     (λ c κs. search rules)

@@ -14,8 +14,8 @@ returns : tie.Need-returns
 unfolding stored_int signed_int
 returns c = none-stored c.args.out.now c.requires refl refl
 
-pub store-no-note-spec : {M : Type 1} → statement M
-store-no-note-spec =
+pub store_no_note_spec : {M : Type 1} → statement M
+store_no_note_spec =
     tie.close
     (tie.spec
     (λ c. search rules)

@@ -12,23 +12,23 @@ use Rattle.fill.proofs.rows.store_note.Tie as tie
 
 returns : tie.Need-returns
 returns c =
-    let start = c.before.before.before.before.before.before.before.before.before.before.before.before.before.before.before.before.before in
+    let start = c in
     let note = start.args.note in
     note-stored note start.args.out.now start.requires
-    (stored-kept false (mark_number true) c.before.before.before.before.before.before.before.before.before.before.stored-mark.ensures)
-    (stored-kept false note.x_deviation c.before.before.before.before.before.before.before.before.before.stored-number.ensures)
-    (stored-kept false note.y_deviation c.before.before.before.before.before.before.before.before.stored-number2.ensures)
-    (stored-kept false note.z_deviation c.before.before.before.before.before.before.before.stored-number3.ensures)
-    (stored-kept false note.clock_deviation c.before.before.before.before.before.before.stored-number4.ensures)
-    (stored-kept note.xy.negative note.xy.magnitude c.before.before.before.before.before.stored-signed.ensures)
-    (stored-kept note.xz.negative note.xz.magnitude c.before.before.before.before.stored-signed2.ensures)
-    (stored-kept note.xc.negative note.xc.magnitude c.before.before.before.stored-signed3.ensures)
-    (stored-kept note.yz.negative note.yz.magnitude c.before.before.stored-signed4.ensures)
-    (stored-kept note.yc.negative note.yc.magnitude c.before.stored-signed5.ensures)
-    (stored-kept note.zc.negative note.zc.magnitude c.stored-signed6.ensures)
+    (stored-kept false (mark_number true) c.stored_mark.ensures)
+    (stored-kept false note.x_deviation c.stored_number.ensures)
+    (stored-kept false note.y_deviation c.stored_number-2.ensures)
+    (stored-kept false note.z_deviation c.stored_number-3.ensures)
+    (stored-kept false note.clock_deviation c.stored_number-4.ensures)
+    (stored-kept note.xy.negative note.xy.magnitude c.stored_signed.ensures)
+    (stored-kept note.xz.negative note.xz.magnitude c.stored_signed-2.ensures)
+    (stored-kept note.xc.negative note.xc.magnitude c.stored_signed-3.ensures)
+    (stored-kept note.yz.negative note.yz.magnitude c.stored_signed-4.ensures)
+    (stored-kept note.yc.negative note.yc.magnitude c.stored_signed-5.ensures)
+    (stored-kept note.zc.negative note.zc.magnitude c.stored_signed-6.ensures)
 
-pub store-note-spec : {M : Type 1} → statement M
-store-note-spec =
+pub store_note_spec : {M : Type 1} → statement M
+store_note_spec =
     tie.close
     (tie.spec
     (λ c κs. search rules)

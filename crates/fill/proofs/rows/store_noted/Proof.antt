@@ -9,14 +9,14 @@ use Rattle.fill.proofs.rows.store_noted.Tie as tie
 
 returns : tie.Need-returns
 returns c rules =
-    let after = c.before in
-    let stored = after.before.before.before in
-    let start = stored.before.before.before in
-    noted-stored start.args.row rules (lines_of (drop start.args.at start.args.bytes.now)) start.args.out.now start.requires stored.store-row.ensures
-    (after.store-after.ensures rules)
+    let after = c in
+    let stored = c in
+    let start = c in
+    noted-stored start.args.row rules (lines_of (drop start.args.at start.args.bytes.now)) start.args.out.now start.requires stored.store_row.ensures
+    (after.store_after.ensures rules)
 
-pub store-noted-spec : {M : Type 1} → statement M
-store-noted-spec =
+pub store_noted_spec : {M : Type 1} → statement M
+store_noted_spec =
     tie.close
     (tie.spec
     (λ c κs. search rules)

@@ -12,24 +12,24 @@ use Rattle.fill.proofs.rows.store_row.Tie as tie
 
 returns : tie.Need-returns
 returns c =
-    let start = c.before.before.before.before.before.before.before.before.before.before.before.before.before.before.before.before in
+    let start = c in
     let row = start.args.row in
     row-stored row start.args.out.now start.requires
-    (stored-kept row.x.negative row.x.magnitude c.before.before.before.before.before.before.before.before.before.before.before.stored-signed.ensures)
-    (stored-kept row.y.negative row.y.magnitude c.before.before.before.before.before.before.before.before.before.before.stored-signed2.ensures)
-    (stored-kept row.z.negative row.z.magnitude c.before.before.before.before.before.before.before.before.before.stored-signed3.ensures)
-    (stored-kept row.clock.negative row.clock.magnitude c.before.before.before.before.before.before.before.before.stored-signed4.ensures)
-    (stored-kept false row.x_exponent c.before.before.before.before.before.before.before.stored-number.ensures)
-    (stored-kept false row.y_exponent c.before.before.before.before.before.before.stored-number2.ensures)
-    (stored-kept false row.z_exponent c.before.before.before.before.before.stored-number3.ensures)
-    (stored-kept false row.clock_exponent c.before.before.before.before.stored-number4.ensures)
-    (stored-kept false (mark_number row.event) c.before.before.before.stored-mark.ensures)
-    (stored-kept false (mark_number row.predicted) c.before.before.stored-mark2.ensures)
-    (stored-kept false (mark_number row.maneuver) c.before.stored-mark3.ensures)
-    (stored-kept false (mark_number row.orbit_predicted) c.stored-mark4.ensures)
+    (stored-kept row.x.negative row.x.magnitude c.stored_signed.ensures)
+    (stored-kept row.y.negative row.y.magnitude c.stored_signed-2.ensures)
+    (stored-kept row.z.negative row.z.magnitude c.stored_signed-3.ensures)
+    (stored-kept row.clock.negative row.clock.magnitude c.stored_signed-4.ensures)
+    (stored-kept false row.x_exponent c.stored_number.ensures)
+    (stored-kept false row.y_exponent c.stored_number-2.ensures)
+    (stored-kept false row.z_exponent c.stored_number-3.ensures)
+    (stored-kept false row.clock_exponent c.stored_number-4.ensures)
+    (stored-kept false (mark_number row.event) c.stored_mark.ensures)
+    (stored-kept false (mark_number row.predicted) c.stored_mark-2.ensures)
+    (stored-kept false (mark_number row.maneuver) c.stored_mark-3.ensures)
+    (stored-kept false (mark_number row.orbit_predicted) c.stored_mark-4.ensures)
 
-pub store-row-spec : {M : Type 1} → statement M
-store-row-spec =
+pub store_row_spec : {M : Type 1} → statement M
+store_row_spec =
     tie.close
     (tie.spec
     (λ c κs. search rules)

@@ -7,5 +7,5 @@ use Rattle.header.proofs.making.instant_of.Tie as tie
 returns : tie.Need-returns
 returns c = c.instant.ensures
 
-pub instant-of-spec : {M : Type 1} → statement M
-instant-of-spec = tie.close (tie.spec (λ c κs. search rules) returns)
+pub instant_of_spec : {M : Type 1} → statement M
+instant_of_spec = tie.close (tie.spec (λ c κs. search rules) returns)

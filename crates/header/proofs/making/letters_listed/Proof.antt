@@ -15,15 +15,15 @@ use Rattle.header.proofs.making.letters_listed.Tie as tie
 returns : tie.Need-returns
 unfolding letters_listed
 returns c =
-    let timed = c.before.before.before in
-    let start = timed.before in
+    let timed = c in
+    let start = c in
     let e : length start.args.t4 ≡ 3 = search rules in
-    all-four _ _ _ _ _ _ _ _ c.before.before.is-mode.ensures c.before.is-file-type.ensures
-    (timed.is-time-system.ensures ∙ ap (λ (s : List ℕ). is_listed s time_systems) (three-bytes start.args.t4 e))
-    c.texts-printable.ensures
+    all-four _ _ _ _ _ _ _ _ c.is_mode.ensures c.is_file_type.ensures
+    (timed.is_time_system-timed.ensures ∙ ap (λ (s : List ℕ). is_listed s time_systems) (three-bytes start.args.t4 e))
+    c.texts_printable.ensures
 
-pub letters-listed-spec : {M : Type 1} → statement M
-letters-listed-spec =
+pub letters_listed_spec : {M : Type 1} → statement M
+letters_listed_spec =
     tie.close
     (tie.spec
     (λ c. search rules)

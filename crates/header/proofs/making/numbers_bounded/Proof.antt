@@ -10,8 +10,8 @@ use Rattle.header.proofs.making.numbers_bounded.Tie as tie
 returns : tie.Need-returns
 unfolding numbers_bounded
 returns c =
-    all-four _ _ _ _ _ _ _ _ c.before.before.within.ensures c.before.within2.ensures c.within3.ensures refl
+    all-four _ _ _ _ _ _ _ _ c.within.ensures c.within-2.ensures c.within-3.ensures refl
 
-pub numbers-bounded-spec : {M : Type 1} → statement M
-numbers-bounded-spec =
+pub numbers_bounded_spec : {M : Type 1} → statement M
+numbers_bounded_spec =
     tie.close (tie.spec (λ c κs. search rules) (λ c κs. search rules) (λ c κs. search rules) returns)

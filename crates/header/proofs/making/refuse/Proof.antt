@@ -7,5 +7,5 @@ use Rattle.header.proofs.making.refuse.Tie as tie
 returns : tie.Need-returns
 returns c = rw c.none.ensures
 
-pub refuse-spec : {M : Type 1} → statement M
-refuse-spec = tie.close (tie.spec (λ c κs. search rules) returns)
+pub refuse_spec : {M : Type 1} → statement M
+refuse_spec = tie.close (tie.spec (λ c κs. search rules) returns)

@@ -7,14 +7,14 @@ use Rattle.header.proofs.making.texts_printable.Tie as tie
 
 returns : tie.Need-returns
 returns c =
-    let third = c.before.before in
-    let second = third.before.before in
-    let first = second.before.before in
-    all-four _ _ _ _ _ _ _ _ first.is-printable.ensures second.is-printable2.ensures third.is-printable3.ensures
-    c.is-printable4.ensures
+    let third = c in
+    let second = c in
+    let first = c in
+    all-four _ _ _ _ _ _ _ _ first.is_printable.ensures second.is_printable-2.ensures third.is_printable-3.ensures
+    c.is_printable-4.ensures
 
-pub texts-printable-spec : {M : Type 1} → statement M
-texts-printable-spec =
+pub texts_printable_spec : {M : Type 1} → statement M
+texts_printable_spec =
     tie.close
     (tie.spec
     (λ c. search rules)

@@ -23,12 +23,12 @@ few (b ∷ []) h = by (eqb b 35)
     by false = refl
 few (b ∷ b' ∷ bytes) h = absurd (omega arith)
 
-returns : tie.Need-returns
-returns c = sym (few c.before.args.bytes.now c.if1.true)
+returns : tie.Need-returns-then-bytes-lt2
+returns c = sym (few c.args.bytes.now c.if-bytes-lt2.true)
 
-returns-2 : tie.Need-returns-2
+returns-2 : tie.Need-returns
 unfolding begins_c
 returns-2 c = refl
 
-pub begins-c-spec : {M : Type 1} → statement M
-begins-c-spec = tie.close (tie.spec returns (λ c. search rules) (λ c. search rules) returns-2)
+pub begins_c_spec : {M : Type 1} → statement M
+begins_c_spec = tie.close (tie.spec returns (λ c. search rules) (λ c. search rules) returns-2)

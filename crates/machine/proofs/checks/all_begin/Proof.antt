@@ -7,39 +7,39 @@ use Rattle.machine.proofs.Checking.{every-step, every-end}
 use Rattle.machine.proofs.checks.all_begin.Statement.{statement}
 use Rattle.machine.proofs.checks.all_begin.Tie as tie
 
-abbrev invariant-loop : tie.invariant-loop
+abbrev invariant-loop : tie.invariant-loop-i
 invariant-loop letter identifiers i₀ i = every (λ identifier. eqb (letter_of identifier) letter) (drop i identifiers) ≡ every (λ identifier. eqb (letter_of identifier) letter) identifiers
 
-abbrev decreases-loop : tie.decreases-loop
+abbrev decreases-loop : tie.decreases-loop-i
 decreases-loop letter identifiers i₀ i = length identifiers - i
 
-returns : tie.Need-returns invariant-loop decreases-loop
+returns : tie.Need-returns-then-identifiers-i invariant-loop decreases-loop
 returns c =
     let at-loop = c.before.before.before in
-    let a = at-loop.before.args in
+    let a = at-loop.args in
     sym
-    (sym at-loop.loop.invariant
-    ∙ every-step (λ identifier. eqb (letter_of identifier) a.letter) a.identifiers.now at-loop.loop.i c.before.before.loop-test.true
-    ∙ rw (ne_eqb _ _ c.if1.true))
+    (sym at-loop.loop-i.invariant
+    ∙ every-step (λ identifier. eqb (letter_of identifier) a.letter) a.identifiers.now at-loop.loop-i.i c.loop-i-test.true
+    ∙ rw (ne_eqb _ _ c.if-identifiers-i.true))
 
-loop-again : tie.Need-loop-preserved invariant-loop decreases-loop
+loop-again : tie.Need-loop-i-preserved invariant-loop decreases-loop
 loop-again c =
     let at-loop = c.before.before.before in
-    let a = at-loop.before.args in
+    let a = at-loop.args in
     sym
-    (sym at-loop.loop.invariant
-    ∙ every-step (λ identifier. eqb (letter_of identifier) a.letter) a.identifiers.now at-loop.loop.i c.before.before.loop-test.true
-    ∙ rw (eq-eqb _ _ c.if1.false))
+    (sym at-loop.loop-i.invariant
+    ∙ every-step (λ identifier. eqb (letter_of identifier) a.letter) a.identifiers.now at-loop.loop-i.i c.loop-i-test.true
+    ∙ rw (eq-eqb _ _ c.if-identifiers-i.false))
 
-returns-2 : tie.Need-returns-2 invariant-loop decreases-loop
+returns-2 : tie.Need-returns invariant-loop decreases-loop
 returns-2 c =
     let at-loop = c.before in
-    let a = at-loop.before.args in
+    let a = at-loop.args in
     sym
-    (sym at-loop.loop.invariant ∙ every-end (λ identifier. eqb (letter_of identifier) a.letter) a.identifiers.now at-loop.loop.i c.loop-test.false)
+    (sym at-loop.loop-i.invariant ∙ every-end (λ identifier. eqb (letter_of identifier) a.letter) a.identifiers.now at-loop.loop-i.i c.loop-i-test.false)
 
-pub all-begin-spec : {M : Type 1} → statement M
-all-begin-spec =
+pub all_begin_spec : {M : Type 1} → statement M
+all_begin_spec =
     tie.close
     (tie.spec
     invariant-loop

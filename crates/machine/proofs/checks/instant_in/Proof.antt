@@ -7,19 +7,19 @@ use Rattle.record.specs.Agrees.{instant_in}
 use Rattle.machine.proofs.checks.instant_in.Statement.{statement}
 use Rattle.machine.proofs.checks.instant_in.Tie as tie
 
-returns : tie.Need-returns
+returns : tie.Need-returns-in_default
 unfolding told_instant instant_in
 returns c =
-    let asked = c.before.before in
-    rw (no-moment asked.before.args.m (sym asked.instant.ensures ∙ ap told_instant c.enum_told.given.1))
+    let asked = c in
+    rw (no-moment asked.args.m (sym asked.instant.ensures ∙ ap told_instant c.enum_told.given.1))
 
-returns-2 : tie.Need-returns-2
+returns-2 : tie.Need-returns
 unfolding told_instant instant_in
 returns-2 c =
-    let told = c.before in
-    let asked = told.before.before in
-    let at = moment-at asked.before.args.m _ (sym asked.instant.ensures ∙ ap told_instant told.instant2.given.1) in
+    let told = c in
+    let asked = c in
+    let at = moment-at asked.args.m _ (sym asked.instant.ensures ∙ ap told_instant told.instant-1.given.1) in
     rw at.0 (sym at.1)
 
-pub instant-in-spec : {M : Type 1} → statement M
-instant-in-spec = tie.close (tie.spec (λ c κs. search rules) (λ c. search rules) (λ c. search rules) returns returns-2)
+pub instant_in_spec : {M : Type 1} → statement M
+instant_in_spec = tie.close (tie.spec (λ c κs. search rules) (λ c. search rules) (λ c. search rules) returns returns-2)

@@ -5,13 +5,13 @@ use Rattle.record.specs.Agrees.{type_agrees}
 use Rattle.machine.proofs.checks.type_agrees.Statement.{statement}
 use Rattle.machine.proofs.checks.type_agrees.Tie as tie
 
-returns : tie.Need-returns
+returns : tie.Need-returns-then-file_type-eq77
 unfolding type_agrees
-returns c = rw (eq-eqb _ _ c.if1.true)
+returns c = rw (eq-eqb _ _ c.if-file_type-eq77.true)
 
-returns-2 : tie.Need-returns-2
+returns-2 : tie.Need-returns
 unfolding type_agrees
-returns-2 c = rw (ne_eqb _ _ c.before.if1.false) c.all-begin.ensures
+returns-2 c = rw (ne_eqb _ _ c.if-file_type-eq77.false) c.all_begin.ensures
 
-pub type-agrees-spec : {M : Type 1} → statement M
-type-agrees-spec = tie.close (tie.spec returns (λ c κs. search rules) returns-2)
+pub type_agrees_spec : {M : Type 1} → statement M
+type_agrees_spec = tie.close (tie.spec returns (λ c κs. search rules) returns-2)

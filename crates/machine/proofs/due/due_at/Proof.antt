@@ -7,7 +7,7 @@ use Rattle.machine.proofs.due.due_at.Tie as tie
 
 returns : tie.Need-returns
 unfolding due_at
-returns c = simp (c.names-again.ensures, c.before.satellite-due.ensures, c.before.before.instant-due.ensures)
+returns c = simp (c.names_again.ensures, c.satellite_due.ensures, c.instant_due.ensures)
 
-pub due-at-spec : {M : Type 1} → statement M
-due-at-spec = tie.close (tie.spec (λ c κs. search rules) (λ c κs. search rules) (λ c κs. search rules) returns)
+pub due_at_spec : {M : Type 1} → statement M
+due_at_spec = tie.close (tie.spec (λ c κs. search rules) (λ c κs. search rules) (λ c κs. search rules) returns)

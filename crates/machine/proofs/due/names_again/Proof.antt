@@ -79,55 +79,55 @@ module _ (rules : Rules) (s : State) (identifiers bytes : List ℕ) (at : ℕ) (
   number_is : (number column : ℕ) → r ≡ found.Fault number column → is_eight does ≡ eqb number 8
   number_is number column e = number-told does _ number column (sym is ∙ e)
 
-returns : tie.Need-returns
-returns c = let a = c.before.before.before.before.args in not-due a.rules a.state a.identifiers.now _ (ne_eqb _ _ c.if1.true)
+returns : tie.Need-returns-then-state-ne-SATELLITES_KIND
+returns c = let a = c.args in not-due a.rules a.state a.identifiers.now _ (ne_eqb _ _ c.if-state-ne-SATELLITES_KIND.true)
 
-returns-2 : tie.Need-returns-2
+returns-2 : tie.Need-returns-then-end-bytes
 returns-2 c =
-    let ended = c.before in
-    let a = ended.before.before.before.before.before.args in
-    none_left a.rules a.state a.identifiers.now _ (no_line a.bytes.now a.at ended.line-end.result ended.line-end.ensures c.if2.true)
+    let ended = c in
+    let a = ended.args in
+    none_left a.rules a.state a.identifiers.now _ (no_line a.bytes.now a.at ended.line_end-end.result ended.line_end-end.ensures c.if-end-bytes.true)
 
 -- where the line has been read
-read : (c : tie.After-line-known)
-    → let a = c.before.before.before.before.before.before.before.args in
+read : (c : tie.After-line_known)
+    → let a = c.args in
     LineAt a.rules a.state a.identifiers.now a.bytes.now a.at c.Line-known.result
 read c =
-    let ended = c.before.before in
-    let a = ended.before.before.before.before.before.args in
+    let ended = c in
+    let a = ended.args in
     record {
       line = _;
       after = _;
-      first = first-line a.bytes.now a.at ended.line-end.result ended.line-end.ensures c.before.if2.false;
-      due = eq-eqb _ _ ended.before.if1.false;
+      first = first-line a.bytes.now a.at ended.line_end-end.result ended.line_end-end.ensures c.if-end-bytes.false;
+      due = eq-eqb _ _ ended.if-state-ne-SATELLITES_KIND.false;
       told = c.Line-known.ensures;
     }
 
-returns-3 : tie.Need-returns-3
-returns-3 c = let g = read c.before in not_eight _ _ _ _ _ _ g (no-fault _ _ _ _ _ _ g c.match.keys2)
+returns-3 : tie.Need-returns-in_default
+returns-3 c = let g = read c.before in not_eight _ _ _ _ _ _ g (no-fault _ _ _ _ _ _ g c.in-Fault.keys2)
 
-returns-4 : tie.Need-returns-4
+returns-4 : tie.Need-returns-then-number-ne8
 returns-4 c =
-    let told = c.before.before in
-    let g = read told.before.before in
-    not_eight _ _ _ _ _ _ g (number_is _ _ _ _ _ _ g _ _ told.number.given.1 ∙ ne_eqb _ _ c.if3.true)
+    let told = c in
+    let g = read c.before.before.before.before in
+    not_eight _ _ _ _ _ _ g (number_is _ _ _ _ _ _ g _ _ told.number.given.1 ∙ ne_eqb _ _ c.if-number-ne8.true)
 
-part-pad-end : tie.Need-slice-bounds-pad-end
-part-pad-end c = let told = c.before.before in omega (arith, told.before.before.before.if2.false)
+part-pad-end : tie.Need-slice_bounds-pad-end
+part-pad-end c = let told = c in omega (arith, told.if-end-bytes.false)
 
-returns-5 : tie.Need-returns-5
+returns-5 : tie.Need-returns
 unfolding read
 returns-5 c =
-    let tested = c.before.before.before.before in
-    let told = tested.before.before in
-    let a = told.before.before.before.before.before.before.before.before.before.args in
-    let g = read told.before.before in
-    c.slots-clean.ensures
-    ∙ ap (λ (line : List ℕ). eqb (slots_fault a.rules a.state line) clean) c.before.before.pad.ensures
-    ∙ eight _ _ _ _ _ _ g (number_is _ _ _ _ _ _ g _ _ told.number.given.1 ∙ eq-eqb _ _ tested.if3.false)
+    let tested = c in
+    let told = c in
+    let a = told.args in
+    let g = read c.before.before.before.before.before.before.before.before in
+    c.slots_clean.ensures
+    ∙ ap (λ (line : List ℕ). eqb (slots_fault a.rules a.state line) clean) c.pad-padded.ensures
+    ∙ eight _ _ _ _ _ _ g (number_is _ _ _ _ _ _ g _ _ told.number.given.1 ∙ eq-eqb _ _ tested.if-number-ne8.false)
 
-pub names-again-spec : {M : Type 1} → statement M
-names-again-spec =
+pub names_again_spec : {M : Type 1} → statement M
+names_again_spec =
     tie.close
     (tie.spec
     returns

@@ -8,8 +8,8 @@ use Rattle.machine.proofs.faults.epoch_fault.Tie as tie
 returns : tie.Need-returns
 unfolding epoch_fault
 returns c =
-    simp (c.lower-unless.ensures, c.before.is-later-by.ensures, c.before.before.instant-in.ensures, c.before.before.before.before.read-epoch.ensures)
+    simp (c.lower_unless.ensures, c.is_later_by-stands.ensures, c.instant_in.ensures, c.read_epoch-epoch.ensures)
 
-pub epoch-fault-spec : {M : Type 1} → statement M
-epoch-fault-spec =
+pub epoch_fault_spec : {M : Type 1} → statement M
+epoch_fault_spec =
     tie.close (tie.spec (λ c κs. search rules) (λ c κs. search rules) (λ c κs. search rules) (λ c κs. search rules) returns)

@@ -5,15 +5,15 @@ use native.Mathlib.Nat.{sub-zero}
 use Rattle.machine.proofs.faults.front_of.Statement.{statement}
 use Rattle.machine.proofs.faults.front_of.Tie as tie
 
-returns : tie.Need-returns
+returns : tie.Need-returns-then-n-identifiers
 returns c =
-    let a = c.before.before.args in
+    let a = c.args in
     ap (λ (k : ℕ). take k a.identifiers.now) (sub-zero a.n)
 
-returns-2 : tie.Need-returns-2
+returns-2 : tie.Need-returns
 returns-2 c =
-    let a = c.before.args in
-    sym (take_all a.n a.identifiers.now c.if1.false)
+    let a = c.args in
+    sym (take_all a.n a.identifiers.now c.if-n-identifiers.false)
 
-pub front-of-spec : {M : Type 1} → statement M
-front-of-spec = tie.close (tie.spec (λ c. search rules) (λ c. search rules) (λ c. search rules) returns returns-2)
+pub front_of_spec : {M : Type 1} → statement M
+front_of_spec = tie.close (tie.spec (λ c. search rules) (λ c. search rules) (λ c. search rules) returns returns-2)

@@ -5,16 +5,16 @@ use lib.ListN.{get_or-eq_default}
 use Rattle.machine.proofs.faults.identifier_due.Statement.{statement}
 use Rattle.machine.proofs.faults.identifier_due.Tie as tie
 
-returns : tie.Need-returns
+returns : tie.Need-returns-then-at-identifiers
 returns c =
-    let asked = c.before.before in
-    ap (λ (k : ℕ). get_or asked.before.before.args.identifiers.now k 0) asked.seen-so-far.ensures
+    let asked = c in
+    ap (λ (k : ℕ). get_or asked.args.identifiers.now k 0) asked.seen_so_far-at.ensures
 
-returns-2 : tie.Need-returns-2
+returns-2 : tie.Need-returns
 returns-2 c =
-    let asked = c.before in
-    sym (get_or-eq_default asked.before.before.args.identifiers.now 0 c.if1.false)
-    ∙ ap (λ (k : ℕ). get_or asked.before.before.args.identifiers.now k 0) asked.seen-so-far.ensures
+    let asked = c in
+    sym (get_or-eq_default asked.args.identifiers.now 0 c.if-at-identifiers.false)
+    ∙ ap (λ (k : ℕ). get_or asked.args.identifiers.now k 0) asked.seen_so_far-at.ensures
 
-pub identifier-due-spec : {M : Type 1} → statement M
-identifier-due-spec = tie.close (tie.spec (λ c κs. search rules) (λ c. search rules) (λ c. search rules) returns returns-2)
+pub identifier_due_spec : {M : Type 1} → statement M
+identifier_due_spec = tie.close (tie.spec (λ c κs. search rules) (λ c. search rules) (λ c. search rules) returns returns-2)

@@ -30,16 +30,16 @@ no-comment rules kind.PositionCorrelation e = refl
 no-comment rules kind.VelocityCorrelation e = refl
 no-comment rules kind.EndOfFile e = refl
 
-returns : tie.Need-returns
+returns : tie.Need-returns-in_default
 returns c =
-    let a = c.before.args in
-    no-comment a.rules a.kind c.match.keys2
+    let a = c.args in
+    no-comment a.rules a.kind c.in-Comment.keys2
 
-returns-2 : tie.Need-returns-2
-returns-2 c = rw c.before.before.enum_told.given.1 (omega arith)
+returns-2 : tie.Need-returns-then-rules-lt80
+returns-2 c = rw c.enum_told.given.1 (omega arith)
 
-returns-3 : tie.Need-returns-3
-returns-3 c = rw c.before.before.enum_told.given.1 (omega arith)
+returns-3 : tie.Need-returns
+returns-3 c = rw c.enum_told.given.1 (omega arith)
 
-pub longest-line-spec : {M : Type 1} → statement M
-longest-line-spec = tie.close (tie.spec (λ c. search rules) returns returns-2 returns-3)
+pub longest_line_spec : {M : Type 1} → statement M
+longest_line_spec = tie.close (tie.spec (λ c. search rules) returns returns-2 returns-3)

@@ -8,8 +8,8 @@ use Rattle.machine.proofs.faults.named_fault.Tie as tie
 returns : tie.Need-returns
 unfolding named_fault
 returns c =
-    simp (c.lower-unless.ensures, c.before.identifier-due.ensures, c.before.before.satellite-in.ensures, c.before.before.before.row-fault.ensures)
+    simp (c.lower_unless.ensures, c.identifier_due.ensures, c.satellite_in.ensures, c.row_fault-fault.ensures)
 
-pub named-fault-spec : {M : Type 1} → statement M
-named-fault-spec =
+pub named_fault_spec : {M : Type 1} → statement M
+named_fault_spec =
     tie.close (tie.spec (λ c κs. search rules) (λ c κs. search rules) (λ c κs. search rules) (λ c κs. search rules) returns)

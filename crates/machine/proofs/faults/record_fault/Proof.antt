@@ -4,53 +4,53 @@ use Rattle.std.proofs.Common.{rules}
 use Rattle.machine.proofs.faults.record_fault.Statement.{statement}
 use Rattle.machine.proofs.faults.record_fault.Tie as tie
 
-returns : tie.Need-returns
-returns c = rw c.before.enum_told.given.1 c.named-fault.ensures
+returns : tie.Need-returns-in-Position
+returns c = rw c.enum_told.given.1 c.named_fault.ensures
 
-returns-2 : tie.Need-returns-2
-returns-2 c = rw c.before.enum-told2.given.1 c.named-fault2.ensures
+returns-2 : tie.Need-returns-in-Velocity
+returns-2 c = rw c.enum_told-in-Velocity-1.given.1 c.named_fault-in-Velocity.ensures
 
-returns-3 : tie.Need-returns-3
-returns-3 c = rw c.before.enum-told3.given.1 c.correlation-fault.ensures
+returns-3 : tie.Need-returns-in-PositionCorrelation
+returns-3 c = rw c.enum_told-in-PositionCorrelation-1.given.1 c.correlation_fault.ensures
 
-returns-4 : tie.Need-returns-4
-returns-4 c = rw c.before.enum-told4.given.1 c.correlation-fault2.ensures
+returns-4 : tie.Need-returns-in-VelocityCorrelation
+returns-4 c = rw c.enum_told-in-VelocityCorrelation-1.given.1 c.correlation_fault-in-VelocityCorrelation.ensures
 
-returns-5 : tie.Need-returns-5
-returns-5 c = rw c.before.enum-told5.given.1 c.epoch-fault.ensures
+returns-5 : tie.Need-returns-in-Epoch
+returns-5 c = rw c.enum_told-in-Epoch-1.given.1 c.epoch_fault.ensures
 
-returns-6 : tie.Need-returns-6
-returns-6 c = rw c.before.enum-told6.given.1 c.comment-fault.ensures
+returns-6 : tie.Need-returns-in-Comment
+returns-6 c = rw c.enum_told-in-Comment-1.given.1 c.comment_fault.ensures
 
-returns-7 : tie.Need-returns-7
-returns-7 c = rw (c.before.enum-told7.given.1, c.read_first.ensures)
+returns-7 : tie.Need-returns-in-First
+returns-7 c = rw (c.enum_told-in-First-1.given.1, c.read_first-first.ensures)
 
-returns-8 : tie.Need-returns-8
-returns-8 c = rw c.before.enum-told8.given.1 c.second-fault.ensures
+returns-8 : tie.Need-returns-in-Second
+returns-8 c = rw c.enum_told-in-Second-1.given.1 c.second_fault.ensures
 
-returns-9 : tie.Need-returns-9
-returns-9 c = rw c.before.enum-told9.given.1 c.satellites-fault.ensures
+returns-9 : tie.Need-returns-in-Satellites
+returns-9 c = rw c.enum_told-in-Satellites-1.given.1 c.satellites_fault.ensures
 
-returns-10 : tie.Need-returns-10
-returns-10 c = rw (c.before.enum-told10.given.1, c.read-slots.ensures)
+returns-10 : tie.Need-returns-in-Accuracies
+returns-10 c = rw (c.enum_told-in-Accuracies-1.given.1, c.read_slots-slots.ensures)
 
-returns-11 : tie.Need-returns-11
-returns-11 c = rw c.before.enum-told11.given.1 c.characters-fault.ensures
+returns-11 : tie.Need-returns-in-Characters
+returns-11 c = rw c.enum_told-in-Characters-1.given.1 c.characters_fault.ensures
 
-returns-12 : tie.Need-returns-12
-returns-12 c = rw c.before.enum-told12.given.1 c.floats-fault.ensures
+returns-12 : tie.Need-returns-in-Floats
+returns-12 c = rw c.enum_told-in-Floats-1.given.1 c.floats_fault.ensures
 
-returns-13 : tie.Need-returns-13
-returns-13 c = rw c.before.enum-told13.given.1 c.integers-fault.ensures
+returns-13 : tie.Need-returns-in-Integers
+returns-13 c = rw c.enum_told-in-Integers-1.given.1 c.integers_fault.ensures
 
-returns-14 : tie.Need-returns-14
-returns-14 c = rw c.before.enum-told14.given.1 c.end-fault.ensures
+returns-14 : tie.Need-returns-in-EndOfFile
+returns-14 c = rw c.enum_told-in-EndOfFile-1.given.1 c.end_fault.ensures
 
-returns-15 : tie.Need-returns-15
-returns-15 c = rw c.before.enum-told15.given.1 c.key-alone.ensures
+returns-15 : tie.Need-returns-in-Other
+returns-15 c = rw c.enum_told-in-Other-1.given.1 c.key_alone.ensures
 
-pub record-fault-spec : {M : Type 1} → statement M
-record-fault-spec =
+pub record_fault_spec : {M : Type 1} → statement M
+record_fault_spec =
     tie.close
     (tie.spec
     (λ c. search rules)

@@ -6,24 +6,24 @@ use Rattle.machine.specs.Faults.{satellites_fault}
 use Rattle.machine.proofs.faults.satellites_fault.Statement.{statement}
 use Rattle.machine.proofs.faults.satellites_fault.Tie as tie
 
-returns : tie.Need-returns
+returns : tie.Need-returns-then-state-eq0
 unfolding satellites_fault identifiers_in
 returns c =
-    let repeated = c.before in
-    let first = repeated.before.before.before.before in
-    let known = first.before.before.before in
-    simp (eq-eqb _ _ first.before.if1.true, c.lower-unless.ensures, repeated.repeats-identifier.ensures, repeated.before.front-of2.ensures, known.front_of.ensures, known.before.seen-so-far.ensures, first.read-satellites.ensures)
+    let repeated = c in
+    let first = c in
+    let known = c in
+    simp (eq-eqb _ _ first.if-state-eq0.true, c.lower_unless.ensures, repeated.repeats_identifier-repeated.ensures, repeated.front_of.ensures, known.front_of-known.ensures, known.seen_so_far.ensures, first.read_satellites-first.ensures)
 
-returns-2 : tie.Need-returns-2
+returns-2 : tie.Need-returns
 unfolding satellites_fault identifiers_in
 returns-2 c =
-    let repeated = c.before in
-    let more = repeated.before.before.before.before in
-    let known = more.before.before.before in
-    simp (ne_eqb _ _ more.before.if1.false, c.lower-unless2.ensures, repeated.repeats-identifier2.ensures, repeated.before.front-of3.ensures, known.front_of.ensures, known.before.seen-so-far.ensures, more.read-slots.ensures)
+    let repeated = c in
+    let more = c in
+    let known = c in
+    simp (ne_eqb _ _ more.if-state-eq0.false, c.lower_unless-2.ensures, repeated.repeats_identifier-repeated-2.ensures, repeated.front_of-2.ensures, known.front_of-known.ensures, known.seen_so_far.ensures, more.read_slots-more.ensures)
 
-pub satellites-fault-spec : {M : Type 1} → statement M
-satellites-fault-spec =
+pub satellites_fault_spec : {M : Type 1} → statement M
+satellites_fault_spec =
     tie.close
     (tie.spec
     (λ c κs. search rules)

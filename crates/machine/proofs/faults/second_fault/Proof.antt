@@ -7,7 +7,7 @@ use Rattle.machine.proofs.faults.second_fault.Tie as tie
 
 returns : tie.Need-returns
 unfolding second_fault
-returns c = simp (c.lower-unless.ensures, c.before.second-agrees.ensures, c.before.before.read-second.ensures)
+returns c = simp (c.lower_unless.ensures, c.second_agrees-agrees.ensures, c.read_second-second.ensures)
 
-pub second-fault-spec : {M : Type 1} → statement M
-second-fault-spec = tie.close (tie.spec (λ c κs. search rules) (λ c κs. search rules) (λ c κs. search rules) returns)
+pub second_fault_spec : {M : Type 1} → statement M
+second_fault_spec = tie.close (tie.spec (λ c κs. search rules) (λ c κs. search rules) (λ c κs. search rules) returns)

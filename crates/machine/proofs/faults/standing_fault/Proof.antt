@@ -6,21 +6,21 @@ use Rattle.machine.specs.Faults.{standing_fault}
 use Rattle.machine.proofs.faults.standing_fault.Statement.{statement}
 use Rattle.machine.proofs.faults.standing_fault.Tie as tie
 
-returns : tie.Need-returns
+returns : tie.Need-returns-then-number-state
 unfolding standing_fault
 returns c =
-    let number = c.before.before.before.before in
-    let a = number.before.before.args in
-    let here : stands a.state a.kind ≡ true = rw (← number.kind-number.ensures) c.before.if1.true in
-    rw here c.record-fault.ensures
+    let number = c in
+    let a = number.args in
+    let here : stands a.state a.kind ≡ true = rw (← number.kind_number-number.ensures) c.if-number-state.true in
+    rw here c.record_fault.ensures
 
-returns-2 : tie.Need-returns-2
+returns-2 : tie.Need-returns
 unfolding standing_fault
 returns-2 c =
-    let number = c.before.before.before.before in
-    let a = number.before.before.args in
-    let elsewhere : stands a.state a.kind ≡ false = rw (← number.kind-number.ensures) c.before.if1.false in
-    rw elsewhere c.key-alone.ensures
+    let number = c in
+    let a = number.args in
+    let elsewhere : stands a.state a.kind ≡ false = rw (← number.kind_number-number.ensures) c.if-number-state.false in
+    rw elsewhere c.key_alone.ensures
 
-pub standing-fault-spec : {M : Type 1} → statement M
-standing-fault-spec = tie.close (tie.spec (λ c κs. search rules) (λ c κs. search rules) returns (λ c κs. search rules) returns-2)
+pub standing_fault_spec : {M : Type 1} → statement M
+standing_fault_spec = tie.close (tie.spec (λ c κs. search rules) (λ c κs. search rules) returns (λ c κs. search rules) returns-2)

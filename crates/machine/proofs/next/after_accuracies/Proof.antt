@@ -7,7 +7,7 @@ use Rattle.machine.proofs.next.after_accuracies.Tie as tie
 
 returns : tie.Need-returns
 unfolding after_accuracies
-returns c = rw (c.with-left.ensures, c.before.line-less.ensures, c.before.before.less.ensures)
+returns c = rw (c.with_left.ensures, c.line_less.ensures, c.less.ensures)
 
-pub after-accuracies-spec : {M : Type 1} → statement M
-after-accuracies-spec = tie.close (tie.spec (λ c κs. search rules) (λ c κs. search rules) (λ c κs. search rules) returns)
+pub after_accuracies_spec : {M : Type 1} → statement M
+after_accuracies_spec = tie.close (tie.spec (λ c κs. search rules) (λ c κs. search rules) (λ c κs. search rules) returns)

@@ -6,13 +6,13 @@ use Rattle.std.proofs.Common.{arith, rules}
 use Rattle.machine.proofs.next.after_count.Statement.{statement}
 use Rattle.machine.proofs.next.after_count.Tie as tie
 
-sub-t4 : tie.Need-overflow-sub-t4
+sub-t4 : tie.Need-overflow_sub-result
 unfolding slot_lines
-sub-t4 c = omega (arith, c.slot-lines.ensures)
+sub-t4 c = omega (arith, c.slot_lines.ensures)
 
 returns : tie.Need-returns
 unfolding after_count
-returns c = rw (c.less.ensures, c.before.slot-lines.ensures)
+returns c = rw (c.less.ensures, c.slot_lines.ensures)
 
-pub after-count-spec : {M : Type 1} → statement M
-after-count-spec = tie.close (tie.spec (λ c κs. search rules) sub-t4 (λ c κs. search rules) returns)
+pub after_count_spec : {M : Type 1} → statement M
+after_count_spec = tie.close (tie.spec (λ c κs. search rules) sub-t4 (λ c κs. search rules) returns)

@@ -9,5 +9,5 @@ returns : tie.Need-returns
 unfolding after_epoch
 returns c = rw c.less.ensures
 
-pub after-epoch-spec : {M : Type 1} → statement M
-after-epoch-spec = tie.close (tie.spec (λ c κs. search rules) returns)
+pub after_epoch_spec : {M : Type 1} → statement M
+after_epoch_spec = tie.close (tie.spec (λ c κs. search rules) returns)

@@ -7,7 +7,7 @@ use Rattle.machine.proofs.next.after_first.Tie as tie
 
 returns : tie.Need-returns
 unfolding after_first
-returns c = rw c.instant-in.ensures
+returns c = rw c.instant_in.ensures
 
-pub after-first-spec : {M : Type 1} → statement M
-after-first-spec = tie.close (tie.spec (λ c κs. search rules) returns)
+pub after_first_spec : {M : Type 1} → statement M
+after_first_spec = tie.close (tie.spec (λ c κs. search rules) returns)

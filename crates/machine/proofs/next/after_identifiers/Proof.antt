@@ -5,20 +5,20 @@ use Rattle.std.proofs.Common.{sym, ◌∙◌, rules, eq-eqb, ne_eqb}
 use Rattle.machine.proofs.next.after_identifiers.Statement.{statement}
 use Rattle.machine.proofs.next.after_identifiers.Tie as tie
 
-returns : tie.Need-returns
+returns : tie.Need-returns-then-lines-eq0
 unfolding after_identifiers
 returns c =
-    let tested = c.before.before.before in
-    rw (eq-eqb _ 0 (sym tested.before.less.ensures ∙ tested.if1.true), c.with-left.ensures, c.before.expected.ensures, c.before.before.slot-lines.ensures)
+    let tested = c in
+    rw (eq-eqb _ 0 (sym tested.less-lines.ensures ∙ tested.if-lines-eq0.true), c.with_left.ensures, c.expected.ensures, c.slot_lines-many.ensures)
 
-returns-2 : tie.Need-returns-2
+returns-2 : tie.Need-returns
 unfolding after_identifiers
 returns-2 c =
-    let tested = c.before.before.before in
-    rw (ne_eqb _ 0 (λ e. tested.if1.false (tested.before.less.ensures ∙ e)), c.with-left2.ensures, c.before.expected2.ensures, c.before.before.less2.ensures, tested.before.less.ensures)
+    let tested = c in
+    rw (ne_eqb _ 0 (λ e. tested.if-lines-eq0.false (tested.less-lines.ensures ∙ e)), c.with_left-2.ensures, c.expected-2.ensures, c.less.ensures, tested.less-lines.ensures)
 
-pub after-identifiers-spec : {M : Type 1} → statement M
-after-identifiers-spec =
+pub after_identifiers_spec : {M : Type 1} → statement M
+after_identifiers_spec =
     tie.close
     (tie.spec
     (λ c κs. search rules)

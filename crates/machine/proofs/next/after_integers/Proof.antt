@@ -6,13 +6,13 @@ use Rattle.machine.specs.Next.{after_integers, expect}
 use Rattle.machine.proofs.next.after_integers.Statement.{statement}
 use Rattle.machine.proofs.next.after_integers.Tie as tie
 
-returns : tie.Need-returns
+returns : tie.Need-returns-then-lines-eq0
 unfolding after_integers
-returns c = rw (eq-eqb _ 0 (sym c.before.before.less.ensures ∙ c.before.if1.true)) c.comments-due.ensures
+returns c = rw (eq-eqb _ 0 (sym c.less-lines.ensures ∙ c.if-lines-eq0.true)) c.comments_due.ensures
 
-returns-2 : tie.Need-returns-2
+returns-2 : tie.Need-returns
 unfolding after_integers
-returns-2 c = rw (ne_eqb _ 0 (λ e. c.before.if1.false (c.before.before.less.ensures ∙ e))) (c.expected.ensures ∙ ap (λ (k : ℕ). expect integers_kind k c.before.before.before.args.state) c.before.before.less.ensures)
+returns-2 c = rw (ne_eqb _ 0 (λ e. c.if-lines-eq0.false (c.less-lines.ensures ∙ e))) (c.expected.ensures ∙ ap (λ (k : ℕ). expect integers_kind k c.args.state) c.less-lines.ensures)
 
-pub after-integers-spec : {M : Type 1} → statement M
-after-integers-spec = tie.close (tie.spec (λ c κs. search rules) (λ c κs. search rules) returns (λ c κs. search rules) returns-2)
+pub after_integers_spec : {M : Type 1} → statement M
+after_integers_spec = tie.close (tie.spec (λ c κs. search rules) (λ c κs. search rules) returns (λ c κs. search rules) returns-2)

@@ -5,50 +5,50 @@ use Rattle.machine.specs.declared.types.Verdict.TheVariants as verdict
 use Rattle.machine.proofs.next.after_line.Statement.{statement}
 use Rattle.machine.proofs.next.after_line.Tie as tie
 
-returns : tie.Need-returns
-returns c = rw c.before.enum_told.given.1 (ap verdict.Next c.after-position.ensures)
+returns : tie.Need-returns-in-Position
+returns c = rw c.enum_told.given.1 (ap verdict.Next c.after_position.ensures)
 
-returns-2 : tie.Need-returns-2
-returns-2 c = rw c.before.enum-told2.given.1 (ap verdict.Next c.satellite-done.ensures)
+returns-2 : tie.Need-returns-in-Velocity
+returns-2 c = rw c.enum_told-in-Velocity-1.given.1 (ap verdict.Next c.satellite_done.ensures)
 
-returns-3 : tie.Need-returns-3
-returns-3 c = rw c.before.enum-told3.given.1 (ap verdict.Next c.with-also.ensures)
+returns-3 : tie.Need-returns-in-PositionCorrelation
+returns-3 c = rw c.enum_told-in-PositionCorrelation-1.given.1 (ap verdict.Next c.with_also.ensures)
 
-returns-4 : tie.Need-returns-4
-returns-4 c = rw c.before.enum-told4.given.1 (ap verdict.Next c.with-also2.ensures)
+returns-4 : tie.Need-returns-in-VelocityCorrelation
+returns-4 c = rw c.enum_told-in-VelocityCorrelation-1.given.1 (ap verdict.Next c.with_also-in-VelocityCorrelation.ensures)
 
-returns-5 : tie.Need-returns-5
-returns-5 c = rw (c.before.before.before.before.enum-told5.given.1, c.after-epoch.ensures, c.before.instant-in.ensures, c.before.before.before.read-epoch.ensures)
+returns-5 : tie.Need-returns-in-Epoch
+returns-5 c = rw (c.enum_told-in-Epoch-1.given.1, c.after_epoch.ensures, c.instant_in.ensures, c.read_epoch-epoch.ensures)
 
-returns-6 : tie.Need-returns-6
-returns-6 c = rw (c.before.before.before.enum-told6.given.1, c.comments-due.ensures, c.before.less2.ensures, c.before.before.less.ensures)
+returns-6 : tie.Need-returns-in-Comment
+returns-6 c = rw (c.enum_told-in-Comment-1.given.1, c.comments_due.ensures, c.less-in-Comment.ensures, c.less.ensures)
 
-returns-7 : tie.Need-returns-7
-returns-7 c = rw (c.before.before.enum-told7.given.1, c.after_first.ensures, c.before.read_first.ensures)
+returns-7 : tie.Need-returns-in-First
+returns-7 c = rw (c.enum_told-in-First-1.given.1, c.after_first.ensures, c.read_first.ensures)
 
-returns-8 : tie.Need-returns-8
-returns-8 c = rw (c.before.before.enum-told8.given.1, c.after-second.ensures, c.before.read-second.ensures)
+returns-8 : tie.Need-returns-in-Second
+returns-8 c = rw (c.enum_told-in-Second-1.given.1, c.after_second.ensures, c.read_second-second.ensures)
 
-returns-9 : tie.Need-returns-9
-returns-9 c = rw c.before.enum-told9.given.1 (ap verdict.Next c.after-satellites.ensures)
+returns-9 : tie.Need-returns-in-Satellites
+returns-9 c = rw c.enum_told-in-Satellites-1.given.1 (ap verdict.Next c.after_satellites.ensures)
 
-returns-10 : tie.Need-returns-10
-returns-10 c = rw c.before.enum-told10.given.1 (ap verdict.Next c.after-accuracies.ensures)
+returns-10 : tie.Need-returns-in-Accuracies
+returns-10 c = rw c.enum_told-in-Accuracies-1.given.1 (ap verdict.Next c.after_accuracies.ensures)
 
-returns-11 : tie.Need-returns-11
-returns-11 c = rw c.before.enum-told11.given.1 (ap verdict.Next c.line-less.ensures)
+returns-11 : tie.Need-returns-in-Characters
+returns-11 c = rw c.enum_told-in-Characters-1.given.1 (ap verdict.Next c.line_less.ensures)
 
-returns-12 : tie.Need-returns-12
-returns-12 c = rw c.before.enum-told12.given.1 (ap verdict.Next c.line-less2.ensures)
+returns-12 : tie.Need-returns-in-Floats
+returns-12 c = rw c.enum_told-in-Floats-1.given.1 (ap verdict.Next c.line_less-in-Floats.ensures)
 
-returns-13 : tie.Need-returns-13
-returns-13 c = rw c.before.enum-told13.given.1 (ap verdict.Next c.after-integers.ensures)
+returns-13 : tie.Need-returns-in-Integers
+returns-13 c = rw c.enum_told-in-Integers-1.given.1 (ap verdict.Next c.after_integers.ensures)
 
-returns-14 : tie.Need-returns-14
-returns-14 c = rw c.enum-told14.given.1
+returns-14 : tie.Need-returns-in-EndOfFile
+returns-14 c = rw c.enum_told-in-EndOfFile-1.given.1
 
-returns-15 : tie.Need-returns-15
-returns-15 c = rw c.enum-told15.given.1
+returns-15 : tie.Need-returns-in-Other
+returns-15 c = rw c.enum_told-in-Other-1.given.1
 
-pub after-line-spec : {M : Type 1} → statement M
-after-line-spec = tie.close (tie.spec (λ c. search rules) (λ c κs. search rules) (λ c. search rules) (λ c κs. search rules) (λ c. search rules) (λ c κs. search rules) (λ c. search rules) (λ c κs. search rules) (λ c. search rules) (λ c κs. search rules) (λ c κs. search rules) (λ c κs. search rules) (λ c. search rules) (λ c κs. search rules) (λ c κs. search rules) (λ c κs. search rules) (λ c. search rules) (λ c κs. search rules) (λ c κs. search rules) (λ c. search rules) (λ c κs. search rules) (λ c κs. search rules) (λ c. search rules) (λ c κs. search rules) (λ c. search rules) (λ c κs. search rules) (λ c. search rules) (λ c κs. search rules) (λ c. search rules) (λ c κs. search rules) (λ c. search rules) (λ c κs. search rules) (λ c. search rules) (λ c. search rules) returns returns-2 returns-3 returns-4 returns-5 returns-6 returns-7 returns-8 returns-9 returns-10 returns-11 returns-12 returns-13 returns-14 returns-15)
+pub after_line_spec : {M : Type 1} → statement M
+after_line_spec = tie.close (tie.spec (λ c. search rules) (λ c κs. search rules) (λ c. search rules) (λ c κs. search rules) (λ c. search rules) (λ c κs. search rules) (λ c. search rules) (λ c κs. search rules) (λ c. search rules) (λ c κs. search rules) (λ c κs. search rules) (λ c κs. search rules) (λ c. search rules) (λ c κs. search rules) (λ c κs. search rules) (λ c κs. search rules) (λ c. search rules) (λ c κs. search rules) (λ c κs. search rules) (λ c. search rules) (λ c κs. search rules) (λ c κs. search rules) (λ c. search rules) (λ c κs. search rules) (λ c. search rules) (λ c κs. search rules) (λ c. search rules) (λ c κs. search rules) (λ c. search rules) (λ c κs. search rules) (λ c. search rules) (λ c κs. search rules) (λ c. search rules) (λ c. search rules) returns returns-2 returns-3 returns-4 returns-5 returns-6 returns-7 returns-8 returns-9 returns-10 returns-11 returns-12 returns-13 returns-14 returns-15)

@@ -6,12 +6,12 @@ use Rattle.std.proofs.Common.{◌∙◌, rules}
 use Rattle.machine.proofs.next.after_position.Statement.{statement}
 use Rattle.machine.proofs.next.after_position.Tie as tie
 
-returns : tie.Need-returns
+returns : tie.Need-returns-then-state
 unfolding after_position
-returns c = rw c.if1.true
+returns c = rw c.if-state.true
 
-returns-2 : tie.Need-returns-2
-returns-2 c = c.satellite-done.ensures ∙ position-done c.before.before.args.state c.before.if1.false
+returns-2 : tie.Need-returns
+returns-2 c = c.satellite_done.ensures ∙ position-done c.args.state c.if-state.false
 
-pub after-position-spec : {M : Type 1} → statement M
-after-position-spec = tie.close (tie.spec returns (λ c κs. search rules) returns-2)
+pub after_position_spec : {M : Type 1} → statement M
+after_position_spec = tie.close (tie.spec returns (λ c κs. search rules) returns-2)

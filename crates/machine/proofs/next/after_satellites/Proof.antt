@@ -6,13 +6,13 @@ use Rattle.record.specs.declared.types.Satellites.{Satellites}
 use Rattle.machine.proofs.next.after_satellites.Statement.{statement}
 use Rattle.machine.proofs.next.after_satellites.Tie as tie
 
-returns : tie.Need-returns
+returns : tie.Need-returns-then-state-eq0
 unfolding after_satellites
-returns c = rw (eq-eqb _ 0 c.before.before.if1.true) (c.after-count.ensures ∙ ap (λ (n : ℕ). after_count n c.before.before.before.before.args.state) (ap (λ (x : Satellites). x.count) c.before.read-satellites.ensures))
+returns c = rw (eq-eqb _ 0 c.if-state-eq0.true) (c.after_count.ensures ∙ ap (λ (n : ℕ). after_count n c.args.state) (ap (λ (x : Satellites). x.count) c.read_satellites-first.ensures))
 
-returns-2 : tie.Need-returns-2
+returns-2 : tie.Need-returns
 unfolding after_satellites
-returns-2 c = rw (ne_eqb _ 0 c.before.if1.false) c.after-identifiers.ensures
+returns-2 c = rw (ne_eqb _ 0 c.if-state-eq0.false) c.after_identifiers.ensures
 
-pub after-satellites-spec : {M : Type 1} → statement M
-after-satellites-spec = tie.close (tie.spec (λ c κs. search rules) (λ c κs. search rules) returns (λ c κs. search rules) returns-2)
+pub after_satellites_spec : {M : Type 1} → statement M
+after_satellites_spec = tie.close (tie.spec (λ c κs. search rules) (λ c κs. search rules) returns (λ c κs. search rules) returns-2)

@@ -9,5 +9,5 @@ returns : tie.Need-returns
 unfolding after_second
 returns c = refl
 
-pub after-second-spec : {M : Type 1} → statement M
-after-second-spec = tie.close (tie.spec returns)
+pub after_second_spec : {M : Type 1} → statement M
+after_second_spec = tie.close (tie.spec returns)

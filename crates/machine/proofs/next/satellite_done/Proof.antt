@@ -7,7 +7,7 @@ use Rattle.machine.proofs.next.satellite_done.Tie as tie
 
 returns : tie.Need-returns
 unfolding satellite_done
-returns c = rw (c.row-due.ensures, c.before.less.ensures)
+returns c = rw (c.row_due.ensures, c.less-left.ensures)
 
-pub satellite-done-spec : {M : Type 1} → statement M
-satellite-done-spec = tie.close (tie.spec (λ c κs. search rules) (λ c κs. search rules) returns)
+pub satellite_done_spec : {M : Type 1} → statement M
+satellite_done_spec = tie.close (tie.spec (λ c κs. search rules) (λ c κs. search rules) returns)

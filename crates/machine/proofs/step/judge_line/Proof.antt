@@ -5,13 +5,13 @@ use Rattle.std.proofs.Common.{sym, ◌∙◌, rules, eq-eqb, ne_eqb}
 use Rattle.machine.proofs.step.judge_line.Statement.{statement}
 use Rattle.machine.proofs.step.judge_line.Tie as tie
 
-returns : tie.Need-returns
+returns : tie.Need-returns-then-key-eq0
 unfolding judged_line on_key
-returns c = rw (eq-eqb _ 0 (sym c.before.before.standing-fault.ensures ∙ c.before.if1.true)) c.after_Line.ensures
+returns c = rw (eq-eqb _ 0 (sym c.standing_fault-key.ensures ∙ c.if-key-eq0.true)) c.after_Line.ensures
 
-returns-2 : tie.Need-returns-2
+returns-2 : tie.Need-returns
 unfolding judged_line on_key
-returns-2 c = rw (ne_eqb _ 0 (λ e. c.before.before.if1.false (c.before.before.before.standing-fault.ensures ∙ e)), c.column-of.ensures, c.before.number_of_lem.ensures, c.before.before.before.standing-fault.ensures)
+returns-2 c = rw (ne_eqb _ 0 (λ e. c.if-key-eq0.false (c.standing_fault-key.ensures ∙ e)), c.column_of.ensures, c.number_of_lem.ensures, c.standing_fault-key.ensures)
 
-pub judge-line-spec : {M : Type 1} → statement M
-judge-line-spec = tie.close (tie.spec (λ c κs. search rules) (λ c κs. search rules) returns (λ c κs. search rules) (λ c κs. search rules) returns-2)
+pub judge_line_spec : {M : Type 1} → statement M
+judge_line_spec = tie.close (tie.spec (λ c κs. search rules) (λ c κs. search rules) returns (λ c κs. search rules) (λ c κs. search rules) returns-2)

@@ -5,25 +5,25 @@ use Rattle.machine.proofs.Stepping.{none-laid, all_laid}
 use Rattle.machine.proofs.step.lay_behind.Statement.{statement}
 use Rattle.machine.proofs.step.lay_behind.Tie as tie
 
-returns : tie.Need-returns
+returns : tie.Need-returns-then-list-from
 returns c =
-    let a = c.before.before.before.args in
-    none-laid a.from a.new.now a.list.now (omega (arith, c.if1.true))
+    let a = c.args in
+    none-laid a.from a.new.now a.list.now (omega (arith, c.if-list-from.true))
 
-returns-2 : tie.Need-returns-2
+returns-2 : tie.Need-returns-then-list-from-2
 returns-2 c =
-    let a = c.before.before.before.before.args in
-    none-laid a.from a.new.now a.list.now (omega (arith, c.if2.true, c.before.if1.false))
+    let a = c.args in
+    none-laid a.from a.new.now a.list.now (omega (arith, c.if-list-from-2.true, c.if-list-from.false))
 
-returns-3 : tie.Need-returns-3
+returns-3 : tie.Need-returns
 returns-3 c =
-    let laying = c.before.before in
-    let fits = laying.before.before in
-    let a = fits.before.before.before.before.args in
-    all_laid a.from a.new.now a.list.now _ (omega (arith, fits.if2.false, fits.before.if1.false)) laying.lay-numbers.ensures
+    let laying = c in
+    let fits = c in
+    let a = fits.args in
+    all_laid a.from a.new.now a.list.now _ (omega (arith, fits.if-list-from-2.false, fits.if-list-from.false)) laying.lay_numbers.ensures
 
-pub lay-behind-spec : {M : Type 1} → statement M
-lay-behind-spec =
+pub lay_behind_spec : {M : Type 1} → statement M
+lay_behind_spec =
     tie.close
     (tie.spec
     returns

@@ -9,50 +9,50 @@ use Rattle.machine.specs.Told.{told_verdict}
 use Rattle.machine.proofs.step.step_line.Statement.{statement}
 use Rattle.machine.proofs.step.step_line.Tie as tie
 
-returns : tie.Need-returns
+returns : tie.Need-returns-then-is_due_row
 returns c =
-    let told = c.before.before in
-    let padding = told.before.before in
-    let a = padding.before.before.before.args in
+    let told = c in
+    let padding = c in
+    let a = padding.args in
     ap told_verdict
-    (ap verdict.Next c.after-position.ensures
-    ∙ due-row-next a.rules a.state a.identifiers.now a.line.now padding.pad.result padding.pad.ensures (sym told.is-due-row.ensures ∙ c.before.if1.true))
+    (ap verdict.Next c.after_position.ensures
+    ∙ due-row-next a.rules a.state a.identifiers.now a.line.now padding.pad-padded.result padding.pad-padded.ensures (sym told.is_due_row.ensures ∙ c.if-is_due_row.true))
 
-returns-2 : tie.Need-returns-2
+returns-2 : tie.Need-returns-then-not-is_plain
 returns-2 c =
-    let judged = c.before.before in
-    let a = judged.before.before.before.before.before.before.before.before.args in
+    let judged = c in
+    let a = judged.args in
     ap told_verdict
-    (unprintable a.rules a.state a.identifiers.now a.line.now c.first-unprintable.result (sym judged.is_plain.ensures ∙ not-true _ c.before.if2.true) c.first-unprintable.ensures)
+    (unprintable a.rules a.state a.identifiers.now a.line.now c.first_unprintable.result (sym judged.is_plain.ensures ∙ not-true _ c.if-not-is_plain.true) c.first_unprintable.ensures)
 
-returns-3 : tie.Need-returns-3
+returns-3 : tie.Need-returns-then-line-longest
 returns-3 c =
-    let kinded = c.before.before in
-    let judged = kinded.before.before.before in
-    let padding = judged.before.before.before.before.before in
-    let a = padding.before.before.before.args in
+    let kinded = c in
+    let judged = c in
+    let padding = c in
+    let a = padding.args in
     ap told_verdict
-    (too_long a.rules a.state a.identifiers.now a.line.now (sym judged.is_plain.ensures ∙ not-false _ kinded.before.before.if2.false) padding.pad.result padding.pad.ensures kinded.kind-of.result kinded.kind-of.ensures c.before.longest-line.result c.before.longest-line.ensures c.if3.true)
+    (too_long a.rules a.state a.identifiers.now a.line.now (sym judged.is_plain.ensures ∙ not-false _ kinded.if-not-is_plain.false) padding.pad-padded.result padding.pad-padded.ensures kinded.kind_of-kind.result kinded.kind_of-kind.ensures c.longest_line-longest.result c.longest_line-longest.ensures c.if-line-longest.true)
 
-returns-4 : tie.Need-returns-4
+returns-4 : tie.Need-returns
 returns-4 c =
-    let measured = c.before.before.before in
-    let kinded = measured.before in
-    let judged = kinded.before.before.before in
-    let padding = judged.before.before.before.before.before in
-    let a = padding.before.before.before.args in
+    let measured = c in
+    let kinded = c in
+    let judged = c in
+    let padding = c in
+    let a = padding.args in
     ap told_verdict
-    (short-enough a.rules a.state a.identifiers.now a.line.now (sym judged.is_plain.ensures ∙ not-false _ kinded.before.before.if2.false) padding.pad.result padding.pad.ensures kinded.kind-of.result kinded.kind-of.ensures measured.longest-line.result measured.longest-line.ensures c.judge-line.result c.before.before.if3.false c.judge-line.ensures)
+    (short-enough a.rules a.state a.identifiers.now a.line.now (sym judged.is_plain.ensures ∙ not-false _ kinded.if-not-is_plain.false) padding.pad-padded.result padding.pad-padded.ensures kinded.kind_of-kind.result kinded.kind_of-kind.ensures measured.longest_line-longest.result measured.longest_line-longest.ensures c.judge_line.result c.if-line-longest.false c.judge_line.ensures)
 
-pub step-line-spec : {M : Type 1} → statement M
-step-line-spec =
+pub step_line_spec : {M : Type 1} → statement M
+step_line_spec =
     tie.close
     (tie.spec
     (λ c κs. search rules)
     (λ c κs. search rules)
     (λ c κs. search rules)
     returns
-    (λ c κs. c.before.before.before.before.pad.ensures)
+    (λ c κs. c.pad-padded.ensures)
     (λ c κs. search rules)
     returns-2
     (λ c κs. search rules)

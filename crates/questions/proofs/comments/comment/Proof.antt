@@ -18,63 +18,63 @@ use Rattle.questions.proofs.comments.comment.Statement.{statement}
 use Rattle.questions.proofs.comments.comment.Tie as tie
 
 -- what was found in the file
-found-file : (c : tie.After-tally) → file_of (rules_in c.before.before.before.before.before.args.file.now) c.before.before.before.before.before.args.file.now ≡ front.File c.tally.given.0.0
+found-file : (c : tie.In-File-2) → file_of (rules_in c.args.file.now) c.args.file.now ≡ front.File c.tally.given.0.0
 found-file c =
-    let ran = c.before.before in
-    found_as ran.before.told-by.result ran.before.before.before.args.file.now ran.scan-whole.result (front.File c.tally.given.0.0)
-    ran.before.told-by.ensures (told_front-one _ _ ran.scan-whole.ensures) c.tally.given.1
+    let ran = c in
+    found_as ran.told_by-rules.result ran.args.file.now ran.scan_whole.result (front.File c.tally.given.0.0)
+    ran.told_by-rules.ensures (told_front-one _ _ ran.scan_whole.ensures) c.tally.given.1
 
-part-line-of-end : tie.Need-slice-bounds-line-of-end
+part-line-of-end : tie.Need-slice_bounds-line_of-end
 part-line-of-end c =
-    let known = c.before.before.before in
-    omega (arith, file-within (rules_in known.before.before.before.before.before.args.file.now) known.before.before.before.before.before.args.file.now known.tally.given.0.0 (found-file known))
+    let known = c in
+    omega (arith, file-within (rules_in known.args.file.now) known.args.file.now known.tally.given.0.0 (found-file c.before.before.before))
 
-returns : tie.Need-returns
+returns : tie.Need-returns-then-k-tally
 returns c =
-    let known = c.before.before.before.before.before.before in
-    let start = known.before.before.before.before.before in
+    let known = c in
+    let start = c in
     let t = known.tally.given.0.0 in (
-      words-as (rules_in start.args.file.now) start.args.file.now (front.File t) (found-file known) start.args.k c.text_of.result.now
-          (words-there known.before.before.before.told-by.result known.before.before.before.told-by.ensures start.args.file.now t start.args.k c.text_of.result.now
-          c.before.Line-of.result.now c.before.before.before.if1.true c.text_of.ensures.0 c.before.Line-of.ensures.0),
-      at-comment known.before.before.before.told-by.result known.before.before.before.told-by.ensures start.args.file t (found-file known) start.args.k
-          c.before.Line-of.result c.text_of.result c.before.before.before.if1.true
-          c.before.Line-of.ensures.0 c.before.Line-of.ensures.1 c.text_of.ensures.0 c.text_of.ensures.1,
+      words-as (rules_in start.args.file.now) start.args.file.now (front.File t) (found-file c.before.before.before.before.before.before) start.args.k c.text_of.result.now
+          (words-there known.told_by-rules.result known.told_by-rules.ensures start.args.file.now t start.args.k c.text_of.result.now
+          c.Line-of.result.now c.if-k-tally.true c.text_of.ensures.0 c.Line-of.ensures.0),
+      at-comment known.told_by-rules.result known.told_by-rules.ensures start.args.file t (found-file c.before.before.before.before.before.before) start.args.k
+          c.Line-of.result c.text_of.result c.if-k-tally.true
+          c.Line-of.ensures.0 c.Line-of.ensures.1 c.text_of.ensures.0 c.text_of.ensures.1,
     )
 
 -- nothing lies at the first byte
 first_byte : (bytes : List ℕ) → min 0 (length bytes) ≡ 0
 first_byte bytes = omega arith
 
-returns-2 : tie.Need-returns-2
+returns-2 : tie.Need-returns-in-Refused
 unfolding comment_answer comment_words
 returns-2 c =
-    let known = c.before in
-    let ran = known.before.before in
-    let start = ran.before.before.before in (
+    let known = c in
+    let ran = c in
+    let start = c in (
       words-as (rules_in start.args.file.now) start.args.file.now _
-          (found_as ran.before.told-by.result start.args.file.now ran.scan-whole.result _ ran.before.told-by.ensures (told_front-one _ _ ran.scan-whole.ensures) known.enum_told.given.1)
-          start.args.k c.nothing-at.result.now c.nothing-at.ensures.0,
-      c.nothing-at.ensures.1 ∙ ap (byte_of start.args.file) (first_byte start.args.file.now) ∙ ap (λ (a : CommentAnswer). byte_of start.args.file a.at)
+          (found_as ran.told_by-rules.result start.args.file.now ran.scan_whole.result _ ran.told_by-rules.ensures (told_front-one _ _ ran.scan_whole.ensures) known.enum_told.given.1)
+          start.args.k c.nothing_at.result.now c.nothing_at.ensures.0,
+      c.nothing_at.ensures.1 ∙ ap (byte_of start.args.file) (first_byte start.args.file.now) ∙ ap (λ (a : CommentAnswer). byte_of start.args.file a.at)
           (comment-as (rules_in start.args.file.now) start.args.file.now _
-          (found_as ran.before.told-by.result start.args.file.now ran.scan-whole.result _ ran.before.told-by.ensures (told_front-one _ _ ran.scan-whole.ensures) known.enum_told.given.1)
+          (found_as ran.told_by-rules.result start.args.file.now ran.scan_whole.result _ ran.told_by-rules.ensures (told_front-one _ _ ran.scan_whole.ensures) known.enum_told.given.1)
           start.args.k (no_comment _ _ _) refl),
     )
 
-returns-3 : tie.Need-returns-3
+returns-3 : tie.Need-returns-else-k-tally
 returns-3 c =
-    let known = c.before.before.before.before in
-    let start = known.before.before.before.before.before in
+    let known = c in
+    let start = c in
     let t = known.tally.given.0.0 in (
-      words-as (rules_in start.args.file.now) start.args.file.now (front.File t) (found-file known) start.args.k c.nothing-at2.result.now
-          (c.nothing-at2.ensures.0 ∙ no-words-there (rules_in start.args.file.now) start.args.file.now t start.args.k c.before.if1.false),
-      c.nothing-at2.ensures.1 ∙ ap (byte_of start.args.file) (first_byte start.args.file.now) ∙ ap (λ (a : CommentAnswer). byte_of start.args.file a.at)
-          (comment-as (rules_in start.args.file.now) start.args.file.now (front.File t) (found-file known) start.args.k (no_comment 13 0 0)
-          (no-comment-there (rules_in start.args.file.now) start.args.file.now t start.args.k (no_comment 13 0 0) c.before.if1.false refl)),
+      words-as (rules_in start.args.file.now) start.args.file.now (front.File t) (found-file c.before.before.before.before) start.args.k c.nothing_at-in-File.result.now
+          (c.nothing_at-in-File.ensures.0 ∙ no-words-there (rules_in start.args.file.now) start.args.file.now t start.args.k c.if-k-tally.false),
+      c.nothing_at-in-File.ensures.1 ∙ ap (byte_of start.args.file) (first_byte start.args.file.now) ∙ ap (λ (a : CommentAnswer). byte_of start.args.file a.at)
+          (comment-as (rules_in start.args.file.now) start.args.file.now (front.File t) (found-file c.before.before.before.before) start.args.k (no_comment 13 0 0)
+          (no-comment-there (rules_in start.args.file.now) start.args.file.now t start.args.k (no_comment 13 0 0) c.if-k-tally.false refl)),
     )
 
-pub comment-spec : {M : Type 1} → statement M
-comment-spec =
+pub comment_spec : {M : Type 1} → statement M
+comment_spec =
     tie.close
     (tie.spec
     (λ c κs. search rules)

@@ -13,46 +13,46 @@ use Rattle.questions.proofs.comments.comment_answer.Statement.{statement}
 use Rattle.questions.proofs.comments.comment_answer.Tie as tie
 
 -- what was found in the file
-found-file : (c : tie.After-tally) → file_of (rules_in c.before.before.before.before.before.args.file.now) c.before.before.before.before.before.args.file.now ≡ front.File c.tally.given.0.0
+found-file : (c : tie.In-File-2) → file_of (rules_in c.args.file.now) c.args.file.now ≡ front.File c.tally.given.0.0
 found-file c =
-    let ran = c.before.before in
-    found_as ran.before.told-by.result ran.before.before.before.args.file.now ran.scan-whole.result (front.File c.tally.given.0.0)
-    ran.before.told-by.ensures (told_front-one _ _ ran.scan-whole.ensures) c.tally.given.1
+    let ran = c in
+    found_as ran.told_by-rules.result ran.args.file.now ran.scan_whole.result (front.File c.tally.given.0.0)
+    ran.told_by-rules.ensures (told_front-one _ _ ran.scan_whole.ensures) c.tally.given.1
 
-part-comment-at-end : tie.Need-slice-bounds-comment-at-end
+part-comment-at-end : tie.Need-slice_bounds-comment_at-end
 part-comment-at-end c =
-    let known = c.before.before.before in
-    omega (arith, file-within (rules_in known.before.before.before.before.before.args.file.now) known.before.before.before.before.before.args.file.now known.tally.given.0.0 (found-file known))
+    let known = c in
+    omega (arith, file-within (rules_in known.args.file.now) known.args.file.now known.tally.given.0.0 (found-file c.before.before.before))
 
-returns : tie.Need-returns
+returns : tie.Need-returns-then-k-tally
 returns c =
-    let known = c.before.before.before.before.before in
-    let start = known.before.before.before.before.before in
+    let known = c in
+    let start = c in
     let t = known.tally.given.0.0 in
-    comment-as (rules_in start.args.file.now) start.args.file.now (front.File t) (found-file known) start.args.k c.comment-at.result
-    (comment-there known.before.before.before.told-by.result known.before.before.before.told-by.ensures start.args.file.now t start.args.k c.comment-at.result
-    c.before.before.if1.true c.comment-at.ensures)
+    comment-as (rules_in start.args.file.now) start.args.file.now (front.File t) (found-file c.before.before.before.before.before) start.args.k c.comment_at.result
+    (comment-there known.told_by-rules.result known.told_by-rules.ensures start.args.file.now t start.args.k c.comment_at.result
+    c.if-k-tally.true c.comment_at.ensures)
 
-returns-2 : tie.Need-returns-2
+returns-2 : tie.Need-returns-in-Refused
 unfolding comment_answer
 returns-2 c =
-    let known = c.before.before in
-    let ran = known.before.before in
-    let start = ran.before.before.before in
+    let known = c in
+    let ran = c in
+    let start = c in
     comment-as (rules_in start.args.file.now) start.args.file.now _
-    (found_as ran.before.told-by.result start.args.file.now ran.scan-whole.result _ ran.before.told-by.ensures (told_front-one _ _ ran.scan-whole.ensures) known.number.given.1)
-    start.args.k c.no-comment.result c.no-comment.ensures
+    (found_as ran.told_by-rules.result start.args.file.now ran.scan_whole.result _ ran.told_by-rules.ensures (told_front-one _ _ ran.scan_whole.ensures) known.number.given.1)
+    start.args.k c.no_comment.result c.no_comment.ensures
 
-returns-3 : tie.Need-returns-3
+returns-3 : tie.Need-returns-else-k-tally
 returns-3 c =
-    let known = c.before.before.before.before in
-    let start = known.before.before.before.before.before in
+    let known = c in
+    let start = c in
     let t = known.tally.given.0.0 in
-    comment-as (rules_in start.args.file.now) start.args.file.now (front.File t) (found-file known) start.args.k c.no-comment2.result
-    (no-comment-there (rules_in start.args.file.now) start.args.file.now t start.args.k c.no-comment2.result c.before.if1.false c.no-comment2.ensures)
+    comment-as (rules_in start.args.file.now) start.args.file.now (front.File t) (found-file c.before.before.before.before) start.args.k c.no_comment-in-File.result
+    (no-comment-there (rules_in start.args.file.now) start.args.file.now t start.args.k c.no_comment-in-File.result c.if-k-tally.false c.no_comment-in-File.ensures)
 
-pub comment-answer-spec : {M : Type 1} → statement M
-comment-answer-spec =
+pub comment_answer_spec : {M : Type 1} → statement M
+comment_answer_spec =
     tie.close
     (tie.spec
     (λ c κs. search rules)

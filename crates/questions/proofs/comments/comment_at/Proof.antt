@@ -7,24 +7,24 @@ use Rattle.questions.proofs.Asking.{text-within, comment-told}
 use Rattle.questions.proofs.comments.comment_at.Statement.{statement}
 use Rattle.questions.proofs.comments.comment_at.Tie as tie
 
-add-t8 : tie.Need-overflow-add-t8
+add-t8 : tie.Need-overflow_add-result
 add-t8 c =
-    let indented = c.before in
-    let lined = indented.before in
-    let a = lined.before.before.before.args in
+    let indented = c in
+    let lined = c in
+    let a = lined.args in
     omega (
       arith,
-      text-within a.rules a.bytes.now a.k lined.before.line-begins.result indented.fewer.result lined.Line-of.result.now
-          lined.before.line-begins.ensures lined.Line-of.ensures.0 indented.fewer.ensures,
+      text-within a.rules a.bytes.now a.k lined.line_begins-place.result indented.fewer-indent.result lined.Line-of.result.now
+          lined.line_begins-place.ensures lined.Line-of.ensures.0 indented.fewer-indent.ensures,
     )
 
 returns : tie.Need-returns
 returns c =
-    let indented = c.before in
-    let lined = indented.before in
-    let a = lined.before.before.before.args in
-    comment-told a.rules (lines_of a.bytes.now) a.k lined.before.line-begins.result indented.fewer.result lined.Line-of.result.now c.text_of.result.now
-    lined.before.line-begins.ensures lined.Line-of.ensures.0 indented.fewer.ensures c.text_of.ensures.0
+    let indented = c in
+    let lined = c in
+    let a = lined.args in
+    comment-told a.rules (lines_of a.bytes.now) a.k lined.line_begins-place.result indented.fewer-indent.result lined.Line-of.result.now c.text_of-text.result.now
+    lined.line_begins-place.ensures lined.Line-of.ensures.0 indented.fewer-indent.ensures c.text_of-text.ensures.0
 
-pub comment-at-spec : {M : Type 1} → statement M
-comment-at-spec = tie.close (tie.spec (λ c κs. search rules) (λ c κs. search rules) (λ c κs. search rules) (λ c κs. search rules) add-t8 returns)
+pub comment_at_spec : {M : Type 1} → statement M
+comment_at_spec = tie.close (tie.spec (λ c κs. search rules) (λ c κs. search rules) (λ c κs. search rules) (λ c κs. search rules) add-t8 returns)

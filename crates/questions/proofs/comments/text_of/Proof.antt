@@ -12,27 +12,27 @@ use Rattle.questions.proofs.Asking.{text-fits, text-told}
 use Rattle.questions.proofs.comments.text_of.Statement.{statement}
 use Rattle.questions.proofs.comments.text_of.Tie as tie
 
-returns : tie.Need-returns
+returns : tie.Need-returns-then-line-lt3
 returns c =
-    let line = c.before.before.before.args.line in
+    let line = c.args.line in
     let n = length line.now in
     let here : min n n ≡ min 3 n = omega arith in
-    (c.nothing-at.ensures.0 ∙ ap trimmed (sym (rest-none line.now 3 (omega arith))), c.nothing-at.ensures.1 ∙ ap (byte_of line) here)
+    (c.nothing_at.ensures.0 ∙ ap trimmed (sym (rest-none line.now 3 (omega arith))), c.nothing_at.ensures.1 ∙ ap (byte_of line) here)
 
-part-result-end : tie.Need-slice-bounds-result-end
-part-result-end c = omega (arith, text-fits c.before.before.before.before.args.line.now c.trimmed-length.result c.trimmed-length.ensures)
+part-result-end : tie.Need-slice_bounds-result-end
+part-result-end c = omega (arith, text-fits c.args.line.now c.trimmed_length-n.result c.trimmed_length-n.ensures)
 
-returns-2 : tie.Need-returns-2
+returns-2 : tie.Need-returns
 returns-2 c =
-    let line = c.before.before.before.before.before.args.line in
+    let line = c.args.line in
     let here : 3 ≡ min 3 (length line.now) = omega arith in
     let first : 0 + (3 + line.ptr.1) ≡ 3 + line.ptr.1 = omega arith in (
-      text-told line.now c.before.trimmed-length.result c.before.trimmed-length.ensures,
+      text-told line.now c.trimmed_length-n.result c.trimmed_length-n.ensures,
       ap (λ (n : ℕ). (line.ptr.0, n)) first ∙ ap (byte_of line) here,
     )
 
-pub text-of-spec : {M : Type 1} → statement M
-text-of-spec =
+pub text_of_spec : {M : Type 1} → statement M
+text_of_spec =
     tie.close
     (tie.spec
     (λ c κs. search rules)

@@ -5,20 +5,20 @@ use Rattle.questions.proofs.RowAnswers.{refused_as, answered-as}
 use Rattle.questions.proofs.rows.row.Statement.{statement}
 use Rattle.questions.proofs.rows.row.Tie as tie
 
-returns : tie.Need-returns
+returns : tie.Need-returns-then-found-ne0
 returns c =
-    let placed = c.before.before.before in
-    refused_as placed.before.before.args.file.now placed.row-begins.ensures c.before.if1.true c.absent-row.ensures
+    let placed = c in
+    refused_as placed.args.file.now placed.row_begins-found.ensures c.if-found-ne0.true c.absent_row.ensures
 
-returns-2 : tie.Need-returns-2
+returns-2 : tie.Need-returns
 returns-2 c =
-    let found = c.before.before.before in
-    let placed = found.before.before in
-    answered-as placed.before.before.args.file.now placed.row-begins.ensures found.if1.false c.before.before.line_at_lem.ensures.0
-    c.before.row-of.ensures c.float-row.ensures
+    let found = c in
+    let placed = c in
+    answered-as placed.args.file.now placed.row_begins-found.ensures found.if-found-ne0.false c.line_at_lem.ensures.0
+    c.row_of.ensures c.float_row.ensures
 
-pub row-spec : {M : Type 1} → statement M
-row-spec =
+pub row_spec : {M : Type 1} → statement M
+row_spec =
     tie.close
     (tie.spec
     (λ c κs. search rules)

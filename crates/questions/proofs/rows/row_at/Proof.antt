@@ -12,40 +12,40 @@ use Rattle.questions.proofs.rows.row_at.Statement.{statement}
 use Rattle.questions.proofs.rows.row_at.Tie as tie
 
 -- the product of the epoch and the number of satellites, and the satellite
-small : (c : tie.Then1)
-    → (c.before.before.before.before.before.args.epoch * c.before.before.count_of.result ≤ max_epochs * max_satellites)
-    × (c.before.before.before.before.before.args.satellite < max_satellites)
+small : (c : tie.Then-epoch-first)
+    → (c.args.epoch * c.count_of-n.result ≤ max_epochs * max_satellites)
+    × (c.args.satellite < max_satellites)
 small c =
-    let counted = c.before.before in
-    let start = counted.before.before.before in
+    let counted = c in
+    let start = c in
     let a = start.args in
-    let epochs = ap (λ (x : First). x.epochs) counted.before.first_of.ensures in
-    row-bounds counted.before.first_of.result a.epoch a.satellite counted.count_of.result c.if1.true
+    let epochs = ap (λ (x : First). x.epochs) counted.first_of-first.ensures in
+    row-bounds counted.first_of-first.result a.epoch a.satellite counted.count_of-n.result c.if-epoch-first.true
     (omega (arith, start.requires.0, epochs))
-    (omega (arith, start.requires.1, counted.count_of.ensures))
+    (omega (arith, start.requires.1, counted.count_of-n.ensures))
 
-mul-line-begins : tie.Need-overflow-mul-line-begins
+mul-line-begins : tie.Need-overflow_mul-epoch
 mul-line-begins c = omega (arith, (small c).0, (small c).1)
 
-add-line-begins : tie.Need-overflow-add-line-begins
+add-line-begins : tie.Need-overflow_add-epoch
 add-line-begins c = omega (arith, (small c).0, (small c).1)
 
-returns : tie.Need-returns
+returns : tie.Need-returns-then-epoch-first
 returns c =
-    let counted = c.before.before.before in
-    let a = counted.before.before.before.args in
-    row_told a.rules (lines_of a.bytes.now) a.epoch a.satellite counted.before.first_of.result counted.count_of.result
-    counted.before.first_of.ensures counted.count_of.ensures c.line-begins.result c.before.if1.true c.line-begins.ensures
+    let counted = c in
+    let a = counted.args in
+    row_told a.rules (lines_of a.bytes.now) a.epoch a.satellite counted.first_of-first.result counted.count_of-n.result
+    counted.first_of-first.ensures counted.count_of-n.ensures c.line_begins.result c.if-epoch-first.true c.line_begins.ensures
 
-returns-2 : tie.Need-returns-2
+returns-2 : tie.Need-returns
 returns-2 c =
-    let counted = c.before.before.before in
-    let a = counted.before.before.before.args in
+    let counted = c in
+    let a = counted.args in
     c.no_row.ensures
-    ∙ row-missing a.rules (lines_of a.bytes.now) a.epoch a.satellite counted.before.first_of.result counted.count_of.result
-    counted.before.first_of.ensures counted.count_of.ensures c.before.if1.false
+    ∙ row-missing a.rules (lines_of a.bytes.now) a.epoch a.satellite counted.first_of-first.result counted.count_of-n.result
+    counted.first_of-first.ensures counted.count_of-n.ensures c.if-epoch-first.false
 
-pub row-at-spec : {M : Type 1} → statement M
-row-at-spec =
+pub row_at_spec : {M : Type 1} → statement M
+row_at_spec =
     tie.close
     (tie.spec (λ c κs. search rules) (λ c κs. search rules) mul-line-begins add-line-begins (λ c κs. search rules) returns (λ c κs. search rules) returns-2)

@@ -14,44 +14,44 @@ use Rattle.questions.proofs.rows.row_begins.Statement.{statement}
 use Rattle.questions.proofs.rows.row_begins.Tie as tie
 
 -- what was found in the file
-found-file : (c : tie.After-tally) → file_of (rules_in c.before.before.before.before.before.args.file.now) c.before.before.before.before.before.args.file.now ≡ front.File c.tally.given.0.0
+found-file : (c : tie.In-File-2) → file_of (rules_in c.args.file.now) c.args.file.now ≡ front.File c.tally.given.0.0
 found-file c =
-    let ran = c.before.before in
-    found_as ran.before.told-by.result ran.before.before.before.args.file.now ran.scan-whole.result (front.File c.tally.given.0.0)
-    ran.before.told-by.ensures (told_front-one _ _ ran.scan-whole.ensures) c.tally.given.1
+    let ran = c in
+    found_as ran.told_by-rules.result ran.args.file.now ran.scan_whole.result (front.File c.tally.given.0.0)
+    ran.told_by-rules.ensures (told_front-one _ _ ran.scan_whole.ensures) c.tally.given.1
 
-part-row-at-end : tie.Need-slice-bounds-row-at-end
+part-row-at-end : tie.Need-slice_bounds-row_at-end
 part-row-at-end c =
-    let known = c.before in
-    omega (arith, file-within (rules_in known.before.before.before.before.before.args.file.now) known.before.before.before.before.before.args.file.now known.tally.given.0.0 (found-file known))
+    let known = c in
+    omega (arith, file-within (rules_in known.args.file.now) known.args.file.now known.tally.given.0.0 (found-file c.before))
 
-row-at-requires : tie.Need-row-at-requires
+row-at-requires : tie.Need-row_at-requires
 row-at-requires c κs =
-    let known = c.before.before in
-    let started = known.before.before.before in
-    bounded-as started.told-by.result started.told-by.ensures started.before.before.args.file.now known.tally.given.0.0 (told-sound _) (found-file known)
+    let known = c in
+    let started = c in
+    bounded-as started.told_by-rules.result started.told_by-rules.ensures started.args.file.now known.tally.given.0.0 (told-sound _) (found-file c.before.before)
 
-returns : tie.Need-returns
+returns : tie.Need-returns-in-Refused
 unfolding row_begins
 returns c =
-    let known = c.before.before in
-    let ran = known.before.before in
-    let start = ran.before.before.before in
+    let known = c in
+    let ran = c in
+    let start = c in
     row_as (rules_in start.args.file.now) start.args.file.now _
-    (found_as ran.before.told-by.result start.args.file.now ran.scan-whole.result _ ran.before.told-by.ensures (told_front-one _ _ ran.scan-whole.ensures) known.number.given.1)
+    (found_as ran.told_by-rules.result start.args.file.now ran.scan_whole.result _ ran.told_by-rules.ensures (told_front-one _ _ ran.scan_whole.ensures) known.number.given.1)
     start.args.epoch start.args.satellite c.no_row.result c.no_row.ensures
 
-returns-2 : tie.Need-returns-2
+returns-2 : tie.Need-returns-in-File
 returns-2 c =
-    let known = c.before.before.before in
-    let started = known.before.before.before in
-    let start = started.before.before in
+    let known = c in
+    let started = c in
+    let start = c in
     let t = known.tally.given.0.0 in
-    row_as (rules_in start.args.file.now) start.args.file.now (front.File t) (found-file known) start.args.epoch start.args.satellite c.row_at.result
-    (row-found started.told-by.result started.told-by.ensures start.args.file.now t start.args.epoch start.args.satellite c.row_at.result c.row_at.ensures)
+    row_as (rules_in start.args.file.now) start.args.file.now (front.File t) (found-file c.before.before.before) start.args.epoch start.args.satellite c.row_at.result
+    (row-found started.told_by-rules.result started.told_by-rules.ensures start.args.file.now t start.args.epoch start.args.satellite c.row_at.result c.row_at.ensures)
 
-pub row-begins-spec : {M : Type 1} → statement M
-row-begins-spec =
+pub row_begins_spec : {M : Type 1} → statement M
+row_begins_spec =
     tie.close
     (tie.spec
     (λ c κs. search rules)

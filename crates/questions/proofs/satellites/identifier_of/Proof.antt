@@ -25,31 +25,31 @@ some : (text : List ℕ) (r : ℕ) → length text ≡ 3 → (named text && not 
 unfolding identifier_named
 some text r e holds is = rw (eq-eqb _ _ e, holds) is
 
-returns : tie.Need-returns
+returns : tie.Need-returns-then-text-ne3
 unfolding identifier_named
-returns c = rw (ne_eqb _ _ c.if1.true)
+returns c = rw (ne_eqb _ _ c.if-text-ne3.true)
 
-returns-2 : tie.Need-returns-2
+returns-2 : tie.Need-returns-then-not-is_named-number
 returns-2 c =
-    let asked = c.before in
-    let counted = asked.before.before.before.before in
-    let e = counted.before.before.before.if1.false in
-    let text = counted.before.before.before.before.before.args.text.now in
-    none text e (three text counted.two_digits.result asked.is-named.result e counted.two_digits.ensures.0 asked.is-named.ensures ∙ not-true _ c.if2.true)
+    let asked = c in
+    let counted = c in
+    let e = counted.if-text-ne3.false in
+    let text = counted.args.text.now in
+    none text e (three text counted.two_digits-number.result asked.is_named.result e counted.two_digits-number.ensures.0 asked.is_named.ensures ∙ not-true _ c.if-not-is_named-number.true)
 
-returns-3 : tie.Need-returns-3
+returns-3 : tie.Need-returns
 returns-3 c =
-    let left = c.before.before in
-    let asked = left.before in
-    let counted = asked.before.before.before.before in
-    let e = counted.before.before.before.if1.false in
-    let text = counted.before.before.before.before.before.args.text.now in
-    some text c.identifier-code.result e
-    (three text counted.two_digits.result asked.is-named.result e counted.two_digits.ensures.0 asked.is-named.ensures ∙ not-false _ left.if2.false)
-    (c.identifier-code.ensures ∙ ap (λ (n : ℕ). get_or text 0 0 * 100 + n) counted.two_digits.ensures.0)
+    let left = c in
+    let asked = c in
+    let counted = c in
+    let e = counted.if-text-ne3.false in
+    let text = counted.args.text.now in
+    some text c.identifier_code.result e
+    (three text counted.two_digits-number.result asked.is_named.result e counted.two_digits-number.ensures.0 asked.is_named.ensures ∙ not-false _ left.if-not-is_named-number.false)
+    (c.identifier_code.ensures ∙ ap (λ (n : ℕ). get_or text 0 0 * 100 + n) counted.two_digits-number.ensures.0)
 
-pub identifier-of-spec : {M : Type 1} → statement M
-identifier-of-spec =
+pub identifier_of_spec : {M : Type 1} → statement M
+identifier_of_spec =
     tie.close
     (tie.spec
     returns

@@ -11,33 +11,33 @@ use Rattle.questions.proofs.Asking.{index-here, index-later, index-none}
 use Rattle.questions.proofs.satellites.index_of.Statement.{statement}
 use Rattle.questions.proofs.satellites.index_of.Tie as tie
 
-abbrev invariant-loop : tie.invariant-loop
+abbrev invariant-loop : tie.invariant-loop-i
 invariant-loop identifier identifiers i₀ i = (i ≤ length identifiers) × (i + index_of identifier (drop i identifiers) ≡ index_of identifier identifiers)
 
-abbrev decreases-loop : tie.decreases-loop
+abbrev decreases-loop : tie.decreases-loop-i
 decreases-loop identifier identifiers i₀ i = length identifiers - i
 
-loop-holds : tie.Need-loop-init invariant-loop decreases-loop
+loop-holds : tie.Need-loop-i-init invariant-loop decreases-loop
 loop-holds c = (search rules, zero-add (index_of c.args.identifier c.args.identifiers.now))
 
-returns : tie.Need-returns invariant-loop decreases-loop
+returns : tie.Need-returns-then-identifier-identifiers invariant-loop decreases-loop
 returns c =
     let at-loop = c.before.before.before in
-    let a = at-loop.before.args in
-    sym (index-here a.identifier a.identifiers.now at-loop.loop.i (omega arith) c.if1.true) ∙ at-loop.loop.invariant.1
+    let a = at-loop.args in
+    sym (index-here a.identifier a.identifiers.now at-loop.loop-i.i (omega arith) c.if-identifier-identifiers.true) ∙ at-loop.loop-i.invariant.1
 
-loop-again : tie.Need-loop-preserved invariant-loop decreases-loop
+loop-again : tie.Need-loop-i-preserved invariant-loop decreases-loop
 loop-again c =
     let at-loop = c.before.before.before in
-    let a = at-loop.before.args in
-    (search rules, index-later a.identifier a.identifiers.now at-loop.loop.i (omega arith) c.if1.false ∙ at-loop.loop.invariant.1)
+    let a = at-loop.args in
+    (search rules, index-later a.identifier a.identifiers.now at-loop.loop-i.i (omega arith) c.if-identifier-identifiers.false ∙ at-loop.loop-i.invariant.1)
 
-returns-2 : tie.Need-returns-2 invariant-loop decreases-loop
+returns-2 : tie.Need-returns invariant-loop decreases-loop
 returns-2 c =
-    let a = c.before.before.args in
-    sym (index-none a.identifier a.identifiers.now c.before.loop.i (omega arith)) ∙ c.before.loop.invariant.1
+    let a = c.args in
+    sym (index-none a.identifier a.identifiers.now c.loop-i.i (omega arith)) ∙ c.loop-i.invariant.1
 
-pub index-of-spec : {M : Type 1} → statement M
-index-of-spec =
+pub index_of_spec : {M : Type 1} → statement M
+index_of_spec =
     tie.close
     (tie.spec invariant-loop decreases-loop loop-holds (λ c. search rules) (λ c. search rules) returns (λ c. search rules) (λ c. search rules) loop-again returns-2)

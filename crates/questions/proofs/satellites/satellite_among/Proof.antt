@@ -16,11 +16,11 @@ use native.Mathlib.Omega.{arith}
 use Rattle.questions.proofs.satellites.satellite_among.Statement.{statement}
 use Rattle.questions.proofs.satellites.satellite_among.Tie as tie
 
-returns : tie.Need-returns
-returns c = c.satellite-in.ensures ∙ ap (satellite_in c.before.before.before.before.before.before.before.before.before.args.identifier) (first-identifiers (identifiers_of c.before.before.before.before.before.before.before.before.before.args.rules (lines_of c.before.before.before.before.before.before.before.before.before.args.bytes.now)) (replicate max_satellites 0) _ (c.before.before.before.before.before.fill-slots.ensures ∙ ap (λ (n : ℕ). laid (slots_in c.before.before.before.before.before.before.before.before.before.args.rules false n (lines_of c.before.before.before.before.before.before.before.before.before.args.bytes.now)) (replicate max_satellites 0)) c.before.before.before.before.before.before.before.count_of.ensures) (omega (arith, c.before.before.before.before.before.before.before.before.before.requires.0, c.before.before.before.before.before.before.before.before.before.requires.1)) _ (c.before.before.before.before.before.before.before.count_of.ensures ∙ sym c.before.before.before.before.before.before.before.before.before.requires.0))
+returns : tie.Need-returns-then-n-lt-MAX_SATELLITES
+returns c = c.satellite_in.ensures ∙ ap (satellite_in c.args.identifier) (first-identifiers (identifiers_of c.args.rules (lines_of c.args.bytes.now)) (replicate max_satellites 0) _ (c.fill_slots.ensures ∙ ap (λ (n : ℕ). laid (slots_in c.args.rules false n (lines_of c.args.bytes.now)) (replicate max_satellites 0)) c.count_of-n.ensures) (omega (arith, c.requires.0, c.requires.1)) _ (c.count_of-n.ensures ∙ sym c.requires.0))
 
-returns-2 : tie.Need-returns-2
-returns-2 c = c.satellite-in2.ensures ∙ ap (satellite_in c.before.before.before.before.before.before.before.before.args.identifier) (all-identifiers (identifiers_of c.before.before.before.before.before.before.before.before.args.rules (lines_of c.before.before.before.before.before.before.before.before.args.bytes.now)) (replicate max_satellites 0) _ (c.before.before.before.before.fill-slots.ensures ∙ ap (λ (n : ℕ). laid (slots_in c.before.before.before.before.before.before.before.before.args.rules false n (lines_of c.before.before.before.before.before.before.before.before.args.bytes.now)) (replicate max_satellites 0)) c.before.before.before.before.before.before.count_of.ensures) (omega (arith, c.before.before.before.before.before.before.before.before.requires.0, c.before.before.before.before.before.before.before.before.requires.1)) (omega (arith, c.before.before.before.before.before.before.count_of.ensures, c.before.before.before.before.before.before.before.before.requires.0, c.before.if1.false)))
+returns-2 : tie.Need-returns
+returns-2 c = c.satellite_in-2.ensures ∙ ap (satellite_in c.args.identifier) (all-identifiers (identifiers_of c.args.rules (lines_of c.args.bytes.now)) (replicate max_satellites 0) _ (c.fill_slots.ensures ∙ ap (λ (n : ℕ). laid (slots_in c.args.rules false n (lines_of c.args.bytes.now)) (replicate max_satellites 0)) c.count_of-n.ensures) (omega (arith, c.requires.0, c.requires.1)) (omega (arith, c.count_of-n.ensures, c.requires.0, c.if-n-lt-MAX_SATELLITES.false)))
 
-pub satellite-among-spec : {M : Type 1} → statement M
-satellite-among-spec = tie.close (tie.spec (λ c κs. search rules) (λ c. search rules) (λ c κs. search rules) (λ c. search rules) (λ c. search rules) (λ c. search rules) (λ c. search rules) (λ c κs. search rules) returns (λ c κs. search rules) returns-2)
+pub satellite_among_spec : {M : Type 1} → statement M
+satellite_among_spec = tie.close (tie.spec (λ c κs. search rules) (λ c. search rules) (λ c κs. search rules) (λ c. search rules) (λ c. search rules) (λ c. search rules) (λ c. search rules) (λ c κs. search rules) returns (λ c κs. search rules) returns-2)

@@ -7,16 +7,16 @@ use lib.ListN.{length}
 use Rattle.questions.proofs.satellites.satellite_in.Statement.{statement}
 use Rattle.questions.proofs.satellites.satellite_in.Tie as tie
 
-returns : tie.Need-returns
+returns : tie.Need-returns-then-number-identifiers
 returns c =
-    let known = c.before in
-    rw (← known.index_of.ensures, lt-ltb known.index_of.result (length known.before.before.args.identifiers.now) c.if1.true)
+    let known = c in
+    rw (← known.index_of-number.ensures, lt-ltb known.index_of-number.result (length known.args.identifiers.now) c.if-number-identifiers.true)
 
-returns-2 : tie.Need-returns-2
+returns-2 : tie.Need-returns
 returns-2 c =
-    let known = c.before.before in
-    c.no-satellite.ensures
-    ∙ rw (← known.index_of.ensures, le-ltb known.index_of.result (length known.before.before.args.identifiers.now) c.before.if1.false)
+    let known = c in
+    c.no_satellite.ensures
+    ∙ rw (← known.index_of-number.ensures, le-ltb known.index_of-number.result (length known.args.identifiers.now) c.if-number-identifiers.false)
 
-pub satellite-in-spec : {M : Type 1} → statement M
-satellite-in-spec = tie.close (tie.spec (λ c κs. search rules) returns (λ c κs. search rules) returns-2)
+pub satellite_in_spec : {M : Type 1} → statement M
+satellite_in_spec = tie.close (tie.spec (λ c κs. search rules) returns (λ c κs. search rules) returns-2)

@@ -14,44 +14,44 @@ use Rattle.questions.proofs.satellites.satellite_of.Statement.{statement}
 use Rattle.questions.proofs.satellites.satellite_of.Tie as tie
 
 -- what was found in the file
-found-file : (c : tie.After-tally) → file_of (rules_in c.before.before.before.before.before.args.file.now) c.before.before.before.before.before.args.file.now ≡ front.File c.tally.given.0.0
+found-file : (c : tie.In-File-2) → file_of (rules_in c.args.file.now) c.args.file.now ≡ front.File c.tally.given.0.0
 found-file c =
-    let ran = c.before.before in
-    found_as ran.before.told-by.result ran.before.before.before.args.file.now ran.scan-whole.result (front.File c.tally.given.0.0)
-    ran.before.told-by.ensures (told_front-one _ _ ran.scan-whole.ensures) c.tally.given.1
+    let ran = c in
+    found_as ran.told_by-rules.result ran.args.file.now ran.scan_whole.result (front.File c.tally.given.0.0)
+    ran.told_by-rules.ensures (told_front-one _ _ ran.scan_whole.ensures) c.tally.given.1
 
-part-satellite-among-end : tie.Need-slice-bounds-satellite-among-end
+part-satellite-among-end : tie.Need-slice_bounds-satellite_among-end
 part-satellite-among-end c =
-    let known = c.before in
-    omega (arith, file-within (rules_in known.before.before.before.before.before.args.file.now) known.before.before.before.before.before.args.file.now known.tally.given.0.0 (found-file known))
+    let known = c in
+    omega (arith, file-within (rules_in known.args.file.now) known.args.file.now known.tally.given.0.0 (found-file c.before))
 
-satellite-among-requires : tie.Need-satellite-among-requires
+satellite-among-requires : tie.Need-satellite_among-requires
 satellite-among-requires c κs =
-    let known = c.before.before in
-    let started = known.before.before.before in
-    counted-as started.told-by.result started.told-by.ensures started.before.before.args.file.now known.tally.given.0.0 (told-sound _) (found-file known)
+    let known = c in
+    let started = c in
+    counted-as started.told_by-rules.result started.told_by-rules.ensures started.args.file.now known.tally.given.0.0 (told-sound _) (found-file c.before.before)
 
-returns : tie.Need-returns
+returns : tie.Need-returns-in-Refused
 unfolding satellite_answer
 returns c =
-    let known = c.before.before in
-    let ran = known.before.before in
-    let start = ran.before.before.before in
+    let known = c in
+    let ran = c in
+    let start = c in
     satellite-as (rules_in start.args.file.now) start.args.file.now _
-    (found_as ran.before.told-by.result start.args.file.now ran.scan-whole.result _ ran.before.told-by.ensures (told_front-one _ _ ran.scan-whole.ensures) known.number.given.1)
-    start.args.identifier c.no-satellite.result c.no-satellite.ensures
+    (found_as ran.told_by-rules.result start.args.file.now ran.scan_whole.result _ ran.told_by-rules.ensures (told_front-one _ _ ran.scan_whole.ensures) known.number.given.1)
+    start.args.identifier c.no_satellite.result c.no_satellite.ensures
 
-returns-2 : tie.Need-returns-2
+returns-2 : tie.Need-returns-in-File
 returns-2 c =
-    let known = c.before.before.before in
-    let started = known.before.before.before in
-    let start = started.before.before in
+    let known = c in
+    let started = c in
+    let start = c in
     let t = known.tally.given.0.0 in
-    satellite-as (rules_in start.args.file.now) start.args.file.now (front.File t) (found-file known) start.args.identifier c.satellite-among.result
-    (satellite-found started.told-by.result started.told-by.ensures start.args.file.now t start.args.identifier c.satellite-among.result c.satellite-among.ensures)
+    satellite-as (rules_in start.args.file.now) start.args.file.now (front.File t) (found-file c.before.before.before) start.args.identifier c.satellite_among.result
+    (satellite-found started.told_by-rules.result started.told_by-rules.ensures start.args.file.now t start.args.identifier c.satellite_among.result c.satellite_among.ensures)
 
-pub satellite-of-spec : {M : Type 1} → statement M
-satellite-of-spec =
+pub satellite_of_spec : {M : Type 1} → statement M
+satellite_of_spec =
     tie.close
     (tie.spec
     (λ c κs. search rules)

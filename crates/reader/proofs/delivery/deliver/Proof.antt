@@ -13,33 +13,33 @@ use mathlib.Core.Path.{◌∙◌, refl}
 use Rattle.reader.proofs.delivery.deliver.Statement.{statement}
 use Rattle.reader.proofs.delivery.deliver.Tie as tie
 
-part-used-end : tie.Need-slice-bounds-used-end
-part-used-end c = file-within c.before.before.before.before.before.before.before.args.rules c.before.before.before.before.before.before.before.args.bytes.now c.before.before.before.before.before.before.before.args.found c.before.found2.given.0.0 c.before.found2.given.1 c.before.before.before.before.before.before.before.requires
+part-used-end : tie.Need-slice_bounds-used-end
+part-used-end c = file-within c.args.rules c.args.bytes.now c.args.found c.found-in-File-1.given.0.0 c.found-in-File-1.given.1 c.requires
 
-returns : tie.Need-returns
+returns : tie.Need-returns-then-not-enough
 returns c =
-    let filled = c.before.before.before.before.before.before.before.before.before in
-    let roomed = filled.before.before.before.before.before in
-    let counted = roomed.before in
-    let found = counted.before.before.before in
-    let start = found.before.before.before.before.before.before in
+    let filled = c in
+    let roomed = c in
+    let counted = c in
+    let found = c in
+    let start = c in
     let a = start.args in
-    let t = found.found2.given.0.0 in (
-      c.refused2.ensures ∙ short-delivered a.rules a.bytes.now a.found (length a.identifiers.now) (length a.exponents.now) (length a.comments.now) (length a.rows.now) t found.found2.given.1 start.requires counted.count_of.result counted.count_of.ensures roomed.has_room.result roomed.has_room.ensures (not-true _ c.before.if1.true),
-      lists-delivered a.rules a.bytes.now a.found (length a.identifiers.now) (length a.exponents.now) (length a.comments.now) (length a.rows.now) t found.found2.given.1 start.requires counted.count_of.result counted.count_of.ensures roomed.has_room.result roomed.has_room.ensures
-          a.identifiers.now a.exponents.now a.comments.now _ _ _ a.rows.now _ refl refl refl refl filled.fill-lists.ensures,
+    let t = found.found-in-File-1.given.0.0 in (
+      c.refused-then-not-enough.ensures ∙ short-delivered a.rules a.bytes.now a.found (length a.identifiers.now) (length a.exponents.now) (length a.comments.now) (length a.rows.now) t found.found-in-File-1.given.1 start.requires counted.count_of-n.result counted.count_of-n.ensures roomed.has_room-enough.result roomed.has_room-enough.ensures (not-true _ c.if-not-enough.true),
+      lists-delivered a.rules a.bytes.now a.found (length a.identifiers.now) (length a.exponents.now) (length a.comments.now) (length a.rows.now) t found.found-in-File-1.given.1 start.requires counted.count_of-n.result counted.count_of-n.ensures roomed.has_room-enough.result roomed.has_room-enough.ensures
+          a.identifiers.now a.exponents.now a.comments.now _ _ _ a.rows.now _ refl refl refl refl filled.fill_lists.ensures,
     )
 
 answer-requires : tie.Need-answer-requires
 answer-requires c κs =
-    let found = c.before.before.before.before.before.before.before.before.before.before.before.before.before.before.before.before.before in
-    let start = found.before.before.before.before.before.before in
-    file-accounted start.args.rules start.args.bytes.now start.args.found found.found2.given.0.0 found.found2.given.1 start.requires
+    let found = c in
+    let start = c in
+    file-accounted start.args.rules start.args.bytes.now start.args.found found.found-in-File-1.given.0.0 found.found-in-File-1.given.1 start.requires
 
-returns-2 : tie.Need-returns-2
+returns-2 : tie.Need-returns-in-Refused
 returns-2 c =
-    let a = c.before.before.before.before.before.before.before.before.args in
-    let found = c.before.before.found in
+    let a = c.args in
+    let found = c.found in
     let number = found.given.0.0 in
     let line = found.given.0.1.0 in
     let column = found.given.0.1.1.0 in
@@ -48,19 +48,19 @@ returns-2 c =
     let still = enough a.rules a.bytes.now a.found (length a.identifiers.now) (length a.exponents.now) (length a.comments.now) (length a.rows.now) in
     (c.refused.ensures ∙ refusal-delivered a.rules a.bytes.now a.found (length a.identifiers.now) (length a.exponents.now) (length a.comments.now) (length a.rows.now) number line column found.given.1, (left_alone {A = ℕ} still (identifiers_of a.rules lines) a.identifiers.now none, (left_alone {A = ℕ} still (exponents_of a.rules lines) a.exponents.now none, (left_alone {A = ℕ} still (comments_in a.rules lines) a.comments.now none, left_alone {A = ℤ} still (rows_in a.rules lines) a.rows.now none))))
 
-returns-3 : tie.Need-returns-3
+returns-3 : tie.Need-returns-else-not-enough
 returns-3 c =
-    let filled = c.before.before.before.before.before.before.before.before.before in
-    let roomed = filled.before.before.before.before.before in
-    let counted = roomed.before in
-    let found = counted.before.before.before in
-    let start = found.before.before.before.before.before.before in
+    let filled = c in
+    let roomed = c in
+    let counted = c in
+    let found = c in
+    let start = c in
     let a = start.args in
-    let t = found.found2.given.0.0 in (
-      c.answer.ensures ∙ file-delivered a.rules a.bytes.now a.found (length a.identifiers.now) (length a.exponents.now) (length a.comments.now) (length a.rows.now) t found.found2.given.1 start.requires counted.count_of.result counted.count_of.ensures roomed.has_room.result roomed.has_room.ensures (not-false _ c.before.if1.false),
-      lists-delivered a.rules a.bytes.now a.found (length a.identifiers.now) (length a.exponents.now) (length a.comments.now) (length a.rows.now) t found.found2.given.1 start.requires counted.count_of.result counted.count_of.ensures roomed.has_room.result roomed.has_room.ensures
-          a.identifiers.now a.exponents.now a.comments.now _ _ _ a.rows.now _ refl refl refl refl filled.fill-lists.ensures,
+    let t = found.found-in-File-1.given.0.0 in (
+      c.answer.ensures ∙ file-delivered a.rules a.bytes.now a.found (length a.identifiers.now) (length a.exponents.now) (length a.comments.now) (length a.rows.now) t found.found-in-File-1.given.1 start.requires counted.count_of-n.result counted.count_of-n.ensures roomed.has_room-enough.result roomed.has_room-enough.ensures (not-false _ c.if-not-enough.false),
+      lists-delivered a.rules a.bytes.now a.found (length a.identifiers.now) (length a.exponents.now) (length a.comments.now) (length a.rows.now) t found.found-in-File-1.given.1 start.requires counted.count_of-n.result counted.count_of-n.ensures roomed.has_room-enough.result roomed.has_room-enough.ensures
+          a.identifiers.now a.exponents.now a.comments.now _ _ _ a.rows.now _ refl refl refl refl filled.fill_lists.ensures,
     )
 
-pub deliver-spec : {M : Type 1} → statement M
-deliver-spec = tie.close (tie.spec (λ c. search rules) (λ c κs. search rules) (λ c. search rules) (λ c. search rules) (λ c. search rules) part-used-end (λ c κs. search rules) (λ c κs. search rules) (λ c κs. search rules) (λ c κs. search rules) (λ c. search rules) (λ c. search rules) (λ c. search rules) (λ c. search rules) returns answer-requires returns-2 (λ c. search rules) (λ c. search rules) (λ c. search rules) (λ c. search rules) returns-3)
+pub deliver_spec : {M : Type 1} → statement M
+deliver_spec = tie.close (tie.spec (λ c. search rules) (λ c κs. search rules) (λ c. search rules) (λ c. search rules) (λ c. search rules) part-used-end (λ c κs. search rules) (λ c κs. search rules) (λ c κs. search rules) (λ c κs. search rules) (λ c. search rules) (λ c. search rules) (λ c. search rules) (λ c. search rules) returns answer-requires returns-2 (λ c. search rules) (λ c. search rules) (λ c. search rules) (λ c. search rules) returns-3)

@@ -7,23 +7,23 @@ use borrow.Author.Tests.{not-false, not-true}
 use Rattle.reader.proofs.delivery.fill_lists.Statement.{statement}
 use Rattle.reader.proofs.delivery.fill_lists.Tie as tie
 
-returns : tie.Need-returns
+returns : tie.Need-returns-then-not-enough
 returns c =
-    let a = c.before.before.before.before.before.args in
+    let a = c.args in
     lists-left a.enough a.rules a.n a.count (lines_of a.bytes.now) a.identifiers.now a.exponents.now a.comments.now a.rows.now
-    (not-true _ c.if1.true)
+    (not-true _ c.if-not-enough.true)
 
-returns-2 : tie.Need-returns-2
+returns-2 : tie.Need-returns
 returns-2 c =
     let rows-laid = c.before in
     let comments-laid = rows-laid.before.before.before.before in
     let exponents-laid = comments-laid.before.before.before.before in
     let identifiers-laid = exponents-laid.before.before.before.before in
     let start = identifiers-laid.before.before in
-    let a = start.before.before.before.before.before.args in
+    let a = start.args in
     lists_filled a.enough a.rules a.n a.count (lines_of a.bytes.now) a.identifiers.now a.exponents.now a.comments.now a.rows.now
-    _ _ _ _ (not-false _ start.if1.false)
-    identifiers-laid.fill-slots.ensures exponents-laid.fill-slots2.ensures comments-laid.fill-comments.ensures rows-laid.fill-rows.ensures
+    _ _ _ _ (not-false _ start.if-not-enough.false)
+    identifiers-laid.fill_slots.ensures exponents-laid.fill_slots-2.ensures comments-laid.fill_comments.ensures rows-laid.fill_rows.ensures
 
-pub fill-lists-spec : {M : Type 1} → statement M
-fill-lists-spec = tie.close (tie.spec returns (λ c κs. search rules) (λ c κs. search rules) (λ c κs. search rules) (λ c κs. search rules) (λ c. search rules) (λ c. search rules) (λ c. search rules) (λ c. search rules) returns-2)
+pub fill_lists_spec : {M : Type 1} → statement M
+fill_lists_spec = tie.close (tie.spec returns (λ c κs. search rules) (λ c κs. search rules) (λ c κs. search rules) (λ c κs. search rules) (λ c. search rules) (λ c. search rules) (λ c. search rules) (λ c. search rules) returns-2)

@@ -9,5 +9,5 @@ returns : tie.Need-returns
 unfolding room_for
 returns c = refl
 
-pub has-room-spec : {M : Type 1} → statement M
-has-room-spec = tie.close (tie.spec returns)
+pub has_room_spec : {M : Type 1} → statement M
+has_room_spec = tie.close (tie.spec returns)

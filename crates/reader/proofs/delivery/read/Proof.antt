@@ -12,24 +12,24 @@ use Rattle.reader.proofs.delivery.read.Statement.{statement}
 use Rattle.reader.proofs.delivery.read.Tie as tie
 
 deliver-requires : tie.Need-deliver-requires
-deliver-requires c κs = c.before.before.before.before.found_in.ensures.1
+deliver-requires c κs = c.found_in-found.ensures.1
 
 returns : tie.Need-returns
 returns c =
-    let done = c.before.before.before.before.before.before.before in
-    let looked = done.before.before.before.before.before in
-    let ruled = looked.before in
-    let a = ruled.before.before.before.before.before.args in
-    let same : looked.found_in.result ≡ file_of (rules_in a.file.now) a.file.now = looked.found_in.ensures.0 ∙ ap (λ (k : Rules). file_of k a.file.now) ruled.told-by.ensures in
+    let done = c in
+    let looked = c in
+    let ruled = c in
+    let a = ruled.args in
+    let same : looked.found_in-found.result ≡ file_of (rules_in a.file.now) a.file.now = looked.found_in-found.ensures.0 ∙ ap (λ (k : Rules). file_of k a.file.now) ruled.told_by-rules.ensures in
     let p = done.deliver.ensures in (
-      answered a.file.now (length a.identifiers.now) (length a.exponents.now) (length a.comments.now) (length a.rows.now) ruled.told-by.result (rules_in a.file.now) looked.found_in.result (file_of (rules_in a.file.now) a.file.now) ruled.told-by.ensures same done.deliver.result p.0,
+      answered a.file.now (length a.identifiers.now) (length a.exponents.now) (length a.comments.now) (length a.rows.now) ruled.told_by-rules.result (rules_in a.file.now) looked.found_in-found.result (file_of (rules_in a.file.now) a.file.now) ruled.told_by-rules.ensures same done.deliver.result p.0,
       (
-        listed a.file.now (length a.identifiers.now) (length a.exponents.now) (length a.comments.now) (length a.rows.now) ruled.told-by.result (rules_in a.file.now) looked.found_in.result (file_of (rules_in a.file.now) a.file.now) ruled.told-by.ensures same identifiers_of a.identifiers.now _ p.1.0,
+        listed a.file.now (length a.identifiers.now) (length a.exponents.now) (length a.comments.now) (length a.rows.now) ruled.told_by-rules.result (rules_in a.file.now) looked.found_in-found.result (file_of (rules_in a.file.now) a.file.now) ruled.told_by-rules.ensures same identifiers_of a.identifiers.now _ p.1.0,
         (
-          listed a.file.now (length a.identifiers.now) (length a.exponents.now) (length a.comments.now) (length a.rows.now) ruled.told-by.result (rules_in a.file.now) looked.found_in.result (file_of (rules_in a.file.now) a.file.now) ruled.told-by.ensures same exponents_of a.exponents.now _ p.1.1.0,
+          listed a.file.now (length a.identifiers.now) (length a.exponents.now) (length a.comments.now) (length a.rows.now) ruled.told_by-rules.result (rules_in a.file.now) looked.found_in-found.result (file_of (rules_in a.file.now) a.file.now) ruled.told_by-rules.ensures same exponents_of a.exponents.now _ p.1.1.0,
           (
-            listed a.file.now (length a.identifiers.now) (length a.exponents.now) (length a.comments.now) (length a.rows.now) ruled.told-by.result (rules_in a.file.now) looked.found_in.result (file_of (rules_in a.file.now) a.file.now) ruled.told-by.ensures same comments_in a.comments.now _ p.1.1.1.0,
-            listed a.file.now (length a.identifiers.now) (length a.exponents.now) (length a.comments.now) (length a.rows.now) ruled.told-by.result (rules_in a.file.now) looked.found_in.result (file_of (rules_in a.file.now) a.file.now) ruled.told-by.ensures same rows_in a.rows.now _ p.1.1.1.1,
+            listed a.file.now (length a.identifiers.now) (length a.exponents.now) (length a.comments.now) (length a.rows.now) ruled.told_by-rules.result (rules_in a.file.now) looked.found_in-found.result (file_of (rules_in a.file.now) a.file.now) ruled.told_by-rules.ensures same comments_in a.comments.now _ p.1.1.1.0,
+            listed a.file.now (length a.identifiers.now) (length a.exponents.now) (length a.comments.now) (length a.rows.now) ruled.told_by-rules.result (rules_in a.file.now) looked.found_in-found.result (file_of (rules_in a.file.now) a.file.now) ruled.told_by-rules.ensures same rows_in a.rows.now _ p.1.1.1.1,
           ),
         ),
       ),

@@ -7,9 +7,9 @@ use Rattle.reader.proofs.judging.header_of.Tie as tie
 
 returns : tie.Need-returns
 returns c =
-    let counted = c.before in
-    let timed = counted.before in
-    let based = timed.before.before in
+    let counted = c in
+    let timed = c in
+    let based = c in
     let base-line = based.before.before in
     let described = base-line.before.before in
     let descriptor-line = described.before.before in
@@ -19,15 +19,15 @@ returns c =
     c.of.ensures
     ∙ rw (
       counted.count_of.ensures,
-      timed.instant-in.ensures,
-      based.read-bases.ensures,
-      base-line.padded-line3.ensures,
-      described.read-descriptor.ensures,
-      descriptor-line.padded-line2.ensures,
-      seconded.read-second.ensures,
-      second-line.padded-line.ensures,
-      first.first_of.ensures,
+      timed.instant_in.ensures,
+      based.read_bases-based.ensures,
+      base-line.padded_line-base_line.ensures,
+      described.read_descriptor-descriptor.ensures,
+      descriptor-line.padded_line-descriptor_line.ensures,
+      seconded.read_second-second.ensures,
+      second-line.padded_line-second_line.ensures,
+      first.first_of-first.ensures,
     )
 
-pub header-of-spec : {M : Type 1} → statement M
-header-of-spec = tie.close (tie.spec (λ c κs. search rules) (λ c κs. search rules) (λ c κs. search rules) (λ c κs. search rules) (λ c κs. search rules) (λ c κs. search rules) (λ c κs. search rules) (λ c κs. search rules) (λ c κs. search rules) (λ c κs. search rules) returns)
+pub header_of_spec : {M : Type 1} → statement M
+header_of_spec = tie.close (tie.spec (λ c κs. search rules) (λ c κs. search rules) (λ c κs. search rules) (λ c κs. search rules) (λ c κs. search rules) (λ c κs. search rules) (λ c κs. search rules) (λ c κs. search rules) (λ c κs. search rules) (λ c κs. search rules) returns)

@@ -13,10 +13,10 @@ answer-requires c κs = c.found_in.ensures.1
 
 returns : tie.Need-returns
 returns c =
-    let bytes = c.before.before.before.before.args.file.now in
-    let ruled = c.before.before in
+    let bytes = c.args.file.now in
+    let ruled = c in
     c.answer.ensures
-    ∙ ap₂ (λ (r : Rules) (f : Front). judged r bytes f) ruled.told-by.ensures (c.before.found_in.ensures.0 ∙ ap (λ (r : Rules). file_of r bytes) ruled.told-by.ensures)
+    ∙ ap₂ (λ (r : Rules) (f : Front). judged r bytes f) ruled.told_by-rules.ensures (c.found_in.ensures.0 ∙ ap (λ (r : Rules). file_of r bytes) ruled.told_by-rules.ensures)
 
-pub judge-spec : {M : Type 1} → statement M
-judge-spec = tie.close (tie.spec (λ c κs. search rules) (λ c κs. search rules) answer-requires returns)
+pub judge_spec : {M : Type 1} → statement M
+judge_spec = tie.close (tie.spec (λ c κs. search rules) (λ c κs. search rules) answer-requires returns)

@@ -3,11 +3,11 @@
 use Rattle.record.proofs.absence.is_too_large.Statement.{statement}
 use Rattle.record.proofs.absence.is_too_large.Tie as tie
 
-returns : tie.Need-returns
-returns c = rw c.if1.true
+returns : tie.Need-returns-then-clock
+returns c = rw c.if-clock.true
 
-returns-2 : tie.Need-returns-2
-returns-2 c = rw c.if1.false
+returns-2 : tie.Need-returns-else-clock
+returns-2 c = rw c.if-clock.false
 
-pub is-too-large-spec : {M : Type 1} → statement M
-is-too-large-spec = tie.close (tie.spec returns returns-2)
+pub is_too_large_spec : {M : Type 1} → statement M
+is_too_large_spec = tie.close (tie.spec returns returns-2)

@@ -10,15 +10,15 @@ use Rattle.record.proofs.descriptors.characters_fault.Tie as tie
 
 returns : tie.Need-returns
 returns c =
-    judges character_items c.before.before.before.before.before.args.line.now clean
-    (past c.before.before.before.before.symbols-in.ensures
-    (past refl (past c.before.before.before.placeholder-in.ensures
-    (past refl (past c.before.before.placeholder-in2.ensures
-    (past refl (past c.before.placeholder-in3.ensures
-    (record { told = c.later-characters-in.ensures }))))))))
+    judges character_items c.args.line.now clean
+    (past c.symbols_in-a.ensures
+    (past refl (past c.placeholder_in-b.ensures
+    (past refl (past c.placeholder_in-c.ensures
+    (past refl (past c.placeholder_in-d.ensures
+    (record { told = c.later_characters_in.ensures }))))))))
 
-pub characters-fault-spec : {M : Type 1} → statement M
-characters-fault-spec =
+pub characters_fault_spec : {M : Type 1} → statement M
+characters_fault_spec =
     tie.close
     (tie.spec
     (λ c κs. search rules)

@@ -9,16 +9,16 @@ use Rattle.record.proofs.descriptors.floats_fault.Tie as tie
 
 returns : tie.Need-returns
 returns c =
-    judges float_items c.before.before.before.before.before.before.args.line.now clean
-    (past c.before.before.before.before.before.symbols-in.ensures
-    (past c.before.before.before.before.unused-in.ensures
-    (past c.before.before.before.zero-decimal-in.ensures
-    (past c.before.before.unused-in2.ensures
-    (past c.before.zero-decimal-in2.ensures
-    (record { told = c.later-floats-in.ensures }))))))
+    judges float_items c.args.line.now clean
+    (past c.symbols_in-a.ensures
+    (past c.unused_in-b.ensures
+    (past c.zero_decimal_in-c.ensures
+    (past c.unused_in-d.ensures
+    (past c.zero_decimal_in-e.ensures
+    (record { told = c.later_floats_in.ensures }))))))
 
-pub floats-fault-spec : {M : Type 1} → statement M
-floats-fault-spec =
+pub floats_fault_spec : {M : Type 1} → statement M
+floats_fault_spec =
     tie.close
     (tie.spec
     (λ c κs. search rules)

@@ -9,31 +9,31 @@ use Rattle.record.proofs.descriptors.integers_fault.Tie as tie
 
 returns : tie.Need-returns
 returns c =
-    judges integer_items c.before.before.before.before.before.before.before.before.before.before.before.before.before.before.before.before.before.before.before.before.args.line.now clean
-    (past c.before.before.before.before.before.before.before.before.before.before.before.before.before.before.before.before.before.before.before.symbols-in.ensures
-    (past c.before.before.before.before.before.before.before.before.before.before.before.before.before.before.before.before.before.before.unused-in.ensures
-    (past c.before.before.before.before.before.before.before.before.before.before.before.before.before.before.before.before.before.zero-whole-in.ensures
-    (past c.before.before.before.before.before.before.before.before.before.before.before.before.before.before.before.before.unused-in2.ensures
-    (past c.before.before.before.before.before.before.before.before.before.before.before.before.before.before.before.zero-whole-in2.ensures
-    (past c.before.before.before.before.before.before.before.before.before.before.before.before.before.before.unused-in3.ensures
-    (past c.before.before.before.before.before.before.before.before.before.before.before.before.before.zero-whole-in3.ensures
-    (past c.before.before.before.before.before.before.before.before.before.before.before.before.unused-in4.ensures
-    (past c.before.before.before.before.before.before.before.before.before.before.before.zero-whole-in4.ensures
-    (past c.before.before.before.before.before.before.before.before.before.before.unused-in5.ensures
-    (past c.before.before.before.before.before.before.before.before.before.zero-whole-in5.ensures
-    (past c.before.before.before.before.before.before.before.before.unused-in6.ensures
-    (past c.before.before.before.before.before.before.before.zero-whole-in6.ensures
-    (past c.before.before.before.before.before.before.unused-in7.ensures
-    (past c.before.before.before.before.before.zero-whole-in7.ensures
-    (past c.before.before.before.before.unused-in8.ensures
-    (past c.before.before.before.zero-whole-in8.ensures
-    (past c.before.before.unused-in9.ensures
-    (past c.before.zero-whole-in9.ensures
-    (past c.unused-in10.ensures
+    judges integer_items c.args.line.now clean
+    (past c.symbols_in-fault.ensures
+    (past c.unused_in-fault.ensures
+    (past c.zero_whole_in-fault.ensures
+    (past c.unused_in-fault-2.ensures
+    (past c.zero_whole_in-fault-2.ensures
+    (past c.unused_in-fault-3.ensures
+    (past c.zero_whole_in-fault-3.ensures
+    (past c.unused_in-fault-4.ensures
+    (past c.zero_whole_in-fault-4.ensures
+    (past c.unused_in-fault-5.ensures
+    (past c.zero_whole_in-fault-5.ensures
+    (past c.unused_in-fault-6.ensures
+    (past c.zero_whole_in-fault-6.ensures
+    (past c.unused_in-fault-7.ensures
+    (past c.zero_whole_in-fault-7.ensures
+    (past c.unused_in-fault-8.ensures
+    (past c.zero_whole_in-fault-8.ensures
+    (past c.unused_in-fault-9.ensures
+    (past c.zero_whole_in-fault-9.ensures
+    (past c.unused_in.ensures
     judged))))))))))))))))))))
 
-pub integers-fault-spec : {M : Type 1} → statement M
-integers-fault-spec =
+pub integers_fault_spec : {M : Type 1} → statement M
+integers_fault_spec =
     tie.close
     (tie.spec
     (λ c κs. search rules)

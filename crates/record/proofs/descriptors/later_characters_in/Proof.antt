@@ -9,21 +9,21 @@ use Rattle.record.proofs.descriptors.later_characters_in.Tie as tie
 
 returns : tie.Need-returns
 returns c =
-    judges later_characters c.before.before.before.before.before.before.before.before.before.before.args.line.now c.before.before.before.before.before.before.before.before.before.before.args.lowest
-    (past refl (past c.before.before.before.before.before.before.before.before.before.placeholder-in.ensures
-    (past refl (past c.before.before.before.before.before.before.before.before.placeholder-in2.ensures
-    (past refl (past c.before.before.before.before.before.before.before.placeholder-in3.ensures
-    (past refl (past c.before.before.before.before.before.before.placeholder-in4.ensures
-    (past refl (past c.before.before.before.before.before.placeholder-in5.ensures
-    (past refl (past c.before.before.before.before.placeholder-in6.ensures
-    (past refl (past c.before.before.before.placeholder-in7.ensures
-    (past refl (past c.before.before.placeholder-in8.ensures
-    (past refl (past c.before.placeholder-in9.ensures
-    (past c.unused-in.ensures
+    judges later_characters c.args.line.now c.args.lowest
+    (past refl (past c.placeholder_in-a.ensures
+    (past refl (past c.placeholder_in-b.ensures
+    (past refl (past c.placeholder_in-c.ensures
+    (past refl (past c.placeholder_in-d.ensures
+    (past refl (past c.placeholder_in-e.ensures
+    (past refl (past c.placeholder_in-f.ensures
+    (past refl (past c.placeholder_in-g.ensures
+    (past refl (past c.placeholder_in-h.ensures
+    (past refl (past c.placeholder_in-i.ensures
+    (past c.unused_in.ensures
     judged)))))))))))))))))))
 
-pub later-characters-in-spec : {M : Type 1} → statement M
-later-characters-in-spec =
+pub later_characters_in_spec : {M : Type 1} → statement M
+later_characters_in_spec =
     tie.close
     (tie.spec
     (λ c κs. search rules)

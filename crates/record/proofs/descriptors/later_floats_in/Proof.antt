@@ -8,16 +8,16 @@ use Rattle.record.proofs.descriptors.later_floats_in.Tie as tie
 
 returns : tie.Need-returns
 returns c =
-    judges later_floats c.before.before.before.before.before.args.line.now c.before.before.before.before.before.args.lowest
-    (past c.before.before.before.before.unused-in.ensures
-    (past c.before.before.before.zero-decimal-in.ensures
-    (past c.before.before.unused-in2.ensures
-    (past c.before.zero-decimal-in2.ensures
-    (past c.unused-in3.ensures
+    judges later_floats c.args.line.now c.args.lowest
+    (past c.unused_in-a.ensures
+    (past c.zero_decimal_in-b.ensures
+    (past c.unused_in-c.ensures
+    (past c.zero_decimal_in-d.ensures
+    (past c.unused_in.ensures
     judged)))))
 
-pub later-floats-in-spec : {M : Type 1} → statement M
-later-floats-in-spec =
+pub later_floats_in_spec : {M : Type 1} → statement M
+later_floats_in_spec =
     tie.close
     (tie.spec
     (λ c κs. search rules)

@@ -15,22 +15,22 @@ use Rattle.laws.proofs.Lists.{first-same}
 use Rattle.record.proofs.descriptors.placeholder_in.Statement.{statement}
 use Rattle.record.proofs.descriptors.placeholder_in.Tie as tie
 
-slice-aggregate-fixed-in : tie.Need-slice-aggregate-fixed-in
+slice-aggregate-fixed-in : tie.Need-slice_bounds-fixed_in-length
 slice-aggregate-fixed-in c = sym (length-take-le _ _ (omega arith))
 
 returns : tie.Need-returns
 returns c =
-    let a = c.before.before.before.args in
+    let a = c.args in
     let width = a.last - a.blank in
     let short : width ≤ 5 = omega arith in
-    let after = c.before.before.unused-in.result in
+    let after = c.unused_in-a.result in
     judges (column a.blank unused ∷ columns (a.blank + 1) a.last (cs width) ∷ []) a.line.now a.lowest
-    (past c.before.before.unused-in.ensures
+    (past c.unused_in-a.ensures
     (past (c.fixed_in.ensures ∙ ap (λ (these : List ℕ). lower after (fault_at (columns (a.blank + 1) a.last (fixed 5 these)) a.line.now)) (first-same width 5 99 short))
     judged))
 
-pub placeholder-in-spec : {M : Type 1} → statement M
-placeholder-in-spec =
+pub placeholder_in_spec : {M : Type 1} → statement M
+placeholder_in_spec =
     tie.close
     (tie.spec
     (λ c κs. search rules)

@@ -10,16 +10,16 @@ use Rattle.record.proofs.descriptors.read_bases.Tie as tie
 
 returns : tie.Need-returns
 returns c =
-    made base_from base_items c.before.before.before.before.before.before.args.line.now
-    (skip c.before.before.before.before.before.symbols-in.ensures refl
-    (skip c.before.before.before.before.unused-in.ensures refl
-    (number c.before.before.before.decimal-in.ensures refl refl
-    (skip c.before.before.unused-in2.ensures refl
-    (number c.before.decimal-in2.ensures refl refl
-    (record { at-fault = c.later-floats-in.ensures; values = refl }))))))
+    made base_from base_items c.args.line.now
+    (skip c.symbols_in-a.ensures refl
+    (skip c.unused_in-b.ensures refl
+    (number c.decimal_in-place.ensures refl refl
+    (skip c.unused_in-c.ensures refl
+    (number c.decimal_in-clock.ensures refl refl
+    (record { at-fault = c.later_floats_in-d.ensures; values = refl }))))))
 
-pub read-bases-spec : {M : Type 1} → statement M
-read-bases-spec =
+pub read_bases_spec : {M : Type 1} → statement M
+read_bases_spec =
     tie.close
     (tie.spec
     (λ c κs. search rules)

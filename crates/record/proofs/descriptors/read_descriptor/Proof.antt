@@ -10,17 +10,17 @@ use Rattle.record.proofs.descriptors.read_descriptor.Tie as tie
 
 returns : tie.Need-returns
 returns c =
-    made descriptor_from descriptor_items c.before.before.before.before.before.before.before.before.args.line.now
-    (skip c.before.before.before.before.before.before.before.symbols-in.ensures refl
-    (skip c.before.before.before.before.before.before.unused-in.ensures refl
-    (lettered c.before.before.before.before.before.file-type-in.ensures refl refl
-    (skip refl refl (skip c.before.before.before.before.placeholder-in.ensures refl
-    (skip c.before.before.before.unused-in2.ensures refl
-    (words-judged c.before.before.time-system-in.ensures c.text3.ensures refl refl
-    (record { at-fault = c.before.later-characters-in.ensures; values = refl }))))))))
+    made descriptor_from descriptor_items c.args.line.now
+    (skip c.symbols_in-a.ensures refl
+    (skip c.unused_in-b.ensures refl
+    (lettered c.file_type_in-file_type.ensures refl refl
+    (skip refl refl (skip c.placeholder_in-c.ensures refl
+    (skip c.unused_in-d.ensures refl
+    (words-judged c.time_system_in-e.ensures c.text3-time_system.ensures refl refl
+    (record { at-fault = c.later_characters_in-f.ensures; values = refl }))))))))
 
-pub read-descriptor-spec : {M : Type 1} → statement M
-read-descriptor-spec =
+pub read_descriptor_spec : {M : Type 1} → statement M
+read_descriptor_spec =
     tie.close
     (tie.spec
     (λ c κs. search rules)

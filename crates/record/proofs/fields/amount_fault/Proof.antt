@@ -4,14 +4,14 @@ use borrow.Author.Rules.{rules}
 use Rattle.record.proofs.fields.amount_fault.Statement.{statement}
 use Rattle.record.proofs.fields.amount_fault.Tie as tie
 
-returns : tie.Need-returns
-returns c = rw (c.before.enum_told.given.1, c.fault-at.ensures)
+returns : tie.Need-returns-in_default
+returns c = rw (c.enum_told.given.1, c.fault_at.ensures)
 
-returns-2 : tie.Need-returns-2
-returns-2 c = rw (c.before.before.before.answer.given.1, c.fault-unless.ensures, c.before.within.ensures)
+returns-2 : tie.Need-returns
+returns-2 c = rw (c.answer.given.1, c.fault_unless.ensures, c.within-bounded.ensures)
 
-pub amount-fault-spec : {M : Type 1} → statement M
-amount-fault-spec =
+pub amount_fault_spec : {M : Type 1} → statement M
+amount_fault_spec =
     tie.close
     (tie.spec
     (λ c. search rules)

@@ -14,20 +14,20 @@ use Rattle.record.proofs.fields.amount_in.Tie as tie
 
 returns : tie.Need-returns
 returns c =
-    let joined = c.before in
-    let a = joined.before.before.before.args in
+    let joined = c in
+    let a = joined.args in
     let bytes = cut a.first a.last a.line.now in
     ⊎_elim
     (λ w.
     rw w.0.taken
-    (amount-judged a.lowest a.first largest joined.if1.answer (clock_of bytes 6) (ap told_amount w.2 ∙ w.1.ensures) c.amount-fault.ensures))
+    (amount-judged a.lowest a.first largest joined.if-clock.answer (clock_of bytes 6) (ap told_amount w.2 ∙ w.1.ensures) c.amount_fault.ensures))
     (λ w.
     rw w.0.left
-    (amount-judged a.lowest a.first largest joined.if1.answer (decimal_of bytes 6 true) (ap told_amount w.2 ∙ w.1.ensures) c.amount-fault.ensures))
-    joined.if1.branch
+    (amount-judged a.lowest a.first largest joined.if-clock.answer (decimal_of bytes 6 true) (ap told_amount w.2 ∙ w.1.ensures) c.amount_fault.ensures))
+    joined.if-clock.branch
 
-pub amount-in-spec : {M : Type 1} → statement M
-amount-in-spec =
+pub amount_in_spec : {M : Type 1} → statement M
+amount_in_spec =
     tie.close
     (tie.spec
     (λ c. search rules)

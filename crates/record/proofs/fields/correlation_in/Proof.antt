@@ -9,19 +9,19 @@ use Rattle.record.proofs.Answers.{amount-judged}
 use Rattle.record.proofs.fields.correlation_in.Statement.{statement}
 use Rattle.record.proofs.fields.correlation_in.Tie as tie
 
-returns : tie.Need-returns
-returns c = rw (sym c.before.is-blank.ensures ∙ c.if1.true)
+returns : tie.Need-returns-then-is_blank
+returns c = rw (sym c.is_blank.ensures ∙ c.if-is_blank.true)
 
-returns-2 : tie.Need-returns-2
+returns-2 : tie.Need-returns
 returns-2 c =
-    let inked = c.before.before in
-    let a = inked.before.before.before.before.args in
-    rw (sym inked.before.is-blank.ensures ∙ inked.if1.false)
-    (amount-judged a.lowest a.first largest_correlation c.before.signed-whole.result (signed_whole_of (cut a.first a.last a.line.now))
-    c.before.signed-whole.ensures c.amount-fault.ensures)
+    let inked = c in
+    let a = inked.args in
+    rw (sym inked.is_blank.ensures ∙ inked.if-is_blank.false)
+    (amount-judged a.lowest a.first largest_correlation c.signed_whole.result (signed_whole_of (cut a.first a.last a.line.now))
+    c.signed_whole.ensures c.amount_fault.ensures)
 
-pub correlation-in-spec : {M : Type 1} → statement M
-correlation-in-spec =
+pub correlation_in_spec : {M : Type 1} → statement M
+correlation_in_spec =
     tie.close
     (tie.spec
     (λ c. search rules)

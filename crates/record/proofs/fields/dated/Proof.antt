@@ -5,18 +5,18 @@ use Rattle.record.proofs.Answers.{dated-case, undated-case}
 use Rattle.record.proofs.fields.dated.Statement.{statement}
 use Rattle.record.proofs.fields.dated.Tie as tie
 
-returns : tie.Need-returns
+returns : tie.Need-returns-in_default
 returns c =
-    let m = c.before.before.before.before.args.m in
-    rw (undated-case m.year m.month m.day _ c.before.before.before.date.ensures c.before.enum-told2.given.1, c.fault-at.ensures)
+    let m = c.args.m in
+    rw (undated-case m.year m.month m.day _ c.date.ensures c.enum_told-in_default-1.given.1, c.fault_at.ensures)
 
-returns-2 : tie.Need-returns-2
+returns-2 : tie.Need-returns
 returns-2 c =
-    let m = c.before.before.before.args.m in
-    rw (dated-case m.year m.month m.day _ _ _ _ c.before.before.date.ensures c.enum_told.given.1)
+    let m = c.args.m in
+    rw (dated-case m.year m.month m.day _ _ _ _ c.date.ensures c.enum_told.given.1)
 
-pub dated-spec : {M : Type 1} → statement M
-dated-spec =
+pub dated_spec : {M : Type 1} → statement M
+dated_spec =
     tie.close
     (tie.spec
     (λ c κs. search rules)

@@ -8,19 +8,19 @@ use Rattle.record.proofs.Answers.{exponent-case, exponent-good}
 use Rattle.record.proofs.fields.exponent_in.Statement.{statement}
 use Rattle.record.proofs.fields.exponent_in.Tie as tie
 
-returns : tie.Need-returns
+returns : tie.Need-returns-in_default
 returns c =
-    let a = c.before.before.before.before.args in
-    let r = c.before.exponent in
-    rw (exponent-case (take (a.last - (a.first - 1)) (drop (a.first - 1) a.line.now)) r.result r.result r.ensures refl, exponent-good a.first r.result c.match.keys2)
+    let a = c.args in
+    let r = c.exponent in
+    rw (exponent-case (take (a.last - (a.first - 1)) (drop (a.first - 1) a.line.now)) r.result r.result r.ensures refl, exponent-good a.first r.result c.in-Malformed.keys2)
 
-returns-2 : tie.Need-returns-2
+returns-2 : tie.Need-returns
 returns-2 c =
-    let a = c.before.before.before.before.before.before.args in
-    rw (exponent-case (take (a.last - (a.first - 1)) (drop (a.first - 1) a.line.now)) _ _ c.before.before.before.exponent.ensures c.before.enum_told.given.1, c.fault-at.ensures)
+    let a = c.args in
+    rw (exponent-case (take (a.last - (a.first - 1)) (drop (a.first - 1) a.line.now)) _ _ c.exponent.ensures c.enum_told.given.1, c.fault_at.ensures)
 
-pub exponent-in-spec : {M : Type 1} → statement M
-exponent-in-spec =
+pub exponent_in_spec : {M : Type 1} → statement M
+exponent_in_spec =
     tie.close
     (tie.spec
     (λ c. search rules)

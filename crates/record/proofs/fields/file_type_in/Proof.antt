@@ -12,13 +12,13 @@ use Rattle.record.proofs.fields.file_type_in.Tie as tie
 
 returns : tie.Need-returns
 returns c =
-    let line = c.before.before.before.before.before.args.line.now in
+    let line = c.args.line.now in
     let bytes = take 2 (drop 3 line) in
-    let long : length bytes ≡ 2 = length-take-le 2 (drop 3 line) (omega (arith, length-drop 3 line, c.before.before.before.before.s.given)) in
-    rw (c.fault-unless.ensures, c.before.before.is-file-type.ensures, ← lettered-two bytes file_types long, byte_of line 3 2 0 (omega arith), byte_of line 3 2 1 (omega arith))
+    let long : length bytes ≡ 2 = length-take-le 2 (drop 3 line) (omega (arith, length-drop 3 line, c.s.given)) in
+    rw (c.fault_unless.ensures, c.is_file_type.ensures, ← lettered-two bytes file_types long, byte_of line 3 2 0 (omega arith), byte_of line 3 2 1 (omega arith))
 
-pub file-type-in-spec : {M : Type 1} → statement M
-file-type-in-spec =
+pub file_type_in_spec : {M : Type 1} → statement M
+file_type_in_spec =
     tie.close
     (tie.spec
     (λ c. search rules)

@@ -5,10 +5,10 @@ use Rattle.record.proofs.fields.fixed_in.Statement.{statement}
 use Rattle.record.proofs.fields.fixed_in.Tie as tie
 
 returns : tie.Need-returns
-returns c = rw (← c.before.same_bytes.ensures) c.fault-unless.ensures
+returns c = rw (← c.same_bytes-same.ensures) c.fault_unless.ensures
 
-pub fixed-in-spec : {M : Type 1} → statement M
-fixed-in-spec =
+pub fixed_in_spec : {M : Type 1} → statement M
+fixed_in_spec =
     tie.close
     (tie.spec
     (λ c. search rules)

@@ -7,11 +7,11 @@ use Rattle.record.proofs.fields.flag_in.Tie as tie
 
 returns : tie.Need-returns
 returns c =
-    let a = c.before.before.args in
-    rw (c.fault-unless.ensures, column-byte a.line.now a.at (search rules))
+    let a = c.args in
+    rw (c.fault_unless.ensures, column-byte a.line.now a.at (search rules))
 
-pub flag-in-spec : {M : Type 1} → statement M
-flag-in-spec =
+pub flag_in_spec : {M : Type 1} → statement M
+flag_in_spec =
     tie.close
     (tie.spec
     (λ c. search rules)

@@ -11,24 +11,24 @@ use Rattle.layout.proofs.Lines.{flag-more, flag-end}
 use Rattle.record.proofs.fields.is_blank.Statement.{statement}
 use Rattle.record.proofs.fields.is_blank.Tie as tie
 
-abbrev invariant-loop : tie.invariant-loop
+abbrev invariant-loop : tie.invariant-loop-i
 invariant-loop bytes blank₀ i₀ blank i = (blank && every is_blank (drop i bytes)) ≡ every is_blank bytes
 
-abbrev decreases-loop : tie.decreases-loop
+abbrev decreases-loop : tie.decreases-loop-i
 decreases-loop bytes blank₀ i₀ blank i = length bytes - i
 
-loop-again : tie.Need-loop-preserved invariant-loop decreases-loop
+loop-again : tie.Need-loop-i-preserved invariant-loop decreases-loop
 loop-again c =
     let at-loop = c.before.before in
-    flag-more is_blank at-loop.before.args.bytes.now at-loop.loop.i at-loop.loop.blank c.before.loop-test.true ∙ at-loop.loop.invariant
+    flag-more is_blank at-loop.args.bytes.now at-loop.loop-i.i at-loop.loop-i.blank c.loop-i-test.true ∙ at-loop.loop-i.invariant
 
 returns : tie.Need-returns invariant-loop decreases-loop
 returns c =
     let at-loop = c.before in
-    flag-end is_blank at-loop.before.args.bytes.now at-loop.loop.i at-loop.loop.blank c.loop-test.false ∙ at-loop.loop.invariant
+    flag-end is_blank at-loop.args.bytes.now at-loop.loop-i.i at-loop.loop-i.blank c.loop-i-test.false ∙ at-loop.loop-i.invariant
 
-pub is-blank-spec : {M : Type 1} → statement M
-is-blank-spec =
+pub is_blank_spec : {M : Type 1} → statement M
+is_blank_spec =
     tie.close
     (tie.spec
     invariant-loop

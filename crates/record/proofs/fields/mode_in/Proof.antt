@@ -12,13 +12,13 @@ use Rattle.record.proofs.fields.mode_in.Tie as tie
 
 returns : tie.Need-returns
 returns c =
-    let line = c.before.before.before.before.args.line.now in
+    let line = c.args.line.now in
     let bytes = take 1 (drop 2 line) in
-    let long : length bytes ≡ 1 = length-take-le 1 (drop 2 line) (omega (arith, length-drop 2 line, c.before.before.before.s.given)) in
-    rw (c.fault-unless.ensures, c.before.is-mode.ensures, ← lettered-one bytes modes long, byte_of line 2 1 0 (omega arith))
+    let long : length bytes ≡ 1 = length-take-le 1 (drop 2 line) (omega (arith, length-drop 2 line, c.s.given)) in
+    rw (c.fault_unless.ensures, c.is_mode-listed.ensures, ← lettered-one bytes modes long, byte_of line 2 1 0 (omega arith))
 
-pub mode-in-spec : {M : Type 1} → statement M
-mode-in-spec =
+pub mode_in_spec : {M : Type 1} → statement M
+mode_in_spec =
     tie.close
     (tie.spec
     (λ c. search rules)

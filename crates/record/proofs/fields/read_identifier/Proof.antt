@@ -6,14 +6,14 @@ use borrow.Author.Rules.{rules}
 use Rattle.record.proofs.fields.read_identifier.Statement.{statement}
 use Rattle.record.proofs.fields.read_identifier.Tie as tie
 
-returns : tie.Need-returns
-returns c = rw (sym c.before.before.is-named.ensures ∙ not-true _ c.before.if1.true, c.fault-at.ensures)
+returns : tie.Need-returns-then-not-is_named
+returns c = rw (sym c.is_named.ensures ∙ not-true _ c.if-not-is_named.true, c.fault_at.ensures)
 
-returns-2 : tie.Need-returns-2
-returns-2 c = rw (sym c.before.before.before.before.before.is-named.ensures ∙ not-false _ c.before.before.before.before.if1.false, c.identifier-code.ensures, c.before.fault-unless.ensures, c.before.before.within.ensures, c.before.before.before.two_digits.ensures.0)
+returns-2 : tie.Need-returns
+returns-2 c = rw (sym c.is_named.ensures ∙ not-false _ c.if-not-is_named.false, c.identifier_code.ensures, c.fault_unless.ensures, c.within-bounded.ensures, c.two_digits-number.ensures.0)
 
-pub read-identifier-spec : {M : Type 1} → statement M
-read-identifier-spec =
+pub read_identifier_spec : {M : Type 1} → statement M
+read_identifier_spec =
     tie.close
     (tie.spec
     (λ c. search rules)

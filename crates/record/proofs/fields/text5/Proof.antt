@@ -13,14 +13,14 @@ use Rattle.record.proofs.fields.text5.Tie as tie
 
 returns : tie.Need-returns
 returns c =
-    let a = c.before.before.before.before.before.args in
+    let a = c.args in
     let rest = drop (a.first - 1) a.line.now in
     let wide : length (take (a.last - (a.first - 1)) rest) ≡ 5 =
-    length-take-le (a.last - (a.first - 1)) rest (omega (arith, length-drop (a.first - 1) a.line.now, c.before.before.before.before.s.given)) ∙ omega arith in
-    c.before.copy-front.ensures ∙ covering (take (a.last - (a.first - 1)) rest) (blanks 5) wide
+    length-take-le (a.last - (a.first - 1)) rest (omega (arith, length-drop (a.first - 1) a.line.now, c.s.given)) ∙ omega arith in
+    c.copy_front.ensures ∙ covering (take (a.last - (a.first - 1)) rest) (blanks 5) wide
 
-pub text5-spec : {M : Type 1} → statement M
-text5-spec =
+pub text5_spec : {M : Type 1} → statement M
+text5_spec =
     tie.close
     (tie.spec
     (λ c. search rules)

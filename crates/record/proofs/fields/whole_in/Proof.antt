@@ -7,18 +7,18 @@ use Rattle.record.proofs.Answers.{whole-case}
 use Rattle.record.proofs.fields.whole_in.Statement.{statement}
 use Rattle.record.proofs.fields.whole_in.Tie as tie
 
-returns : tie.Need-returns
+returns : tie.Need-returns-in_default
 returns c =
-    let a = c.before.before.before.before.before.before.args in
-    rw (whole-case (take (a.last - (a.first - 1)) (drop (a.first - 1) a.line.now)) _ _ c.before.before.before.whole.ensures c.before.enum_told.given.1, c.fault-at.ensures)
+    let a = c.args in
+    rw (whole-case (take (a.last - (a.first - 1)) (drop (a.first - 1) a.line.now)) _ _ c.whole.ensures c.enum_told.given.1, c.fault_at.ensures)
 
-returns-2 : tie.Need-returns-2
+returns-2 : tie.Need-returns
 returns-2 c =
-    let a = c.before.before.before.before.before.before.before.before.args in
-    rw (whole-case (take (a.last - (a.first - 1)) (drop (a.first - 1) a.line.now)) _ _ c.before.before.before.before.before.whole.ensures c.before.before.before.n.given.1, c.fault-unless.ensures, c.before.within.ensures)
+    let a = c.args in
+    rw (whole-case (take (a.last - (a.first - 1)) (drop (a.first - 1) a.line.now)) _ _ c.whole.ensures c.n.given.1, c.fault_unless.ensures, c.within-bounded.ensures)
 
-pub whole-in-spec : {M : Type 1} → statement M
-whole-in-spec =
+pub whole_in_spec : {M : Type 1} → statement M
+whole_in_spec =
     tie.close
     (tie.spec
     (λ c. search rules)

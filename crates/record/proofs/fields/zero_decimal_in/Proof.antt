@@ -8,18 +8,18 @@ use Rattle.record.proofs.Answers.{decimal-case}
 use Rattle.record.proofs.fields.zero_decimal_in.Statement.{statement}
 use Rattle.record.proofs.fields.zero_decimal_in.Tie as tie
 
-returns : tie.Need-returns
+returns : tie.Need-returns-in_default
 returns c =
-    let a = c.before.before.before.before.before.before.args in
-    rw (decimal-case (take (a.last - (a.first - 1)) (drop (a.first - 1) a.line.now)) a.places false _ _ c.before.before.before.decimal.ensures c.before.enum_told.given.1, c.fault-at.ensures)
+    let a = c.args in
+    rw (decimal-case (take (a.last - (a.first - 1)) (drop (a.first - 1) a.line.now)) a.places false _ _ c.decimal.ensures c.enum_told.given.1, c.fault_at.ensures)
 
-returns-2 : tie.Need-returns-2
+returns-2 : tie.Need-returns
 returns-2 c =
-    let a = c.before.before.before.before.before.before.before.args in
-    rw (decimal-case (take (a.last - (a.first - 1)) (drop (a.first - 1) a.line.now)) a.places false _ _ c.before.before.before.before.decimal.ensures c.before.before.magnitude.given.1, c.fault-unless.ensures)
+    let a = c.args in
+    rw (decimal-case (take (a.last - (a.first - 1)) (drop (a.first - 1) a.line.now)) a.places false _ _ c.decimal.ensures c.magnitude.given.1, c.fault_unless.ensures)
 
-pub zero-decimal-in-spec : {M : Type 1} → statement M
-zero-decimal-in-spec =
+pub zero_decimal_in_spec : {M : Type 1} → statement M
+zero_decimal_in_spec =
     tie.close
     (tie.spec
     (λ c. search rules)

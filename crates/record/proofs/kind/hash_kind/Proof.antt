@@ -4,14 +4,14 @@ use borrow.Author.Tests.{eq-eqb, ne_eqb}
 use Rattle.record.proofs.kind.hash_kind.Statement.{statement}
 use Rattle.record.proofs.kind.hash_kind.Tie as tie
 
-returns : tie.Need-returns
-returns c = rw (eq-eqb _ _ c.if1.true)
+returns : tie.Need-returns-then-second-eq35
+returns c = rw (eq-eqb _ _ c.if-second-eq35.true)
 
-returns-2 : tie.Need-returns-2
-returns-2 c = rw (ne_eqb _ _ c.before.if1.false, eq-eqb _ _ c.if2.true)
+returns-2 : tie.Need-returns-then-second-letter
+returns-2 c = rw (ne_eqb _ _ c.if-second-eq35.false, eq-eqb _ _ c.if-second-letter.true)
 
-returns-3 : tie.Need-returns-3
-returns-3 c = rw (ne_eqb _ _ c.before.if1.false, ne_eqb _ _ c.if2.false)
+returns-3 : tie.Need-returns-else-second-letter
+returns-3 c = rw (ne_eqb _ _ c.if-second-eq35.false, ne_eqb _ _ c.if-second-letter.false)
 
-pub hash-kind-spec : {M : Type 1} → statement M
-hash-kind-spec = tie.close (tie.spec returns returns-2 returns-3)
+pub hash_kind_spec : {M : Type 1} → statement M
+hash_kind_spec = tie.close (tie.spec returns returns-2 returns-3)

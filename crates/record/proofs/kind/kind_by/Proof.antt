@@ -41,53 +41,53 @@ module _ (letter first second third : ℕ) where
   is-other : (first ≡ 80 → ⊥) → (first ≡ 86 → ⊥) → (first ≡ 42 → ⊥) → (first ≡ 69 → ⊥) → (first ≡ 43 → ⊥) → (first ≡ 47 → ⊥) → (first ≡ 37 → ⊥) → (first ≡ 35 → ⊥) → told_kind kind.Other ≡ told
   is-other n1 n2 n3 n4 n5 n6 n7 n8 = rw (ne_eqb first 80 n1, ne_eqb first 86 n2, ne_eqb first 42 n3, ne_eqb first 69 n4, ne_eqb first 43 n5, ne_eqb first 47 n6, ne_eqb first 37 n7, ne_eqb first 35 n8)
 
-returns : tie.Need-returns
+returns : tie.Need-returns-then-first-eq80
 returns c =
-    let a = c.before.args in
-    is-position a.letter a.first a.second a.third c.if1.true
+    let a = c.args in
+    is-position a.letter a.first a.second a.third c.if-first-eq80.true
 
-returns-2 : tie.Need-returns-2
+returns-2 : tie.Need-returns-then-first-eq86
 returns-2 c =
-    let a = c.before.before.args in
-    is-velocity a.letter a.first a.second a.third c.before.if1.false c.if2.true
+    let a = c.args in
+    is-velocity a.letter a.first a.second a.third c.if-first-eq80.false c.if-first-eq86.true
 
-returns-3 : tie.Need-returns-3
+returns-3 : tie.Need-returns-then-first-eq42
 returns-3 c =
-    let a = c.before.before.before.before.args in
-    ap told_kind c.star-kind.ensures ∙ is-star a.letter a.first a.second a.third c.before.before.before.if1.false c.before.before.if2.false c.before.if3.true
+    let a = c.args in
+    ap told_kind c.star_kind.ensures ∙ is-star a.letter a.first a.second a.third c.if-first-eq80.false c.if-first-eq86.false c.if-first-eq42.true
 
-returns-4 : tie.Need-returns-4
+returns-4 : tie.Need-returns-then-first-eq69
 returns-4 c =
-    let a = c.before.before.before.before.before.args in
-    ap told_kind c.e-kind.ensures ∙ is-e a.letter a.first a.second a.third c.before.before.before.before.if1.false c.before.before.before.if2.false c.before.before.if3.false c.before.if4.true
+    let a = c.args in
+    ap told_kind c.e_kind.ensures ∙ is-e a.letter a.first a.second a.third c.if-first-eq80.false c.if-first-eq86.false c.if-first-eq42.false c.if-first-eq69.true
 
-returns-5 : tie.Need-returns-5
+returns-5 : tie.Need-returns-then-first-eq43
 returns-5 c =
-    let a = c.before.before.before.before.before.before.args in
-    ap told_kind c.plus-kind.ensures ∙ is-plus a.letter a.first a.second a.third c.before.before.before.before.before.if1.false c.before.before.before.before.if2.false c.before.before.before.if3.false c.before.before.if4.false c.before.if5.true
+    let a = c.args in
+    ap told_kind c.plus_kind.ensures ∙ is-plus a.letter a.first a.second a.third c.if-first-eq80.false c.if-first-eq86.false c.if-first-eq42.false c.if-first-eq69.false c.if-first-eq43.true
 
-returns-6 : tie.Need-returns-6
+returns-6 : tie.Need-returns-then-first-eq47
 returns-6 c =
-    let a = c.before.before.before.before.before.before.before.args in
-    ap told_kind c.slash-kind.ensures ∙ is-slash a.letter a.first a.second a.third c.before.before.before.before.before.before.if1.false c.before.before.before.before.before.if2.false c.before.before.before.before.if3.false c.before.before.before.if4.false c.before.before.if5.false c.before.if6.true
+    let a = c.args in
+    ap told_kind c.slash_kind.ensures ∙ is-slash a.letter a.first a.second a.third c.if-first-eq80.false c.if-first-eq86.false c.if-first-eq42.false c.if-first-eq69.false c.if-first-eq43.false c.if-first-eq47.true
 
-returns-7 : tie.Need-returns-7
+returns-7 : tie.Need-returns-then-first-eq37
 returns-7 c =
-    let a = c.before.before.before.before.before.before.before.before.args in
-    ap told_kind c.percent-kind.ensures ∙ is-percent a.letter a.first a.second a.third c.before.before.before.before.before.before.before.if1.false c.before.before.before.before.before.before.if2.false c.before.before.before.before.before.if3.false c.before.before.before.before.if4.false c.before.before.before.if5.false c.before.before.if6.false c.before.if7.true
+    let a = c.args in
+    ap told_kind c.percent_kind.ensures ∙ is-percent a.letter a.first a.second a.third c.if-first-eq80.false c.if-first-eq86.false c.if-first-eq42.false c.if-first-eq69.false c.if-first-eq43.false c.if-first-eq47.false c.if-first-eq37.true
 
-returns-8 : tie.Need-returns-8
+returns-8 : tie.Need-returns-then-first-eq35
 returns-8 c =
-    let a = c.before.before.before.before.before.before.before.before.before.args in
-    ap told_kind c.hash-kind.ensures ∙ is-hash a.letter a.first a.second a.third c.before.before.before.before.before.before.before.before.if1.false c.before.before.before.before.before.before.before.if2.false c.before.before.before.before.before.before.if3.false c.before.before.before.before.before.if4.false c.before.before.before.before.if5.false c.before.before.before.if6.false c.before.before.if7.false c.before.if8.true
+    let a = c.args in
+    ap told_kind c.hash_kind.ensures ∙ is-hash a.letter a.first a.second a.third c.if-first-eq80.false c.if-first-eq86.false c.if-first-eq42.false c.if-first-eq69.false c.if-first-eq43.false c.if-first-eq47.false c.if-first-eq37.false c.if-first-eq35.true
 
-returns-9 : tie.Need-returns-9
+returns-9 : tie.Need-returns-else-first-eq35
 returns-9 c =
-    let a = c.before.before.before.before.before.before.before.before.args in
-    is-other a.letter a.first a.second a.third c.before.before.before.before.before.before.before.if1.false c.before.before.before.before.before.before.if2.false c.before.before.before.before.before.if3.false c.before.before.before.before.if4.false c.before.before.before.if5.false c.before.before.if6.false c.before.if7.false c.if8.false
+    let a = c.args in
+    is-other a.letter a.first a.second a.third c.if-first-eq80.false c.if-first-eq86.false c.if-first-eq42.false c.if-first-eq69.false c.if-first-eq43.false c.if-first-eq47.false c.if-first-eq37.false c.if-first-eq35.false
 
-pub kind-by-spec : {M : Type 1} → statement M
-kind-by-spec =
+pub kind_by_spec : {M : Type 1} → statement M
+kind_by_spec =
     tie.close
     (tie.spec
     returns

@@ -7,10 +7,10 @@ use Rattle.record.proofs.kind.kind_of.Tie as tie
 
 returns : tie.Need-returns
 unfolding kind_of
-returns c = c.kind-by.ensures
+returns c = c.kind_by.ensures
 
-pub kind-of-spec : {M : Type 1} → statement M
-kind-of-spec =
+pub kind_of_spec : {M : Type 1} → statement M
+kind_of_spec =
     tie.close
     (tie.spec
     (λ c. search rules)

@@ -7,5 +7,5 @@ use Rattle.record.proofs.kind.kinds_hold.Tie as tie
 returns : tie.Need-returns
 returns c = (refl, (refl, (refl, (refl, (refl, (refl, (refl, (refl, (refl, (refl, (refl, (refl, (refl, (refl, (refl, refl)))))))))))))))
 
-pub kinds-hold-spec : {M : Type 1} → statement M
-kinds-hold-spec = tie.close (tie.spec returns)
+pub kinds_hold_spec : {M : Type 1} → statement M
+kinds_hold_spec = tie.close (tie.spec returns)

@@ -9,14 +9,14 @@ use Rattle.record.proofs.notes.correlation_fault.Tie as tie
 
 returns : tie.Need-returns
 returns c =
-    let a = c.before.before.before.args in
+    let a = c.args in
     judges (correlation_items a.velocity) a.line.now clean
-    (past c.before.before.symbol-fault.ensures
-    (past-several deviation_items c.before.deviations-fault.ensures
-    (record { told = c.pairs-fault.ensures })))
+    (past c.symbol_fault-a.ensures
+    (past-several deviation_items c.deviations_fault-b.ensures
+    (record { told = c.pairs_fault.ensures })))
 
-pub correlation-fault-spec : {M : Type 1} → statement M
-correlation-fault-spec =
+pub correlation_fault_spec : {M : Type 1} → statement M
+correlation_fault_spec =
     tie.close
     (tie.spec
     (λ c κs. search rules)

@@ -8,19 +8,19 @@ use Rattle.record.proofs.notes.deviations_fault.Tie as tie
 
 returns : tie.Need-returns
 returns c =
-    judges deviation_items c.before.before.before.before.before.before.before.before.args.line.now c.before.before.before.before.before.before.before.before.args.lowest
-    (past c.before.before.before.before.before.before.before.unused-in.ensures
-    (past c.before.before.before.before.before.before.exponent-in.ensures
-    (past c.before.before.before.before.before.unused-in2.ensures
-    (past c.before.before.before.before.exponent-in2.ensures
-    (past c.before.before.before.unused-in3.ensures
-    (past c.before.before.exponent-in3.ensures
-    (past c.before.unused-in4.ensures
-    (past c.exponent-in4.ensures
+    judges deviation_items c.args.line.now c.args.lowest
+    (past c.unused_in-a.ensures
+    (past c.exponent_in-b.ensures
+    (past c.unused_in-c.ensures
+    (past c.exponent_in-d.ensures
+    (past c.unused_in-e.ensures
+    (past c.exponent_in-f.ensures
+    (past c.unused_in-g.ensures
+    (past c.exponent_in.ensures
     judged))))))))
 
-pub deviations-fault-spec : {M : Type 1} → statement M
-deviations-fault-spec =
+pub deviations_fault_spec : {M : Type 1} → statement M
+deviations_fault_spec =
     tie.close
     (tie.spec
     (λ c κs. search rules)

@@ -6,21 +6,21 @@ use Rattle.record.proofs.Answers.{signed-case}
 use Rattle.record.proofs.notes.known_correlation.Statement.{statement}
 use Rattle.record.proofs.notes.known_correlation.Tie as tie
 
-returns : tie.Need-returns
-returns c = rw (sym c.before.is-blank.ensures ∙ c.if1.true)
+returns : tie.Need-returns-then-is_blank
+returns c = rw (sym c.is_blank.ensures ∙ c.if-is_blank.true)
 
-returns-2 : tie.Need-returns-2
+returns-2 : tie.Need-returns-in_default
 returns-2 c =
-    let asked = c.before.before in
-    rw (sym asked.before.before.is-blank.ensures ∙ asked.before.if1.false, signed-case asked.before.before.before.before.args.bytes.now _ _ asked.signed-whole.ensures c.enum_told.given.1)
+    let asked = c in
+    rw (sym asked.is_blank.ensures ∙ asked.if-is_blank.false, signed-case asked.args.bytes.now _ _ asked.signed_whole.ensures c.enum_told.given.1)
 
-returns-3 : tie.Need-returns-3
+returns-3 : tie.Need-returns
 returns-3 c =
-    let asked = c.before.before.before in
-    rw (sym asked.before.before.is-blank.ensures ∙ asked.before.if1.false, signed-case asked.before.before.before.before.args.bytes.now _ _ asked.signed-whole.ensures c.before.negative.given.1)
+    let asked = c in
+    rw (sym asked.is_blank.ensures ∙ asked.if-is_blank.false, signed-case asked.args.bytes.now _ _ asked.signed_whole.ensures c.negative.given.1)
 
-pub known-correlation-spec : {M : Type 1} → statement M
-known-correlation-spec =
+pub known_correlation_spec : {M : Type 1} → statement M
+known_correlation_spec =
     tie.close
     (tie.spec
     (λ c κs. search rules)

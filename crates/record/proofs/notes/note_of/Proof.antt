@@ -7,7 +7,7 @@ use Rattle.record.proofs.notes.note_of.Statement.{statement}
 use Rattle.record.proofs.notes.note_of.Tie as tie
 
 returns : tie.Need-returns
-returns c = c.note-taken.ensures ∙ ap note_taken c.before.before.pad.ensures
+returns c = c.note_taken.ensures ∙ ap note_taken c.pad-padded.ensures
 
-pub note-of-spec : {M : Type 1} → statement M
-note-of-spec = tie.close (tie.spec (λ c κs. search rules) (λ c κs. search rules) returns)
+pub note_of_spec : {M : Type 1} → statement M
+note_of_spec = tie.close (tie.spec (λ c κs. search rules) (λ c κs. search rules) returns)

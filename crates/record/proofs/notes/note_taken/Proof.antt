@@ -9,20 +9,20 @@ returns : tie.Need-returns
 unfolding note_taken
 returns c =
     λ i. record {
-      x_deviation = c.before.before.before.Known-of.ensures i;
-      y_deviation = c.before.before.known-of2.ensures i;
-      z_deviation = c.before.known-of3.ensures i;
-      clock_deviation = c.known-of4.ensures i;
-      xy = c.before.before.before.before.before.before.before.before.before.correlation-of.ensures i;
-      xz = c.before.before.before.before.before.before.before.before.correlation-of2.ensures i;
-      xc = c.before.before.before.before.before.before.before.correlation-of3.ensures i;
-      yz = c.before.before.before.before.before.before.correlation-of4.ensures i;
-      yc = c.before.before.before.before.before.correlation-of5.ensures i;
-      zc = c.before.before.before.before.correlation-of6.ensures i;
+      x_deviation = c.Known-of.ensures i;
+      y_deviation = c.known_of-2.ensures i;
+      z_deviation = c.known_of-3.ensures i;
+      clock_deviation = c.known_of-4.ensures i;
+      xy = c.correlation_of-xy.ensures i;
+      xz = c.correlation_of-xz.ensures i;
+      xc = c.correlation_of-xc.ensures i;
+      yz = c.correlation_of-yz.ensures i;
+      yc = c.correlation_of-yc.ensures i;
+      zc = c.correlation_of-zc.ensures i;
     }
 
-pub note-taken-spec : {M : Type 1} → statement M
-note-taken-spec =
+pub note_taken_spec : {M : Type 1} → statement M
+note_taken_spec =
     tie.close
     (tie.spec
     (λ c κs. search rules)

@@ -12,14 +12,14 @@ use Rattle.record.proofs.notes.pair_fault.Tie as tie
 
 returns : tie.Need-returns
 returns c =
-    let a = c.before.before.args in
+    let a = c.args in
     judges (column a.at unused ∷ columns (a.at + 1) (a.at + 8) correlation ∷ []) a.line.now a.lowest
-    (past c.before.unused-in.ensures
-    (past c.correlation-in.ensures
+    (past c.unused_in-a.ensures
+    (past c.correlation_in.ensures
     judged))
 
-pub pair-fault-spec : {M : Type 1} → statement M
-pair-fault-spec =
+pub pair_fault_spec : {M : Type 1} → statement M
+pair_fault_spec =
     tie.close
     (tie.spec
     (λ c κs. search rules)

@@ -17,17 +17,17 @@ pair at = column at unused ∷ columns (at + 1) (at + 8) correlation ∷ []
 
 returns : tie.Need-returns
 returns c =
-    judges pair_items c.before.before.before.before.before.before.args.line.now c.before.before.before.before.before.before.args.lowest
-    (past-several (pair 27) c.before.before.before.before.before.pair-fault.ensures
-    (past-several (pair 36) c.before.before.before.before.pair-fault2.ensures
-    (past-several (pair 45) c.before.before.before.pair-fault3.ensures
-    (past-several (pair 54) c.before.before.pair-fault4.ensures
-    (past-several (pair 63) c.before.pair-fault5.ensures
-    (past-several (pair 72) c.pair-fault6.ensures
+    judges pair_items c.args.line.now c.args.lowest
+    (past-several (pair 27) c.pair_fault-a.ensures
+    (past-several (pair 36) c.pair_fault-b.ensures
+    (past-several (pair 45) c.pair_fault-c.ensures
+    (past-several (pair 54) c.pair_fault-d.ensures
+    (past-several (pair 63) c.pair_fault-e.ensures
+    (past-several (pair 72) c.pair_fault.ensures
     judged))))))
 
-pub pairs-fault-spec : {M : Type 1} → statement M
-pairs-fault-spec =
+pub pairs_fault_spec : {M : Type 1} → statement M
+pairs_fault_spec =
     tie.close
     (tie.spec
     (λ c κs. search rules)

@@ -4,14 +4,14 @@ use borrow.Author.Rules.{rules}
 use Rattle.record.proofs.notes.symbol_fault.Statement.{statement}
 use Rattle.record.proofs.notes.symbol_fault.Tie as tie
 
-returns : tie.Need-returns
-returns c = rw c.before.if1.true c.symbols-in.ensures
+returns : tie.Need-returns-then-velocity
+returns c = rw c.if-velocity.true c.symbols_in.ensures
 
-returns-2 : tie.Need-returns-2
-returns-2 c = rw c.before.if1.false c.symbols-in2.ensures
+returns-2 : tie.Need-returns
+returns-2 c = rw c.if-velocity.false c.symbols_in-2.ensures
 
-pub symbol-fault-spec : {M : Type 1} → statement M
-symbol-fault-spec =
+pub symbol_fault_spec : {M : Type 1} → statement M
+symbol_fault_spec =
     tie.close
     (tie.spec
     (λ c κs. search rules)

@@ -11,22 +11,22 @@ use Rattle.record.proofs.opening.moment_in.Tie as tie
 
 returns : tie.Need-returns
 returns c =
-    made_after {X = Epoch} (λ fault vs. record { fault = fault; moment = moment_at vs 0 }) time_items c.before.before.before.before.before.before.before.before.before.before.before.args.line.now c.before.before.before.before.before.before.before.before.before.before.before.args.lowest
-    (number c.before.before.before.before.before.before.before.before.before.before.whole_in.ensures refl refl
-    (skip c.before.before.before.before.before.before.before.before.before.unused-in.ensures refl
-    (number c.before.before.before.before.before.before.before.before.whole-in2.ensures refl refl
-    (skip c.before.before.before.before.before.before.before.unused-in2.ensures refl
-    (number c.before.before.before.before.before.before.whole-in3.ensures refl refl
-    (skip c.before.before.before.before.before.unused-in3.ensures refl
-    (number c.before.before.before.before.whole-in4.ensures refl refl
-    (skip c.before.before.before.unused-in4.ensures refl
-    (number c.before.before.whole-in5.ensures refl refl
-    (skip c.before.unused-in5.ensures refl
-    (number c.decimal-in.ensures refl refl
+    made_after {X = Epoch} (λ fault vs. record { fault = fault; moment = moment_at vs 0 }) time_items c.args.line.now c.args.lowest
+    (number c.whole_in-year.ensures refl refl
+    (skip c.unused_in-a.ensures refl
+    (number c.whole_in-month.ensures refl refl
+    (skip c.unused_in-b.ensures refl
+    (number c.whole_in-day.ensures refl refl
+    (skip c.unused_in-c.ensures refl
+    (number c.whole_in-hour.ensures refl refl
+    (skip c.unused_in-d.ensures refl
+    (number c.whole_in-minute.ensures refl refl
+    (skip c.unused_in-e.ensures refl
+    (number c.decimal_in-second.ensures refl refl
     done)))))))))))
 
-pub moment-in-spec : {M : Type 1} → statement M
-moment-in-spec =
+pub moment_in_spec : {M : Type 1} → statement M
+moment_in_spec =
     tie.close
     (tie.spec
     (λ c κs. search rules)

@@ -11,15 +11,15 @@ use Rattle.record.proofs.opening.read_epoch.Tie as tie
 returns : tie.Need-returns
 returns c =
     rw c.dated.ensures
-    (made epoch_from epoch_items c.before.before.before.before.before.before.args.line.now
-    (skip c.before.before.before.before.before.symbols-in.ensures refl
-    (skip c.before.before.before.before.unused-in.ensures refl
-    (moment c.before.before.before.moment-in.ensures
-    (skip c.before.unused-in2.ensures refl
+    (made epoch_from epoch_items c.args.line.now
+    (skip c.symbols_in-a.ensures refl
+    (skip c.unused_in-b.ensures refl
+    (moment c.moment_in-at.ensures
+    (skip c.unused_in-c.ensures refl
     done)))))
 
-pub read-epoch-spec : {M : Type 1} → statement M
-read-epoch-spec =
+pub read_epoch_spec : {M : Type 1} → statement M
+read_epoch_spec =
     tie.close
     (tie.spec
     (λ c κs. search rules)

@@ -12,25 +12,25 @@ use Rattle.record.proofs.opening.read_first.Tie as tie
 returns : tie.Need-returns
 returns c =
     rw c.dated.ensures
-    (made first_from (first_items c.before.before.before.before.before.before.before.before.before.before.before.before.before.args.rules) c.before.before.before.before.before.before.before.before.before.before.before.before.before.args.line.now
-    (skip c.before.before.before.before.before.before.before.before.before.before.before.before.symbols-in.ensures refl
-    (lettered c.before.before.before.before.before.before.before.before.before.before.before.mode-in.ensures refl refl
-    (moment c.before.before.before.before.before.before.before.before.before.before.moment-in.ensures
-    (skip c.before.before.before.before.before.before.before.before.unused-in.ensures refl
-    (number c.before.before.before.before.before.before.before.whole_in.ensures refl refl
-    (skip c.before.before.before.before.before.before.unused-in2.ensures refl
-    (words-kept (ap (λ (t : Texts). t.data_used) c.before.texts-in.ensures) refl refl refl
-    (skip c.before.before.before.before.before.unused-in3.ensures refl
-    (words-kept (ap (λ (t : Texts). t.coordinates) c.before.texts-in.ensures) refl refl refl
-    (skip c.before.before.before.before.unused-in4.ensures refl
-    (words-kept (ap (λ (t : Texts). t.orbit) c.before.texts-in.ensures) refl refl refl
-    (skip c.before.before.before.unused-in5.ensures refl
-    (words-kept (ap (λ (t : Texts). t.agency) c.before.texts-in.ensures) refl refl refl
-    (skip c.before.before.unused-in6.ensures refl
+    (made first_from (first_items c.args.rules) c.args.line.now
+    (skip c.symbols_in-a.ensures refl
+    (lettered c.mode_in-mode.ensures refl refl
+    (moment c.moment_in-start.ensures
+    (skip c.unused_in-b.ensures refl
+    (number c.whole_in-epochs.ensures refl refl
+    (skip c.unused_in-c.ensures refl
+    (words-kept (ap (λ (t : Texts). t.data_used) c.texts_in-texts.ensures) refl refl refl
+    (skip c.unused_in-d.ensures refl
+    (words-kept (ap (λ (t : Texts). t.coordinates) c.texts_in-texts.ensures) refl refl refl
+    (skip c.unused_in-e.ensures refl
+    (words-kept (ap (λ (t : Texts). t.orbit) c.texts_in-texts.ensures) refl refl refl
+    (skip c.unused_in-f.ensures refl
+    (words-kept (ap (λ (t : Texts). t.agency) c.texts_in-texts.ensures) refl refl refl
+    (skip c.unused_in-g.ensures refl
     done)))))))))))))))
 
-pub read-first-spec : {M : Type 1} → statement M
-read-first-spec =
+pub read_first_spec : {M : Type 1} → statement M
+read_first_spec =
     tie.close
     (tie.spec
     (λ c κs. search rules)

@@ -10,23 +10,23 @@ use Rattle.record.proofs.opening.read_second.Tie as tie
 
 returns : tie.Need-returns
 returns c =
-    made second_from second_items c.before.before.before.before.before.before.before.before.before.before.before.before.args.line.now
-    (skip c.before.before.before.before.before.before.before.before.before.before.before.symbols-in.ensures refl
-    (skip c.before.before.before.before.before.before.before.before.before.before.unused-in.ensures refl
-    (number c.before.before.before.before.before.before.before.before.before.whole_in.ensures refl refl
-    (skip c.before.before.before.before.before.before.before.before.unused-in2.ensures refl
-    (number c.before.before.before.before.before.before.before.decimal-in.ensures refl refl
-    (skip c.before.before.before.before.before.before.unused-in3.ensures refl
-    (number c.before.before.before.before.before.decimal-in2.ensures refl refl
-    (skip c.before.before.before.before.unused-in4.ensures refl
-    (number c.before.before.before.whole-in2.ensures refl refl
-    (skip c.before.before.unused-in5.ensures refl
-    (number c.before.decimal-in3.ensures refl refl
-    (skip c.unused-in6.ensures refl
+    made second_from second_items c.args.line.now
+    (skip c.symbols_in-a.ensures refl
+    (skip c.unused_in-b.ensures refl
+    (number c.whole_in-week.ensures refl refl
+    (skip c.unused_in-c.ensures refl
+    (number c.decimal_in-seconds.ensures refl refl
+    (skip c.unused_in-d.ensures refl
+    (number c.decimal_in-interval.ensures refl refl
+    (skip c.unused_in-e.ensures refl
+    (number c.whole_in-mjd.ensures refl refl
+    (skip c.unused_in-f.ensures refl
+    (number c.decimal_in-fraction.ensures refl refl
+    (skip c.unused_in-g.ensures refl
     done))))))))))))
 
-pub read-second-spec : {M : Type 1} → statement M
-read-second-spec =
+pub read_second_spec : {M : Type 1} → statement M
+read_second_spec =
     tie.close
     (tie.spec
     (λ c κs. search rules)

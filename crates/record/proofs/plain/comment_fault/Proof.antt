@@ -10,14 +10,14 @@ use Rattle.record.proofs.plain.comment_fault.Tie as tie
 
 returns : tie.Need-returns
 returns c =
-    judges comment_items c.before.before.args.line.now clean
-    (past c.before.symbols-in.ensures
-    (past c.unused-in.ensures
+    judges comment_items c.args.line.now clean
+    (past c.symbols_in-a.ensures
+    (past c.unused_in.ensures
     (past refl
     judged)))
 
-pub comment-fault-spec : {M : Type 1} → statement M
-comment-fault-spec =
+pub comment_fault_spec : {M : Type 1} → statement M
+comment_fault_spec =
     tie.close
     (tie.spec
     (λ c κs. search rules)

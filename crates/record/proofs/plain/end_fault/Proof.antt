@@ -9,13 +9,13 @@ use Rattle.record.proofs.plain.end_fault.Tie as tie
 
 returns : tie.Need-returns
 returns c =
-    judges end_items c.before.before.before.args.line.now clean
-    (past c.before.fixed_in.ensures
-    (past c.unused-in.ensures
+    judges end_items c.args.line.now clean
+    (past c.fixed_in-a.ensures
+    (past c.unused_in.ensures
     judged))
 
-pub end-fault-spec : {M : Type 1} → statement M
-end-fault-spec =
+pub end_fault_spec : {M : Type 1} → statement M
+end_fault_spec =
     tie.close
     (tie.spec
     (λ c. search rules)

@@ -10,24 +10,24 @@ use Rattle.record.proofs.rows.body_fault.Tie as tie
 
 returns : tie.Need-returns
 returns c =
-    judges body_items c.before.before.before.before.before.before.before.before.before.before.before.before.before.args.line.now c.before.before.before.before.before.before.before.before.before.before.before.before.before.args.lowest
-    (past (ap (λ (j : Judged). j.fault) c.before.before.before.before.before.before.before.before.before.before.before.before.identifier-in.ensures)
-    (past c.before.before.before.before.before.before.before.before.before.before.before.amount-in.ensures
-    (past c.before.before.before.before.before.before.before.before.before.before.amount-in2.ensures
-    (past c.before.before.before.before.before.before.before.before.before.amount-in3.ensures
-    (past c.before.before.before.before.before.before.before.before.amount-in4.ensures
-    (past c.before.before.before.before.before.before.before.unused-in.ensures
-    (past c.before.before.before.before.before.before.exponent-in.ensures
-    (past c.before.before.before.before.before.unused-in2.ensures
-    (past c.before.before.before.before.exponent-in2.ensures
-    (past c.before.before.before.unused-in3.ensures
-    (past c.before.before.exponent-in3.ensures
-    (past c.before.unused-in4.ensures
-    (past c.exponent-in4.ensures
+    judges body_items c.args.line.now c.args.lowest
+    (past (ap (λ (j : Judged). j.fault) c.identifier_in-identifier.ensures)
+    (past c.amount_in-a.ensures
+    (past c.amount_in-b.ensures
+    (past c.amount_in-c.ensures
+    (past c.amount_in-d.ensures
+    (past c.unused_in-e.ensures
+    (past c.exponent_in-f.ensures
+    (past c.unused_in-g.ensures
+    (past c.exponent_in-h.ensures
+    (past c.unused_in-i.ensures
+    (past c.exponent_in-j.ensures
+    (past c.unused_in-k.ensures
+    (past c.exponent_in.ensures
     judged)))))))))))))
 
-pub body-fault-spec : {M : Type 1} → statement M
-body-fault-spec =
+pub body_fault_spec : {M : Type 1} → statement M
+body_fault_spec =
     tie.close
     (tie.spec
     (λ c κs. search rules)

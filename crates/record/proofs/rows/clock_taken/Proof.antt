@@ -9,11 +9,11 @@ use Rattle.record.proofs.rows.clock_taken.Tie as tie
 
 returns : tie.Need-returns
 returns c =
-    let read = c.before.Signed-of.ensures in
+    let read = c.Signed-of.ensures in
     λ i. record {
       negative = (ap (λ (s : Signed). s.negative) read) i;
-      magnitude = (c.clock-held.ensures ∙ ap (λ (s : Signed). clock_held 6 s.negative s.magnitude) read) i;
+      magnitude = (c.clock_held.ensures ∙ ap (λ (s : Signed). clock_held 6 s.negative s.magnitude) read) i;
     }
 
-pub clock-taken-spec : {M : Type 1} → statement M
-clock-taken-spec = tie.close (tie.spec (λ c κs. search rules) (λ c κs. search rules) returns)
+pub clock_taken_spec : {M : Type 1} → statement M
+clock_taken_spec = tie.close (tie.spec (λ c κs. search rules) (λ c κs. search rules) returns)

@@ -8,17 +8,17 @@ use Rattle.record.proofs.rows.flags_fault.Tie as tie
 
 returns : tie.Need-returns
 returns c =
-    judges flag_items c.before.before.before.before.before.before.args.line.now c.before.before.before.before.before.before.args.lowest
-    (past c.before.before.before.before.before.unused-in.ensures
-    (past c.before.before.before.before.flag-in.ensures
-    (past c.before.before.before.flag-in2.ensures
-    (past c.before.before.unused-in2.ensures
-    (past c.before.flag-in3.ensures
-    (past c.flag-in4.ensures
+    judges flag_items c.args.line.now c.args.lowest
+    (past c.unused_in-a.ensures
+    (past c.flag_in-b.ensures
+    (past c.flag_in-c.ensures
+    (past c.unused_in-d.ensures
+    (past c.flag_in-e.ensures
+    (past c.flag_in.ensures
     judged))))))
 
-pub flags-fault-spec : {M : Type 1} → statement M
-flags-fault-spec =
+pub flags_fault_spec : {M : Type 1} → statement M
+flags_fault_spec =
     tie.close
     (tie.spec
     (λ c κs. search rules)

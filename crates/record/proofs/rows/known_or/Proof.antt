@@ -5,19 +5,19 @@ use Rattle.record.proofs.Answers.{exponent-case, exponent-malformed}
 use Rattle.record.proofs.rows.known_or.Statement.{statement}
 use Rattle.record.proofs.rows.known_or.Tie as tie
 
-returns : tie.Need-returns
+returns : tie.Need-returns-in_default-answer
 returns c =
-    let r = c.before.before.exponent in
-    rw (exponent-case c.before.before.before.before.args.bytes.now r.result _ r.ensures (exponent-malformed r.result c.before.match.keys2 c.match2.keys2))
+    let r = c.exponent-answer in
+    rw (exponent-case c.args.bytes.now r.result _ r.ensures (exponent-malformed r.result c.in-Value.keys2 c.in-Unknown.keys2))
 
-returns-2 : tie.Need-returns-2
-returns-2 c = rw (exponent-case c.before.before.before.before.before.args.bytes.now _ _ c.before.before.before.exponent.ensures c.enum_told.given.1)
+returns-2 : tie.Need-returns-in_default
+returns-2 c = rw (exponent-case c.args.bytes.now _ _ c.exponent-answer.ensures c.enum_told.given.1)
 
-returns-3 : tie.Need-returns-3
-returns-3 c = rw (exponent-case c.before.before.before.before.before.args.bytes.now _ _ c.before.before.before.exponent.ensures c.before.answer.given.1)
+returns-3 : tie.Need-returns
+returns-3 c = rw (exponent-case c.args.bytes.now _ _ c.exponent-answer.ensures c.answer.given.1)
 
-pub known-or-spec : {M : Type 1} → statement M
-known-or-spec =
+pub known_or_spec : {M : Type 1} → statement M
+known_or_spec =
     tie.close
     (tie.spec
     (λ c κs. search rules)

@@ -7,11 +7,11 @@ use Rattle.record.proofs.rows.mark_of.Tie as tie
 
 returns : tie.Need-returns
 returns c =
-    let a = c.before.args in
+    let a = c.args in
     rw (column-byte a.line.now a.at (search rules))
 
-pub mark-of-spec : {M : Type 1} → statement M
-mark-of-spec =
+pub mark_of_spec : {M : Type 1} → statement M
+mark_of_spec =
     tie.close
     (tie.spec
     (λ c. search rules)

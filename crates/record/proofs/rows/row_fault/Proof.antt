@@ -8,25 +8,25 @@ use Rattle.layout.proofs.Reading.{judged, judges, past, past-several}
 use Rattle.record.proofs.rows.row_fault.Statement.{statement}
 use Rattle.record.proofs.rows.row_fault.Tie as tie
 
-returns : tie.Need-returns
+returns : tie.Need-returns-then-velocity
 returns c =
-    rw c.before.before.before.before.if1.true
-    (judges (row_items true) c.before.before.before.before.before.args.line.now clean
-    (past c.before.before.fixed_in.ensures
-    (past-several body_items c.before.body-fault.ensures
-    (past c.unused-in.ensures
+    rw c.if-velocity.true
+    (judges (row_items true) c.args.line.now clean
+    (past c.fixed_in-a.ensures
+    (past-several body_items c.body_fault-b.ensures
+    (past c.unused_in.ensures
     judged))))
 
-returns-2 : tie.Need-returns-2
+returns-2 : tie.Need-returns
 returns-2 c =
-    rw c.before.before.before.before.if1.false
-    (judges (row_items false) c.before.before.before.before.before.args.line.now clean
-    (past c.before.before.fixed-in2.ensures
-    (past-several body_items c.before.body-fault2.ensures
-    (record { told = c.flags-fault.ensures }))))
+    rw c.if-velocity.false
+    (judges (row_items false) c.args.line.now clean
+    (past c.fixed_in-a-2.ensures
+    (past-several body_items c.body_fault-b-2.ensures
+    (record { told = c.flags_fault.ensures }))))
 
-pub row-fault-spec : {M : Type 1} → statement M
-row-fault-spec =
+pub row_fault_spec : {M : Type 1} → statement M
+row_fault_spec =
     tie.close
     (tie.spec
     (λ c. search rules)

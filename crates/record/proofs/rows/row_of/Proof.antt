@@ -7,7 +7,7 @@ use Rattle.record.proofs.rows.row_of.Statement.{statement}
 use Rattle.record.proofs.rows.row_of.Tie as tie
 
 returns : tie.Need-returns
-returns c = c.row-taken.ensures ∙ ap (row_taken c.before.before.before.before.args.velocity) c.before.before.pad.ensures
+returns c = c.row_taken.ensures ∙ ap (row_taken c.args.velocity) c.pad-padded.ensures
 
-pub row-of-spec : {M : Type 1} → statement M
-row-of-spec = tie.close (tie.spec (λ c κs. search rules) (λ c κs. search rules) returns)
+pub row_of_spec : {M : Type 1} → statement M
+row_of_spec = tie.close (tie.spec (λ c κs. search rules) (λ c κs. search rules) returns)

@@ -9,23 +9,23 @@ returns : tie.Need-returns
 unfolding row_taken
 returns c =
     λ i. record {
-      satellite = c.before.before.before.before.satellite-in.ensures i;
-      x = c.before.before.before.before.before.before.before.before.Signed-of.ensures i;
-      y = c.before.before.before.before.before.before.before.signed-of2.ensures i;
-      z = c.before.before.before.before.before.before.signed-of3.ensures i;
-      clock = c.before.before.before.before.before.clock-taken.ensures i;
-      x_exponent = c.before.before.before.before.before.before.before.before.before.before.before.before.Known-of.ensures i;
-      y_exponent = c.before.before.before.before.before.before.before.before.before.before.before.known-of2.ensures i;
-      z_exponent = c.before.before.before.before.before.before.before.before.before.before.known-of3.ensures i;
-      clock_exponent = c.before.before.before.before.before.before.before.before.before.known-of4.ensures i;
-      event = c.before.before.before.mark_of.ensures i;
-      predicted = c.before.before.mark-of2.ensures i;
-      maneuver = c.before.mark-of3.ensures i;
-      orbit_predicted = c.mark-of4.ensures i;
+      satellite = c.satellite_in.ensures i;
+      x = c.Signed-of.ensures i;
+      y = c.signed_of-y.ensures i;
+      z = c.signed_of-z.ensures i;
+      clock = c.clock_taken-clock.ensures i;
+      x_exponent = c.Known-of.ensures i;
+      y_exponent = c.known_of-y_exponent.ensures i;
+      z_exponent = c.known_of-z_exponent.ensures i;
+      clock_exponent = c.known_of-clock_exponent.ensures i;
+      event = c.mark_of.ensures i;
+      predicted = c.mark_of-2.ensures i;
+      maneuver = c.mark_of-3.ensures i;
+      orbit_predicted = c.mark_of-4.ensures i;
     }
 
-pub row-taken-spec : {M : Type 1} → statement M
-row-taken-spec =
+pub row_taken_spec : {M : Type 1} → statement M
+row_taken_spec =
     tie.close
     (tie.spec
     (λ c κs. search rules)

@@ -7,10 +7,10 @@ use Rattle.record.proofs.rows.signed_of.Tie as tie
 
 returns : tie.Need-returns
 unfolding known_negative
-returns c = rw (c.is_negative.ensures, c.before.magnitude.ensures)
+returns c = rw (c.is_negative-negative.ensures, c.magnitude-magnitude.ensures)
 
-pub signed-of-spec : {M : Type 1} → statement M
-signed-of-spec =
+pub signed_of_spec : {M : Type 1} → statement M
+signed_of_spec =
     tie.close
     (tie.spec
     (λ c. search rules)

@@ -7,5 +7,5 @@ use Rattle.record.proofs.rows.widths_hold.Tie as tie
 returns : tie.Need-returns
 returns c = (refl, (refl, (refl, (refl, (refl, (refl, (refl, refl)))))))
 
-pub widths-hold-spec : {M : Type 1} → statement M
-widths-hold-spec = tie.close (tie.spec returns)
+pub widths_hold_spec : {M : Type 1} → statement M
+widths_hold_spec = tie.close (tie.spec returns)

@@ -17,25 +17,25 @@ use Rattle.record.proofs.slots.read_satellites.Tie as tie
 
 returns : tie.Need-returns
 returns c =
-    let start = c.before.before.before.before.before.before.before.args in
+    let start = c.args in
     let line = start.line.now in
-    let count = c.before.before.before.before.whole_in in
+    let count = c.whole_in-count in
     let items = slot_items false count.result.value in
-    let slots = c.before.before.slots-in.ensures in
-    ap {B = Satellites} (λ (identifiers : List ℕ). record { fault = c.unused-in3.result; count = count.result.value; identifiers = identifiers })
+    let slots = c.slots_in-slots.ensures in
+    ap {B = Satellites} (λ (identifiers : List ℕ). record { fault = c.unused_in-d.result; count = count.result.value; identifiers = identifiers })
     (ap (λ (s : Slots). s.values) slots ∙ ap numbers_of (sym (append-nil (values_of items line))))
     ∙ made satellites_from (satellite_items start.rules count.result.value) line
-    (skip c.before.before.before.before.before.before.symbols-in.ensures refl
-    (skip c.before.before.before.before.before.unused-in.ensures refl
+    (skip c.symbols_in-a.ensures refl
+    (skip c.unused_in-b.ensures refl
     (number count.ensures refl refl
-    (skip c.before.before.before.unused-in2.ensures refl
+    (skip c.unused_in-c.ensures refl
     (several items (ap (λ (s : Slots). s.fault) slots) refl
-    (skip c.unused-in3.ensures refl
+    (skip c.unused_in-d.ensures refl
     done))))))
     ∙ ap (λ (j : Judged). satellites_from (fault_of (satellite_items start.rules j.value) line) (values_of (satellite_items start.rules j.value) line)) count.ensures
 
-pub read-satellites-spec : {M : Type 1} → statement M
-read-satellites-spec =
+pub read_satellites_spec : {M : Type 1} → statement M
+read_satellites_spec =
     tie.close
     (tie.spec
     (λ c κs. search rules)

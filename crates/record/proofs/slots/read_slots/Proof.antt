@@ -13,21 +13,21 @@ use Rattle.record.proofs.slots.read_slots.Tie as tie
 
 returns : tie.Need-returns
 returns c =
-    let start = c.before.before.before.before.before.args in
+    let start = c.args in
     let line = start.line.now in
     let items = slot_items start.accuracies start.left in
-    let slots = c.before.before.slots-in.ensures in
-    ap {B = Slots} (λ (values : List ℕ). record { fault = c.unused-in2.result; values = values })
+    let slots = c.slots_in-slots.ensures in
+    ap {B = Slots} (λ (values : List ℕ). record { fault = c.unused_in-c.result; values = values })
     (ap (λ (s : Slots). s.values) slots ∙ ap numbers_of (sym (append-nil (values_of items line))))
     ∙ made more_from (more_items start.accuracies start.left) line
-    (skip c.before.before.before.before.symbol-in.ensures refl
-    (skip c.before.before.before.unused-in.ensures refl
+    (skip c.symbol_in-a.ensures refl
+    (skip c.unused_in-b.ensures refl
     (several items (ap (λ (s : Slots). s.fault) slots) refl
-    (skip c.unused-in2.ensures refl
+    (skip c.unused_in-c.ensures refl
     done))))
 
-pub read-slots-spec : {M : Type 1} → statement M
-read-slots-spec =
+pub read_slots_spec : {M : Type 1} → statement M
+read_slots_spec =
     tie.close
     (tie.spec
     (λ c κs. search rules)

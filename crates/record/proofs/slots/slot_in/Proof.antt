@@ -5,17 +5,17 @@ use borrow.Author.Rules.{rules}
 use Rattle.record.proofs.slots.slot_in.Statement.{statement}
 use Rattle.record.proofs.slots.slot_in.Tie as tie
 
-returns : tie.Need-returns
-returns c = rw (not-true c.before.before.before.args.used c.before.before.if1.true, c.fixed_in.ensures)
+returns : tie.Need-returns-then-not-used
+returns c = rw (not-true c.args.used c.if-not-used.true, c.fixed_in.ensures)
 
-returns-2 : tie.Need-returns-2
-returns-2 c = rw (not-false c.before.before.before.args.used c.before.before.if1.false, c.before.if2.true, c.whole_in.ensures)
+returns-2 : tie.Need-returns-then-accuracies
+returns-2 c = rw (not-false c.args.used c.if-not-used.false, c.if-accuracies.true, c.whole_in.ensures)
 
-returns-3 : tie.Need-returns-3
-returns-3 c = rw (not-false c.before.before.before.args.used c.before.before.if1.false, c.before.if2.false, c.identifier-in.ensures)
+returns-3 : tie.Need-returns
+returns-3 c = rw (not-false c.args.used c.if-not-used.false, c.if-accuracies.false, c.identifier_in.ensures)
 
-pub slot-in-spec : {M : Type 1} → statement M
-slot-in-spec =
+pub slot_in_spec : {M : Type 1} → statement M
+slot_in_spec =
     tie.close
     (tie.spec
     (λ c. search rules)

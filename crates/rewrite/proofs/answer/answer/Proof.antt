@@ -9,23 +9,23 @@ use Rattle.rewrite.proofs.Answering.{answer-fits, printed-long, printed-short}
 use Rattle.rewrite.proofs.answer.answer.Statement.{statement}
 use Rattle.rewrite.proofs.answer.answer.Tie as tie
 
-returns : tie.Need-returns
+returns : tie.Need-returns-then-file-gt-LONGEST
 returns c =
-    let said = c.before.before in
-    let tested = said.before.before.before in
-    let start = tested.before.before.before in
-    seen (printed-long start.args.file.now tested.if1.true) (omega (arith, start.requires)) said.put-bytes.ensures
+    let said = c in
+    let tested = c in
+    let start = c in
+    seen (printed-long start.args.file.now tested.if-file-gt-LONGEST.true) (omega (arith, start.requires)) said.put_bytes.ensures
 
-returns-2 : tie.Need-returns-2
+returns-2 : tie.Need-returns
 returns-2 c =
-    let said = c.before.before in
-    let tested = said.before.before in
-    let start = tested.before.before.before in
+    let said = c in
+    let tested = c in
+    let start = c in
     let fits = answer-fits start.args.file.now (file_of (rules_in start.args.file.now) start.args.file.now) in
-    seen (printed-short start.args.file.now tested.if1.false) (omega (arith, start.requires, fits)) said.answer-short.ensures
+    seen (printed-short start.args.file.now tested.if-file-gt-LONGEST.false) (omega (arith, start.requires, fits)) said.answer_short.ensures
 
-pub answer-spec : {M : Type 1} → statement M
-answer-spec =
+pub answer_spec : {M : Type 1} → statement M
+answer_spec =
     tie.close
     (tie.spec
     (λ c. search rules)

@@ -16,12 +16,12 @@ use Rattle.rewrite.proofs.Answering.{few_words, Outcome, outcome-of, outcome-sai
 use Rattle.rewrite.proofs.answer.answer_short.Statement.{statement}
 use Rattle.rewrite.proofs.answer.answer_short.Tie as tie
 
-abbrev start : tie.After-read-and-write → tie.Start
+abbrev start : tie.After-read_and_write-done → tie.Start
 start c = c.before.before.before.before.before.before.before.before
 
-answered-so : (c : tie.After-read-and-write)
+answered-so : (c : tie.After-read_and_write-done)
     → Outcome (answered (start c).args.file.now (file_of (rules_in (start c).args.file.now) (start c).args.file.now)) (start c).args.out.now
-    c.read-and-write.result c.read-and-write.new.1.1.1.1.1.0
+    c.read_and_write-done.result c.read_and_write-done.new.exponents.1.1.1.1.0
 answered-so c =
     outcome-of (start c).args.file.now (replicate max_satellites 0) (replicate max_satellites 0) (replicate (most_comments * comment_width) 0) (replicate (most_rows * row_width) (pos 0)) (start c).args.out.now
     (start c).requires.0 (start c).requires.1
@@ -29,27 +29,27 @@ answered-so c =
     (length-replicate {0} {A = ℕ} max_satellites 0)
     (length-replicate {0} {A = ℕ} (most_comments * comment_width) 0)
     (length-replicate {0} {A = ℤ} (most_rows * row_width) (pos 0))
-    c.read-and-write.ensures.0 c.read-and-write.ensures.1
+    c.read_and_write-done.ensures.0 c.read_and_write-done.ensures.1
 
-put-refusal-requires : tie.Need-put-refusal-requires
+put-refusal-requires : tie.Need-put_refusal-requires
 put-refusal-requires c κs =
-    let done = c.before.before.before.before.before.before.before.before.before.read-and-write.result in
+    let done = c.read_and_write-done.result in
     omega (arith, few_words done.refusal done.line done.column)
 
-returns : tie.Need-returns
+returns : tie.Need-returns-then-done-ne0
 returns c =
-    let said = c.before.before in
-    let tested = said.before.before in
-    let done = tested.before.before.before.before.before.before.before.before in
-    outcome-said done.read-and-write.result (answered-so done) tested.if1.true said.put-refusal.ensures
+    let said = c in
+    let tested = c in
+    let done = c in
+    outcome-said done.read_and_write-done.result (answered-so c.before.before.before.before.before.before.before.before.before.before.before.before) tested.if-done-ne0.true said.put_refusal.ensures
 
-returns-2 : tie.Need-returns-2
+returns-2 : tie.Need-returns
 returns-2 c =
-    let done = c.before.before.before.before.before.before.before.before in
-    outcome-laid done.read-and-write.result (answered-so done) c.if1.false
+    let done = c in
+    outcome-laid done.read_and_write-done.result (answered-so c.before.before.before.before.before.before.before.before) c.if-done-ne0.false
 
-pub answer-short-spec : {M : Type 1} → statement M
-answer-short-spec =
+pub answer_short_spec : {M : Type 1} → statement M
+answer_short_spec =
     tie.close
     (tie.spec
     (λ c. search rules)

@@ -7,8 +7,8 @@ use Rattle.rewrite.proofs.text.put_bytes.Tie as tie
 
 returns : tie.Need-returns
 returns c =
-    let start = c.before.before.before.before.before.before in
-    copied start.args.bytes.now start.args.out.now _ start.requires c.before.before.copy-front.ensures
+    let start = c in
+    copied start.args.bytes.now start.args.out.now _ start.requires c.copy_front.ensures
 
-pub put-bytes-spec : {M : Type 1} → statement M
-put-bytes-spec = tie.close (tie.spec (λ c κs. search rules) (λ c. search rules) returns)
+pub put_bytes_spec : {M : Type 1} → statement M
+put_bytes_spec = tie.close (tie.spec (λ c κs. search rules) (λ c. search rules) returns)

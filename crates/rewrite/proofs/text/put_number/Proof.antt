@@ -9,18 +9,18 @@ use Rattle.rewrite.proofs.Digits.{digits-shown}
 use Rattle.rewrite.proofs.text.put_number.Statement.{statement}
 use Rattle.rewrite.proofs.text.put_number.Tie as tie
 
-shown : (c : tie.After-decimal) → take c.decimal.result c.decimal.new.1.0 ≡ number_text c.before.before.before.args.n
+shown : (c : tie.After-decimal-count) → take c.decimal-count.result c.decimal-count.new.1.0 ≡ number_text c.args.n
 shown c =
-    let start = c.before.before.before in
-    c.decimal.ensures.1.1 ∙ digits-shown 19 c.decimal.result start.args.n (omega (arith, start.ranges)) c.decimal.ensures.1.0
+    let start = c in
+    c.decimal-count.ensures.1.1 ∙ digits-shown 19 c.decimal-count.result start.args.n (omega (arith, start.ranges)) c.decimal-count.ensures.1.0
 
-put-bytes-requires : tie.Need-put-bytes-requires
-put-bytes-requires c κs = rw (shown c.before.before) c.before.before.before.before.before.requires
+put-bytes-requires : tie.Need-put_bytes-requires
+put-bytes-requires c κs = rw (shown c.before.before) c.requires
 
 returns : tie.Need-returns
-returns c = rw (shown c.before.before.before.before.before) at c.before.before.put-bytes.ensures
+returns c = rw (shown c.before.before.before.before.before) at c.put_bytes.ensures
 
-pub put-number-spec : {M : Type 1} → statement M
-put-number-spec =
+pub put_number_spec : {M : Type 1} → statement M
+put_number_spec =
     tie.close
     (tie.spec (λ c κs. search rules) (λ c. search rules) (λ c. search rules) put-bytes-requires (λ c. search rules) returns)

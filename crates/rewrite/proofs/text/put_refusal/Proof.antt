@@ -30,75 +30,75 @@ three-room c = omega (arith, room c, length-append ((first c ++ second c) ++ thi
 both-room : (c : tie.Start) → length (first c ++ second c) ≤ length c.args.out.now
 both-room c = omega (arith, three-room c, length-append (first c ++ second c) (third c))
 
-put-said-requires : tie.Need-put-said-requires
+put-said-requires : tie.Need-put_said-at-requires
 put-said-requires c κs =
     let start = c.before.before.before in
-    omega (arith, both-room start, length-append (first start) (second start))
+    omega (arith, both-room c.before.before.before.before, length-append (first start) (second start))
 
 -- after the number the line
-abbrev start : tie.After-put-said → tie.Start
+abbrev start : tie.After-put_said-at → tie.Start
 start c = c.before.before.before.before
 
-after_first : (c : tie.After-put-said)
-    → Next (first (start c)) (second (start c)) (start c).args.out.now c.put-said.result c.put-said.new.1.1.0
-after_first c = next (first (start c)) (second (start c)) (start c).args.out.now (both-room (start c)) c.put-said.ensures
+after_first : (c : tie.After-put_said-at)
+    → Next (first (start c)) (second (start c)) (start c).args.out.now c.put_said-at.result c.put_said-at.new.1.1.0
+after_first c = next (first (start c)) (second (start c)) (start c).args.out.now (both-room (start c)) c.put_said-at.ensures
 
 -- after the line the column
-abbrev earlier : tie.After-put-said2 → tie.After-put-said
+abbrev earlier : tie.After-put_said-at-2 → tie.After-put_said-at
 earlier c = c.before.before.before.before.before
 
-abbrev at-2 : tie.After-put-said2 → ℕ
-at-2 c = (earlier c).put-said.result + c.put-said2.result
+abbrev at-2 : tie.After-put_said-at-2 → ℕ
+at-2 c = (earlier c).put_said-at.result + c.put_said-at-2.result
 
-abbrev out-2 : tie.After-put-said2 → List ℕ
-out-2 c = then (earlier c).put-said.result (earlier c).put-said.new.1.1.0 c.put-said2.new.1.1.0
+abbrev out-2 : tie.After-put_said-at-2 → List ℕ
+out-2 c = then (earlier c).put_said-at.result (earlier c).put_said-at.new.1.1.0 c.put_said-at-2.new.1.1.0
 
-after-second : (c : tie.After-put-said2)
+after-second : (c : tie.After-put_said-at-2)
     → Next (first (start (earlier c)) ++ second (start (earlier c))) (third (start (earlier c))) (start (earlier c)).args.out.now (at-2 c) (out-2 c)
 after-second c =
     let begin = start (earlier c) in
-    next (first begin ++ second begin) (third begin) begin.args.out.now (three-room begin) ((after_first (earlier c)).both c.put-said2.ensures)
+    next (first begin ++ second begin) (third begin) begin.args.out.now (three-room begin) ((after_first (earlier c)).both c.put_said-at-2.ensures)
 
 -- after the column LF
-abbrev before-column : tie.After-put-said3 → tie.After-put-said2
+abbrev before-column : tie.After-put_said-at-3 → tie.After-put_said-at-2
 before-column c = c.before.before.before.before.before
 
-abbrev begun : tie.After-put-said3 → tie.Start
+abbrev begun : tie.After-put_said-at-3 → tie.Start
 begun c = start (earlier (before-column c))
 
-abbrev at-3 : tie.After-put-said3 → ℕ
-at-3 c = at-2 (before-column c) + c.put-said3.result
+abbrev at-3 : tie.After-put_said-at-3 → ℕ
+at-3 c = at-2 (before-column c) + c.put_said-at-3.result
 
-abbrev out-3 : tie.After-put-said3 → List ℕ
-out-3 c = then (at-2 (before-column c)) (out-2 (before-column c)) c.put-said3.new.1.1.0
+abbrev out-3 : tie.After-put_said-at-3 → List ℕ
+out-3 c = then (at-2 (before-column c)) (out-2 (before-column c)) c.put_said-at-3.new.1.1.0
 
-after-third : (c : tie.After-put-said3)
+after-third : (c : tie.After-put_said-at-3)
     → Next ((first (begun c) ++ second (begun c)) ++ third (begun c)) (10 ∷ []) (begun c).args.out.now (at-3 c) (out-3 c)
 after-third c =
     let begin = begun c in
-    next ((first begin ++ second begin) ++ third begin) (10 ∷ []) begin.args.out.now (room begin) ((after-second (before-column c)).both c.put-said3.ensures)
+    next ((first begin ++ second begin) ++ third begin) (10 ∷ []) begin.args.out.now (room begin) ((after-second (before-column c)).both c.put_said-at-3.ensures)
 
-add_at : tie.Need-overflow-add-at
+add_at : tie.Need-overflow_add-at
 add_at c =
     let lined = c.before.before in
-    omega (arith, (start (earlier lined)).well-formed, (after_first (earlier lined)).ends, lined.put-said2.ensures.length-told)
+    omega (arith, (start (earlier lined)).well-formed, (after_first (earlier lined)).ends, lined.put_said-at-2.ensures.length-told)
 
-add-at-2 : tie.Need-overflow-add-at-2
+add-at-2 : tie.Need-overflow_add-at-2
 add-at-2 c =
     let told = c.before.before in
-    omega (arith, (begun told).well-formed, (after-second (before-column told)).ends, told.put-said3.ensures.length-told)
+    omega (arith, (begun told).well-formed, (after-second (before-column told)).ends, told.put_said-at-3.ensures.length-told)
 
-add-result : tie.Need-overflow-add-result
+add-result : tie.Need-overflow_add-result
 add-result c =
     let told = c.before.before.before.before.before.before.before in
-    omega (arith, (begun told).well-formed, (after-third told).ends, c.before.before.put-bytes.ensures.length-told)
+    omega (arith, (begun told).well-formed, (after-third c.before.before.before.before.before.before.before.before).ends, c.put_bytes.ensures.length-told)
 
 returns : tie.Need-returns
 unfolding refused_text
-returns c = (after-third c.before.before.before.before.before.before.before).both c.before.before.put-bytes.ensures
+returns c = (after-third c.before.before.before.before.before.before.before.before).both c.put_bytes.ensures
 
-pub put-refusal-spec : {M : Type 1} → statement M
-put-refusal-spec =
+pub put_refusal_spec : {M : Type 1} → statement M
+put_refusal_spec =
     tie.close
     (tie.spec
     (λ c. search rules)

@@ -8,28 +8,28 @@ use Rattle.rewrite.proofs.Saying.{Next, next}
 use Rattle.rewrite.proofs.text.put_said.Statement.{statement}
 use Rattle.rewrite.proofs.text.put_said.Tie as tie
 
-put-bytes-requires : tie.Need-put-bytes-requires
+put-bytes-requires : tie.Need-put_bytes-at-requires
 put-bytes-requires c κs =
-    let start = c.before.before.before in
+    let start = c in
     omega (arith, start.requires, length-append start.args.word.now (number_text start.args.n))
 
-abbrev start : tie.After-put-bytes → tie.Start
+abbrev start : tie.After-put_bytes-at → tie.Start
 start c = c.before.before.before.before
 
-after-word : (c : tie.After-put-bytes)
-    → Next (start c).args.word.now (number_text (start c).args.n) (start c).args.out.now c.put-bytes.result c.put-bytes.new.1.0
-after-word c = next (start c).args.word.now (number_text (start c).args.n) (start c).args.out.now (start c).requires c.put-bytes.ensures
+after-word : (c : tie.After-put_bytes-at)
+    → Next (start c).args.word.now (number_text (start c).args.n) (start c).args.out.now c.put_bytes-at.result c.put_bytes-at.new.1.0
+after-word c = next (start c).args.word.now (number_text (start c).args.n) (start c).args.out.now (start c).requires c.put_bytes-at.ensures
 
-add-result : tie.Need-overflow-add-result
+add-result : tie.Need-overflow_add-result
 add-result c =
     let worded = c.before.before.before.before.before.before in
-    omega (arith, (start worded).well-formed, (after-word worded).ends, c.before.before.put-number.ensures.length-told)
+    omega (arith, (start worded).well-formed, (after-word c.before.before.before.before.before.before).ends, c.put_number.ensures.length-told)
 
 returns : tie.Need-returns
-returns c = (after-word c.before.before.before.before.before.before).both c.before.before.put-number.ensures
+returns c = (after-word c.before.before.before.before.before.before).both c.put_number.ensures
 
-pub put-said-spec : {M : Type 1} → statement M
-put-said-spec =
+pub put_said_spec : {M : Type 1} → statement M
+put_said_spec =
     tie.close
     (tie.spec
     put-bytes-requires

@@ -10,36 +10,36 @@ use Rattle.row_walk.proofs.Stepping.{refused-begins, short-begins, begins-so}
 use Rattle.row_walk.proofs.beginning.begin.Statement.{statement}
 use Rattle.row_walk.proofs.beginning.begin.Tie as tie
 
-returns : tie.Need-returns
+returns : tie.Need-returns-then-reading-ne0
 returns c =
     let judged-at = c.before.before in
-    let a = judged-at.before.before.before.args in
-    rw (← judged-at.judge.ensures) (refused-begins (rules_in a.file.now) judged-at.judge.result a.file.now a.identifiers.now c.if1.true)
+    let a = judged-at.args in
+    rw (← judged-at.judge-reading.ensures) (refused-begins (rules_in a.file.now) judged-at.judge-reading.result a.file.now a.identifiers.now c.if-reading-ne0.true)
 
-returns-2 : tie.Need-returns-2
+returns-2 : tie.Need-returns-then-room-n
 returns-2 c =
-    let passed = c.before.before.before in
+    let passed = c in
     let judged-at = passed.before.before in
-    let a = judged-at.before.before.before.args in
-    let short = short-begins (rules_in a.file.now) judged-at.judge.result a.file.now a.identifiers.now passed.if1.false c.before.if2.true in
-    rw (← judged-at.judge.ensures) (c.no_room.ensures ∙ short.0, short.1)
+    let a = judged-at.args in
+    let short = short-begins (rules_in a.file.now) judged-at.judge-reading.result a.file.now a.identifiers.now passed.if-reading-ne0.false c.if-room-n.true in
+    rw (← judged-at.judge-reading.ensures) (c.no_room.ensures ∙ short.0, short.1)
 
-returns-3 : tie.Need-returns-3
+returns-3 : tie.Need-returns
 returns-3 c =
-    let filled = c.before.before in
-    let ruled = filled.before.before in
-    let roomed = ruled.before in
-    let passed = roomed.before.before in
+    let filled = c in
+    let ruled = c in
+    let roomed = c in
+    let passed = c in
     let judged-at = passed.before.before in
-    let a = judged-at.before.before.before.args in
-    let r = judged-at.judge.result in
-    rw (← judged-at.judge.ensures)
-    (begins-so (rules_in a.file.now) r a.file.now a.identifiers.now passed.if1.false _ roomed.if2.false
-    (filled.fill-slots.ensures
-    ∙ ap (λ (rules : Rules). laid (slots_in rules false r.header.satellites (lines_of a.file.now)) a.identifiers.now) ruled.told-by.ensures))
+    let a = judged-at.args in
+    let r = judged-at.judge-reading.result in
+    rw (← judged-at.judge-reading.ensures)
+    (begins-so (rules_in a.file.now) r a.file.now a.identifiers.now passed.if-reading-ne0.false _ roomed.if-room-n.false
+    (filled.fill_slots.ensures
+    ∙ ap (λ (rules : Rules). laid (slots_in rules false r.header.satellites (lines_of a.file.now)) a.identifiers.now) ruled.told_by.ensures))
 
-pub begin-spec : {M : Type 1} → statement M
-begin-spec =
+pub begin_spec : {M : Type 1} → statement M
+begin_spec =
     tie.close
     (tie.spec
     (λ c κs. search rules)

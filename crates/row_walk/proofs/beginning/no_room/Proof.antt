@@ -13,5 +13,5 @@ twelve h = record { refusal = 12; line = 0; column = 0; length = 0; header = h; 
 returns : tie.Need-returns
 returns c = ap twelve c.none.ensures
 
-pub no-room-spec : {M : Type 1} → statement M
-no-room-spec = tie.close (tie.spec (λ c κs. search rules) returns)
+pub no_room_spec : {M : Type 1} → statement M
+no_room_spec = tie.close (tie.spec (λ c κs. search rules) returns)

@@ -5,13 +5,13 @@ use Rattle.row_walk.specs.Rows.{epoch_of}
 use Rattle.row_walk.proofs.rows.epoch_of.Statement.{statement}
 use Rattle.row_walk.proofs.rows.epoch_of.Tie as tie
 
-returns : tie.Need-returns
+returns : tie.Need-returns-then-satellites-eq0
 unfolding epoch_of
-returns c = rw (eq-eqb _ _ c.if1.true)
+returns c = rw (eq-eqb _ _ c.if-satellites-eq0.true)
 
-returns-2 : tie.Need-returns-2
+returns-2 : tie.Need-returns
 unfolding epoch_of
-returns-2 c = rw (ne_eqb _ _ c.if1.false)
+returns-2 c = rw (ne_eqb _ _ c.if-satellites-eq0.false)
 
-pub epoch-of-spec : {M : Type 1} → statement M
-epoch-of-spec = tie.close (tie.spec returns (λ c. search rules) returns-2)
+pub epoch_of_spec : {M : Type 1} → statement M
+epoch_of_spec = tie.close (tie.spec returns (λ c. search rules) returns-2)

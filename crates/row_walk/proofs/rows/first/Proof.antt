@@ -11,7 +11,7 @@ abbrev none_passed : Spot → RowWalk
 none_passed p = record { spot = p; passed = 0 }
 
 returns : tie.Need-returns
-returns c = ap none_passed c.first-spot.ensures
+returns c = ap none_passed c.first_spot.ensures
 
 pub first_spec : {M : Type 1} → statement M
 first_spec = tie.close (tie.spec (λ c κs. search rules) returns)

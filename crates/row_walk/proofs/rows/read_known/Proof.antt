@@ -9,8 +9,8 @@ use Rattle.row_walk.proofs.rows.read_known.Tie as tie
 
 returns : tie.Need-returns
 returns c =
-    let a = c.before.before.before.before.args in
-    c.read_by.ensures ∙ ap (λ (r : Rules). told_read (line_known r a.file.now a.spot.at a.spot.state a.identifiers.now)) c.before.told-by.ensures
+    let a = c.args in
+    c.read_by.ensures ∙ ap (λ (r : Rules). told_read (line_known r a.file.now a.spot.at a.spot.state a.identifiers.now)) c.told_by.ensures
 
-pub read-known-spec : {M : Type 1} → statement M
-read-known-spec = tie.close (tie.spec (λ c κs. search rules) (λ c κs. search rules) returns)
+pub read_known_spec : {M : Type 1} → statement M
+read_known_spec = tie.close (tie.spec (λ c κs. search rules) (λ c κs. search rules) returns)

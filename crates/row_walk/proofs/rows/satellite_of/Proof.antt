@@ -5,13 +5,13 @@ use Rattle.row_walk.specs.Rows.{satellite_of}
 use Rattle.row_walk.proofs.rows.satellite_of.Statement.{statement}
 use Rattle.row_walk.proofs.rows.satellite_of.Tie as tie
 
-returns : tie.Need-returns
+returns : tie.Need-returns-then-satellites-eq0
 unfolding satellite_of
-returns c = rw (eq-eqb _ _ c.if1.true)
+returns c = rw (eq-eqb _ _ c.if-satellites-eq0.true)
 
-returns-2 : tie.Need-returns-2
+returns-2 : tie.Need-returns
 unfolding satellite_of
-returns-2 c = rw (ne_eqb _ _ c.if1.false)
+returns-2 c = rw (ne_eqb _ _ c.if-satellites-eq0.false)
 
-pub satellite-of-spec : {M : Type 1} → statement M
-satellite-of-spec = tie.close (tie.spec returns (λ c. search rules) returns-2)
+pub satellite_of_spec : {M : Type 1} → statement M
+satellite_of_spec = tie.close (tie.spec returns (λ c. search rules) returns-2)

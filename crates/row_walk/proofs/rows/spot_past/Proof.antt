@@ -10,10 +10,10 @@ use Rattle.row_walk.proofs.rows.spot_past.Tie as tie
 returns : tie.Need-returns
 unfolding spot_past
 returns c =
-    let done = c.before in
-    let a = done.before.before.before.args in
+    let done = c in
+    let a = done.args in
     let found = done.read_by.result in
-    c.gone-to.ensures ∙ gone-so a.spot found found (line_known a.rules a.file.now a.spot.at a.spot.state a.identifiers.now) done.read_by.ensures refl
+    c.gone_to.ensures ∙ gone-so a.spot found found (line_known a.rules a.file.now a.spot.at a.spot.state a.identifiers.now) done.read_by.ensures refl
 
-pub spot-past-spec : {M : Type 1} → statement M
-spot-past-spec = tie.close (tie.spec (λ c κs. search rules) (λ c κs. search rules) returns)
+pub spot_past_spec : {M : Type 1} → statement M
+spot_past_spec = tie.close (tie.spec (λ c κs. search rules) (λ c κs. search rules) returns)

@@ -8,16 +8,16 @@ use Rattle.sp3.specs.Doors.{date_door}
 use Rattle.sp3.proofs.asking.date_answer.Statement.{statement}
 use Rattle.sp3.proofs.asking.date_answer.Tie as tie
 
-returns : tie.Need-returns
+returns : tie.Need-returns-in-Day
 unfolding date_door told_date
-returns c = sym (ap (λ (f : Dated). date_door (told_date f)) c.before.found.given.1)
+returns c = sym (ap (λ (f : Dated). date_door (told_date f)) c.found.given.1)
 
-returns-2 : tie.Need-returns-2
+returns-2 : tie.Need-returns-in-OutOfBounds
 unfolding date_door told_date
 returns-2 c = sym (ap (λ (f : Dated). date_door (told_date f)) c.enum_told.given.1)
 
-pub date-answer-spec : {M : Type 1} → statement M
-date-answer-spec =
+pub date_answer_spec : {M : Type 1} → statement M
+date_answer_spec =
     tie.close
     (tie.spec
     (λ c. search rules)

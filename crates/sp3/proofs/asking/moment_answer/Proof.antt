@@ -8,16 +8,16 @@ use Rattle.sp3.specs.Doors.{moment_door}
 use Rattle.sp3.proofs.asking.moment_answer.Statement.{statement}
 use Rattle.sp3.proofs.asking.moment_answer.Tie as tie
 
-returns : tie.Need-returns
+returns : tie.Need-returns-in-Date
 unfolding moment_door told_named
-returns c = sym (ap (λ (f : Named). moment_door (told_named f) c.before.before.before.args.clock) c.before.found.given.1)
+returns c = sym (ap (λ (f : Named). moment_door (told_named f) c.args.clock) c.found.given.1)
 
-returns-2 : tie.Need-returns-2
+returns-2 : tie.Need-returns-in-OutOfBounds
 unfolding moment_door told_named
-returns-2 c = sym (ap (λ (f : Named). moment_door (told_named f) c.before.before.args.clock) c.enum_told.given.1)
+returns-2 c = sym (ap (λ (f : Named). moment_door (told_named f) c.args.clock) c.enum_told.given.1)
 
-pub moment-answer-spec : {M : Type 1} → statement M
-moment-answer-spec =
+pub moment_answer_spec : {M : Type 1} → statement M
+moment_answer_spec =
     tie.close
     (tie.spec
     (λ c. search rules)

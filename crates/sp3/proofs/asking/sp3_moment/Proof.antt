@@ -12,12 +12,12 @@ use Rattle.sp3.proofs.asking.sp3_moment.Tie as tie
 
 returns : tie.Need-returns
 returns c =
-    let clock = c.before.before.clock-of in
-    c.moment-answer.ensures ∙ ap (λ (t : List ℕ). moment_door t clock.result) c.before.civil.ensures
+    let clock = c.clock_of-clock in
+    c.moment_answer.ensures ∙ ap (λ (t : List ℕ). moment_door t clock.result) c.civil.ensures
     ∙ ap (λ (k : Clock). moment_door (civil_answer k.day) k) clock.ensures
 
-pub sp3-moment-spec : {M : Type 1} → statement M
-sp3-moment-spec =
+pub sp3_moment_spec : {M : Type 1} → statement M
+sp3_moment_spec =
     tie.close
     (tie.spec
     (λ c κs. search rules)

@@ -6,24 +6,24 @@ use Rattle.sp3.specs.Doors.{exponent_door}
 use Rattle.sp3.proofs.lists.exponent_answer.Statement.{statement}
 use Rattle.sp3.proofs.lists.exponent_answer.Tie as tie
 
-returns : tie.Need-returns
+returns : tie.Need-returns-in-Value
 unfolding exponent_door
-returns c = c.exponent.ensures ∙ sym (ap exponent_door c.before.before.found.given.1)
+returns c = c.exponent.ensures ∙ sym (ap exponent_door c.found.given.1)
 
-returns-2 : tie.Need-returns-2
+returns-2 : tie.Need-returns-in-Unknown
 unfolding exponent_door
-returns-2 c = c.exponent2.ensures ∙ sym (ap exponent_door c.before.enum_told.given.1)
+returns-2 c = c.exponent-in-Unknown.ensures ∙ sym (ap exponent_door c.enum_told.given.1)
 
-returns-3 : tie.Need-returns-3
+returns-3 : tie.Need-returns-in-TooLarge
 unfolding exponent_door
-returns-3 c = c.exponent3.ensures ∙ sym (ap exponent_door c.before.enum-told2.given.1)
+returns-3 c = c.exponent-in-TooLarge.ensures ∙ sym (ap exponent_door c.enum_told-in-TooLarge-1.given.1)
 
-returns-4 : tie.Need-returns-4
+returns-4 : tie.Need-returns-in-NotThere
 unfolding exponent_door
-returns-4 c = c.exponent4.ensures ∙ sym (ap exponent_door c.before.enum-told3.given.1)
+returns-4 c = c.exponent-in-NotThere.ensures ∙ sym (ap exponent_door c.enum_told-in-NotThere-1.given.1)
 
-pub exponent-answer-spec : {M : Type 1} → statement M
-exponent-answer-spec =
+pub exponent_answer_spec : {M : Type 1} → statement M
+exponent_answer_spec =
     tie.close
     (tie.spec
     (λ c. search rules)

@@ -6,28 +6,28 @@ use Rattle.sp3.specs.Doors.{note_deviation_door}
 use Rattle.sp3.proofs.lists.note_deviation_answer.Statement.{statement}
 use Rattle.sp3.proofs.lists.note_deviation_answer.Tie as tie
 
-returns : tie.Need-returns
+returns : tie.Need-returns-in-Value
 unfolding note_deviation_door
-returns c = sym (ap note_deviation_door c.before.found.given.1)
+returns c = sym (ap note_deviation_door c.found.given.1)
 
-returns-2 : tie.Need-returns-2
+returns-2 : tie.Need-returns-in-Unknown
 unfolding note_deviation_door
-returns-2 c = c.no-deviation.ensures ∙ sym (ap note_deviation_door c.before.enum_told.given.1)
+returns-2 c = c.no_deviation.ensures ∙ sym (ap note_deviation_door c.enum_told.given.1)
 
-returns-3 : tie.Need-returns-3
+returns-3 : tie.Need-returns-in-TooLarge
 unfolding note_deviation_door
-returns-3 c = c.no-deviation2.ensures ∙ sym (ap note_deviation_door c.before.enum-told2.given.1)
+returns-3 c = c.no_deviation-in-TooLarge.ensures ∙ sym (ap note_deviation_door c.enum_told-in-TooLarge-1.given.1)
 
-returns-4 : tie.Need-returns-4
+returns-4 : tie.Need-returns-in-NoRecord
 unfolding note_deviation_door
-returns-4 c = c.no-deviation3.ensures ∙ sym (ap note_deviation_door c.before.enum-told3.given.1)
+returns-4 c = c.no_deviation-in-NoRecord.ensures ∙ sym (ap note_deviation_door c.enum_told-in-NoRecord-1.given.1)
 
-returns-5 : tie.Need-returns-5
+returns-5 : tie.Need-returns-in-NotThere
 unfolding note_deviation_door
-returns-5 c = c.no-deviation4.ensures ∙ sym (ap note_deviation_door c.before.enum-told4.given.1)
+returns-5 c = c.no_deviation-in-NotThere.ensures ∙ sym (ap note_deviation_door c.enum_told-in-NotThere-1.given.1)
 
-pub note-deviation-answer-spec : {M : Type 1} → statement M
-note-deviation-answer-spec =
+pub note_deviation_answer_spec : {M : Type 1} → statement M
+note_deviation_answer_spec =
     tie.close
     (tie.spec
     (λ c. search rules)

@@ -8,10 +8,10 @@ use Rattle.sp3.proofs.lists.sp3_clock_of.Statement.{statement}
 use Rattle.sp3.proofs.lists.sp3_clock_of.Tie as tie
 
 returns : tie.Need-returns
-returns c = c.clock-answer.ensures ∙ ap clock_door (told_clock-one _ _ c.before.clock-of.ensures)
+returns c = c.clock_answer.ensures ∙ ap clock_door (told_clock-one _ _ c.clock_of.ensures)
 
-pub sp3-clock-of-spec : {M : Type 1} → statement M
-sp3-clock-of-spec =
+pub sp3_clock_of_spec : {M : Type 1} → statement M
+sp3_clock_of_spec =
     tie.close
     (tie.spec
     (λ c κs. search rules)

@@ -8,10 +8,10 @@ use Rattle.sp3.proofs.lists.sp3_exponent_of.Statement.{statement}
 use Rattle.sp3.proofs.lists.sp3_exponent_of.Tie as tie
 
 returns : tie.Need-returns
-returns c = c.exponent-answer.ensures ∙ ap exponent_door (told_exponent_read-one _ _ c.before.exponent-of.ensures)
+returns c = c.exponent_answer.ensures ∙ ap exponent_door (told_exponent_read-one _ _ c.exponent_of.ensures)
 
-pub sp3-exponent-of-spec : {M : Type 1} → statement M
-sp3-exponent-of-spec =
+pub sp3_exponent_of_spec : {M : Type 1} → statement M
+sp3_exponent_of_spec =
     tie.close
     (tie.spec
     (λ c κs. search rules)

@@ -8,10 +8,10 @@ use Rattle.sp3.proofs.lists.sp3_flag_of.Statement.{statement}
 use Rattle.sp3.proofs.lists.sp3_flag_of.Tie as tie
 
 returns : tie.Need-returns
-returns c = c.flag-answer.ensures ∙ ap flag_door (told_flag-one _ _ c.before.flag-of.ensures)
+returns c = c.flag_answer.ensures ∙ ap flag_door (told_flag-one _ _ c.flag_of.ensures)
 
-pub sp3-flag-of-spec : {M : Type 1} → statement M
-sp3-flag-of-spec =
+pub sp3_flag_of_spec : {M : Type 1} → statement M
+sp3_flag_of_spec =
     tie.close
     (tie.spec
     (λ c κs. search rules)

@@ -8,10 +8,10 @@ use Rattle.sp3.proofs.lists.sp3_note_deviation_of.Statement.{statement}
 use Rattle.sp3.proofs.lists.sp3_note_deviation_of.Tie as tie
 
 returns : tie.Need-returns
-returns c = c.note-deviation-answer.ensures ∙ ap note_deviation_door (told_note_deviation-one _ _ c.before.note-deviation-of.ensures)
+returns c = c.note_deviation_answer.ensures ∙ ap note_deviation_door (told_note_deviation-one _ _ c.note_deviation_of.ensures)
 
-pub sp3-note-deviation-of-spec : {M : Type 1} → statement M
-sp3-note-deviation-of-spec =
+pub sp3_note_deviation_of_spec : {M : Type 1} → statement M
+sp3_note_deviation_of_spec =
     tie.close
     (tie.spec
     (λ c κs. search rules)

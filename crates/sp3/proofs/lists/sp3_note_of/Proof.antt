@@ -8,10 +8,10 @@ use Rattle.sp3.proofs.lists.sp3_note_of.Statement.{statement}
 use Rattle.sp3.proofs.lists.sp3_note_of.Tie as tie
 
 returns : tie.Need-returns
-returns c = c.note-answer.ensures ∙ ap note_door (told_note-one _ _ c.before.note-of.ensures)
+returns c = c.note_answer.ensures ∙ ap note_door (told_note-one _ _ c.note_of.ensures)
 
-pub sp3-note-of-spec : {M : Type 1} → statement M
-sp3-note-of-spec =
+pub sp3_note_of_spec : {M : Type 1} → statement M
+sp3_note_of_spec =
     tie.close
     (tie.spec
     (λ c κs. search rules)

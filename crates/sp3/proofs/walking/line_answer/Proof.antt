@@ -6,24 +6,24 @@ use Rattle.sp3.specs.Doors.{line_door}
 use Rattle.sp3.proofs.walking.line_answer.Statement.{statement}
 use Rattle.sp3.proofs.walking.line_answer.Tie as tie
 
-returns : tie.Need-returns
+returns : tie.Need-returns-in-NoLine
 unfolding line_door
-returns c = c.line-parts.ensures ∙ sym (ap (line_door c.before.before.before.before.args.spot) c.before.enum_told.given.1)
+returns c = c.line_parts.ensures ∙ sym (ap (line_door c.args.spot) c.enum_told.given.1)
 
-returns-2 : tie.Need-returns-2
+returns-2 : tie.Need-returns-in-Fault
 unfolding line_door
-returns-2 c = c.line-parts2.ensures ∙ sym (ap (line_door c.before.before.before.before.before.args.spot) c.before.before.found.given.1)
+returns-2 c = c.line_parts-in-Fault.ensures ∙ sym (ap (line_door c.args.spot) c.found.given.1)
 
-returns-3 : tie.Need-returns-3
+returns-3 : tie.Need-returns-in-Next
 unfolding line_door
-returns-3 c = c.line-parts3.ensures ∙ sym (ap (line_door c.before.before.before.before.before.args.spot) c.before.before.found2.given.1)
+returns-3 c = c.line_parts-in-Next.ensures ∙ sym (ap (line_door c.args.spot) c.found-in-Next-1.given.1)
 
-returns-4 : tie.Need-returns-4
+returns-4 : tie.Need-returns-in-Finished
 unfolding line_door
-returns-4 c = c.line-parts4.ensures ∙ sym (ap (line_door c.before.before.before.before.before.args.spot) c.before.before.found3.given.1)
+returns-4 c = c.line_parts-in-Finished.ensures ∙ sym (ap (line_door c.args.spot) c.found-in-Finished-1.given.1)
 
-pub line-answer-spec : {M : Type 1} → statement M
-line-answer-spec =
+pub line_answer_spec : {M : Type 1} → statement M
+line_answer_spec =
     tie.close
     (tie.spec
     (λ c. search rules)

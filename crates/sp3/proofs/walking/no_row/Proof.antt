@@ -9,5 +9,5 @@ returns : tie.Need-returns
 unfolding div of_bits
 returns c = refl
 
-pub no-row-spec : {M : Type 1} → statement M
-no-row-spec = tie.close (tie.spec returns)
+pub no_row_spec : {M : Type 1} → statement M
+no_row_spec = tie.close (tie.spec returns)

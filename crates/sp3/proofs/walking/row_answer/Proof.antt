@@ -6,24 +6,24 @@ use Rattle.sp3.specs.Doors.{row_door}
 use Rattle.sp3.proofs.walking.row_answer.Statement.{statement}
 use Rattle.sp3.proofs.walking.row_answer.Tie as tie
 
-returns : tie.Need-returns
+returns : tie.Need-returns-in-At
 unfolding row_door
-returns c = c.row-found.ensures ∙ sym (ap (row_door c.before.before.before.before.args.from) c.before.before.found.given.1)
+returns c = c.row_found.ensures ∙ sym (ap (row_door c.args.from) c.found.given.1)
 
-returns-2 : tie.Need-returns-2
+returns-2 : tie.Need-returns-in-Absent
 unfolding row_door
-returns-2 c = c.row-found2.ensures ∙ sym (ap (row_door c.before.before.before.before.args.from) c.before.before.found2.given.1)
+returns-2 c = c.row_found-in-Absent.ensures ∙ sym (ap (row_door c.args.from) c.found-in-Absent-1.given.1)
 
-returns-3 : tie.Need-returns-3
+returns-3 : tie.Need-returns-in-End
 unfolding row_door
-returns-3 c = c.no_row.ensures ∙ sym (ap (row_door c.before.before.before.args.from) c.before.enum_told.given.1)
+returns-3 c = c.no_row.ensures ∙ sym (ap (row_door c.args.from) c.enum_told.given.1)
 
-returns-4 : tie.Need-returns-4
+returns-4 : tie.Need-returns-in-Refused
 unfolding row_door
-returns-4 c = c.no-row2.ensures ∙ sym (ap (row_door c.before.before.before.before.args.from) c.before.before.found3.given.1)
+returns-4 c = c.no_row-in-Refused.ensures ∙ sym (ap (row_door c.args.from) c.found-in-Refused-1.given.1)
 
-pub row-answer-spec : {M : Type 1} → statement M
-row-answer-spec =
+pub row_answer_spec : {M : Type 1} → statement M
+row_answer_spec =
     tie.close
     (tie.spec
     (λ c. search rules)

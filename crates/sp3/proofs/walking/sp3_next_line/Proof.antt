@@ -8,10 +8,10 @@ use Rattle.sp3.proofs.walking.sp3_next_line.Statement.{statement}
 use Rattle.sp3.proofs.walking.sp3_next_line.Tie as tie
 
 returns : tie.Need-returns
-returns c = c.line-answer.ensures ∙ ap (line_door _) (told_read-one _ _ c.before.read_Known.ensures)
+returns c = c.line_answer.ensures ∙ ap (line_door _) (told_read-one _ _ c.read_Known.ensures)
 
-pub sp3-next-line-spec : {M : Type 1} → statement M
-sp3-next-line-spec =
+pub sp3_next_line_spec : {M : Type 1} → statement M
+sp3_next_line_spec =
     tie.close
     (tie.spec
     (λ c κs. search rules)

@@ -8,10 +8,10 @@ use Rattle.sp3.proofs.walking.sp3_next_row.Statement.{statement}
 use Rattle.sp3.proofs.walking.sp3_next_row.Tie as tie
 
 returns : tie.Need-returns
-returns c = c.row-answer.ensures ∙ ap (row_door _) (told_step-one _ _ c.before.next_row.ensures)
+returns c = c.row_answer.ensures ∙ ap (row_door _) (told_step-one _ _ c.next_row.ensures)
 
-pub sp3-next-row-spec : {M : Type 1} → statement M
-sp3-next-row-spec =
+pub sp3_next_row_spec : {M : Type 1} → statement M
+sp3_next_row_spec =
     tie.close
     (tie.spec
     (λ c κs. search rules)

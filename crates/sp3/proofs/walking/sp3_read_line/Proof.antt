@@ -12,18 +12,18 @@ use Rattle.sp3.proofs.walking.sp3_read_line.Tie as tie
 
 returns : tie.Need-returns
 returns c =
-    let done = c.before.before.before in
-    let ruled = done.before.before in
-    let a = ruled.before.before.before.before.args in (
-      c.line-answer.ensures
-          ∙ ap (line_door a.spot) (told_read-one _ _ (done.read-line.ensures.0
-          ∙ ap (λ (k : Rules). told_read (line_read k a.bytes.now a.spot.at a.spot.state a.identifiers.now)) ruled.told-by.ensures)),
-      done.read-line.ensures.1
-          ∙ ap (λ (k : Rules). line_identifiers k a.bytes.now a.spot.at a.spot.state a.identifiers.now) ruled.told-by.ensures,
+    let done = c in
+    let ruled = c in
+    let a = ruled.args in (
+      c.line_answer.ensures
+          ∙ ap (line_door a.spot) (told_read-one _ _ (done.read_line-found.ensures.0
+          ∙ ap (λ (k : Rules). told_read (line_read k a.bytes.now a.spot.at a.spot.state a.identifiers.now)) ruled.told_by.ensures)),
+      done.read_line-found.ensures.1
+          ∙ ap (λ (k : Rules). line_identifiers k a.bytes.now a.spot.at a.spot.state a.identifiers.now) ruled.told_by.ensures,
     )
 
-pub sp3-read-line-spec : {M : Type 1} → statement M
-sp3-read-line-spec =
+pub sp3_read_line_spec : {M : Type 1} → statement M
+sp3_read_line_spec =
     tie.close
     (tie.spec
     (λ c κs. search rules)

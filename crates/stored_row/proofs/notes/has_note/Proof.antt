@@ -14,8 +14,8 @@ turned false = refl
 
 returns : tie.Need-returns
 returns c =
-    let start = c.before in
-    turned (eqb c.size-at.result 0) ∙ marked start.args.rows.now start.args.k (eqb c.size-at.result 0) c.size-at.ensures refl
+    let start = c in
+    turned (eqb c.size_at.result 0) ∙ marked start.args.rows.now start.args.k (eqb c.size_at.result 0) c.size_at.ensures refl
 
-pub has-note-spec : {M : Type 1} → statement M
-has-note-spec = tie.close (tie.spec (λ c κs. (c.requires, omega arith)) returns)
+pub has_note_spec : {M : Type 1} → statement M
+has_note_spec = tie.close (tie.spec (λ c κs. (c.requires, omega arith)) returns)

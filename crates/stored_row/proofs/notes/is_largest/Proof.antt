@@ -3,11 +3,11 @@
 use Rattle.stored_row.proofs.notes.is_largest.Statement.{statement}
 use Rattle.stored_row.proofs.notes.is_largest.Tie as tie
 
-returns : tie.Need-returns
-returns c = rw c.if1.true
+returns : tie.Need-returns-then-clock
+returns c = rw c.if-clock.true
 
-returns-2 : tie.Need-returns-2
-returns-2 c = rw c.if1.false
+returns-2 : tie.Need-returns
+returns-2 c = rw c.if-clock.false
 
-pub is-largest-spec : {M : Type 1} → statement M
-is-largest-spec = tie.close (tie.spec returns returns-2)
+pub is_largest_spec : {M : Type 1} → statement M
+is_largest_spec = tie.close (tie.spec returns returns-2)

@@ -16,64 +16,64 @@ use Rattle.stored_row.proofs.Storing.{row_within, no-note-correlation, correlati
 use Rattle.stored_row.proofs.notes.note_correlation_of.Statement.{statement}
 use Rattle.stored_row.proofs.notes.note_correlation_of.Tie as tie
 
-asked : (c : tie.Else1) → (is_there c.before.before.args.rows.now c.before.before.args.k && leb c.before.before.args.which 5) ≡ true
-asked c = ap (λ (t : Bool). t && leb c.before.before.args.which 5) (sym c.before.is-there.ensures) ∙ not-false _ c.if1.false
+asked : (c : tie.Else-not-is_there-which) → (is_there c.args.rows.now c.args.k && leb c.args.which 5) ≡ true
+asked c = ap (λ (t : Bool). t && leb c.args.which 5) (sym c.is_there.ensures) ∙ not-false _ c.if-not-is_there-which.false
 
-there : (c : tie.Else1) → is_there c.before.before.args.rows.now c.before.before.args.k ≡ true
+there : (c : tie.Else-not-is_there-which) → is_there c.args.rows.now c.args.k ≡ true
 there c =
-    let start = c.before.before in
+    let start = c in
     and_left (is_there start.args.rows.now start.args.k) (leb start.args.which 5) (asked c)
 
-few : (c : tie.Else1) → c.before.before.args.which ≤ 5
+few : (c : tie.Else-not-is_there-which) → c.args.which ≤ 5
 few c =
-    let start = c.before.before in
+    let start = c in
     leb-true start.args.which 5 (and_right (is_there start.args.rows.now start.args.k) (leb start.args.which 5) (asked c))
 
-within : (c : tie.Else1) → c.before.before.args.k * row_width + (17 + c.before.before.args.which) < length c.before.before.args.rows.now
+within : (c : tie.Else-not-is_there-which) → c.args.k * row_width + (17 + c.args.which) < length c.args.rows.now
 within c =
-    let start = c.before.before in
+    let start = c in
     let h = few c in
     row_within (length start.args.rows.now) start.args.k (17 + start.args.which) (there c) (omega arith)
 
-returns : tie.Need-returns
+returns : tie.Need-returns-then-not-is_there-which
 returns c =
-    let start = c.before.before in
+    let start = c in
     ap told_note_correlation
     (no-note-correlation start.args.rows.now start.args.k start.args.which
-    (ap (λ (t : Bool). t && leb start.args.which 5) (sym c.before.is-there.ensures) ∙ not-true _ c.if1.true))
+    (ap (λ (t : Bool). t && leb start.args.which 5) (sym c.is_there.ensures) ∙ not-true _ c.if-not-is_there-which.true))
 
-returns-2 : tie.Need-returns-2
+returns-2 : tie.Need-returns-then-not-has_note
 returns-2 c =
-    let noted = c.before in
-    let start = noted.before.before.before in
+    let noted = c in
+    let start = c in
     ap told_note_correlation
-    (correlation-unrecorded start.args.rows.now start.args.k start.args.which (asked noted.before) noted.has-note.ensures
-    (not-true _ c.if2.true))
+    (correlation-unrecorded start.args.rows.now start.args.k start.args.which (asked c.before.before) noted.has_note.ensures
+    (not-true _ c.if-not-has_note.true))
 
-returns-3 : tie.Need-returns-3
+returns-3 : tie.Need-returns-then-magnitude_of-eq-UNNOTED
 returns-3 c =
-    let sized = c.before in
-    let read = sized.before in
-    let noted = read.before.before in
-    let start = noted.before.before.before in
+    let sized = c in
+    let read = c in
+    let noted = c in
+    let start = c in
     ap told_note_correlation
-    (correlation-told start.args.rows.now start.args.k start.args.which (asked noted.before) noted.has-note.ensures
-    (not-false _ read.before.if2.false) true read.v.given sized.magnitude-of.ensures
-    (eq-eqb sized.magnitude-of.result unnoted c.if3.true))
+    (correlation-told start.args.rows.now start.args.k start.args.which (asked c.before.before.before.before.before) noted.has_note.ensures
+    (not-false _ read.if-not-has_note.false) true read.v.given sized.magnitude_of.ensures
+    (eq-eqb sized.magnitude_of.result unnoted c.if-magnitude_of-eq-UNNOTED.true))
 
-returns-4 : tie.Need-returns-4
+returns-4 : tie.Need-returns
 returns-4 c =
-    let sized = c.before in
-    let read = sized.before in
-    let noted = read.before.before in
-    let start = noted.before.before.before in
+    let sized = c in
+    let read = c in
+    let noted = c in
+    let start = c in
     ap told_note_correlation
-    (correlation-told start.args.rows.now start.args.k start.args.which (asked noted.before) noted.has-note.ensures
-    (not-false _ read.before.if2.false) false read.v.given sized.magnitude-of.ensures
-    (ne_eqb sized.magnitude-of.result unnoted c.if3.false))
+    (correlation-told start.args.rows.now start.args.k start.args.which (asked c.before.before.before.before.before) noted.has_note.ensures
+    (not-false _ read.if-not-has_note.false) false read.v.given sized.magnitude_of.ensures
+    (ne_eqb sized.magnitude_of.result unnoted c.if-magnitude_of-eq-UNNOTED.false))
 
-pub note-correlation-of-spec : {M : Type 1} → statement M
-note-correlation-of-spec =
+pub note_correlation_of_spec : {M : Type 1} → statement M
+note_correlation_of_spec =
     tie.close
     (tie.spec
     (λ c κs. search rules)

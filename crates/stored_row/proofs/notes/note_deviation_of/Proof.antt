@@ -14,67 +14,67 @@ use Rattle.stored_row.proofs.Storing.{no-note-deviation, deviation-unrecorded, d
 use Rattle.stored_row.proofs.notes.note_deviation_of.Statement.{statement}
 use Rattle.stored_row.proofs.notes.note_deviation_of.Tie as tie
 
-asked : (c : tie.Else1) → (is_there c.before.before.args.rows.now c.before.before.args.k && leb c.before.before.args.which 3) ≡ true
-asked c = ap (λ (t : Bool). t && leb c.before.before.args.which 3) (sym c.before.is-there.ensures) ∙ not-false _ c.if1.false
+asked : (c : tie.Else-not-is_there-which) → (is_there c.args.rows.now c.args.k && leb c.args.which 3) ≡ true
+asked c = ap (λ (t : Bool). t && leb c.args.which 3) (sym c.is_there.ensures) ∙ not-false _ c.if-not-is_there-which.false
 
-there : (c : tie.Else1) → is_there c.before.before.args.rows.now c.before.before.args.k ≡ true
+there : (c : tie.Else-not-is_there-which) → is_there c.args.rows.now c.args.k ≡ true
 there c =
-    let start = c.before.before in
+    let start = c in
     and_left (is_there start.args.rows.now start.args.k) (leb start.args.which 3) (asked c)
 
-few : (c : tie.Else1) → c.before.before.args.which ≤ 3
+few : (c : tie.Else-not-is_there-which) → c.args.which ≤ 3
 few c =
-    let start = c.before.before in
+    let start = c in
     leb-true start.args.which 3 (and_right (is_there start.args.rows.now start.args.k) (leb start.args.which 3) (asked c))
 
-returns : tie.Need-returns
+returns : tie.Need-returns-then-not-is_there-which
 returns c =
-    let start = c.before.before in
+    let start = c in
     ap told_note_deviation
     (no-note-deviation start.args.rows.now start.args.k start.args.which
-    (ap (λ (t : Bool). t && leb start.args.which 3) (sym c.before.is-there.ensures) ∙ not-true _ c.if1.true))
+    (ap (λ (t : Bool). t && leb start.args.which 3) (sym c.is_there.ensures) ∙ not-true _ c.if-not-is_there-which.true))
 
-returns-2 : tie.Need-returns-2
+returns-2 : tie.Need-returns-then-not-has_note
 returns-2 c =
-    let noted = c.before in
-    let start = noted.before.before.before in
+    let noted = c in
+    let start = c in
     ap told_note_deviation
-    (deviation-unrecorded start.args.rows.now start.args.k start.args.which (asked noted.before) noted.has-note.ensures
-    (not-true _ c.if2.true))
+    (deviation-unrecorded start.args.rows.now start.args.k start.args.which (asked c.before.before) noted.has_note.ensures
+    (not-true _ c.if-not-has_note.true))
 
-returns-3 : tie.Need-returns-3
+returns-3 : tie.Need-returns-then-n-eq-UNNOTED
 returns-3 c =
-    let sized = c.before in
-    let noted = sized.before.before in
-    let start = noted.before.before.before in
+    let sized = c in
+    let noted = c in
+    let start = c in
     ap told_note_deviation
-    (deviation-unknown start.args.rows.now start.args.k start.args.which (asked noted.before) noted.has-note.ensures
-    (not-false _ sized.before.if2.false) sized.size-at.ensures (eq-eqb sized.size-at.result unnoted c.if3.true))
+    (deviation-unknown start.args.rows.now start.args.k start.args.which (asked c.before.before.before.before) noted.has_note.ensures
+    (not-false _ sized.if-not-has_note.false) sized.size_at-n.ensures (eq-eqb sized.size_at-n.result unnoted c.if-n-eq-UNNOTED.true))
 
-returns-4 : tie.Need-returns-4
+returns-4 : tie.Need-returns-then-is_largest
 returns-4 c =
-    let known = c.before.before in
-    let sized = known.before in
-    let noted = sized.before.before in
-    let start = noted.before.before.before in
+    let known = c in
+    let sized = c in
+    let noted = c in
+    let start = c in
     ap told_note_deviation
-    (deviation-known start.args.rows.now start.args.k start.args.which (asked noted.before) noted.has-note.ensures
-    (not-false _ sized.before.if2.false) sized.size-at.ensures true (ne_eqb sized.size-at.result unnoted known.if3.false)
-    c.before.is-largest.ensures c.if4.true)
+    (deviation-known start.args.rows.now start.args.k start.args.which (asked c.before.before.before.before.before.before) noted.has_note.ensures
+    (not-false _ sized.if-not-has_note.false) sized.size_at-n.ensures true (ne_eqb sized.size_at-n.result unnoted known.if-n-eq-UNNOTED.false)
+    c.is_largest.ensures c.if-is_largest.true)
 
-returns-5 : tie.Need-returns-5
+returns-5 : tie.Need-returns
 returns-5 c =
-    let known = c.before.before in
-    let sized = known.before in
-    let noted = sized.before.before in
-    let start = noted.before.before.before in
+    let known = c in
+    let sized = c in
+    let noted = c in
+    let start = c in
     ap told_note_deviation
-    (deviation-known start.args.rows.now start.args.k start.args.which (asked noted.before) noted.has-note.ensures
-    (not-false _ sized.before.if2.false) sized.size-at.ensures false (ne_eqb sized.size-at.result unnoted known.if3.false)
-    c.before.is-largest.ensures c.if4.false)
+    (deviation-known start.args.rows.now start.args.k start.args.which (asked c.before.before.before.before.before.before) noted.has_note.ensures
+    (not-false _ sized.if-not-has_note.false) sized.size_at-n.ensures false (ne_eqb sized.size_at-n.result unnoted known.if-n-eq-UNNOTED.false)
+    c.is_largest.ensures c.if-is_largest.false)
 
-pub note-deviation-of-spec : {M : Type 1} → statement M
-note-deviation-of-spec =
+pub note_deviation_of_spec : {M : Type 1} → statement M
+note_deviation_of_spec =
     tie.close
     (tie.spec
     (λ c κs. search rules)

@@ -9,25 +9,25 @@ use Rattle.stored_row.proofs.Storing.{no-mark, mark-is}
 use Rattle.stored_row.proofs.notes.note_of.Statement.{statement}
 use Rattle.stored_row.proofs.notes.note_of.Tie as tie
 
-there : (c : tie.Else1) → is_there c.before.before.args.rows.now c.before.before.args.k ≡ true
-there c = sym c.before.is-there.ensures ∙ not-false _ c.if1.false
+there : (c : tie.Else-not-is_there) → is_there c.args.rows.now c.args.k ≡ true
+there c = sym c.is_there.ensures ∙ not-false _ c.if-not-is_there.false
 
-returns : tie.Need-returns
+returns : tie.Need-returns-then-not-is_there
 returns c =
-    let start = c.before.before in
-    ap told_note (no-mark start.args.rows.now start.args.k (sym c.before.is-there.ensures ∙ not-true _ c.if1.true))
+    let start = c in
+    ap told_note (no-mark start.args.rows.now start.args.k (sym c.is_there.ensures ∙ not-true _ c.if-not-is_there.true))
 
-returns-2 : tie.Need-returns-2
+returns-2 : tie.Need-returns-then-has_note
 returns-2 c =
-    let asked = c.before.before in
-    let start = asked.before.before in
-    ap told_note (mark-is start.args.rows.now start.args.k (there asked) true c.before.has-note.ensures c.if2.true)
+    let asked = c in
+    let start = c in
+    ap told_note (mark-is start.args.rows.now start.args.k (there c.before.before) true c.has_note.ensures c.if-has_note.true)
 
-returns-3 : tie.Need-returns-3
+returns-3 : tie.Need-returns
 returns-3 c =
-    let asked = c.before.before in
-    let start = asked.before.before in
-    ap told_note (mark-is start.args.rows.now start.args.k (there asked) false c.before.has-note.ensures c.if2.false)
+    let asked = c in
+    let start = c in
+    ap told_note (mark-is start.args.rows.now start.args.k (there c.before.before) false c.has_note.ensures c.if-has_note.false)
 
-pub note-of-spec : {M : Type 1} → statement M
-note-of-spec = tie.close (tie.spec (λ c κs. search rules) returns (λ c κs. there c) returns-2 returns-3)
+pub note_of_spec : {M : Type 1} → statement M
+note_of_spec = tie.close (tie.spec (λ c κs. search rules) returns (λ c κs. there c) returns-2 returns-3)

@@ -14,11 +14,11 @@ within c = row_within (length c.args.rows.now) c.args.k c.args.i c.requires.0 c.
 
 returns : tie.Need-returns
 returns c =
-    let start = c.before.before in
-    size-read start.args.rows.now start.args.k start.args.i c.before.magnitude-of-arg.given c.magnitude-of.ensures
+    let start = c in
+    size-read start.args.rows.now start.args.k start.args.i c.magnitude-of-arg.given c.magnitude_of.ensures
 
-pub size-at-spec : {M : Type 1} → statement M
-size-at-spec =
+pub size_at_spec : {M : Type 1} → statement M
+size_at_spec =
     tie.close
     (tie.spec
     (λ c. let h = within c in omega arith)

@@ -13,36 +13,36 @@ use Rattle.stored_row.proofs.Storing.{row_within, no-clock, clock-is}
 use Rattle.stored_row.proofs.rows.clock_of.Statement.{statement}
 use Rattle.stored_row.proofs.rows.clock_of.Tie as tie
 
-there : (c : tie.Else1) → is_there c.before.before.args.rows.now c.before.before.args.k ≡ true
-there c = sym c.before.is-there.ensures ∙ not-false _ c.if1.false
+there : (c : tie.Else-not-is_there) → is_there c.args.rows.now c.args.k ≡ true
+there c = sym c.is_there.ensures ∙ not-false _ c.if-not-is_there.false
 
-within : (c : tie.Else1) → c.before.before.args.k * row_width + 3 < length c.before.before.args.rows.now
-within c = row_within (length c.before.before.args.rows.now) c.before.before.args.k 3 (there c) (omega arith)
+within : (c : tie.Else-not-is_there) → c.args.k * row_width + 3 < length c.args.rows.now
+within c = row_within (length c.args.rows.now) c.args.k 3 (there c) (omega arith)
 
-returns : tie.Need-returns
+returns : tie.Need-returns-then-not-is_there
 returns c =
-    let start = c.before.before in
+    let start = c in
     ap told_clock
-    (no-clock start.args.rows.now start.args.k (sym c.before.is-there.ensures ∙ not-true _ c.if1.true))
+    (no-clock start.args.rows.now start.args.k (sym c.is_there.ensures ∙ not-true _ c.if-not-is_there.true))
 
-returns-2 : tie.Need-returns-2
+returns-2 : tie.Need-returns-then-clock_absent
 returns-2 c =
-    let read = c.before.before.before.before in
-    let start = read.before.before.before in
+    let read = c in
+    let start = c in
     ap told_clock
-    (clock-is start.args.rows.now start.args.k (there read.before) true read.clock.given c.before.before.before.is_negative.ensures
-    c.before.before.magnitude-of.ensures c.before.clock-absent.ensures c.if2.true)
+    (clock-is start.args.rows.now start.args.k (there c.before.before.before.before.before) true read.clock.given c.is_negative-negative.ensures
+    c.magnitude_of.ensures c.clock_absent.ensures c.if-clock_absent.true)
 
-returns-3 : tie.Need-returns-3
+returns-3 : tie.Need-returns
 returns-3 c =
-    let read = c.before.before.before.before in
-    let start = read.before.before.before in
+    let read = c in
+    let start = c in
     ap told_clock
-    (clock-is start.args.rows.now start.args.k (there read.before) false read.clock.given c.before.before.before.is_negative.ensures
-    c.before.before.magnitude-of.ensures c.before.clock-absent.ensures c.if2.false)
+    (clock-is start.args.rows.now start.args.k (there c.before.before.before.before.before) false read.clock.given c.is_negative-negative.ensures
+    c.magnitude_of.ensures c.clock_absent.ensures c.if-clock_absent.false)
 
-pub clock-of-spec : {M : Type 1} → statement M
-clock-of-spec =
+pub clock_of_spec : {M : Type 1} → statement M
+clock_of_spec =
     tie.close
     (tie.spec
     (λ c κs. search rules)

@@ -15,58 +15,58 @@ use Rattle.stored_row.proofs.Storing.{row_within, no-exponent, unknown-is, known
 use Rattle.stored_row.proofs.rows.exponent_of.Statement.{statement}
 use Rattle.stored_row.proofs.rows.exponent_of.Tie as tie
 
-asked : (c : tie.Else1) → (is_there c.before.before.args.rows.now c.before.before.args.k && leb c.before.before.args.which 3) ≡ true
-asked c = ap (λ (t : Bool). t && leb c.before.before.args.which 3) (sym c.before.is-there.ensures) ∙ not-false _ c.if1.false
+asked : (c : tie.Else-not-is_there-which) → (is_there c.args.rows.now c.args.k && leb c.args.which 3) ≡ true
+asked c = ap (λ (t : Bool). t && leb c.args.which 3) (sym c.is_there.ensures) ∙ not-false _ c.if-not-is_there-which.false
 
-few : (c : tie.Else1) → c.before.before.args.which ≤ 3
+few : (c : tie.Else-not-is_there-which) → c.args.which ≤ 3
 few c =
-    let start = c.before.before in
+    let start = c in
     leb-true start.args.which 3 (and_right (is_there start.args.rows.now start.args.k) (leb start.args.which 3) (asked c))
 
-within : (c : tie.Else1) → c.before.before.args.k * row_width + (4 + c.before.before.args.which) < length c.before.before.args.rows.now
+within : (c : tie.Else-not-is_there-which) → c.args.k * row_width + (4 + c.args.which) < length c.args.rows.now
 within c =
-    let start = c.before.before in
+    let start = c in
     let h = few c in
     row_within (length start.args.rows.now) start.args.k (4 + start.args.which)
     (and_left (is_there start.args.rows.now start.args.k) (leb start.args.which 3) (asked c)) (omega arith)
 
-returns : tie.Need-returns
+returns : tie.Need-returns-then-not-is_there-which
 returns c =
-    let start = c.before.before in
+    let start = c in
     ap told_exponent_read
     (no-exponent start.args.rows.now start.args.k start.args.which
-    (ap (λ (t : Bool). t && leb start.args.which 3) (sym c.before.is-there.ensures) ∙ not-true _ c.if1.true))
+    (ap (λ (t : Bool). t && leb start.args.which 3) (sym c.is_there.ensures) ∙ not-true _ c.if-not-is_there-which.true))
 
-returns-2 : tie.Need-returns-2
+returns-2 : tie.Need-returns-then-is_unknown
 returns-2 c =
-    let read = c.before.before.before in
-    let start = read.before.before.before in
+    let read = c in
+    let start = c in
     ap told_exponent_read
-    (unknown-is start.args.rows.now start.args.k start.args.which (asked read.before) read.magnitude-of-arg.given
-    c.before.before.magnitude-of.ensures c.before.is-unknown.ensures c.if2.true)
+    (unknown-is start.args.rows.now start.args.k start.args.which (asked c.before.before.before.before) read.magnitude-of-arg.given
+    c.magnitude_of-n.ensures c.is_unknown.ensures c.if-is_unknown.true)
 
-returns-3 : tie.Need-returns-3
+returns-3 : tie.Need-returns-then-is_too_large
 returns-3 c =
-    let known = c.before.before in
-    let read = known.before.before.before in
-    let start = read.before.before.before in
+    let known = c in
+    let read = c in
+    let start = c in
     ap told_exponent_read
-    (known_is start.args.rows.now start.args.k start.args.which (asked read.before) read.magnitude-of-arg.given
-    known.before.before.magnitude-of.ensures true known.before.is-unknown.ensures known.if2.false c.before.is-too-large.ensures
-    c.if3.true)
+    (known_is start.args.rows.now start.args.k start.args.which (asked c.before.before.before.before.before.before) read.magnitude-of-arg.given
+    known.magnitude_of-n.ensures true known.is_unknown.ensures known.if-is_unknown.false c.is_too_large.ensures
+    c.if-is_too_large.true)
 
-returns-4 : tie.Need-returns-4
+returns-4 : tie.Need-returns
 returns-4 c =
-    let known = c.before.before in
-    let read = known.before.before.before in
-    let start = read.before.before.before in
+    let known = c in
+    let read = c in
+    let start = c in
     ap told_exponent_read
-    (known_is start.args.rows.now start.args.k start.args.which (asked read.before) read.magnitude-of-arg.given
-    known.before.before.magnitude-of.ensures false known.before.is-unknown.ensures known.if2.false c.before.is-too-large.ensures
-    c.if3.false)
+    (known_is start.args.rows.now start.args.k start.args.which (asked c.before.before.before.before.before.before) read.magnitude-of-arg.given
+    known.magnitude_of-n.ensures false known.is_unknown.ensures known.if-is_unknown.false c.is_too_large.ensures
+    c.if-is_too_large.false)
 
-pub exponent-of-spec : {M : Type 1} → statement M
-exponent-of-spec =
+pub exponent_of_spec : {M : Type 1} → statement M
+exponent_of_spec =
     tie.close
     (tie.spec
     (λ c κs. search rules)

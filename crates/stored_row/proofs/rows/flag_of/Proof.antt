@@ -15,46 +15,46 @@ use Rattle.stored_row.proofs.Storing.{row_within, no_flag, flag_is}
 use Rattle.stored_row.proofs.rows.flag_of.Statement.{statement}
 use Rattle.stored_row.proofs.rows.flag_of.Tie as tie
 
-asked : (c : tie.Else1) → (is_there c.before.before.args.rows.now c.before.before.args.k && leb c.before.before.args.which 3) ≡ true
-asked c = ap (λ (t : Bool). t && leb c.before.before.args.which 3) (sym c.before.is-there.ensures) ∙ not-false _ c.if1.false
+asked : (c : tie.Else-not-is_there-which) → (is_there c.args.rows.now c.args.k && leb c.args.which 3) ≡ true
+asked c = ap (λ (t : Bool). t && leb c.args.which 3) (sym c.is_there.ensures) ∙ not-false _ c.if-not-is_there-which.false
 
-few : (c : tie.Else1) → c.before.before.args.which ≤ 3
+few : (c : tie.Else-not-is_there-which) → c.args.which ≤ 3
 few c =
-    let start = c.before.before in
+    let start = c in
     leb-true start.args.which 3 (and_right (is_there start.args.rows.now start.args.k) (leb start.args.which 3) (asked c))
 
-within : (c : tie.Else1) → c.before.before.args.k * row_width + (8 + c.before.before.args.which) < length c.before.before.args.rows.now
+within : (c : tie.Else-not-is_there-which) → c.args.k * row_width + (8 + c.args.which) < length c.args.rows.now
 within c =
-    let start = c.before.before in
+    let start = c in
     let h = few c in
     row_within (length start.args.rows.now) start.args.k (8 + start.args.which)
     (and_left (is_there start.args.rows.now start.args.k) (leb start.args.which 3) (asked c)) (omega arith)
 
-returns : tie.Need-returns
+returns : tie.Need-returns-then-not-is_there-which
 returns c =
-    let start = c.before.before in
+    let start = c in
     ap told_flag
     (no_flag start.args.rows.now start.args.k start.args.which
-    (ap (λ (t : Bool). t && leb start.args.which 3) (sym c.before.is-there.ensures) ∙ not-true _ c.if1.true))
+    (ap (λ (t : Bool). t && leb start.args.which 3) (sym c.is_there.ensures) ∙ not-true _ c.if-not-is_there-which.true))
 
-returns-2 : tie.Need-returns-2
+returns-2 : tie.Need-returns-then-n-eq0
 returns-2 c =
-    let read = c.before.before in
-    let start = read.before.before.before in
+    let read = c in
+    let start = c in
     ap told_flag
-    (flag_is start.args.rows.now start.args.k start.args.which (asked read.before) read.magnitude-of-arg.given
-    c.before.magnitude-of.ensures true (eq-eqb c.before.magnitude-of.result 0 c.if2.true))
+    (flag_is start.args.rows.now start.args.k start.args.which (asked c.before.before.before) read.magnitude-of-arg.given
+    c.magnitude_of-n.ensures true (eq-eqb c.magnitude_of-n.result 0 c.if-n-eq0.true))
 
-returns-3 : tie.Need-returns-3
+returns-3 : tie.Need-returns
 returns-3 c =
-    let read = c.before.before in
-    let start = read.before.before.before in
+    let read = c in
+    let start = c in
     ap told_flag
-    (flag_is start.args.rows.now start.args.k start.args.which (asked read.before) read.magnitude-of-arg.given
-    c.before.magnitude-of.ensures false (ne_eqb c.before.magnitude-of.result 0 c.if2.false))
+    (flag_is start.args.rows.now start.args.k start.args.which (asked c.before.before.before) read.magnitude-of-arg.given
+    c.magnitude_of-n.ensures false (ne_eqb c.magnitude_of-n.result 0 c.if-n-eq0.false))
 
-pub flag-of-spec : {M : Type 1} → statement M
-flag-of-spec =
+pub flag_of_spec : {M : Type 1} → statement M
+flag_of_spec =
     tie.close
     (tie.spec
     (λ c κs. search rules)

@@ -13,40 +13,40 @@ use Rattle.stored_row.proofs.Storing.{row_within, no_place, place_is}
 use Rattle.stored_row.proofs.rows.place_of.Statement.{statement}
 use Rattle.stored_row.proofs.rows.place_of.Tie as tie
 
-there : (c : tie.Else1) → is_there c.before.before.args.rows.now c.before.before.args.k ≡ true
-there c = sym c.before.is-there.ensures ∙ not-false _ c.if1.false
+there : (c : tie.Else-not-is_there) → is_there c.args.rows.now c.args.k ≡ true
+there c = sym c.is_there.ensures ∙ not-false _ c.if-not-is_there.false
 
-within : (c : tie.Else1) (i : ℕ) → i < row_width → c.before.before.args.k * row_width + i < length c.before.before.args.rows.now
-within c i h = row_within (length c.before.before.args.rows.now) c.before.before.args.k i (there c) h
+within : (c : tie.Else-not-is_there) (i : ℕ) → i < row_width → c.args.k * row_width + i < length c.args.rows.now
+within c i h = row_within (length c.args.rows.now) c.args.k i (there c) h
 
-returns : tie.Need-returns
+returns : tie.Need-returns-then-not-is_there
 returns c =
-    let start = c.before.before in
+    let start = c in
     ap told_place
-    (no_place start.args.rows.now start.args.k (sym c.before.is-there.ensures ∙ not-true _ c.if1.true))
+    (no_place start.args.rows.now start.args.k (sym c.is_there.ensures ∙ not-true _ c.if-not-is_there.true))
 
-returns-2 : tie.Need-returns-2
+returns-2 : tie.Need-returns-then-absent
 returns-2 c =
-    let tested = c.before in
-    let read = tested.before.before.before.before in
-    let start = read.before.before.before.before.before in
+    let tested = c in
+    let read = c in
+    let start = c in
     ap told_place
-    (place_is start.args.rows.now start.args.k (there read.before.before.before) true read.before.before.x.given read.before.y.given
-    read.z.given tested.before.before.before.magnitude-of.ensures tested.before.before.magnitude-of2.ensures
-    tested.before.magnitude-of3.ensures tested.place-absent.ensures c.if2.true)
+    (place_is start.args.rows.now start.args.k (there c.before.before.before.before.before.before.before.before) true read.x.given read.y.given
+    read.z.given tested.magnitude_of.ensures tested.magnitude_of-2.ensures
+    tested.magnitude_of-3.ensures tested.place_absent-absent.ensures c.if-absent.true)
 
-returns-3 : tie.Need-returns-3
+returns-3 : tie.Need-returns
 returns-3 c =
-    let tested = c.before in
-    let read = tested.before.before.before.before in
-    let start = read.before.before.before.before.before in
+    let tested = c in
+    let read = c in
+    let start = c in
     ap told_place
-    (place_is start.args.rows.now start.args.k (there read.before.before.before) false read.before.before.x.given read.before.y.given
-    read.z.given tested.before.before.before.magnitude-of.ensures tested.before.before.magnitude-of2.ensures
-    tested.before.magnitude-of3.ensures tested.place-absent.ensures c.if2.false)
+    (place_is start.args.rows.now start.args.k (there c.before.before.before.before.before.before.before.before) false read.x.given read.y.given
+    read.z.given tested.magnitude_of.ensures tested.magnitude_of-2.ensures
+    tested.magnitude_of-3.ensures tested.place_absent-absent.ensures c.if-absent.false)
 
-pub place-of-spec : {M : Type 1} → statement M
-place-of-spec =
+pub place_of_spec : {M : Type 1} → statement M
+place_of_spec =
     tie.close
     (tie.spec
     (λ c κs. search rules)

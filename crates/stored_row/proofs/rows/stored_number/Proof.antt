@@ -5,16 +5,16 @@ use Rattle.stored_row.proofs.Storing.{stored_is, stored-none, stored-kept}
 use Rattle.stored_row.proofs.rows.stored_number.Statement.{statement}
 use Rattle.stored_row.proofs.rows.stored_number.Tie as tie
 
-returns : tie.Need-returns
+returns : tie.Need-returns-in_default
 returns c =
-    let a = c.before.before in
-    stored-none a.before.args.negative a.before.args.magnitude a.number.result a.number.ensures c.enum_told.given.1
+    let a = c in
+    stored-none a.args.negative a.args.magnitude a.number.result a.number.ensures c.enum_told.given.1
 
-returns-2 : tie.Need-returns-2
+returns-2 : tie.Need-returns
 returns-2 c =
-    let a = c.before.before.before in
-    stored-kept a.before.args.negative a.before.args.magnitude
-    (stored_is a.before.args.negative a.before.args.magnitude a.number.result a.number.ensures c.before.v.given.0.0 c.before.v.given.1)
+    let a = c in
+    stored-kept a.args.negative a.args.magnitude
+    (stored_is a.args.negative a.args.magnitude a.number.result a.number.ensures c.v.given.0.0 c.v.given.1)
 
-pub stored-number-spec : {M : Type 1} → statement M
-stored-number-spec = tie.close (tie.spec (λ c κs. search rules) (λ c. search rules) (λ c. search rules) returns returns-2)
+pub stored_number_spec : {M : Type 1} → statement M
+stored_number_spec = tie.close (tie.spec (λ c κs. search rules) (λ c. search rules) (λ c. search rules) returns returns-2)

@@ -24,36 +24,36 @@ moved c = noted_lines true c.args.identifier (take row_width (drop row_width c.a
 abbrev Laid : tie.Start → ℕ → List ℕ → List (List ℕ) → Type 0
 Laid c at now rest = Laying (placed c ++ moved c) c.args.out.now at now rest
 
-put-noted-requires : tie.Need-put-noted-requires
+put-noted-requires : tie.Need-put_noted-at-requires
 put-noted-requires c κs =
-    let start = c.before.before.before in
+    let start = c in
     let cell = start.args.cell.now in (
       omega (arith, length-take row_width cell, cell-long start.args.velocity cell start.requires.0),
       cell_room start.args.velocity cell start.requires.0 start.args.identifier start.args.out.now start.requires.1,
     )
 
-returns : tie.Need-returns
+returns : tie.Need-returns-then-not-velocity
 returns c =
-    let start = c.before.before.before.before.before.before.before in
-    rw (cell-placed start.args.velocity start.args.cell.now start.requires.0 start.args.identifier (not-true _ c.if1.true)) c.before.before.before.put-noted.ensures
+    let start = c in
+    rw (cell-placed start.args.velocity start.args.cell.now start.requires.0 start.args.identifier (not-true _ c.if-not-velocity.true)) c.put_noted-at.ensures
 
-moving : (c : tie.Else1) → c.before.before.before.before.before.before.before.args.velocity ≡ true
-moving c = not-false _ c.if1.false
+moving : (c : tie.Else-not-velocity) → c.args.velocity ≡ true
+moving c = not-false _ c.if-not-velocity.false
 
-first-laid : (c : tie.Else1) → Laid c.before.before.before.before.before.before.before c.before.before.before.put-noted.result c.before.before.before.put-noted.new.1.1.1.0 (moved c.before.before.before.before.before.before.before ++ [])
+first-laid : (c : tie.Else-not-velocity) → Laid c.before.before.before.before.before.before.before c.put_noted-at.result c.put_noted-at.new.1.1.1.0 (moved c.before.before.before.before.before.before.before ++ [])
 first-laid c =
     let start = c.before.before.before.before.before.before.before in
     laying-alone
     (laying-first (placed start) (moved start)
     (rw (cell-moved start.args.velocity start.args.cell.now start.requires.0 start.args.identifier (moving c)) at start.requires.1)
-    c.before.before.before.put-noted.ensures)
+    c.put_noted-at.ensures)
 
-part-motion-end : tie.Need-slice-bounds-motion-end
+part-motion-end : tie.Need-slice_bounds-motion-end
 part-motion-end c =
-    let start = c.before.before.before.before.before.before.before in
+    let start = c in
     omega (arith, cell-wide start.args.velocity start.args.cell.now start.requires.0 (moving c))
 
-put-noted-requires-2 : tie.Need-put-noted-requires-2
+put-noted-requires-2 : tie.Need-put_noted-requires
 put-noted-requires-2 c κs =
     let start = c.before.before.before.before.before.before.before.before.before in
     let cell = start.args.cell.now in (
@@ -61,24 +61,24 @@ put-noted-requires-2 c κs =
       laying-room (moved start) [] (first-laid c.before.before),
     )
 
-both-laid : (c : tie.After-put-noted2)
-    → Laid c.before.before.before.before.before.before.before.before.before.before (c.before.before.before.before.before.before.put-noted.result + c.put-noted2.result)
-    (then c.before.before.before.before.before.before.put-noted.result c.before.before.before.before.before.before.put-noted.new.1.1.1.0 c.put-noted2.new.1.1.1.0) []
-both-laid c = laying-more (moved c.before.before.before.before.before.before.before.before.before.before) [] (first-laid c.before.before.before) c.put-noted2.ensures
+both-laid : (c : tie.After-put_noted)
+    → Laid c.before.before.before.before.before.before.before.before.before.before (c.put_noted-at.result + c.put_noted.result)
+    (then c.put_noted-at.result c.put_noted-at.new.1.1.1.0 c.put_noted.new.1.1.1.0) []
+both-laid c = laying-more (moved c.before.before.before.before.before.before.before.before.before.before) [] (first-laid c.before.before.before) c.put_noted.ensures
 
-returns-2 : tie.Need-returns-2
+returns-2 : tie.Need-returns
 returns-2 c =
-    let start = c.before.before.before.before.before.before.before.before.before.before.before.before in
+    let start = c in
     rw (cell-moved start.args.velocity start.args.cell.now start.requires.0 start.args.identifier (moving c.before.before.before.before.before))
     (laying-end (both-laid c.before.before))
 
-pub put-cell-spec : {M : Type 1} → statement M
-put-cell-spec =
+pub put_cell_spec : {M : Type 1} → statement M
+put_cell_spec =
     tie.close
     (tie.spec
     (λ c. search rules)
     (λ c. search rules)
-    (λ c. cell-long c.before.args.velocity c.before.args.cell.now c.before.requires.0)
+    (λ c. cell-long c.args.velocity c.args.cell.now c.requires.0)
     put-noted-requires
     (λ c. search rules)
     returns
@@ -89,6 +89,6 @@ put-cell-spec =
     (λ c. laying-within (first-laid c.before))
     (λ c. search rules)
     put-noted-requires-2
-    (λ c. omega (arith, c.before.before.before.before.before.before.before.before.before.before.before.before.well-formed, laying-fits (both-laid c.before.before)))
+    (λ c. omega (arith, c.well-formed, laying-fits (both-laid c.before.before)))
     (λ c. search rules)
     returns-2)

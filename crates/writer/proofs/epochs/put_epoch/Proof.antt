@@ -16,27 +16,27 @@ cells c = cells_lines c.args.velocity c.args.identifiers.now c.args.rows.now
 abbrev Laid : tie.Start → ℕ → List ℕ → List (List ℕ) → Type 0
 Laid c at now rest = Laying (epoch_line (epoch_shown c.args.at8) ∷ cells c) c.args.out.now at now rest
 
-first-laid : (c : tie.After-write-epoch) → Laid c.before.before.before.before.before c.write-epoch.result c.write-epoch.new.1.0 (cells c.before.before.before.before.before ++ [])
+first-laid : (c : tie.After-write_epoch-at) → Laid c.before.before.before.before.before c.write_epoch-at.result c.write_epoch-at.new.1.0 (cells c.before.before.before.before.before ++ [])
 unfolding epoch_shown
 first-laid c =
     let start = c.before.before.before.before.before in
     let line = epoch_line (epoch_shown start.args.at8) in
     laying-alone
-    (laying-first (line ∷ []) (cells start) start.requires.1.1 (one_line line (rw c.before.before.moment-of.ensures at c.write-epoch.ensures)))
+    (laying-first (line ∷ []) (cells start) start.requires.1.1 (one_line line (rw c.moment_of.ensures at c.write_epoch-at.ensures)))
 
-all_laid : (c : tie.After-put-cells)
-    → Laid c.before.before.before.before.before.before.before.before.before (c.before.before.before.before.write-epoch.result + c.put-cells.result)
-    (then c.before.before.before.before.write-epoch.result c.before.before.before.before.write-epoch.new.1.0 c.put-cells.new.1.1.1.0) []
-all_laid c = laying-more (cells c.before.before.before.before.before.before.before.before.before) [] (first-laid c.before.before.before.before) c.put-cells.ensures
+all_laid : (c : tie.After-put_cells)
+    → Laid c.before.before.before.before.before.before.before.before.before (c.write_epoch-at.result + c.put_cells.result)
+    (then c.write_epoch-at.result c.write_epoch-at.new.1.0 c.put_cells.new.1.1.1.0) []
+all_laid c = laying-more (cells c.before.before.before.before.before.before.before.before.before) [] (first-laid c.before.before.before.before) c.put_cells.ensures
 
-put-cells-requires : tie.Need-put-cells-requires
-put-cells-requires c κs = (c.before.before.before.before.before.before.before.before.requires.1.0, laying-room (cells c.before.before.before.before.before.before.before.before) [] (first-laid c.before.before.before))
+put-cells-requires : tie.Need-put_cells-requires
+put-cells-requires c κs = (c.requires.1.0, laying-room (cells c.before.before.before.before.before.before.before.before) [] (first-laid c.before.before.before))
 
 returns : tie.Need-returns
 returns c = laying-end (all_laid c.before.before)
 
-pub put-epoch-spec : {M : Type 1} → statement M
-put-epoch-spec =
+pub put_epoch_spec : {M : Type 1} → statement M
+put_epoch_spec =
     tie.close
     (tie.spec
     (λ c κs. search rules)
@@ -45,6 +45,6 @@ put-epoch-spec =
     (λ c. laying-within (first-laid c.before.before))
     (λ c. search rules)
     put-cells-requires
-    (λ c. omega (arith, c.before.before.before.before.before.before.before.before.before.before.before.well-formed, laying-fits (all_laid c.before.before)))
+    (λ c. omega (arith, c.well-formed, laying-fits (all_laid c.before.before)))
     (λ c. search rules)
     returns)

@@ -24,36 +24,36 @@ note c = note_line c.args.velocity (note_shown (take note_width (drop bare_width
 abbrev Laid : tie.Start → ℕ → List ℕ → List (List ℕ) → Type 0
 Laid c at now rest = Laying (line c ∷ note c ∷ []) c.args.out.now at now rest
 
-returns : tie.Need-returns
+returns : tie.Need-returns-then-not-flag_at
 returns c =
     let start = c.before.before.before.before.before.before.before.before.before in
-    rw (noted-alone start.args.velocity start.args.identifier start.args.row.now start.requires.0 c.before.flag_at.ensures (not-true _ c.if1.true))
-    (one_line (line start) (rw c.before.before.before.before.before.before.row-shown.ensures at c.before.before.before.before.write-row.ensures))
+    rw (noted-alone start.args.velocity start.args.identifier start.args.row.now start.requires.0 c.flag_at.ensures (not-true _ c.if-not-flag_at.true))
+    (one_line (line start) (rw c.row_shown.ensures at c.write_row-at.ensures))
 
 -- its note stood there
-both : (c : tie.Else1) → noted_lines c.before.before.before.before.before.before.before.before.before.args.velocity c.before.before.before.before.before.before.before.before.before.args.identifier c.before.before.before.before.before.before.before.before.before.args.row.now ≡ line c.before.before.before.before.before.before.before.before.before ∷ note c.before.before.before.before.before.before.before.before.before ∷ []
+both : (c : tie.Else-not-flag_at) → noted_lines c.args.velocity c.args.identifier c.args.row.now ≡ line c.before.before.before.before.before.before.before.before.before ∷ note c.before.before.before.before.before.before.before.before.before ∷ []
 both c =
-    let start = c.before.before.before.before.before.before.before.before.before in
-    noted-both start.args.velocity start.args.identifier start.args.row.now start.requires.0 c.before.flag_at.ensures (not-false _ c.if1.false)
+    let start = c in
+    noted-both start.args.velocity start.args.identifier start.args.row.now start.requires.0 c.flag_at.ensures (not-false _ c.if-not-flag_at.false)
 
-first-laid : (c : tie.Else1) → Laid c.before.before.before.before.before.before.before.before.before c.before.before.before.before.write-row.result c.before.before.before.before.write-row.new.1.1.0 (note c.before.before.before.before.before.before.before.before.before ∷ [])
+first-laid : (c : tie.Else-not-flag_at) → Laid c.before.before.before.before.before.before.before.before.before c.write_row-at.result c.write_row-at.new.1.1.0 (note c.before.before.before.before.before.before.before.before.before ∷ [])
 first-laid c =
     let start = c.before.before.before.before.before.before.before.before.before in
     laying-first (line start ∷ []) (note start ∷ []) (rw (both c) at start.requires.1)
-    (one_line (line start) (rw c.before.before.before.before.before.before.row-shown.ensures at c.before.before.before.before.write-row.ensures))
+    (one_line (line start) (rw c.row_shown.ensures at c.write_row-at.ensures))
 
-both-laid : (c : tie.After-write-note)
-    → Laid c.before.before.before.before.before.before.before.before.before.before.before.before (c.before.before.before.before.before.before.before.write-row.result + c.write-note.result)
-    (then c.before.before.before.before.before.before.before.write-row.result c.before.before.before.before.before.before.before.write-row.new.1.1.0 c.write-note.new.1.1.0) []
+both-laid : (c : tie.After-write_note)
+    → Laid c.before.before.before.before.before.before.before.before.before.before.before.before (c.write_row-at.result + c.write_note.result)
+    (then c.write_row-at.result c.write_row-at.new.1.1.0 c.write_note.new.1.1.0) []
 both-laid c =
     laying-more (note c.before.before.before.before.before.before.before.before.before.before.before.before ∷ []) [] (first-laid c.before.before.before)
-    (one_line (note c.before.before.before.before.before.before.before.before.before.before.before.before) (rw c.before.before.note-shown.ensures at c.write-note.ensures))
+    (one_line (note c.before.before.before.before.before.before.before.before.before.before.before.before) (rw c.note_shown.ensures at c.write_note.ensures))
 
-returns-2 : tie.Need-returns-2
+returns-2 : tie.Need-returns
 returns-2 c = rw (both c.before.before.before.before.before) (laying-end (both-laid c.before.before))
 
-pub put-noted-spec : {M : Type 1} → statement M
-put-noted-spec =
+pub put_noted_spec : {M : Type 1} → statement M
+put_noted_spec =
     tie.close
     (tie.spec
     (λ c. search rules)
@@ -69,6 +69,6 @@ put-noted-spec =
     (λ c. laying-within (first-laid c.before))
     (λ c. search rules)
     (λ c κs. search rules)
-    (λ c. omega (arith, c.before.before.before.before.before.before.before.before.before.before.before.before.before.before.well-formed, laying-fits (both-laid c.before.before)))
+    (λ c. omega (arith, c.well-formed, laying-fits (both-laid c.before.before)))
     (λ c. search rules)
     returns-2)

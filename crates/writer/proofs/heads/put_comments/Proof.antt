@@ -13,51 +13,51 @@ use Rattle.writer.proofs.Laying.{Laying, then, laying-none, laying-as, laying-ke
 use Rattle.writer.proofs.heads.put_comments.Statement.{statement}
 use Rattle.writer.proofs.heads.put_comments.Tie as tie
 
-abbrev invariant-loop : tie.invariant-loop
+abbrev invariant-loop : tie.invariant-loop-more
 invariant-loop count bytes out₀ at₀ from₀ more₀ out at from more =
     Left (length bytes) comment_width from more × Laying (comment_lines count bytes) out₀ at out (comment_lines more (drop from bytes))
 
-abbrev decreases-loop : tie.decreases-loop
+abbrev decreases-loop : tie.decreases-loop-more
 decreases-loop count bytes out₀ at₀ from₀ more₀ out at from more = more
 
-loop-holds : tie.Need-loop-init invariant-loop decreases-loop
+loop-holds : tie.Need-loop-more-init invariant-loop decreases-loop
 loop-holds c =
-    let start = c.before.before in (
+    let start = c in (
       left-all (length start.args.bytes.now) comment_width start.args.count start.requires.0,
       laying-none (comment_lines start.args.count start.args.bytes.now) start.args.out.now start.requires.1,
     )
 
-here : (c : tie.In-loop invariant-loop decreases-loop) → c.before.loop.from + comment_width ≤ length c.before.before.before.before.args.bytes.now
-here c = left_here c.before.loop.invariant.0 c.loop-test.true
+here : (c : tie.In-loop-more invariant-loop decreases-loop) → c.loop-more.from + comment_width ≤ length c.args.bytes.now
+here c = left_here c.loop-more.invariant.0 c.loop-more-test.true
 
 -- a comment more
-abbrev rest : tie.At-loop invariant-loop decreases-loop → List (List ℕ)
-rest c = comment_lines (c.loop.more - 1) (drop (c.loop.from + comment_width) c.before.before.before.args.bytes.now)
+abbrev rest : tie.At-loop-more invariant-loop decreases-loop → List (List ℕ)
+rest c = comment_lines (c.loop-more.more - 1) (drop (c.loop-more.from + comment_width) c.args.bytes.now)
 
-abbrev Laid : tie.At-loop invariant-loop decreases-loop → ℕ → List ℕ → Type 0
-Laid c at now = Laying (comment_lines c.before.before.before.args.count c.before.before.before.args.bytes.now) c.before.before.before.args.out.now at now (rest c)
+abbrev Laid : tie.At-loop-more invariant-loop decreases-loop → ℕ → List ℕ → Type 0
+Laid c at now = Laying (comment_lines c.args.count c.args.bytes.now) c.args.out.now at now (rest c)
 
-laid : (c : tie.After-write-comment invariant-loop decreases-loop)
-    → Laid c.before.before.before.before (c.before.before.before.before.loop.at + c.write-comment.result) (then c.before.before.before.before.loop.at c.before.before.before.before.loop.out c.write-comment.new.1.0)
+laid : (c : tie.After-write_comment-at invariant-loop decreases-loop)
+    → Laid c.before.before.before.before (c.loop-more.at + c.write_comment-at.result) (then c.loop-more.at c.loop-more.out c.write_comment-at.new.1.0)
 laid c =
-    let bytes = c.before.before.before.before.before.before.before.args.bytes.now in
-    let l = c.before.before.before.before.loop in
+    let bytes = c.args.bytes.now in
+    let l = c.loop-more in
     let line = comment_line (take (l.from + comment_width - l.from) (drop l.from bytes)) in
-    laying-more (line ∷ []) (rest c.before.before.before.before) (laying-as (comments-next l.more c.before.before.before.loop-test.true bytes l.from) l.invariant.1)
-    (one_line line c.write-comment.ensures)
+    laying-more (line ∷ []) (rest c.before.before.before.before) (laying-as (comments-next l.more c.loop-more-test.true bytes l.from) l.invariant.1)
+    (one_line line c.write_comment-at.ensures)
 
-loop-again : tie.Need-loop-preserved invariant-loop decreases-loop
-loop-again c = (left-next c.before.before.before.before.before.before.loop.invariant.0 c.before.before.before.before.before.loop-test.true, laid c.before.before)
+loop-again : tie.Need-loop-more-preserved invariant-loop decreases-loop
+loop-again c = (left-next c.loop-more.invariant.0 c.loop-more-test.true, laid c.before.before)
 
 returns : tie.Need-returns invariant-loop decreases-loop
 unfolding comment_lines
 returns c =
-    let l = c.before.loop in
-    let none : l.more ≡ 0 = omega (arith, c.loop-test.false) in
-    laying-end (laying-as (ap (λ (n : ℕ). comment_lines n (drop l.from c.before.before.before.before.args.bytes.now)) none) l.invariant.1)
+    let l = c.loop-more in
+    let none : l.more ≡ 0 = omega (arith, c.loop-more-test.false) in
+    laying-end (laying-as (ap (λ (n : ℕ). comment_lines n (drop l.from c.args.bytes.now)) none) l.invariant.1)
 
-pub put-comments-spec : {M : Type 1} → statement M
-put-comments-spec =
+pub put_comments_spec : {M : Type 1} → statement M
+put_comments_spec =
     tie.close
     (tie.spec
     invariant-loop
@@ -67,13 +67,13 @@ put-comments-spec =
     (λ c. search rules)
     (λ c. search rules)
     (λ c. here c)
-    (λ c. laying-within c.before.before.loop.invariant.1)
-    (λ c. laying-within c.before.before.loop.invariant.1)
+    (λ c. laying-within c.loop-more.invariant.1)
+    (λ c. laying-within c.loop-more.invariant.1)
     (λ c. search rules)
     (λ c κs. search rules)
-    (λ c. omega (arith, c.before.before.before.before.before.before.before.before.before.well-formed, laying-fits (laid c.before.before)))
+    (λ c. omega (arith, c.well-formed, laying-fits (laid c.before.before)))
     (λ c. search rules)
     (λ c. search rules)
     loop-again
-    (λ c. laying-kept c.before.loop.invariant.1)
+    (λ c. laying-kept c.loop-more.invariant.1)
     returns)

@@ -21,45 +21,45 @@ five c = fixed_line character_items ∷ base_line (bases_shown c.args.h) ∷ zer
 abbrev Laid : tie.Start → ℕ → List ℕ → ℕ → Type 0
 Laid c at now k = Laying (descriptor_lines c.args.h) c.args.out.now at now (drop k (five c))
 
-laid-1 : (c : tie.After-write-descriptor) → Laid c.before.before.before.before.before c.write-descriptor.result c.write-descriptor.new.1.0 0
+laid-1 : (c : tie.After-write_descriptor-at) → Laid c.before.before.before.before.before c.write_descriptor-at.result c.write_descriptor-at.new.1.0 0
 unfolding descriptor_lines descriptor_shown
 laid-1 c =
-    let line = descriptor_line (descriptor_shown c.before.before.before.before.before.args.h) in
-    laying-first (line ∷ []) (five c.before.before.before.before.before) c.before.before.before.before.before.requires (one_line line c.write-descriptor.ensures)
+    let line = descriptor_line (descriptor_shown c.args.h) in
+    laying-first (line ∷ []) (five c.before.before.before.before.before) c.requires (one_line line c.write_descriptor-at.ensures)
 
-abbrev at-2 : tie.After-write-characters → ℕ
-at-2 c = c.before.before.before.before.write-descriptor.result + c.write-characters.result
+abbrev at-2 : tie.After-write_characters-at → ℕ
+at-2 c = c.write_descriptor-at.result + c.write_characters-at.result
 
-abbrev out-2 : tie.After-write-characters → List ℕ
-out-2 c = then c.before.before.before.before.write-descriptor.result c.before.before.before.before.write-descriptor.new.1.0 c.write-characters.new.0
+abbrev out-2 : tie.After-write_characters-at → List ℕ
+out-2 c = then c.write_descriptor-at.result c.write_descriptor-at.new.1.0 c.write_characters-at.new.out
 
-laid-2 : (c : tie.After-write-characters) → Laid c.before.before.before.before.before.before.before.before.before (at-2 c) (out-2 c) 1
+laid-2 : (c : tie.After-write_characters-at) → Laid c.before.before.before.before.before.before.before.before.before (at-2 c) (out-2 c) 1
 laid-2 c =
     let line = fixed_line character_items in
-    laying-more (line ∷ []) (drop 1 (five c.before.before.before.before.before.before.before.before.before)) (laid-1 c.before.before.before.before) (one_line line c.write-characters.ensures)
+    laying-more (line ∷ []) (drop 1 (five c.before.before.before.before.before.before.before.before.before)) (laid-1 c.before.before.before.before) (one_line line c.write_characters-at.ensures)
 
-abbrev at-3 : tie.After-write-bases → ℕ
-at-3 c = at-2 c.before.before.before.before + c.write-bases.result
+abbrev at-3 : tie.After-write_bases-at → ℕ
+at-3 c = at-2 c.before.before.before.before + c.write_bases-at.result
 
-abbrev out-3 : tie.After-write-bases → List ℕ
-out-3 c = then (at-2 c.before.before.before.before) (out-2 c.before.before.before.before) c.write-bases.new.1.0
+abbrev out-3 : tie.After-write_bases-at → List ℕ
+out-3 c = then (at-2 c.before.before.before.before) (out-2 c.before.before.before.before) c.write_bases-at.new.1.0
 
-laid-3 : (c : tie.After-write-bases) → Laid c.before.before.before.before.before.before.before.before.before.before.before.before.before (at-3 c) (out-3 c) 2
+laid-3 : (c : tie.After-write_bases-at) → Laid c.before.before.before.before.before.before.before.before.before.before.before.before.before (at-3 c) (out-3 c) 2
 unfolding bases_shown
 laid-3 c =
-    let line = base_line (bases_shown c.before.before.before.before.before.before.before.before.before.before.before.before.before.args.h) in
-    laying-more (line ∷ []) (drop 2 (five c.before.before.before.before.before.before.before.before.before.before.before.before.before)) (laid-2 c.before.before.before.before) (one_line line c.write-bases.ensures)
+    let line = base_line (bases_shown c.args.h) in
+    laying-more (line ∷ []) (drop 2 (five c.before.before.before.before.before.before.before.before.before.before.before.before.before)) (laid-2 c.before.before.before.before) (one_line line c.write_bases-at.ensures)
 
-laid-4 : (c : tie.After-put-zeros)
-    → Laid c.before.before.before.before.before.before.before.before.before.before.before.before.before.before.before.before.before (at-3 c.before.before.before.before + c.put-zeros.result)
-    (then (at-3 c.before.before.before.before) (out-3 c.before.before.before.before) c.put-zeros.new.0) 5
-laid-4 c = laying-more zeros [] (laid-3 c.before.before.before.before) c.put-zeros.ensures
+laid-4 : (c : tie.After-put_zeros)
+    → Laid c.before.before.before.before.before.before.before.before.before.before.before.before.before.before.before.before.before (at-3 c.before.before.before.before + c.put_zeros.result)
+    (then (at-3 c.before.before.before.before) (out-3 c.before.before.before.before) c.put_zeros.new.out) 5
+laid-4 c = laying-more zeros [] (laid-3 c.before.before.before.before) c.put_zeros.ensures
 
 returns : tie.Need-returns
 returns c = laying-end (laid-4 c.before.before)
 
-pub put-descriptors-spec : {M : Type 1} → statement M
-put-descriptors-spec =
+pub put_descriptors_spec : {M : Type 1} → statement M
+put_descriptors_spec =
     tie.close
     (tie.spec
     (λ c κs. search rules)

@@ -20,43 +20,43 @@ second c = second_line (second_shown c.args.h) ∷ third c
 abbrev Laid : tie.Start → ℕ → List ℕ → (tie.Start → List (List ℕ)) → Type 0
 Laid c at now rest = Laying (first_line c.args.rules (first_shown c.args.h) ∷ second c) c.args.out.now at now (rest c)
 
-first-laid : (c : tie.After-write-first) → Laid c.before.before.before.before.before c.write-first.result c.write-first.new.1.1.0 second
+first-laid : (c : tie.After-write_first-at) → Laid c.before.before.before.before.before c.write_first-at.result c.write_first-at.new.1.1.0 second
 first-laid c =
     let start = c.before.before.before.before.before in
     let line = first_line start.args.rules (first_shown start.args.h) in
-    laying-first (line ∷ []) (second start) start.requires.1 (one_line line (rw c.before.before.first-shown.ensures at c.write-first.ensures))
+    laying-first (line ∷ []) (second start) start.requires.1 (one_line line (rw c.first_shown.ensures at c.write_first-at.ensures))
 
-abbrev at-2 : tie.After-write-second → ℕ
-at-2 c = c.before.before.before.before.before.write-first.result + c.write-second.result
+abbrev at-2 : tie.After-write_second-at → ℕ
+at-2 c = c.write_first-at.result + c.write_second-at.result
 
-abbrev out-2 : tie.After-write-second → List ℕ
-out-2 c = then c.before.before.before.before.before.write-first.result c.before.before.before.before.before.write-first.new.1.1.0 c.write-second.new.1.0
+abbrev out-2 : tie.After-write_second-at → List ℕ
+out-2 c = then c.write_first-at.result c.write_first-at.new.1.1.0 c.write_second-at.new.1.0
 
-second-laid : (c : tie.After-write-second) → Laid c.before.before.before.before.before.before.before.before.before.before (at-2 c) (out-2 c) third
+second-laid : (c : tie.After-write_second-at) → Laid c.before.before.before.before.before.before.before.before.before.before (at-2 c) (out-2 c) third
 second-laid c =
     let start = c.before.before.before.before.before.before.before.before.before.before in
     let line = second_line (second_shown start.args.h) in
     laying-more (line ∷ []) (third start) (first-laid c.before.before.before.before.before)
-    (one_line line (rw c.before.before.second-shown.ensures at c.write-second.ensures))
+    (one_line line (rw c.second_shown.ensures at c.write_second-at.ensures))
 
-third-laid : (c : tie.After-write-satellites)
-    → Laid c.before.before.before.before.before.before.before.before.before.before.before.before.before.before.before (at-2 c.before.before.before.before.before + c.write-satellites.result)
-    (then (at-2 c.before.before.before.before.before) (out-2 c.before.before.before.before.before) c.write-satellites.new.1.1.0) (λ start. [])
+third-laid : (c : tie.After-write_satellites)
+    → Laid c.before.before.before.before.before.before.before.before.before.before.before.before.before.before.before (at-2 c.before.before.before.before.before + c.write_satellites.result)
+    (then (at-2 c.before.before.before.before.before) (out-2 c.before.before.before.before.before) c.write_satellites.new.1.1.0) (λ start. [])
 unfolding satellites_shown
 third-laid c =
     let start = c.before.before.before.before.before.before.before.before.before.before.before.before.before.before.before in
     let line = satellites_line start.args.rules (satellites_shown start.args.h.satellites start.args.identifiers.now) in
     laying-more (third start) [] (second-laid c.before.before.before.before.before)
-    (one_line line (rw c.before.before.seventeen.ensures at c.write-satellites.ensures))
+    (one_line line (rw c.seventeen.ensures at c.write_satellites.ensures))
 
-add-result : tie.Need-overflow-add-result
-add-result c = omega (arith, c.before.before.before.before.before.before.before.before.before.before.before.before.before.before.before.before.before.well-formed, laying-fits (third-laid c.before.before))
+add-result : tie.Need-overflow_add-result
+add-result c = omega (arith, c.well-formed, laying-fits (third-laid c.before.before))
 
 returns : tie.Need-returns
 returns c = laying-end (third-laid c.before.before)
 
-pub put-first-spec : {M : Type 1} → statement M
-put-first-spec =
+pub put_first_spec : {M : Type 1} → statement M
+put_first_spec =
     tie.close
     (tie.spec
     (λ c κs. search rules)

@@ -8,7 +8,7 @@ use Rattle.writer.proofs.shown.first_shown.Tie as tie
 
 returns : tie.Need-returns
 unfolding first_shown
-returns c = ⊎_elim (λ w. rw (w.1, w.0.taken, c.moment-of.ensures)) (λ w. rw (w.1, w.0.left, c.moment-of.ensures)) c.before.if1.branch
+returns c = ⊎_elim (λ w. rw (w.1, w.0.taken, c.moment_of.ensures)) (λ w. rw (w.1, w.0.left, c.moment_of.ensures)) c.if-h.branch
 
-pub first-shown-spec : {M : Type 1} → statement M
-first-shown-spec = tie.close (tie.spec (λ c κs. search rules) returns)
+pub first_shown_spec : {M : Type 1} → statement M
+first_shown_spec = tie.close (tie.spec (λ c κs. search rules) returns)

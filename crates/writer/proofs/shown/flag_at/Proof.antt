@@ -7,7 +7,7 @@ use Rattle.writer.proofs.shown.flag_at.Statement.{statement}
 use Rattle.writer.proofs.shown.flag_at.Tie as tie
 
 returns : tie.Need-returns
-returns c = flag-read (entry c.before.args.row.now c.before.args.i) c.magnitude-at.ensures
+returns c = flag-read (entry c.args.row.now c.args.i) c.magnitude_at.ensures
 
-pub flag-at-spec : {M : Type 1} → statement M
-flag-at-spec = tie.close (tie.spec (λ c κs. search rules) returns)
+pub flag_at_spec : {M : Type 1} → statement M
+flag_at_spec = tie.close (tie.spec (λ c κs. search rules) returns)

@@ -12,24 +12,24 @@ use Rattle.writer.proofs.Showing.{named}
 use Rattle.writer.proofs.shown.moment_of.Statement.{statement}
 use Rattle.writer.proofs.shown.moment_of.Tie as tie
 
-date-named : (c : tie.After-civil) → c.civil.result ≡ N.Date (date_of (clock_of c.before.before.args.at8).day)
+date-named : (c : tie.After-civil) → c.civil.result ≡ N.Date (date_of (clock_of c.args.at8).day)
 date-named c =
-    named c.before.before.args.at8 c.before.clock-of.result c.civil.result c.before.before.requires c.before.clock-of.ensures c.civil.ensures
+    named c.args.at8 c.clock_of-clock.result c.civil.result c.requires c.clock_of-clock.ensures c.civil.ensures
 
-returns : tie.Need-returns
+returns : tie.Need-returns-in_default
 returns c =
     let none = c.enum_told.given.1 in
     let some = date-named c.before.before in
     let z : ◌≡◌ {A = ℕ} 0 1 = cc in
     absurd (omega arith)
 
-returns-2 : tie.Need-returns-2
+returns-2 : tie.Need-returns
 unfolding moment_of
 returns-2 c =
-    let known = c.before.date.given in
+    let known = c.date.given in
     let some = date-named c.before.before.before in
-    let same : known.0.0 ≡ date_of (clock_of c.before.before.before.before.before.args.at8).day = cc in
-    rw (same, c.before.before.before.before.clock-of.ensures)
+    let same : known.0.0 ≡ date_of (clock_of c.args.at8).day = cc in
+    rw (same, c.clock_of-clock.ensures)
 
-pub moment-of-spec : {M : Type 1} → statement M
-moment-of-spec = tie.close (tie.spec (λ c κs. search rules) (λ c κs. search rules) (λ c. search rules) (λ c. search rules) returns returns-2)
+pub moment_of_spec : {M : Type 1} → statement M
+moment_of_spec = tie.close (tie.spec (λ c κs. search rules) (λ c κs. search rules) (λ c. search rules) (λ c. search rules) returns returns-2)

@@ -7,20 +7,20 @@ use Rattle.writer.proofs.shown.note_shown.Tie as tie
 
 returns : tie.Need-returns
 returns c =
-    note-read c.before.before.before.before.before.before.before.before.before.before.args.note.now
-    c.before.before.before.before.before.before.before.before.before.magnitude-at.ensures
-    c.before.before.before.before.before.before.before.before.magnitude-at2.ensures
-    c.before.before.before.before.before.before.before.magnitude-at3.ensures
-    c.before.before.before.before.before.before.magnitude-at4.ensures
-    c.before.before.before.before.before.signed-at.ensures
-    c.before.before.before.before.signed-at2.ensures
-    c.before.before.before.signed-at3.ensures
-    c.before.before.signed-at4.ensures
-    c.before.signed-at5.ensures
-    c.signed-at6.ensures
+    note-read c.args.note.now
+    c.magnitude_at.ensures
+    c.magnitude_at-2.ensures
+    c.magnitude_at-3.ensures
+    c.magnitude_at-4.ensures
+    c.signed_at.ensures
+    c.signed_at-2.ensures
+    c.signed_at-3.ensures
+    c.signed_at-4.ensures
+    c.signed_at-5.ensures
+    c.signed_at-6.ensures
 
-pub note-shown-spec : {M : Type 1} → statement M
-note-shown-spec =
+pub note_shown_spec : {M : Type 1} → statement M
+note_shown_spec =
     tie.close
     (tie.spec
     (λ c κs. search rules)

@@ -7,23 +7,23 @@ use Rattle.writer.proofs.shown.row_shown.Tie as tie
 
 returns : tie.Need-returns
 returns c =
-    let a = c.before.before.before.before.before.before.before.before.before.before.before.before.args in
+    let a = c.args in
     row_read a.identifier a.row.now
-    c.before.before.before.before.before.before.before.before.before.before.before.signed-at.ensures
-    c.before.before.before.before.before.before.before.before.before.before.signed-at2.ensures
-    c.before.before.before.before.before.before.before.before.before.signed-at3.ensures
-    c.before.before.before.before.before.before.before.before.signed-at4.ensures
-    c.before.before.before.before.before.before.before.magnitude-at.ensures
-    c.before.before.before.before.before.before.magnitude-at2.ensures
-    c.before.before.before.before.before.magnitude-at3.ensures
-    c.before.before.before.before.magnitude-at4.ensures
-    c.before.before.before.flag_at.ensures
-    c.before.before.flag-at2.ensures
-    c.before.flag-at3.ensures
-    c.flag-at4.ensures
+    c.signed_at.ensures
+    c.signed_at-2.ensures
+    c.signed_at-3.ensures
+    c.signed_at-4.ensures
+    c.magnitude_at.ensures
+    c.magnitude_at-2.ensures
+    c.magnitude_at-3.ensures
+    c.magnitude_at-4.ensures
+    c.flag_at.ensures
+    c.flag_at-2.ensures
+    c.flag_at-3.ensures
+    c.flag_at-4.ensures
 
-pub row-shown-spec : {M : Type 1} → statement M
-row-shown-spec =
+pub row_shown_spec : {M : Type 1} → statement M
+row_shown_spec =
     tie.close
     (tie.spec
     (λ c κs. search rules)

@@ -17,27 +17,27 @@ week_of at8 = (at8 / day_units - first_mjd) / 7
 abbrev seconds_of : ℕ → ℕ
 seconds_of at8 = (at8 / day_units - first_mjd) % 7 * day_units + at8 % day_units
 
-week-is : (c : tie.After-week-of) → c.week-of.result ≡ W.Of (week_of c.before.args.h.start8) (seconds_of c.before.args.h.start8)
-week-is c = weekly c.before.args.h.start8 c.week-of.result c.before.requires c.week-of.ensures
+week-is : (c : tie.After-week_of) → c.week_of.result ≡ W.Of (week_of c.args.h.start8) (seconds_of c.args.h.start8)
+week-is c = weekly c.args.h.start8 c.week_of.result c.requires c.week_of.ensures
 
-returns : tie.Need-returns
+returns : tie.Need-returns-in_default
 returns c =
     let none = c.enum_told.given.1 in
     let some = week-is c.before.before in
     let z : ◌≡◌ {A = ℕ} 0 1 = cc in
     absurd (omega arith)
 
-returns-2 : tie.Need-returns-2
+returns-2 : tie.Need-returns
 returns-2 c =
-    let told = c.before.before.before.before.week.given in
+    let told = c.week.given in
     let some = week-is c.before.before.before.before.before.before in
     let known = told.1 in
-    let at8 = c.before.before.before.before.before.before.before.args.h.start8 in
+    let at8 = c.args.h.start8 in
     let week : told.0.0 ≡ week_of at8 = cc in
     let seconds : told.0.1.0 ≡ seconds_of at8 = cc in
-    second-read c.before.before.before.before.before.before.before.args.h week seconds c.fraction-of.ensures
+    second-read c.args.h week seconds c.fraction_of.ensures
 
-pub second-shown-spec : {M : Type 1} → statement M
-second-shown-spec =
+pub second_shown_spec : {M : Type 1} → statement M
+second_shown_spec =
     tie.close
     (tie.spec (λ c κs. search rules) (λ c. search rules) (λ c. search rules) returns (λ c κs. search rules) returns-2)

@@ -7,7 +7,7 @@ use Rattle.writer.proofs.shown.seventeen.Statement.{statement}
 use Rattle.writer.proofs.shown.seventeen.Tie as tie
 
 returns : tie.Need-returns
-returns c = c.before.lay-numbers.ensures ∙ seventeen-laid c.before.before.before.before.args.numbers.now
+returns c = c.lay_numbers.ensures ∙ seventeen-laid c.args.numbers.now
 
-pub seventeen-spec : {M : Type 1} → statement M
-seventeen-spec = tie.close (tie.spec (λ c. search rules) (λ c κs. search rules) returns)
+pub seventeen_spec : {M : Type 1} → statement M
+seventeen_spec = tie.close (tie.spec (λ c. search rules) (λ c κs. search rules) returns)

@@ -36,92 +36,92 @@ descriptors c = descriptor_lines c.args.h
 abbrev Laid : tie.Start → ℕ → List ℕ → (tie.Start → List (List ℕ)) → Type 0
 Laid c at now rest = Laying (opening c ++ (identifiers c ++ (exponents c ++ descriptors c))) c.args.out.now at now (rest c)
 
-put-first-requires : tie.Need-put-first-requires
+put-first-requires : tie.Need-put_first-at-requires
 unfolding lines_before
 put-first-requires c κs =
     let start = c.before.before.before.before.before in
     (start.requires.0, first-room (opening start) (identifiers start ++ (exponents start ++ descriptors start)) start.args.out.now start.requires.1)
 
-first-laid : (c : tie.After-put-first)
-    → Laid c.before.before.before.before.before.before c.put_first.result c.put_first.new.1.1.1.0 (λ start. identifiers start ++ (exponents start ++ descriptors start))
+first-laid : (c : tie.After-put_first-at)
+    → Laid c.before.before.before.before.before.before c.put_first-at.result c.put_first-at.new.1.1.1.0 (λ start. identifiers start ++ (exponents start ++ descriptors start))
 unfolding lines_before
 first-laid c =
     let start = c.before.before.before.before.before.before in
-    laying-first (opening start) (identifiers start ++ (exponents start ++ descriptors start)) start.requires.1 c.put_first.ensures
+    laying-first (opening start) (identifiers start ++ (exponents start ++ descriptors start)) start.requires.1 c.put_first-at.ensures
 
-sub-put-slots : tie.Need-overflow-sub-put-slots
+sub-put-slots : tie.Need-overflow_sub-lines
 unfolding slot_lines
-sub-put-slots c = omega (arith, c.before.before.before.before.before.slot-lines.ensures)
+sub-put-slots c = omega (arith, c.slot_lines-lines.ensures)
 
 -- the identifiers past the first line
-rest-identifiers : (c : tie.After-fewer)
-    → slot_lines_of false (c.before.before.before.before.before.slot-lines.result - 1)
-    (take (length c.before.before.before.before.before.before.before.before.before.args.identifiers.now - c.fewer.result) (drop c.fewer.result c.before.before.before.before.before.before.before.before.before.args.identifiers.now))
+rest-identifiers : (c : tie.After-fewer-first)
+    → slot_lines_of false (c.slot_lines-lines.result - 1)
+    (take (length c.args.identifiers.now - c.fewer-first.result) (drop c.fewer-first.result c.args.identifiers.now))
     ≡ identifiers c.before.before.before.before.before.before.before.before.before
 rest-identifiers c =
-    let all = c.before.before.before.before.before.before.before.before.before.args.identifiers.now in
-    rw (rest_part all c.fewer.result, c.fewer.ensures, rest-past all 17, c.before.before.before.before.before.slot-lines.ensures)
+    let all = c.args.identifiers.now in
+    rw (rest_part all c.fewer-first.result, c.fewer-first.ensures, rest-past all 17, c.slot_lines-lines.ensures)
 
-put-slots-requires : tie.Need-put-slots-requires
+put-slots-requires : tie.Need-put_slots-at-requires
 put-slots-requires c κs =
     let start = c.before.before.before.before.before.before.before.before.before.before.before in
     rw (rest-identifiers c.before.before)
     (laying-room (identifiers start) (exponents start ++ descriptors start) (first-laid c.before.before.before.before.before))
 
-abbrev at-2 : tie.After-put-slots → ℕ
-at-2 c = c.before.before.before.before.before.before.put_first.result + c.put-slots.result
+abbrev at-2 : tie.After-put_slots-at → ℕ
+at-2 c = c.put_first-at.result + c.put_slots-at.result
 
-abbrev out-2 : tie.After-put-slots → List ℕ
-out-2 c = then c.before.before.before.before.before.before.put_first.result c.before.before.before.before.before.before.put_first.new.1.1.1.0 c.put-slots.new.1.1.1.0
+abbrev out-2 : tie.After-put_slots-at → List ℕ
+out-2 c = then c.put_first-at.result c.put_first-at.new.1.1.1.0 c.put_slots-at.new.1.1.1.0
 
-identifiers-laid : (c : tie.After-put-slots) → Laid c.before.before.before.before.before.before.before.before.before.before.before.before (at-2 c) (out-2 c) (λ start. exponents start ++ descriptors start)
+identifiers-laid : (c : tie.After-put_slots-at) → Laid c.before.before.before.before.before.before.before.before.before.before.before.before (at-2 c) (out-2 c) (λ start. exponents start ++ descriptors start)
 identifiers-laid c =
     let start = c.before.before.before.before.before.before.before.before.before.before.before.before in
     laying-more (identifiers start) (exponents start ++ descriptors start) (first-laid c.before.before.before.before.before.before)
-    (rw (rest-identifiers c.before.before.before) at c.put-slots.ensures)
+    (rw (rest-identifiers c.before.before.before) at c.put_slots-at.ensures)
 
-add_at : tie.Need-overflow-add-at
-add_at c = omega (arith, c.before.before.before.before.before.before.before.before.before.before.before.before.before.before.well-formed, laying-fits (identifiers-laid c.before.before))
+add_at : tie.Need-overflow_add-at
+add_at c = omega (arith, c.well-formed, laying-fits (identifiers-laid c.before.before))
 
-put-slots-requires-2 : tie.Need-put-slots-requires-2
+put-slots-requires-2 : tie.Need-put_slots-at-requires-2
 put-slots-requires-2 c κs =
     let start = c.before.before.before.before.before.before.before.before.before.before.before.before.before.before.before in
-    rw c.before.before.before.before.before.before.before.before.before.before.before.slot-lines.ensures
+    rw c.slot_lines-lines.ensures
     (laying-room (exponents start) (descriptors start) (identifiers-laid c.before.before.before))
 
-abbrev at-3 : tie.After-put-slots2 → ℕ
-at-3 c = at-2 c.before.before.before.before + c.put-slots2.result
+abbrev at-3 : tie.After-put_slots-at-2 → ℕ
+at-3 c = at-2 c.before.before.before.before + c.put_slots-at-2.result
 
-abbrev out-3 : tie.After-put-slots2 → List ℕ
-out-3 c = then (at-2 c.before.before.before.before) (out-2 c.before.before.before.before) c.put-slots2.new.1.1.1.0
+abbrev out-3 : tie.After-put_slots-at-2 → List ℕ
+out-3 c = then (at-2 c.before.before.before.before) (out-2 c.before.before.before.before) c.put_slots-at-2.new.1.1.1.0
 
-exponents-laid : (c : tie.After-put-slots2) → Laid c.before.before.before.before.before.before.before.before.before.before.before.before.before.before.before.before (at-3 c) (out-3 c) (λ start. descriptors start ++ [])
+exponents-laid : (c : tie.After-put_slots-at-2) → Laid c.before.before.before.before.before.before.before.before.before.before.before.before.before.before.before.before (at-3 c) (out-3 c) (λ start. descriptors start ++ [])
 exponents-laid c =
     let start = c.before.before.before.before.before.before.before.before.before.before.before.before.before.before.before.before in
     laying-alone
     (laying-more (exponents start) (descriptors start) (identifiers-laid c.before.before.before.before)
-    (rw c.before.before.before.before.before.before.before.before.before.before.before.before.slot-lines.ensures at c.put-slots2.ensures))
+    (rw c.slot_lines-lines.ensures at c.put_slots-at-2.ensures))
 
-add-at-2 : tie.Need-overflow-add-at-2
-add-at-2 c = omega (arith, c.before.before.before.before.before.before.before.before.before.before.before.before.before.before.before.before.before.before.well-formed, laying-fits (exponents-laid c.before.before))
+add-at-2 : tie.Need-overflow_add-at-2
+add-at-2 c = omega (arith, c.well-formed, laying-fits (exponents-laid c.before.before))
 
-put-descriptors-requires : tie.Need-put-descriptors-requires
+put-descriptors-requires : tie.Need-put_descriptors-requires
 put-descriptors-requires c κs = laying-room (descriptors c.before.before.before.before.before.before.before.before.before.before.before.before.before.before.before.before.before.before.before) [] (exponents-laid c.before.before.before)
 
-all_laid : (c : tie.After-put-descriptors)
-    → Laid c.before.before.before.before.before.before.before.before.before.before.before.before.before.before.before.before.before.before.before.before (at-3 c.before.before.before.before + c.put-descriptors.result)
-    (then (at-3 c.before.before.before.before) (out-3 c.before.before.before.before) c.put-descriptors.new.1.0) (λ start. [])
-all_laid c = laying-more (descriptors c.before.before.before.before.before.before.before.before.before.before.before.before.before.before.before.before.before.before.before.before) [] (exponents-laid c.before.before.before.before) c.put-descriptors.ensures
+all_laid : (c : tie.After-put_descriptors)
+    → Laid c.before.before.before.before.before.before.before.before.before.before.before.before.before.before.before.before.before.before.before.before (at-3 c.before.before.before.before + c.put_descriptors.result)
+    (then (at-3 c.before.before.before.before) (out-3 c.before.before.before.before) c.put_descriptors.new.1.0) (λ start. [])
+all_laid c = laying-more (descriptors c.before.before.before.before.before.before.before.before.before.before.before.before.before.before.before.before.before.before.before.before) [] (exponents-laid c.before.before.before.before) c.put_descriptors.ensures
 
-add-result : tie.Need-overflow-add-result
-add-result c = omega (arith, c.before.before.before.before.before.before.before.before.before.before.before.before.before.before.before.before.before.before.before.before.before.before.well-formed, laying-fits (all_laid c.before.before))
+add-result : tie.Need-overflow_add-result
+add-result c = omega (arith, c.well-formed, laying-fits (all_laid c.before.before))
 
 returns : tie.Need-returns
 unfolding lines_before
 returns c = laying-end (all_laid c.before.before)
 
-pub put-opening-spec : {M : Type 1} → statement M
-put-opening-spec =
+pub put_opening_spec : {M : Type 1} → statement M
+put_opening_spec =
     tie.close
     (tie.spec
     (λ c κs. search rules)

@@ -40,57 +40,57 @@ fits : (c : tie.Start) → Fitting (table c)
 fits c = valid-fits c.args.rules (table c) c.requires.0
 
 -- so many numbers the rows have
-numbers : (c : tie.After-cell-width) → cells_in c.before.before.before.before.before.before.args.h * c.cell-width.result ≡ cells_in c.before.before.before.before.before.before.args.h * cell_width c.before.before.before.before.before.before.args.h.velocity
-numbers c = ap (λ (w : ℕ). cells_in c.before.before.before.before.before.before.args.h * w) c.cell-width.ensures
+numbers : (c : tie.After-cell_width) → cells_in c.args.h * c.cell_width.result ≡ cells_in c.args.h * cell_width c.args.h.velocity
+numbers c = ap (λ (w : ℕ). cells_in c.args.h * w) c.cell_width.ensures
 
-put-opening-requires : tie.Need-put-opening-requires
+put-opening-requires : tie.Need-put_opening-at-requires
 unfolding canonical canonical_lines
 put-opening-requires c κs =
     let start = c.before.before.before.before.before.before.before.before in (
-      (timed start.args.h (fits start).times).start,
+      (timed start.args.h (fits c.before.before.before.before.before.before.before.before).times).start,
       rw (sub-zero start.args.h.satellites) (first-room (opening start) (comments start ++ (epochs start ++ ending)) start.args.out.now start.requires.1),
     )
 
-opening-laid : (c : tie.After-put-opening) → Laid c.before.before.before.before.before.before.before.before.before c.put-opening.result c.put-opening.new.1.1.1.1.0 (λ start. comments start ++ (epochs start ++ ending))
+opening-laid : (c : tie.After-put_opening-at) → Laid c.before.before.before.before.before.before.before.before.before c.put_opening-at.result c.put_opening-at.new.1.1.1.1.0 (λ start. comments start ++ (epochs start ++ ending))
 unfolding canonical canonical_lines
 opening-laid c =
     let start = c.before.before.before.before.before.before.before.before.before in
     laying-first (opening start) (comments start ++ (epochs start ++ ending)) start.requires.1
-    (rw (sub-zero start.args.h.satellites) at c.put-opening.ensures)
+    (rw (sub-zero start.args.h.satellites) at c.put_opening-at.ensures)
 
-mul-put-comments : tie.Need-overflow-mul-put-comments
-mul-put-comments c = omega (arith, c.before.before.before.before.before.before.before.before.before.before.before.well-formed, (fits c.before.before.before.before.before.before.before.before.before.before.before).comments)
+mul-put-comments : tie.Need-overflow_mul-count
+mul-put-comments c = omega (arith, c.well-formed, (fits c.before.before.before.before.before.before.before.before.before.before.before).comments)
 
-put-comments-requires : tie.Need-put-comments-requires
+put-comments-requires : tie.Need-put_comments-at-requires
 put-comments-requires c κs =
     let start = c.before.before.before.before.before.before.before.before.before.before.before.before.before in
     rw (sub-zero (start.args.h.comments * comment_width)) (
-      length-take-le (start.args.h.comments * comment_width) start.args.comments.now (fits start).comments,
+      length-take-le (start.args.h.comments * comment_width) start.args.comments.now (fits c.before.before.before.before.before.before.before.before.before.before.before.before.before).comments,
       laying-room (comments start) (epochs start ++ ending) (opening-laid c.before.before.before.before),
     )
 
-abbrev at-2 : tie.After-put-comments → ℕ
-at-2 c = c.before.before.before.before.before.put-opening.result + c.put-comments.result
+abbrev at-2 : tie.After-put_comments-at → ℕ
+at-2 c = c.put_opening-at.result + c.put_comments-at.result
 
-abbrev out-2 : tie.After-put-comments → List ℕ
-out-2 c = then c.before.before.before.before.before.put-opening.result c.before.before.before.before.before.put-opening.new.1.1.1.1.0 c.put-comments.new.1.1.0
+abbrev out-2 : tie.After-put_comments-at → List ℕ
+out-2 c = then c.put_opening-at.result c.put_opening-at.new.1.1.1.1.0 c.put_comments-at.new.1.1.0
 
-comments-laid : (c : tie.After-put-comments) → Laid c.before.before.before.before.before.before.before.before.before.before.before.before.before.before (at-2 c) (out-2 c) (λ start. epochs start ++ ending)
+comments-laid : (c : tie.After-put_comments-at) → Laid c.before.before.before.before.before.before.before.before.before.before.before.before.before.before (at-2 c) (out-2 c) (λ start. epochs start ++ ending)
 comments-laid c =
     let start = c.before.before.before.before.before.before.before.before.before.before.before.before.before.before in
     laying-more (comments start) (epochs start ++ ending) (opening-laid c.before.before.before.before.before)
-    (rw (sub-zero (start.args.h.comments * comment_width)) at c.put-comments.ensures)
+    (rw (sub-zero (start.args.h.comments * comment_width)) at c.put_comments-at.ensures)
 
-add_at : tie.Need-overflow-add-at
-add_at c = omega (arith, c.before.before.before.before.before.before.before.before.before.before.before.before.before.before.before.before.well-formed, laying-fits (comments-laid c.before.before))
+add_at : tie.Need-overflow_add-at
+add_at c = omega (arith, c.well-formed, laying-fits (comments-laid c.before.before))
 
-part-put-epochs-end : tie.Need-slice-bounds-put-epochs-end
+part-put-epochs-end : tie.Need-slice_bounds-put_epochs-end
 part-put-epochs-end c = omega (arith, numbers c.before.before.before.before.before.before.before.before.before.before, (fits c.before.before.before.before.before.before.before.before.before.before.before.before.before.before.before.before).rows)
 
 -- the rows that are lent, and how many numbers they are
-lent_rows : (c : tie.After-cell-width)
-    → take (cells_in c.before.before.before.before.before.before.args.h * c.cell-width.result - 0) c.before.before.before.before.before.before.args.rows.now ≡ rows_of (table c.before.before.before.before.before.before)
-lent_rows c = ap (λ (n : ℕ). take n c.before.before.before.before.before.before.args.rows.now) (sub-zero _ ∙ numbers c)
+lent_rows : (c : tie.After-cell_width)
+    → take (cells_in c.args.h * c.cell_width.result - 0) c.args.rows.now ≡ rows_of (table c.before.before.before.before.before.before)
+lent_rows c = ap (λ (n : ℕ). take n c.args.rows.now) (sub-zero _ ∙ numbers c)
 
 many-rows : (c : tie.Start) → length (rows_of (table c)) ≡ c.args.h.epochs * (length (table_identifiers (table c)) * cell_width c.args.h.velocity)
 many-rows c =
@@ -100,44 +100,44 @@ many-rows c =
     ∙ by-epochs h.satellites h.epochs w
     ∙ ap (λ (n : ℕ). h.epochs * (n * w)) (sym (length-take-le h.satellites c.args.identifiers.now (fits c).listed))
 
-put-epochs-requires : tie.Need-put-epochs-requires
+put-epochs-requires : tie.Need-put_epochs-at-requires
 put-epochs-requires c κs =
     let start = c.before.before.before.before.before.before.before.before.before.before.before.before.before.before.before.before.before.before in
     rw (lent_rows c.before.before.before.before.before.before.before.before.before.before.before.before, sub-zero start.args.h.satellites)
-    ((fits start).times, (many-rows start, laying-room (epochs start) ending (comments-laid c.before.before.before.before)))
+    ((fits c.before.before.before.before.before.before.before.before.before.before.before.before.before.before.before.before.before.before).times, (many-rows c.before.before.before.before.before.before.before.before.before.before.before.before.before.before.before.before.before.before, laying-room (epochs start) ending (comments-laid c.before.before.before.before)))
 
-abbrev at-3 : tie.After-put-epochs → ℕ
-at-3 c = at-2 c.before.before.before.before.before + c.put-epochs.result
+abbrev at-3 : tie.After-put_epochs-at → ℕ
+at-3 c = at-2 c.before.before.before.before.before + c.put_epochs-at.result
 
-abbrev out-3 : tie.After-put-epochs → List ℕ
-out-3 c = then (at-2 c.before.before.before.before.before) (out-2 c.before.before.before.before.before) c.put-epochs.new.1.1.1.0
+abbrev out-3 : tie.After-put_epochs-at → List ℕ
+out-3 c = then (at-2 c.before.before.before.before.before) (out-2 c.before.before.before.before.before) c.put_epochs-at.new.1.1.1.0
 
-epochs-laid : (c : tie.After-put-epochs) → Laid c.before.before.before.before.before.before.before.before.before.before.before.before.before.before.before.before.before.before.before (at-3 c) (out-3 c) (λ start. ending)
+epochs-laid : (c : tie.After-put_epochs-at) → Laid c.before.before.before.before.before.before.before.before.before.before.before.before.before.before.before.before.before.before.before (at-3 c) (out-3 c) (λ start. ending)
 epochs-laid c =
     let start = c.before.before.before.before.before.before.before.before.before.before.before.before.before.before.before.before.before.before.before in
     laying-more (epochs start) ending (comments-laid c.before.before.before.before.before)
-    (rw (lent_rows c.before.before.before.before.before.before.before.before.before.before.before.before.before, sub-zero start.args.h.satellites) at c.put-epochs.ensures)
+    (rw (lent_rows c.before.before.before.before.before.before.before.before.before.before.before.before.before, sub-zero start.args.h.satellites) at c.put_epochs-at.ensures)
 
-add-at-2 : tie.Need-overflow-add-at-2
-add-at-2 c = omega (arith, c.before.before.before.before.before.before.before.before.before.before.before.before.before.before.before.before.before.before.before.before.before.well-formed, laying-fits (epochs-laid c.before.before))
+add-at-2 : tie.Need-overflow_add-at-2
+add-at-2 c = omega (arith, c.well-formed, laying-fits (epochs-laid c.before.before))
 
 returns : tie.Need-returns
 unfolding canonical canonical_lines
 returns c =
     let start = c.before.before.before.before.before.before.before.before.before.before.before.before.before.before.before.before.before.before.before.before.before.before.before.before.before in
     lays-over (canonical start.args.rules (table start)) start.args.out.now start.requires.1
-    (laying-end (laying-more ending [] (epochs-laid c.before.before.before.before.before.before) (one_line (fixed_line end_items) c.before.before.write-end.ensures)))
+    (laying-end (laying-more ending [] (epochs-laid c.before.before.before.before.before.before) (one_line (fixed_line end_items) c.write_end.ensures)))
 
-pub put-table-spec : {M : Type 1} → statement M
-put-table-spec =
+pub put_table_spec : {M : Type 1} → statement M
+put_table_spec =
     tie.close
     (tie.spec
     (λ c. search rules)
     (λ c. search rules)
     (λ c. (fits c.before.before.before.before).listed)
-    (λ c. omega (arith, c.before.before.before.before.before.well-formed, (fits c.before.before.before.before.before).cells))
+    (λ c. omega (arith, c.well-formed, (fits c.before.before.before.before.before).cells))
     (λ c κs. search rules)
-    (λ c. omega (arith, c.before.before.before.before.before.before.well-formed, numbers c, (fits c.before.before.before.before.before.before).rows))
+    (λ c. omega (arith, c.well-formed, numbers c, (fits c.before.before.before.before.before.before).rows))
     (λ c. search rules)
     (λ c. search rules)
     (λ c. (fits c.before.before.before.before.before.before).exponents)

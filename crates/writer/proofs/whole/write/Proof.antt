@@ -20,33 +20,33 @@ table c = table_of c.args.h c.args.identifiers.now c.args.exponents.now c.args.c
 abbrev rules : tie.Start → Rules
 rules c = rules_of c.args.version
 
-abbrev start : tie.After-measure → tie.Start
+abbrev start : tie.After-measure-answer → tie.Start
 start c = c.before.before.before.before.before.before
 
 -- the table is valid in the version, and its form has room
-fits : (c : tie.Else1) → (
+fits : (c : tie.Else-answer-ne0) → (
     let s = start c.before.before in
     (valid (rules s) (table s) ≡ true) × (length (canonical (rules s) (table s)) ≤ length s.args.out.now))
 fits c =
     let asked = c.before.before in
     let s = start asked in
-    written-fits (rules s) (table s) s.args.out.now asked.measure.ensures c.if1.false
+    written-fits (rules s) (table s) s.args.out.now asked.measure-answer.ensures c.if-answer-ne0.false
 
-returns : tie.Need-returns
+returns : tie.Need-returns-then-answer-ne0
 returns c =
     let asked = c.before.before in
     let s = start asked in
-    (asked.measure.ensures, refused-keeps (rules s) (table s) s.args.out.now asked.measure.ensures c.if1.true)
+    (asked.measure-answer.ensures, refused-keeps (rules s) (table s) s.args.out.now asked.measure-answer.ensures c.if-answer-ne0.true)
 
-returns-2 : tie.Need-returns-2
+returns-2 : tie.Need-returns
 returns-2 c =
-    let put = c.before.before in
-    let ruled = put.before.before in
-    let good = ruled.before in
+    let put = c in
+    let ruled = c in
+    let good = c in
     let asked = good.before.before in
     let s = start asked in
-    let laid = rw ruled.of.ensures at put.put-table.ensures in
-    (asked.measure.ensures, written-lays (rules s) (table s) s.args.out.now (fits good) laid)
+    let laid = rw ruled.of-rules.ensures at put.put_table.ensures in
+    (asked.measure-answer.ensures, written-lays (rules s) (table s) s.args.out.now (fits c.before.before.before.before.before) laid)
 
 pub write_spec : {M : Type 1} → statement M
 write_spec =
@@ -56,6 +56,6 @@ write_spec =
     (λ c. search rules)
     returns
     (λ c κs. search rules)
-    (λ c κs. rw c.before.of.ensures (fits c.before.before))
+    (λ c κs. rw c.of-rules.ensures (fits c.before.before))
     (λ c. search rules)
     returns-2)

@@ -12,48 +12,48 @@ use Rattle.header.proofs.Answers.{start_answer, no-letters, no_start, no-numbers
 use Rattle.header.proofs.types.Header.new.Statement.{statement}
 use Rattle.header.proofs.types.Header.new.Tie as tie
 
-returns : tie.Need-returns
+returns : tie.Need-returns-then-not-letters_listed
 returns c =
-    let asked = c.before.before in
+    let asked = c in
     c.refuse.ensures
-    ∙ sym (no-letters _ _ _ _ _ _ _ _ _ _ (sym asked.letters-listed.ensures ∙ not-true _ c.before.if1.true))
+    ∙ sym (no-letters _ _ _ _ _ _ _ _ _ _ (sym asked.letters_listed.ensures ∙ not-true _ c.if-not-letters_listed.true))
 
 -- past the first test every letter is listed
-listed : (c : tie.Else1) →
-    letters_listed c.before.before.args.mode c.before.before.args.texts c.before.before.args.file_type
-    c.before.before.args.time-system
+listed : (c : tie.Else-not-letters_listed) →
+    letters_listed c.args.mode c.args.texts c.args.file_type
+    c.args.time-system
     ≡ true
-listed c = sym c.before.letters-listed.ensures ∙ not-false _ c.if1.false
+listed c = sym c.letters_listed.ensures ∙ not-false _ c.if-not-letters_listed.false
 
-returns-2 : tie.Need-returns-2
+returns-2 : tie.Need-returns-in_default
 unfolding told_instant
 returns-2 c =
-    let told = c.before in
-    let asked = told.before.before in
-    c.refuse2.ensures
+    let told = c in
+    let asked = c in
+    c.refuse-in_default.ensures
     ∙ sym
-    (no_start _ _ _ _ _ _ _ _ _ _ (listed asked.before) (sym asked.instant-of.ensures ∙ ap told_instant told.enum_told.given.1))
+    (no_start _ _ _ _ _ _ _ _ _ _ (listed c.before.before.before.before) (sym asked.instant_of.ensures ∙ ap told_instant told.enum_told.given.1))
 
 -- where the start has an instant, the calendar gave it
-given : (c : tie.After-start8) → start_answer c.before.before.before.before.before.args.start ≡ 0 ∷ c.start8.given.0.0 ∷ []
+given : (c : tie.In-At-2) → start_answer c.args.start ≡ 0 ∷ c.start8.given.0.0 ∷ []
 unfolding told_instant
-given c = sym c.before.before.instant-of.ensures ∙ ap told_instant c.start8.given.1
+given c = sym c.instant_of.ensures ∙ ap told_instant c.start8.given.1
 
-returns-3 : tie.Need-returns-3
+returns-3 : tie.Need-returns-then-not-numbers_bounded
 returns-3 c =
-    let asked = c.before.before in
-    let at = asked.before.before in
-    c.refuse3.ensures
+    let asked = c in
+    let at = c in
+    c.refuse-then-not-numbers_bounded.ensures
     ∙ sym
-    (no-numbers _ _ _ _ _ _ _ _ _ _ (listed at.before.before.before) _ (given at) (sym asked.numbers-bounded.ensures ∙ not-true _ c.before.if2.true))
+    (no-numbers _ _ _ _ _ _ _ _ _ _ (listed c.before.before.before.before.before.before.before) _ (given c.before.before.before.before) (sym asked.numbers_bounded.ensures ∙ not-true _ c.if-not-numbers_bounded.true))
 
-returns-4 : tie.Need-returns-4
+returns-4 : tie.Need-returns
 returns-4 c =
-    let asked = c.before.before in
-    let at = asked.before.before in
+    let asked = c in
+    let at = c in
     ap (λ (h : Header). record { refusal = 0; header = h }) c.of.ensures
     ∙ sym
-    (made _ _ _ _ _ _ _ _ _ _ (listed at.before.before.before) _ (given at) (sym asked.numbers-bounded.ensures ∙ not-false _ c.before.if2.false))
+    (made _ _ _ _ _ _ _ _ _ _ (listed c.before.before.before.before.before.before.before) _ (given c.before.before.before.before) (sym asked.numbers_bounded.ensures ∙ not-false _ c.if-not-numbers_bounded.false))
 
 pub new_spec : {M : Type 1} → statement M
 new_spec =

@@ -5,13 +5,13 @@ use Rattle.header.specs.Versions.{version_by}
 use Rattle.header.proofs.types.Version.by.Statement.{statement}
 use Rattle.header.proofs.types.Version.by.Tie as tie
 
-returns : tie.Need-returns
+returns : tie.Need-returns-then-letter-eq99
 unfolding version_by
-returns c = rw (eq-eqb _ _ c.if1.true)
+returns c = rw (eq-eqb _ _ c.if-letter-eq99.true)
 
-returns-2 : tie.Need-returns-2
+returns-2 : tie.Need-returns
 unfolding version_by
-returns-2 c = rw (ne_eqb _ _ c.if1.false)
+returns-2 c = rw (ne_eqb _ _ c.if-letter-eq99.false)
 
-pub by-spec : {M : Type 1} → statement M
-by-spec = tie.close (tie.spec returns returns-2)
+pub by_spec : {M : Type 1} → statement M
+by_spec = tie.close (tie.spec returns returns-2)
