@@ -4,7 +4,7 @@ ghost use Rattle.std.specs.Prelude.{◌+◌, ◌≤◌, length};
 
 use crate::{divided, print, walked};
 use std::io;
-use std::io::Read;
+use std::io::Read as _;
 
 // A number, and where the text goes on after the byte that ended it.
 #[derive(Clone, Copy)]
