@@ -104,7 +104,7 @@ read c =
     }
 
 returns-3 : tie.Need-returns-in_default
-returns-3 c = let g = read c.before in not_eight _ _ _ _ _ _ g (no-fault _ _ _ _ _ _ g c.in_default.keys2)
+returns-3 c = let g = read c.before in not_eight _ _ _ _ _ _ g (no-fault _ _ _ _ _ _ g c.in_default.in_default-own.keys2)
 
 returns-4 : tie.Need-returns-then-number-ne8
 returns-4 c =

@@ -11,7 +11,7 @@ returns : tie.Need-returns-in_default
 returns c =
     let read = c in
     let a = read.args in
-    read_same a.rules a.bytes.now a.at a.state a.identifiers.now read.line_known-found.result read.line_known-found.ensures c.in_default.keys2
+    read_same a.rules a.bytes.now a.at a.state a.identifiers.now read.line_known-found.result read.line_known-found.ensures c.in_default.in_default-own.keys2
 
 -- where the line goes on: its bounds
 bounds : (c : tie.After-line_known-found) (place : ℕ) (s' : State) → c.line_known-found.result ≡ found.Next place s'
