@@ -36,14 +36,14 @@ seen c =
 
 returns : tie.Need-returns-in-Refused invariant-loop decreases-loop
 returns c =
-    let known = c.number.given in
+    let known = c.in-Refused in
     let ran = c in
     let turn = c in
     let at-loop = turn.before in
     let a = at-loop.args in
     c.answer.ensures
     ∙ counted-refused a.stretch.now a.room at-loop.loop-rest.count at-loop.loop-rest.rest at-loop.loop-rest.invariant
-    ran.scan_front.result (seen c.before.before) known.0.0 known.0.1.0 known.0.1.1.0 turn.loop-rest-test.true known.1
+    ran.scan_front.result (seen c.before.before) known.number known.line known.column turn.loop-rest-test.true known.is
 
 -- where the rest begins with a file
 file-there : (c : tie.In-File-2 invariant-loop decreases-loop)

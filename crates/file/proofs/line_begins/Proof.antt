@@ -8,7 +8,7 @@ use lib.ListN.{length}
 use Rattle.lines.proofs.Picking.{Seeking, seeking-first, seeking-none, seeking-other, seeking-place, seeking-later}
 use Rattle.file.specs.Kinds.{is_kind}
 use Rattle.file.proofs.line_begins.Statement.{statement}
-use Rattle.file.proofs.line_begins.Lts.{then-kind_in-kind, else-kind_in-kind}
+use Rattle.file.proofs.line_begins.Lts.{then-kind_in-kind+else-left-eq0, else-kind_in-kind}
 use Rattle.file.proofs.line_begins.Tie as tie
 
 abbrev invariant-loop : tie.invariant-loop-rules
@@ -41,7 +41,7 @@ loop-again c =
     let inv = ended.loop-rules.invariant in
     let found = told.if-end-bytes.false in
     elim c.if-kind_in-kind.branch [
-    | then-kind_in-kind w ↦
+    | then-kind_in-kind+else-left-eq0 w ↦
         rw w.left-is
         (seeking-later inv ended.line_end-end.result ended.line_end-end.ensures found
         (eq-eqb _ a.kind (sym told.kind_in.ensures ∙ w.if-kind_in-kind.true)) w.if-left-eq0.false)
