@@ -41,14 +41,14 @@ loop-again c =
     let inv = ended.loop-rules.invariant in
     let found = told.if-end-bytes.false in
     elim c.if-kind_in-kind.branch [
-    | then-kind_in-kind+else-left-eq0 w ↦
-        rw w.left-is
-        (seeking-later inv ended.line_end-end.result ended.line_end-end.ensures found
-        (eq-eqb _ a.kind (sym told.kind_in.ensures ∙ w.if-kind_in-kind.true)) w.if-left-eq0.false)
-    | else-kind_in-kind w ↦
-        rw w.left-is
-        (seeking-other inv ended.line_end-end.result ended.line_end-end.ensures found
-        (ne_eqb _ a.kind (λ e. w.if-kind_in-kind.false (told.kind_in.ensures ∙ e))))
+      | then-kind_in-kind+else-left-eq0 w ↦
+          rw w.left-is
+          (seeking-later inv ended.line_end-end.result ended.line_end-end.ensures found
+          (eq-eqb _ a.kind (sym told.kind_in.ensures ∙ w.if-kind_in-kind.true)) w.if-left-eq0.false)
+      | else-kind_in-kind w ↦
+          rw w.left-is
+          (seeking-other inv ended.line_end-end.result ended.line_end-end.ensures found
+          (ne_eqb _ a.kind (λ e. w.if-kind_in-kind.false (told.kind_in.ensures ∙ e))))
     ]
 
 pub line_begins_spec : {M : Type 1} → statement M

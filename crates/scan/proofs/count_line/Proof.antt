@@ -21,8 +21,8 @@ returns c =
     let kind = told.kind_told-kind.result in
     let comments : comments-counted.if-kind-eq-COMMENT_KIND.comments ≡ one_more (eqb kind comment_kind) a.tally.comments =
     elim comments-counted.if-kind-eq-COMMENT_KIND.branch [
-    | then-kind-eq-COMMENT_KIND w ↦ rw (eq-eqb kind 8 w.if-kind-eq-COMMENT_KIND.true) w.comments-is
-    | else-kind-eq-COMMENT_KIND w ↦ rw (ne_eqb kind 8 w.if-kind-eq-COMMENT_KIND.false) w.comments-is
+      | then-kind-eq-COMMENT_KIND w ↦ rw (eq-eqb kind 8 w.if-kind-eq-COMMENT_KIND.true) w.comments-is
+      | else-kind-eq-COMMENT_KIND w ↦ rw (ne_eqb kind 8 w.if-kind-eq-COMMENT_KIND.false) w.comments-is
     ] in
     let rows : rows-counted.if-kind.rows ≡ one_more (eqb kind position_kind || eqb kind velocity_kind) a.tally.rows =
     elim rows-counted.if-kind.branch [ then-kind w ↦ rw w.if-kind.true w.rows-is | else-kind w ↦ rw w.if-kind.false w.rows-is ] in

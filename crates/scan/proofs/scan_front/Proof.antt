@@ -49,12 +49,12 @@ looked c =
     let here = c.before.before.before in
     let a = here.args in
     elim c.if-state-eq-SATELLITES_KIND.branch [
-    | then-state-eq-SATELLITES_KIND w ↦
-        looked-due a.rules a.bytes.now here.loop-state.tally.end here.loop-state.identifiers here.loop-state.state _ c.if-state-eq-SATELLITES_KIND.marks c.if-state-eq-SATELLITES_KIND.marked _ c.if-state-eq-SATELLITES_KIND.many
-        w.looked_at-many.ensures.0 w.looked_at-many.ensures.1 w.marks-is (w.marked-is ∙ w.mark_known-marked.ensures.0) w.many-is
-    | else-state-eq-SATELLITES_KIND w ↦
-        looked-else a.rules a.bytes.now here.loop-state.tally.end here.loop-state.identifiers here.loop-state.state here.loop-state.marks c.if-state-eq-SATELLITES_KIND.marks here.loop-state.marked c.if-state-eq-SATELLITES_KIND.marked
-        c.if-state-eq-SATELLITES_KIND.many w.if-state-eq-SATELLITES_KIND.false here.loop-state.invariant.1 w.marks-is w.marked-is (w.many-is ∙ sym here.loop-state.invariant.0.size)
+      | then-state-eq-SATELLITES_KIND w ↦
+          looked-due a.rules a.bytes.now here.loop-state.tally.end here.loop-state.identifiers here.loop-state.state _ c.if-state-eq-SATELLITES_KIND.marks c.if-state-eq-SATELLITES_KIND.marked _ c.if-state-eq-SATELLITES_KIND.many
+          w.looked_at-many.ensures.0 w.looked_at-many.ensures.1 w.marks-is (w.marked-is ∙ w.mark_known-marked.ensures.0) w.many-is
+      | else-state-eq-SATELLITES_KIND w ↦
+          looked-else a.rules a.bytes.now here.loop-state.tally.end here.loop-state.identifiers here.loop-state.state here.loop-state.marks c.if-state-eq-SATELLITES_KIND.marks here.loop-state.marked c.if-state-eq-SATELLITES_KIND.marked
+          c.if-state-eq-SATELLITES_KIND.many w.if-state-eq-SATELLITES_KIND.false here.loop-state.invariant.1 w.marks-is w.marked-is (w.many-is ∙ sym here.loop-state.invariant.0.size)
     ]
 
 -- as many marks as before
@@ -62,8 +62,8 @@ marks-many : (c : tie.Joined-state-eq-SATELLITES_KIND invariant-loop decreases-l
 marks-many c =
     let many = c.loop-state.invariant.2 in
     elim c.if-state-eq-SATELLITES_KIND.branch [
-    | then-state-eq-SATELLITES_KIND w ↦ ap length w.marks-is ∙ w.looked_at-many.auto.marks ∙ w.mark_known-marked.auto.marks ∙ many
-    | else-state-eq-SATELLITES_KIND w ↦ ap length w.marks-is ∙ many
+      | then-state-eq-SATELLITES_KIND w ↦ ap length w.marks-is ∙ w.looked_at-many.auto.marks ∙ w.mark_known-marked.auto.marks ∙ many
+      | else-state-eq-SATELLITES_KIND w ↦ ap length w.marks-is ∙ many
     ]
 
 -- where the line has been read
@@ -117,8 +117,8 @@ loop-again c =
     let text = take (known.in-Next.end - 1 - here.loop-state.tally.end) (drop here.loop-state.tally.end a.bytes.now) in
     let brought : kept.if-state-eq-SATELLITES_KIND-2.identifiers ≡ identifiers_brought a.rules here.loop-state.state here.loop-state.identifiers text =
     elim kept.if-state-eq-SATELLITES_KIND-2.branch [
-    | then-state-eq-SATELLITES_KIND-2 w ↦ w.identifiers-is ∙ brought-so a.rules here.loop-state.state here.loop-state.identifiers text _ w.if-state-eq-SATELLITES_KIND-2.true w.keep_identifiers.ensures.1
-    | else-state-eq-SATELLITES_KIND-2 w ↦ w.identifiers-is ∙ none-brought a.rules here.loop-state.state here.loop-state.identifiers text w.if-state-eq-SATELLITES_KIND-2.false
+      | then-state-eq-SATELLITES_KIND-2 w ↦ w.identifiers-is ∙ brought-so a.rules here.loop-state.state here.loop-state.identifiers text _ w.if-state-eq-SATELLITES_KIND-2.true w.keep_identifiers.ensures.1
+      | else-state-eq-SATELLITES_KIND-2 w ↦ w.identifiers-is ∙ none-brought a.rules here.loop-state.state here.loop-state.identifiers text w.if-state-eq-SATELLITES_KIND-2.false
     ] in (
       (after_read c.before.before.before.before.before _ known.in-Next.is).goes_on kept.if-state-eq-SATELLITES_KIND-2.identifiers c.count_line-tally.result brought c.count_line-tally.ensures,
       covers-on a.rules a.bytes.now here.loop-state.tally.end here.loop-state.identifiers joined.if-state-eq-SATELLITES_KIND.marks joined.if-state-eq-SATELLITES_KIND.marked here.loop-state.state joined.if-state-eq-SATELLITES_KIND.many
