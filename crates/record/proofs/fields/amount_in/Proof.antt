@@ -9,7 +9,7 @@ use Rattle.field.specs.Sign.{largest}
 use Rattle.record.specs.Rows.{cut}
 use Rattle.record.proofs.Answers.{amount-judged}
 use Rattle.record.proofs.fields.amount_in.Statement.{statement}
-use Rattle.record.proofs.fields.amount_in.Tie.{then-clock, else-clock}
+use Rattle.record.proofs.fields.amount_in.Lts.{then-clock, else-clock}
 use Rattle.record.proofs.fields.amount_in.Tie as tie
 
 returns : tie.Need-returns
