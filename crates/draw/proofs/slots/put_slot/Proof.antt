@@ -34,7 +34,6 @@ pub put_slot_spec : {M : Type 1} → statement M
 put_slot_spec =
     tie.close
     (tie.spec
-    (λ c. search rules)
     (λ c κs. search rules)
     (λ c. search rules)
     returns
