@@ -34,24 +34,24 @@ text-end-requires-3 c κs = (search rules, omega (arith, orbit c.before.before.b
 text-end-requires-4 : tie.Need-text_end-requires
 text-end-requires-4 c κs = (search rules, omega (arith, agency c.before.before.before.before.before.before.before.before.before.before.before))
 
-measured : (c : tie.After-text_end-a) → c.text_end-a.result + 1 ≡ first_length c.args.t
+measured : (c : tie.After-text_end) → c.text_end.result + 1 ≡ first_length c.args.t
 unfolding first_length
 measured c =
     let third = c in
     let second = c in
     let first = c in
-    rw (c.text_end-a.ensures, third.text_end-c.ensures, second.text_end-b.ensures, first.text_end-a.ensures)
+    rw (c.text_end.ensures, third.text_end-c.ensures, second.text_end-b.ensures, first.text_end-a.ensures)
 
-reach : (c : tie.After-text_end-a) → c.text_end-a.result + 1 ≤ 61
+reach : (c : tie.After-text_end) → c.text_end.result + 1 ≤ 61
 reach c =
     let start = c in
-    rw (measured c) (first_reach start.args.t (used c.before.before.before.before.before.before) (coordinates c.before.before.before.before.before.before) (orbit c.before.before.before.before.before.before) (agency c.before.before.before.before.before.before))
+    rw (measured c) (first_reach start.args.t (used c.before.before.before.before.before.before.before.before.before.before.before.before) (coordinates c.before.before.before.before.before.before.before.before.before.before.before.before) (orbit c.before.before.before.before.before.before.before.before.before.before.before.before) (agency c.before.before.before.before.before.before.before.before.before.before.before.before))
 
 add-result : tie.Need-overflow_add-result
-add-result c = omega (arith, reach c.before.before.before.before.before.before)
+add-result c = omega (arith, reach c)
 
 returns : tie.Need-returns
-returns c = (measured c.before.before.before.before.before.before, reach c.before.before.before.before.before.before)
+returns c = (measured c, reach c)
 
 pub first_length_spec : {M : Type 1} → statement M
 first_length_spec = tie.close (tie.spec (λ c. search rules) text-end-requires (λ c. search rules) text-end-requires-2 (λ c. search rules) text-end-requires-3 (λ c. search rules) text-end-requires-4 add-result returns)

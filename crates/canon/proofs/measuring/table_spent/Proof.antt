@@ -55,7 +55,7 @@ returns c =
     × (said.comments_spent-said.result.left ≡ opened.spend-opened.result - comments_length count bytes) =
     rw (← sub-zero (count * comment_width)) said.comments_spent-said.ensures in (
       both texts.0 cells.0,
-      all-spent _ _ _ _ _ _ _ _ _ _ _ (opened.spend-opened.ensures ∙ ap (λ (n : ℕ). start.args.room - n) first.opening_length.ensures) texts.1 dated.spend-dated.ensures cells.1 c.spend-opened.ensures,
+      all-spent _ _ _ _ _ _ _ _ _ _ _ (opened.spend-opened.ensures ∙ ap (λ (n : ℕ). start.args.room - n) first.opening_length.ensures) texts.1 dated.spend-dated.ensures cells.1 c.spend.ensures,
     )
 
 pub table_spent_spec : {M : Type 1} → statement M

@@ -9,11 +9,11 @@ use Rattle.canon.proofs.Reach.{note-reach}
 use Rattle.canon.proofs.notes.line_length.Statement.{statement}
 use Rattle.canon.proofs.notes.line_length.Tie as tie
 
-measured : (c : tie.After-end_at-xy) → c.end_at-xy.result ≡ correlations_end c.args.note.now
+measured : (c : tie.After-end_at) → c.end_at.result ≡ correlations_end c.args.note.now
 unfolding correlations_end
 measured c =
     rw (
-      c.end_at-xy.ensures,
+      c.end_at.ensures,
       c.end_at-yc.ensures,
       c.end_at-yz.ensures,
       c.end_at-xc.ensures,
@@ -23,10 +23,10 @@ measured c =
     )
 
 add-result : tie.Need-overflow_add-result
-add-result c = omega (arith, measured c.before.before.before.before.before, note-reach c.args.note.now)
+add-result c = omega (arith, measured c, note-reach c.args.note.now)
 
 returns : tie.Need-returns
-returns c = ap (λ (n : ℕ). n + 1) (measured c.before.before.before.before.before)
+returns c = ap (λ (n : ℕ). n + 1) (measured c)
 
 pub line_length_spec : {M : Type 1} → statement M
 line_length_spec =

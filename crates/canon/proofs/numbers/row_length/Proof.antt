@@ -9,22 +9,22 @@ use Rattle.canon.proofs.Reach.{row-reach}
 use Rattle.canon.proofs.numbers.row_length.Statement.{statement}
 use Rattle.canon.proofs.numbers.row_length.Tie as tie
 
-measured : (c : tie.After-end_at-event) → c.end_at-event.result + 1 ≡ row_length c.args.row.now
+measured : (c : tie.After-end_at) → c.end_at.result + 1 ≡ row_length c.args.row.now
 unfolding row_length
 measured c =
     let maneuver = c in
     let predicted = c in
     let event = c in
-    rw (c.end_at-event.ensures, maneuver.end_at-maneuver.ensures, predicted.end_at-predicted.ensures, event.end_at-event.ensures, event.exponents_end-none.ensures)
+    rw (c.end_at.ensures, maneuver.end_at-maneuver.ensures, predicted.end_at-predicted.ensures, event.end_at-event.ensures, event.exponents_end-none.ensures)
 
-reach : (c : tie.After-end_at-event) → c.end_at-event.result + 1 ≤ 81
+reach : (c : tie.After-end_at) → c.end_at.result + 1 ≤ 81
 reach c = rw (measured c) (row-reach c.args.row.now)
 
 add-result : tie.Need-overflow_add-result
-add-result c = let h = reach c.before.before.before in omega arith
+add-result c = let h = reach c in omega arith
 
 returns : tie.Need-returns
-returns c = (measured c.before.before.before, reach c.before.before.before)
+returns c = (measured c, reach c)
 
 pub row_length_spec : {M : Type 1} → statement M
 row_length_spec = tie.close (tie.spec (λ c κs. search rules) (λ c κs. search rules) (λ c κs. search rules) (λ c κs. search rules) (λ c κs. search rules) add-result returns)

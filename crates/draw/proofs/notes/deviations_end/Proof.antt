@@ -17,7 +17,7 @@ returns c =
     (end-item refl
     (end-item c.known_end-z.ensures
     (end-item refl
-    (end-item c.known_end-x.ensures
+    (end-item c.known_end.ensures
     ended-all))))))))
 
 pub deviations_end_spec : {M : Type 1} → statement M

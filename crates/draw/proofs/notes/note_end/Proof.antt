@@ -32,7 +32,7 @@ returns c =
     (end-item refl
     (end-item c.correlation_end-yc.ensures
     (end-item refl
-    (end-item c.correlation_end-xy.ensures
+    (end-item c.correlation_end.ensures
     ended-all))))))))))))))
 
 pub note_end_spec : {M : Type 1} → statement M

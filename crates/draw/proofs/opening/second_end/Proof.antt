@@ -26,7 +26,7 @@ returns c =
     (end-item refl
     (end-item whole-end2.whole_end-d.ensures
     (end-item refl
-    (end-item c.decimal_end-b.ensures
+    (end-item c.decimal_end.ensures
     (end-item refl
     ended-all))))))))))))
 

@@ -20,7 +20,7 @@ returns c =
     (end-item refl
     (end-item text-end3.text_end-c.ensures
     (end-item refl
-    (end-item c.text_end-a.ensures
+    (end-item c.text_end.ensures
     (end-item refl
     ended-all))))))))
 

@@ -44,7 +44,7 @@ returns-3 c =
     let p = c in
     let a = p.args in
     let s = a.s.now in
-    c.figures_from-high.ensures.0
+    c.figures_from.ensures.0
     ∙ ap (λ (high : ℕ). value_from high (take (length s - (p.point_of-point.result + 1)) (drop (p.point_of-point.result + 1) s))) f.figures_from-high.ensures.0
     ∙ ap (value_from (value_from 0 (take p.point_of-point.result s))) (rest_part s (p.point_of-point.result + 1))
     ∙ ap (λ (point : ℕ). value_from (value_from 0 (take point s)) (drop (point + 1) s)) p.point_of-point.ensures

@@ -12,7 +12,7 @@ returns c =
     let repeated = c in
     let first = c in
     let known = c in
-    simp (eq-eqb _ _ first.if-state-eq0.true, c.lower_unless.ensures, repeated.repeats_identifier-repeated.ensures, repeated.front_of-known.ensures, known.front_of-known.ensures, known.seen_so_far.ensures, first.read_satellites-first.ensures)
+    simp (eq-eqb _ _ first.if-state-eq0.true, c.lower_unless.ensures, repeated.repeats_identifier-repeated.ensures, repeated.front_of.ensures, known.front_of-known.ensures, known.seen_so_far.ensures, first.read_satellites-first.ensures)
 
 returns-2 : tie.Need-returns
 unfolding satellites_fault identifiers_in

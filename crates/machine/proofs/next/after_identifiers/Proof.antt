@@ -15,7 +15,7 @@ returns-2 : tie.Need-returns
 unfolding after_identifiers
 returns-2 c =
     let tested = c in
-    rw (ne_eqb _ 0 (λ e. tested.if-lines-eq0.false (tested.less-lines.ensures ∙ e)), c.with_left-2.ensures, c.expected-2.ensures, c.less-lines.ensures, tested.less-lines.ensures)
+    rw (ne_eqb _ 0 (λ e. tested.if-lines-eq0.false (tested.less-lines.ensures ∙ e)), c.with_left-2.ensures, c.expected-2.ensures, c.less.ensures, tested.less-lines.ensures)
 
 pub after_identifiers_spec : {M : Type 1} → statement M
 after_identifiers_spec =

@@ -29,7 +29,7 @@ returns c =
     (past c.zero_whole_in-fault-8.ensures
     (past c.unused_in-fault-9.ensures
     (past c.zero_whole_in-fault-9.ensures
-    (past c.unused_in-fault.ensures
+    (past c.unused_in.ensures
     judged))))))))))))))))))))
 
 pub integers_fault_spec : {M : Type 1} → statement M

@@ -13,7 +13,7 @@ returns c =
     (past c.zero_decimal_in-b.ensures
     (past c.unused_in-c.ensures
     (past c.zero_decimal_in-d.ensures
-    (past c.unused_in-a.ensures
+    (past c.unused_in.ensures
     judged)))))
 
 pub later_floats_in_spec : {M : Type 1} → statement M

@@ -16,7 +16,7 @@ returns c =
     (past c.unused_in-e.ensures
     (past c.exponent_in-f.ensures
     (past c.unused_in-g.ensures
-    (past c.exponent_in-b.ensures
+    (past c.exponent_in.ensures
     judged))))))))
 
 pub deviations_fault_spec : {M : Type 1} → statement M

@@ -23,7 +23,7 @@ returns c =
     (past-several (pair 45) c.pair_fault-c.ensures
     (past-several (pair 54) c.pair_fault-d.ensures
     (past-several (pair 63) c.pair_fault-e.ensures
-    (past-several (pair 72) c.pair_fault-a.ensures
+    (past-several (pair 72) c.pair_fault.ensures
     judged))))))
 
 pub pairs_fault_spec : {M : Type 1} → statement M

@@ -23,7 +23,7 @@ returns c =
     (past c.unused_in-i.ensures
     (past c.exponent_in-j.ensures
     (past c.unused_in-k.ensures
-    (past c.exponent_in-f.ensures
+    (past c.exponent_in.ensures
     judged)))))))))))))
 
 pub body_fault_spec : {M : Type 1} → statement M

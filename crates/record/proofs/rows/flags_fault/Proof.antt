@@ -14,7 +14,7 @@ returns c =
     (past c.flag_in-c.ensures
     (past c.unused_in-d.ensures
     (past c.flag_in-e.ensures
-    (past c.flag_in-b.ensures
+    (past c.flag_in.ensures
     judged))))))
 
 pub flags_fault_spec : {M : Type 1} → statement M

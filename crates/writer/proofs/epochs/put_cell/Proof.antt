@@ -61,16 +61,16 @@ put-noted-requires-2 c κs =
       laying-room (moved start) [] (first-laid c.before.before),
     )
 
-both-laid : (c : tie.After-put_noted-at)
-    → Laid c.before.before.before.before.before.before.before.before.before.before (c.put_noted-at.result + c.put_noted-at.result)
-    (then c.put_noted-at.result c.put_noted-at.new.out c.put_noted-at.new.out) []
-both-laid c = laying-more (moved c.before.before.before.before.before.before.before.before.before.before) [] (first-laid c.before.before.before) c.put_noted-at.ensures
+both-laid : (c : tie.After-put_noted)
+    → Laid c.before.before.before.before.before.before.before.before.before.before (c.put_noted-at.result + c.put_noted.result)
+    (then c.put_noted-at.result c.put_noted-at.new.out c.put_noted.new.out) []
+both-laid c = laying-more (moved c.before.before.before.before.before.before.before.before.before.before) [] (first-laid c.before.before.before) c.put_noted.ensures
 
 returns-2 : tie.Need-returns
 returns-2 c =
     let start = c in
     rw (cell-moved start.args.velocity start.args.cell.now start.requires.0 start.args.identifier (moving c.before.before.before.before.before))
-    (laying-end (both-laid c.before.before.before.before.before.before.before.before))
+    (laying-end (both-laid c.before.before))
 
 pub put_cell_spec : {M : Type 1} → statement M
 put_cell_spec =

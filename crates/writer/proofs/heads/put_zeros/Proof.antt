@@ -29,14 +29,14 @@ laid-2 : (c : tie.After-write_integers-at) → Laid c.before.before.before.befor
 laid-2 c =
     laying-more (fixed_line integer_items ∷ []) (fixed_line integer_items ∷ []) (laid-1 c.before.before.before.before) (one_line (fixed_line integer_items) c.write_integers-at.ensures)
 
-laid-3 : (c : tie.After-write_integers-at)
-    → Laid c.before.before.before.before.before.before.before.before.before.before.before (at-2 c.before.before.before.before + c.write_integers-at.result)
-    (then (at-2 c.before.before.before.before) (out-2 c.before.before.before.before) c.write_integers-at.new.out) []
+laid-3 : (c : tie.After-write_integers)
+    → Laid c.before.before.before.before.before.before.before.before.before.before.before (at-2 c.before.before.before.before + c.write_integers.result)
+    (then (at-2 c.before.before.before.before) (out-2 c.before.before.before.before) c.write_integers.new.out) []
 laid-3 c =
-    laying-more (fixed_line integer_items ∷ []) [] (laid-2 c) (one_line (fixed_line integer_items) c.write_integers-at.ensures)
+    laying-more (fixed_line integer_items ∷ []) [] (laid-2 c.before.before.before.before) (one_line (fixed_line integer_items) c.write_integers.ensures)
 
 returns : tie.Need-returns
-returns c = laying-end (laid-3 c.before.before.before.before.before.before)
+returns c = laying-end (laid-3 c.before.before)
 
 pub put_zeros_spec : {M : Type 1} → statement M
 put_zeros_spec =
