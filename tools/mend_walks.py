@@ -123,6 +123,8 @@ def by_way(text, said):
 
         return re.sub(rf"\.({WORD})\.given\.(1|0(?:\.1)*\.0)(?!\.?\d)", turned, piece)
 
+    inner = lambda m: m[1] if m[1] in names else m[0]
+    text = re.sub(rf"(?<=tie\.)((?:In|Then|Else|After)[-_]{WORD}?)-\d+(?=[ )])", inner, text)
     helpers = {}
     pieces = declarations(text)
     for piece in pieces:

@@ -29,29 +29,29 @@ timed : (c : tie.After-date) →
     c.args.second8
 timed c = time-is _ _ _ (passed c.before)
 
-day-told : (c : tie.In-Day-2) →
+day-told : (c : tie.In-Day) →
     DayTold c.args.year c.args.month
-    c.args.day c.in-Day.mjd c.mjd.given.0.1.0 c.mjd.given.0.1.1.0
+    c.args.day c.in-Day.mjd c.in-Day.week c.in-Day.seconds
 unfolding told_date
 day-told c = date-told _ _ _ _ _ _ (sym c.date.ensures ∙ ap told_date c.in-Day.is)
 
 mul-t12 : tie.Need-overflow_mul-result
-mul-t12 c = omega (arith, day-told c.before)
+mul-t12 c = omega (arith, day-told c)
 
 mul-t13 : tie.Need-overflow_mul-result-in-Day
 mul-t13 c = omega (arith, timed c.before)
 
 add-t14 : tie.Need-overflow_add-result
-add-t14 c = omega (arith, day-told c.before, timed c.before)
+add-t14 c = omega (arith, day-told c, timed c.before)
 
 mul-t15 : tie.Need-overflow_mul-result-in-Day-2
 mul-t15 c = omega (arith, timed c.before)
 
 add-t16 : tie.Need-overflow_add-result-in-Day
-add-t16 c = omega (arith, day-told c.before, timed c.before)
+add-t16 c = omega (arith, day-told c, timed c.before)
 
 add-t17 : tie.Need-overflow_add-result-in-Day-2
-add-t17 c = omega (arith, day-told c.before, timed c.before)
+add-t17 c = omega (arith, day-told c, timed c.before)
 
 enum_told : tie.Need-enum_told-1
 enum_told c = search rules
@@ -59,7 +59,7 @@ enum_told c = search rules
 returns-2 : tie.Need-returns-in-Day
 unfolding told_instant time_of
 returns-2 c =
-    let t = day-told c.before in
+    let t = day-told c in
     ap (λ (n : ℕ). 0 ∷ n ∷ []) (omega (arith, t)) ∙ sym (instant-at _ _ _ _ _ _ (passed c.before.before) t.is)
 
 returns-3 : tie.Need-returns-in-OutOfBounds

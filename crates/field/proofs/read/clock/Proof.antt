@@ -22,7 +22,7 @@ returns c =
     let found = sym (read c.before.before) ∙ n.in-Value.is in
     ap told_amount
     (ap (amount.Value n.in-Value.negative) c.clock_held.ensures
-    ∙ sym (clock-decimal a.s.now a.places n.in-Value.negative n.negative.given.0.1.0 found))
+    ∙ sym (clock-decimal a.s.now a.places n.in-Value.negative n.in-Value.magnitude found))
 
 returns-2 : tie.Need-returns-in-Malformed
 returns-2 c =
