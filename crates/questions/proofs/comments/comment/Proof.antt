@@ -44,16 +44,15 @@ first_byte bytes = omega arith
 
 returns-2 : tie.Need-returns-in-Refused
 unfolding comment_answer comment_words
-returns-2 c =
-    (
-      words-as (rules_in c.args.file.now) c.args.file.now _
-          (found_as c.told_by-rules.result c.args.file.now c.scan_whole.result _ c.told_by-rules.ensures (told_front-one _ _ c.scan_whole.ensures) c.in-Refused.is)
-          c.args.k c.nothing_at.result.now c.nothing_at.ensures.0,
-      c.nothing_at.ensures.1 ∙ ap (byte_of c.args.file) (first_byte c.args.file.now) ∙ ap (λ (a : CommentAnswer). byte_of c.args.file a.at)
-          (comment-as (rules_in c.args.file.now) c.args.file.now _
-          (found_as c.told_by-rules.result c.args.file.now c.scan_whole.result _ c.told_by-rules.ensures (told_front-one _ _ c.scan_whole.ensures) c.in-Refused.is)
-          c.args.k (no_comment _ _ _) refl),
-    )
+returns-2 c = (
+  words-as (rules_in c.args.file.now) c.args.file.now _
+      (found_as c.told_by-rules.result c.args.file.now c.scan_whole.result _ c.told_by-rules.ensures (told_front-one _ _ c.scan_whole.ensures) c.in-Refused.is)
+      c.args.k c.nothing_at.result.now c.nothing_at.ensures.0,
+  c.nothing_at.ensures.1 ∙ ap (byte_of c.args.file) (first_byte c.args.file.now) ∙ ap (λ (a : CommentAnswer). byte_of c.args.file a.at)
+      (comment-as (rules_in c.args.file.now) c.args.file.now _
+      (found_as c.told_by-rules.result c.args.file.now c.scan_whole.result _ c.told_by-rules.ensures (told_front-one _ _ c.scan_whole.ensures) c.in-Refused.is)
+      c.args.k (no_comment _ _ _) refl),
+)
 
 returns-3 : tie.Need-returns-else-k-tally
 returns-3 c =
