@@ -12,12 +12,12 @@ returns : tie.Need-returns-in_default
 returns c =
     let a = c.args in
     let r = c.exponent in
-    rw (exponent-case (take (a.last - (a.first - 1)) (drop (a.first - 1) a.line.now)) r.result r.result r.ensures refl, exponent-good a.first r.result c.in-Malformed.keys2)
+    rw (exponent-case (take (a.last - (a.first - 1)) (drop (a.first - 1) a.line.now)) r.result r.result r.ensures refl, exponent-good a.first r.result c.in_default.not-Malformed)
 
 returns-2 : tie.Need-returns
 returns-2 c =
     let a = c.args in
-    rw (exponent-case (take (a.last - (a.first - 1)) (drop (a.first - 1) a.line.now)) _ _ c.exponent.ensures c.enum_told.given.1, c.fault_at.ensures)
+    rw (exponent-case (take (a.last - (a.first - 1)) (drop (a.first - 1) a.line.now)) _ _ c.exponent.ensures c.in-Malformed.is, c.fault_at.ensures)
 
 pub exponent_in_spec : {M : Type 1} → statement M
 exponent_in_spec =

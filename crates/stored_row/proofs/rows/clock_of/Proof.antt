@@ -14,7 +14,7 @@ use Rattle.stored_row.proofs.rows.clock_of.Statement.{statement}
 use Rattle.stored_row.proofs.rows.clock_of.Tie as tie
 
 there : (c : tie.Else-not-is_there) → is_there c.args.rows.now c.args.k ≡ true
-there c = sym c.is_there.ensures ∙ not-false _ c.if-not-is_there.false
+there c = sym c.is_there.ensures ∙ c.if-not-is_there.false
 
 within : (c : tie.Else-not-is_there) → c.args.k * row_width + 3 < length c.args.rows.now
 within c = row_within (length c.args.rows.now) c.args.k 3 (there c) (omega arith)
@@ -23,14 +23,14 @@ returns : tie.Need-returns-then-not-is_there
 returns c =
     let start = c in
     ap told_clock
-    (no-clock start.args.rows.now start.args.k (sym c.is_there.ensures ∙ not-true _ c.if-not-is_there.true))
+    (no-clock start.args.rows.now start.args.k (sym c.is_there.ensures ∙ c.if-not-is_there.true))
 
 returns-2 : tie.Need-returns-then-clock_absent
 returns-2 c =
     let read = c in
     let start = c in
     ap told_clock
-    (clock-is start.args.rows.now start.args.k (there c.before.before.before.before.before) true read.clock.given c.is_negative-negative.ensures
+    (clock-is start.args.rows.now start.args.k (there c.before.before.before.before.before) true read.clock-1.given c.is_negative-negative.ensures
     c.magnitude_of.ensures c.clock_absent.ensures c.if-clock_absent.true)
 
 returns-3 : tie.Need-returns
@@ -38,7 +38,7 @@ returns-3 c =
     let read = c in
     let start = c in
     ap told_clock
-    (clock-is start.args.rows.now start.args.k (there c.before.before.before.before.before) false read.clock.given c.is_negative-negative.ensures
+    (clock-is start.args.rows.now start.args.k (there c.before.before.before.before.before) false read.clock-1.given c.is_negative-negative.ensures
     c.magnitude_of.ensures c.clock_absent.ensures c.if-clock_absent.false)
 
 pub clock_of_spec : {M : Type 1} → statement M

@@ -16,7 +16,7 @@ use Rattle.stored_row.proofs.rows.exponent_of.Statement.{statement}
 use Rattle.stored_row.proofs.rows.exponent_of.Tie as tie
 
 asked : (c : tie.Else-not-is_there-which) → (is_there c.args.rows.now c.args.k && leb c.args.which 3) ≡ true
-asked c = ap (λ (t : Bool). t && leb c.args.which 3) (sym c.is_there.ensures) ∙ not-false _ c.if-not-is_there-which.false
+asked c = ap (λ (t : Bool). t && leb c.args.which 3) (sym c.is_there.ensures) ∙ c.if-not-is_there-which.false
 
 few : (c : tie.Else-not-is_there-which) → c.args.which ≤ 3
 few c =
@@ -35,14 +35,14 @@ returns c =
     let start = c in
     ap told_exponent_read
     (no-exponent start.args.rows.now start.args.k start.args.which
-    (ap (λ (t : Bool). t && leb start.args.which 3) (sym c.is_there.ensures) ∙ not-true _ c.if-not-is_there-which.true))
+    (ap (λ (t : Bool). t && leb start.args.which 3) (sym c.is_there.ensures) ∙ c.if-not-is_there-which.true))
 
 returns-2 : tie.Need-returns-then-is_unknown
 returns-2 c =
     let read = c in
     let start = c in
     ap told_exponent_read
-    (unknown-is start.args.rows.now start.args.k start.args.which (asked c.before.before.before.before) read.magnitude-of-arg.given
+    (unknown-is start.args.rows.now start.args.k start.args.which (asked c.before.before.before.before) read.magnitude_of-arg-1.given
     c.magnitude_of-n.ensures c.is_unknown.ensures c.if-is_unknown.true)
 
 returns-3 : tie.Need-returns-then-is_too_large
@@ -51,7 +51,7 @@ returns-3 c =
     let read = c in
     let start = c in
     ap told_exponent_read
-    (known_is start.args.rows.now start.args.k start.args.which (asked c.before.before.before.before.before.before) read.magnitude-of-arg.given
+    (known_is start.args.rows.now start.args.k start.args.which (asked c.before.before.before.before.before.before) read.magnitude_of-arg-1.given
     known.magnitude_of-n.ensures true known.is_unknown.ensures known.if-is_unknown.false c.is_too_large.ensures
     c.if-is_too_large.true)
 
@@ -61,7 +61,7 @@ returns-4 c =
     let read = c in
     let start = c in
     ap told_exponent_read
-    (known_is start.args.rows.now start.args.k start.args.which (asked c.before.before.before.before.before.before) read.magnitude-of-arg.given
+    (known_is start.args.rows.now start.args.k start.args.which (asked c.before.before.before.before.before.before) read.magnitude_of-arg-1.given
     known.magnitude_of-n.ensures false known.is_unknown.ensures known.if-is_unknown.false c.is_too_large.ensures
     c.if-is_too_large.false)
 

@@ -16,7 +16,7 @@ use Rattle.stored_row.proofs.rows.flag_of.Statement.{statement}
 use Rattle.stored_row.proofs.rows.flag_of.Tie as tie
 
 asked : (c : tie.Else-not-is_there-which) → (is_there c.args.rows.now c.args.k && leb c.args.which 3) ≡ true
-asked c = ap (λ (t : Bool). t && leb c.args.which 3) (sym c.is_there.ensures) ∙ not-false _ c.if-not-is_there-which.false
+asked c = ap (λ (t : Bool). t && leb c.args.which 3) (sym c.is_there.ensures) ∙ c.if-not-is_there-which.false
 
 few : (c : tie.Else-not-is_there-which) → c.args.which ≤ 3
 few c =
@@ -35,14 +35,14 @@ returns c =
     let start = c in
     ap told_flag
     (no_flag start.args.rows.now start.args.k start.args.which
-    (ap (λ (t : Bool). t && leb start.args.which 3) (sym c.is_there.ensures) ∙ not-true _ c.if-not-is_there-which.true))
+    (ap (λ (t : Bool). t && leb start.args.which 3) (sym c.is_there.ensures) ∙ c.if-not-is_there-which.true))
 
 returns-2 : tie.Need-returns-then-n-eq0
 returns-2 c =
     let read = c in
     let start = c in
     ap told_flag
-    (flag_is start.args.rows.now start.args.k start.args.which (asked c.before.before.before) read.magnitude-of-arg.given
+    (flag_is start.args.rows.now start.args.k start.args.which (asked c.before.before.before) read.magnitude_of-arg-1.given
     c.magnitude_of-n.ensures true (eq-eqb c.magnitude_of-n.result 0 c.if-n-eq0.true))
 
 returns-3 : tie.Need-returns
@@ -50,7 +50,7 @@ returns-3 c =
     let read = c in
     let start = c in
     ap told_flag
-    (flag_is start.args.rows.now start.args.k start.args.which (asked c.before.before.before) read.magnitude-of-arg.given
+    (flag_is start.args.rows.now start.args.k start.args.which (asked c.before.before.before) read.magnitude_of-arg-1.given
     c.magnitude_of-n.ensures false (ne_eqb c.magnitude_of-n.result 0 c.if-n-eq0.false))
 
 pub flag_of_spec : {M : Type 1} → statement M

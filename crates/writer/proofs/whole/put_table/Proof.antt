@@ -51,7 +51,7 @@ put-opening-requires c κs =
       rw (sub-zero start.args.h.satellites) (first-room (opening start) (comments start ++ (epochs start ++ ending)) start.args.out.now start.requires.1),
     )
 
-opening-laid : (c : tie.After-put_opening-at) → Laid c.before.before.before.before.before.before.before.before.before c.put_opening-at.result c.put_opening-at.new.1.1.1.1.0 (λ start. comments start ++ (epochs start ++ ending))
+opening-laid : (c : tie.After-put_opening-at) → Laid c.before.before.before.before.before.before.before.before.before c.put_opening-at.result c.put_opening-at.new.out (λ start. comments start ++ (epochs start ++ ending))
 unfolding canonical canonical_lines
 opening-laid c =
     let start = c.before.before.before.before.before.before.before.before.before in
@@ -59,7 +59,7 @@ opening-laid c =
     (rw (sub-zero start.args.h.satellites) at c.put_opening-at.ensures)
 
 mul-put-comments : tie.Need-overflow_mul-count
-mul-put-comments c = omega (arith, c.well-formed, (fits c.before.before.before.before.before.before.before.before.before.before.before).comments)
+mul-put-comments c = omega (arith, c.well_formed, (fits c.before.before.before.before.before.before.before.before.before.before.before).comments)
 
 put-comments-requires : tie.Need-put_comments-at-requires
 put-comments-requires c κs =
@@ -73,7 +73,7 @@ abbrev at-2 : tie.After-put_comments-at → ℕ
 at-2 c = c.put_opening-at.result + c.put_comments-at.result
 
 abbrev out-2 : tie.After-put_comments-at → List ℕ
-out-2 c = then c.put_opening-at.result c.put_opening-at.new.1.1.1.1.0 c.put_comments-at.new.1.1.0
+out-2 c = then c.put_opening-at.result c.put_opening-at.new.out c.put_comments-at.new.out
 
 comments-laid : (c : tie.After-put_comments-at) → Laid c.before.before.before.before.before.before.before.before.before.before.before.before.before.before (at-2 c) (out-2 c) (λ start. epochs start ++ ending)
 comments-laid c =
@@ -82,7 +82,7 @@ comments-laid c =
     (rw (sub-zero (start.args.h.comments * comment_width)) at c.put_comments-at.ensures)
 
 add_at : tie.Need-overflow_add-at
-add_at c = omega (arith, c.well-formed, laying-fits (comments-laid c.before.before))
+add_at c = omega (arith, c.well_formed, laying-fits (comments-laid c.before.before))
 
 part-put-epochs-end : tie.Need-slice_bounds-put_epochs-end
 part-put-epochs-end c = omega (arith, numbers c.before.before.before.before.before.before.before.before.before.before, (fits c.before.before.before.before.before.before.before.before.before.before.before.before.before.before.before.before).rows)
@@ -110,7 +110,7 @@ abbrev at-3 : tie.After-put_epochs-at → ℕ
 at-3 c = at-2 c.before.before.before.before.before + c.put_epochs-at.result
 
 abbrev out-3 : tie.After-put_epochs-at → List ℕ
-out-3 c = then (at-2 c.before.before.before.before.before) (out-2 c.before.before.before.before.before) c.put_epochs-at.new.1.1.1.0
+out-3 c = then (at-2 c.before.before.before.before.before) (out-2 c.before.before.before.before.before) c.put_epochs-at.new.out
 
 epochs-laid : (c : tie.After-put_epochs-at) → Laid c.before.before.before.before.before.before.before.before.before.before.before.before.before.before.before.before.before.before.before (at-3 c) (out-3 c) (λ start. ending)
 epochs-laid c =
@@ -119,7 +119,7 @@ epochs-laid c =
     (rw (lent_rows c.before.before.before.before.before.before.before.before.before.before.before.before.before, sub-zero start.args.h.satellites) at c.put_epochs-at.ensures)
 
 add-at-2 : tie.Need-overflow_add-at-2
-add-at-2 c = omega (arith, c.well-formed, laying-fits (epochs-laid c.before.before))
+add-at-2 c = omega (arith, c.well_formed, laying-fits (epochs-laid c.before.before))
 
 returns : tie.Need-returns
 unfolding canonical canonical_lines
@@ -135,9 +135,9 @@ put_table_spec =
     (λ c. search rules)
     (λ c. search rules)
     (λ c. (fits c.before.before.before.before).listed)
-    (λ c. omega (arith, c.well-formed, (fits c.before.before.before.before.before).cells))
+    (λ c. omega (arith, c.well_formed, (fits c.before.before.before.before.before).cells))
     (λ c κs. search rules)
-    (λ c. omega (arith, c.well-formed, numbers c, (fits c.before.before.before.before.before.before).rows))
+    (λ c. omega (arith, c.well_formed, numbers c, (fits c.before.before.before.before.before.before).rows))
     (λ c. search rules)
     (λ c. search rules)
     (λ c. (fits c.before.before.before.before.before.before).exponents)
