@@ -40,7 +40,7 @@ abbrev start : tie.After-put_said-at → tie.Start
 start c = c.before.before.before.before
 
 after_first : (c : tie.After-put_said-at)
-    → Next (first (start c)) (second (start c)) (start c).args.out.now c.put_said-at.result c.put_said-at.new.1.1.0
+    → Next (first (start c)) (second (start c)) (start c).args.out.now c.put_said-at.result c.put_said-at.new.out
 after_first c = next (first (start c)) (second (start c)) (start c).args.out.now (both-room (start c)) c.put_said-at.ensures
 
 -- after the line the column
@@ -51,7 +51,7 @@ abbrev at-2 : tie.After-put_said-at-2 → ℕ
 at-2 c = (earlier c).put_said-at.result + c.put_said-at-2.result
 
 abbrev out-2 : tie.After-put_said-at-2 → List ℕ
-out-2 c = then (earlier c).put_said-at.result (earlier c).put_said-at.new.1.1.0 c.put_said-at-2.new.1.1.0
+out-2 c = then (earlier c).put_said-at.result (earlier c).put_said-at.new.out c.put_said-at-2.new.out
 
 after-second : (c : tie.After-put_said-at-2)
     → Next (first (start (earlier c)) ++ second (start (earlier c))) (third (start (earlier c))) (start (earlier c)).args.out.now (at-2 c) (out-2 c)
@@ -70,7 +70,7 @@ abbrev at-3 : tie.After-put_said-at-3 → ℕ
 at-3 c = at-2 (before-column c) + c.put_said-at-3.result
 
 abbrev out-3 : tie.After-put_said-at-3 → List ℕ
-out-3 c = then (at-2 (before-column c)) (out-2 (before-column c)) c.put_said-at-3.new.1.1.0
+out-3 c = then (at-2 (before-column c)) (out-2 (before-column c)) c.put_said-at-3.new.out
 
 after-third : (c : tie.After-put_said-at-3)
     → Next ((first (begun c) ++ second (begun c)) ++ third (begun c)) (10 ∷ []) (begun c).args.out.now (at-3 c) (out-3 c)
