@@ -77,12 +77,54 @@ def by_way(text, said):
     parent = {new: names[old.index(it[1])] if it[1] else None for new, it in zip(names, said["places"])}
     goals = {new: at[1] for (_, new), at in zip(said["needs"], said["asked_at"])}
 
+    def back(place):
+        # (the steps inside an arm's pattern are no places of their own)
+        before = parent.get(place)
+        while before and re.fullmatch(rf"{re.escape(place)}-\d+", before):
+            before = parent.get(before)
+        return before
+
     def steps(place, to):
         n = 0
         while place and place != to:
-            place, n = parent.get(place), n + 1
+            place, n = back(place), n + 1
         return n if place else None
 
+    arms = {}
+    for new, it in zip(names, said["places"]):
+        arms[new] = it[2][1] if it[0].startswith("At-match") else arms.get(parent[new])
+    bound = {}
+    for new, it in zip(names, said["places"]):
+        word = plain(it[2][0])
+        if arms[new] and not it[0].startswith("At-match") and not it[3] and word not in ("enum_told", "known_told"):
+            bound.setdefault(arms[new], [])
+            if word not in bound[arms[new]]:
+                bound[arms[new]].append(word)
+
+    def arm_of(place, word):
+        while place:
+            arm = arms.get(place)
+            if arm and (word in ("enum_told", "known_told") or word in bound.get(arm, [])):
+                return arm
+            place = parent.get(place)
+        return None
+
+    def given(piece, place):
+        def turned(match):
+            word = plain(re.sub(r"-in[-_].*-\d+$|-\d+$", "", match[1]))
+            arm = arm_of(place, word)
+            if not arm:
+                return match[0]
+            if match[2] == "1":
+                return f".{arm}.is"
+            at = match[2].count(".1")
+            names = bound.get(arm, [])
+            return f".{arm}.{names[at]}" if at < len(names) else match[0]
+
+        return re.sub(rf"\.({WORD})\.given\.(1|0(?:\.1)*\.0)(?!\.?\d)", turned, piece)
+
+    inner = lambda m: m[1] if m[1] in names else m[0]
+    text = re.sub(rf"(?<=tie\.)((?:In|Then|Else|After)[-_]{WORD}?)-\d+(?=[ )])", inner, text)
     helpers = {}
     pieces = declarations(text)
     for piece in pieces:
@@ -97,6 +139,7 @@ def by_way(text, said):
         if not place:
             done.append(piece)
             continue
+        piece = given(piece, place)
         alias = {}
         for it in re.finditer(r"\blet (\w+) = (\w+)((?:\.before)*) in\b", piece):
             if it[2] == c or it[2] in alias:
@@ -175,6 +218,8 @@ def mend(text, said, function):
             continue
         line = re.sub(rf"(?<![\w.-])tie\.({WORD})", of_tie, line)
         line = re.sub(rf"\.({WORD})", lambda m: m[0] if m.string[: m.start()].endswith("tie") else of_field(m), line)
+        line = line.replace(".well-formed", ".well_formed")
+        line = re.sub(r"not-(?:true|false) _ (\(?[\w.'-]*\.if-[\w'-]+\.(?:true|false)\)?)", r"\1", line)
         line = re.sub(r"(?<=[\w₀'])(?:\.before)+(?=\.(?!before))", "", line)
         line = re.sub(rf"\.({WORD})\.(auto|new)\.(\d+)", of_lent, line)
         lines.append(line)

@@ -1,5 +1,6 @@
 // The calendar: dates 1980-01-06 to 2099-12-31, plain calendar, days of 86,400 s, time in 10^-8 s.
 #![tactic(auto)]
+
 ghost use Rattle.std.specs.Prelude.{◌≡◌, ◌≤◌, ◌<◌};
 ghost use Rattle.calendar.specs.Gregorian.{leap, year_length, month_length, days_before, mjd_of, is_day, day_answer, told_date, date_answer, told_named, civil_answer};
 ghost use Rattle.calendar.specs.Facts.{Valid, InMonth};

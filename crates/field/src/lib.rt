@@ -1,5 +1,6 @@
 // The number fields of fixed columns: integers, signed integers, decimals and exponents, read and written at any width up to 18.
 #![tactic(auto)]
+
 pub mod known;
 pub mod read;
 mod scale;

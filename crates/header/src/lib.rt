@@ -1,5 +1,6 @@
 // The header of a file as a value, its bounds, the letters and words that its fields may hold, and the rules of a version.
 #![tactic(auto)]
+
 ghost use Rattle.std.specs.Prelude.{◌≡◌, [], ◌∷◌};
 ghost use Rattle.layout.specs.Kind.{is_one_of, is_listed};
 ghost use Rattle.header.specs.Rules.{slot_lines};

@@ -1,5 +1,6 @@
 // What several layers share: the test of two bounds, the smaller of two counts and the filling of blanks, beside the laws of specs/ and proofs/.
 #![tactic(auto)]
+
 ghost use Rattle.std.specs.Prelude.{◌≡◌, min, length};
 ghost use Rattle.laws.specs.Tests;
 ghost use Rattle.laws.specs.Texts.{blanks};

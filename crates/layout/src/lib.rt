@@ -1,6 +1,7 @@
 // Lines of 80 columns, whatever their record: which fault decides, short lines padded, lines cut and laid into lent output.
 // The layouts themselves are definitions (specs/Kind, specs/Layout); their laws, once over all of them, are in proofs/.
 #![tactic(auto)]
+
 ghost use Rattle.std.specs.Prelude.{◌≡◌, ◌++◌, length, take, drop};
 ghost use Rattle.laws.specs.Texts.{every, is_printable};
 ghost use Rattle.layout.specs.Fault;

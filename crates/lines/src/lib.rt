@@ -1,5 +1,6 @@
 // Bytes as lines, and lent memory that is filled from its first place on.
 #![tactic(auto)]
+
 ghost use Rattle.std.specs.Prelude.{◌≡◌, ◌+◌, ◌≤◌, length, take, drop};
 ghost use Rattle.lines.specs.Lines.{line_length, has_lf, is_full_line};
 ghost use Rattle.lines.specs.Lent.{laid};

@@ -1,5 +1,6 @@
 // Whether an identifier is named again, told by a mark for each: so a list is looked at once, and not once for each identifier.
 #![tactic(auto)]
+
 ghost use Rattle.std.specs.Prelude.{◌≡◌};
 ghost use Rattle.laws.specs.Texts.{every};
 ghost use Rattle.layout.specs.Kind.{is_one_of};

@@ -1,5 +1,6 @@
 // The picture of a usual P line: a quick test in front of the exact judge of a line, which tells most rows of a file.
 #![tactic(auto)]
+
 ghost use Rattle.std.specs.Prelude.{◌≡◌, ◌≤◌};
 ghost use Rattle.laws.specs.Tests.{every_below};
 ghost use Rattle.picture.specs.Picture.{fits_at, usual};

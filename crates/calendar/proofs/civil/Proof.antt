@@ -15,11 +15,11 @@ use Rattle.calendar.proofs.civil.Tie as tie
 
 returns : tie.Need-returns-then-not-within
 unfolding told_named
-returns c = sym (outside _ (sym c.within.ensures ∙ not-true _ c.if-not-within.true))
+returns c = sym (outside _ (sym c.within.ensures ∙ c.if-not-within.true))
 
 -- past the test the MJD lies within the bounds
 passed : (c : tie.Else-not-within) → within 44244 88068 c.args.mjd ≡ true
-passed c = sym c.within.ensures ∙ not-false _ c.if-not-within.false
+passed c = sym c.within.ensures ∙ c.if-not-within.false
 
 bounds : (c : tie.Else-not-within) → (44244 ≤ c.args.mjd) × (c.args.mjd ≤ 88068)
 bounds c = within-true _ _ _ (passed c)

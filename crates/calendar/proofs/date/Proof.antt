@@ -12,11 +12,11 @@ use Rattle.calendar.proofs.date.Tie as tie
 
 returns : tie.Need-returns-then-not-is_day
 unfolding told_date
-returns c = sym (no-day _ _ _ (sym c.is_day.ensures ∙ not-true _ c.if-not-is_day.true))
+returns c = sym (no-day _ _ _ (sym c.is_day.ensures ∙ c.if-not-is_day.true))
 
 -- past the first test it is a day of the calendar
 passed : (c : tie.Else-not-is_day) → is_day c.args.year c.args.month c.args.day ≡ true
-passed c = sym c.is_day.ensures ∙ not-false _ c.if-not-is_day.false
+passed c = sym c.is_day.ensures ∙ c.if-not-is_day.false
 
 mjd-of-requires : tie.Need-mjd_of-mjd-requires
 mjd-of-requires c κs = day-is _ _ _ (passed c)

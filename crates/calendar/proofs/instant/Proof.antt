@@ -16,12 +16,12 @@ use Rattle.calendar.proofs.instant.Tie as tie
 
 returns : tie.Need-returns-then-not-is_time
 unfolding told_instant
-returns c = sym (no-time _ _ _ _ _ _ (sym c.is_time.ensures ∙ not-true _ c.if-not-is_time.true))
+returns c = sym (no-time _ _ _ _ _ _ (sym c.is_time.ensures ∙ c.if-not-is_time.true))
 
 -- past the first test it is a time of day
 passed : (c : tie.Else-not-is_time) →
     is_time c.args.hour c.args.minute c.args.second8 ≡ true
-passed c = sym c.is_time.ensures ∙ not-false _ c.if-not-is_time.false
+passed c = sym c.is_time.ensures ∙ c.if-not-is_time.false
 
 -- in the first arm: the time, and the day that `date` gave
 timed : (c : tie.After-date) →
@@ -29,29 +29,29 @@ timed : (c : tie.After-date) →
     c.args.second8
 timed c = time-is _ _ _ (passed c.before)
 
-day-told : (c : tie.In-Day-2) →
+day-told : (c : tie.In-Day) →
     DayTold c.args.year c.args.month
-    c.args.day c.mjd.given.0.0 c.mjd.given.0.1.0 c.mjd.given.0.1.1.0
+    c.args.day c.in-Day.mjd c.in-Day.week c.in-Day.seconds
 unfolding told_date
-day-told c = date-told _ _ _ _ _ _ (sym c.date.ensures ∙ ap told_date c.mjd.given.1)
+day-told c = date-told _ _ _ _ _ _ (sym c.date.ensures ∙ ap told_date c.in-Day.is)
 
 mul-t12 : tie.Need-overflow_mul-result
-mul-t12 c = omega (arith, day-told c.before)
+mul-t12 c = omega (arith, day-told c)
 
 mul-t13 : tie.Need-overflow_mul-result-in-Day
-mul-t13 c = omega (arith, timed c.before.before.before)
+mul-t13 c = omega (arith, timed c.before)
 
 add-t14 : tie.Need-overflow_add-result
-add-t14 c = omega (arith, day-told c.before, timed c.before.before.before)
+add-t14 c = omega (arith, day-told c, timed c.before)
 
 mul-t15 : tie.Need-overflow_mul-result-in-Day-2
-mul-t15 c = omega (arith, timed c.before.before.before)
+mul-t15 c = omega (arith, timed c.before)
 
 add-t16 : tie.Need-overflow_add-result-in-Day
-add-t16 c = omega (arith, day-told c.before, timed c.before.before.before)
+add-t16 c = omega (arith, day-told c, timed c.before)
 
 add-t17 : tie.Need-overflow_add-result-in-Day-2
-add-t17 c = omega (arith, day-told c.before, timed c.before.before.before)
+add-t17 c = omega (arith, day-told c, timed c.before)
 
 enum_told : tie.Need-enum_told-1
 enum_told c = search rules
@@ -59,14 +59,14 @@ enum_told c = search rules
 returns-2 : tie.Need-returns-in-Day
 unfolding told_instant time_of
 returns-2 c =
-    let t = day-told c.before in
-    ap (λ (n : ℕ). 0 ∷ n ∷ []) (omega (arith, t)) ∙ sym (instant-at _ _ _ _ _ _ (passed c.before.before.before.before) t.is)
+    let t = day-told c in
+    ap (λ (n : ℕ). 0 ∷ n ∷ []) (omega (arith, t)) ∙ sym (instant-at _ _ _ _ _ _ (passed c.before.before) t.is)
 
 returns-3 : tie.Need-returns-in-OutOfBounds
 unfolding told_date told_instant
 returns-3 c =
     let d = c in
-    sym (no-date _ _ _ _ _ _ (passed c.before.before.before) (date-refused _ _ _ (sym d.date.ensures ∙ ap told_date c.enum_told.given.1)))
+    sym (no-date _ _ _ _ _ _ (passed c.before.before) (date-refused _ _ _ (sym d.date.ensures ∙ ap told_date c.in-OutOfBounds.is)))
 
 pub instant_spec : {M : Type 1} → statement M
 instant_spec =

@@ -12,21 +12,21 @@ use Rattle.calendar.proofs.is_day.Tie as tie
 
 returns : tie.Need-returns-then-not-within
 unfolding is_day
-returns c = simp (sym c.within.ensures ∙ not-true _ c.if-not-within.true)
+returns c = simp (sym c.within.ensures ∙ c.if-not-within.true)
 
 -- the year and the month passed their tests
 year-in : (c : tie.Else-not-within-2) → within 1980 2099 c.args.year ≡ true
-year-in c = sym c.within.ensures ∙ not-false _ c.if-not-within.false
+year-in c = sym c.within.ensures ∙ c.if-not-within.false
 
 month-in : (c : tie.Else-not-within-2) → within 1 12 c.args.month ≡ true
-month-in c = sym c.within-2.ensures ∙ not-false _ c.if-not-within-2.false
+month-in c = sym c.within-2.ensures ∙ c.if-not-within-2.false
 
 returns-2 : tie.Need-returns-then-not-within-2
 unfolding is_day
 returns-2 c =
     simp (
-      sym c.within.ensures ∙ not-false _ c.if-not-within.false,
-      sym c.within-2.ensures ∙ not-true _ c.if-not-within-2.true,
+      sym c.within.ensures ∙ c.if-not-within.false,
+      sym c.within-2.ensures ∙ c.if-not-within-2.true,
     )
 
 is-leap-requires : tie.Need-is_leap-requires

@@ -15,11 +15,11 @@ use Rattle.calendar.proofs.week_of.Tie as tie
 
 returns : tie.Need-returns-then-not-within
 unfolding told_week
-returns c = sym (no-week _ (sym c.within.ensures ∙ not-true _ c.if-not-within.true))
+returns c = sym (no-week _ (sym c.within.ensures ∙ c.if-not-within.true))
 
 -- past the test the day lies within the bounds
 passed : (c : tie.Else-not-within) → within 44244 88068 (c.args.at / day_units) ≡ true
-passed c = sym c.within.ensures ∙ not-false _ c.if-not-within.false
+passed c = sym c.within.ensures ∙ c.if-not-within.false
 
 sub-since : tie.Need-overflow_sub-since
 sub-since c = omega (arith, within-true 44244 88068 (c.args.at / day_units) (passed c))

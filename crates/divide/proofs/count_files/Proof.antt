@@ -43,18 +43,18 @@ returns c =
     let a = at-loop.args in
     c.answer.ensures
     ∙ counted-refused a.stretch.now a.room at-loop.loop-rest.count at-loop.loop-rest.rest at-loop.loop-rest.invariant
-    ran.scan_front.result (seen c.before.before.before.before) known.0.0 known.0.1.0 known.0.1.1.0 turn.loop-rest-test.true known.1
+    ran.scan_front.result (seen c.before.before) known.0.0 known.0.1.0 known.0.1.1.0 turn.loop-rest-test.true known.1
 
 -- where the rest begins with a file
 file-there : (c : tie.In-File-2 invariant-loop decreases-loop)
     → Cut c.args.stretch.now
-    c.loop-rest.rest c.tally.given.0.0.end
+    c.loop-rest.rest c.in-File.tally.end
 file-there c =
     let ran = c in
     let at-loop = ran.before.before.before.before in
     let a = at-loop.args in
     file-here a.stretch.now a.room at-loop.loop-rest.count at-loop.loop-rest.rest at-loop.loop-rest.invariant
-    ran.scan_front.result (seen c.before.before) c.tally.given.0.0 c.tally.given.1
+    ran.scan_front.result (seen c.before.before) c.in-File.tally c.in-File.is
 
 returns-2 : tie.Need-returns-then-count-room invariant-loop decreases-loop
 returns-2 c =
@@ -64,7 +64,7 @@ returns-2 c =
     let a = at-loop.args in
     c.answer-then-count-room.ensures
     ∙ counted-over a.stretch.now a.room at-loop.loop-rest.count at-loop.loop-rest.rest at-loop.loop-rest.invariant
-    ran.scan_front.result (seen c.before.before.before.before.before) known.tally.given.0.0 known.tally.given.1 (omega (arith, c.if-count-room.true))
+    ran.scan_front.result (seen c.before.before.before) known.in-File.tally known.in-File.is (omega (arith, c.if-count-room.true))
 
 add-rest : tie.Need-overflow_add-rest invariant-loop decreases-loop
 add-rest c = omega (arith, (file-there c.before.before.before).within)
@@ -79,7 +79,7 @@ loop-again c =
     let at-loop = ran.before.before.before.before in
     let a = at-loop.args in
     counts-file a.stretch.now a.room at-loop.loop-rest.count at-loop.loop-rest.rest at-loop.loop-rest.invariant
-    ran.scan_front.result (seen c.before.before.before.before.before) known.tally.given.0.0 known.tally.given.1 (omega (arith, c.if-count-room.false))
+    ran.scan_front.result (seen c.before.before.before) known.in-File.tally known.in-File.is (omega (arith, c.if-count-room.false))
 
 returns-3 : tie.Need-returns invariant-loop decreases-loop
 returns-3 c =

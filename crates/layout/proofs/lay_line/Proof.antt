@@ -14,7 +14,7 @@ use Rattle.layout.proofs.lay_line.Tie as tie
 add-result : tie.Need-overflow_add-result
 add-result c =
     let start = c.args in
-    omega (arith, trimmed-shorter start.line.now, c.s.given, c.trimmed_length-n.ensures)
+    omega (arith, trimmed-shorter start.line.now, c.trimmed_length-n.ensures)
 
 returns : tie.Need-returns-then-n-out
 returns c =

@@ -5,16 +5,16 @@ use Rattle.line_walk.proofs.gone_to.Statement.{statement}
 use Rattle.line_walk.proofs.gone_to.Tie as tie
 
 returns : tie.Need-returns-in-Next
-returns c = rw c.found.given.1
+returns c = rw c.in-Next.is
 
 returns-2 : tie.Need-returns-in-NoLine
-returns-2 c = rw c.enum_told.given.1
+returns-2 c = rw c.in-NoLine.is
 
 returns-3 : tie.Need-returns-in-Fault
-returns-3 c = rw c.enum_told-in-Fault-1.given.1
+returns-3 c = rw c.in-Fault.is
 
 returns-4 : tie.Need-returns-in-Finished
-returns-4 c = rw c.enum_told-in-Finished-1.given.1
+returns-4 c = rw c.in-Finished.is
 
 pub gone_to_spec : {M : Type 1} → statement M
 gone_to_spec =

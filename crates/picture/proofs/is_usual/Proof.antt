@@ -12,9 +12,9 @@ returns c =
     let middle = c in
     let front = c in
     let line = front.args.line.now in
-    usual-by line front.fits-middle.result middle.fits-last.result last.fits4.result (front.fits-middle.ensures ∙ block-is line 0 refl)
-    (middle.fits-last.ensures ∙ block-is line 32 refl)
-    (last.fits4.ensures ∙ block-is line 47 refl)
+    usual-by line c.fits-front.result c.fits-middle.result c.fits-last.result (c.fits-front.ensures ∙ block-is line 0 refl)
+    (c.fits-middle.ensures ∙ block-is line 32 refl)
+    (c.fits-last.ensures ∙ block-is line 47 refl)
 
 pub is_usual_spec : {M : Type 1} → statement M
 is_usual_spec =

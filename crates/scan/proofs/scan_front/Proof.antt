@@ -79,15 +79,15 @@ after_read c w e =
     ∙ (looked c.before.before.before.before).enough.same) e
 
 returns : tie.Need-returns-in-NoLine invariant-loop decreases-loop
-returns c = ap told_front (c.refused.ensures ∙ after_read c.before.before.before _ c.enum_told.given.1)
+returns c = ap told_front (c.refused.ensures ∙ after_read c.before.before _ c.in-NoLine.is)
 
 returns-2 : tie.Need-returns-in-Fault invariant-loop decreases-loop
-returns-2 c = let known = c in ap told_front (c.refused-in-Fault.ensures ∙ after_read c.before.before.before.before _ known.number.given.1)
+returns-2 c = let known = c in ap told_front (c.refused-in-Fault.ensures ∙ after_read c.before.before _ known.in-Fault.is)
 
 returns-3 : tie.Need-returns-in-Finished invariant-loop decreases-loop
 returns-3 c =
     let known = c in
-    ap told_front ((after_read c.before.before.before.before.before _ known.end.given.1).finished c.count_line.result c.count_line.ensures)
+    ap told_front ((after_read c.before.before.before _ known.in-Finished.is).finished c.count_line.result c.count_line.ensures)
 
 -- no count can overflow, since there are no more lines than bytes
 counts : tie.Need-count_line-tally-requires invariant-loop decreases-loop
@@ -95,14 +95,14 @@ counts c κs =
     let known = c in
     let here = c in
     let a = here.args in
-    let p = after_read c.before.before.before.before.before.before _ known.end-in-Next-1.given.1 in
+    let p = after_read c.before.before.before.before _ known.end-in-Next-1.given.1 in
     no_overflow a.rules a.bytes.now here.loop-state.identifiers here.loop-state.state here.loop-state.tally here.loop-state.invariant.0 known.end-in-Next-1.given.0.0 p.starts p.within
     (search rules)
 
 loop-less : tie.Need-loop-state-smaller invariant-loop decreases-loop
 loop-less c =
     let known = c in
-    (after_read c.before.before.before.before.before.before.before _ known.end-in-Next-1.given.1).falls c.count_line-tally.result c.count_line-tally.ensures
+    (after_read c.before.before.before.before.before _ known.end-in-Next-1.given.1).falls c.count_line-tally.result c.count_line-tally.ensures
 
 -- the identifiers that the line brings are kept, where a `+ ` line was due
 loop-again : tie.Need-loop-state-preserved invariant-loop decreases-loop
@@ -118,10 +118,10 @@ loop-again c =
     (λ w. w.4 ∙ brought-so a.rules here.loop-state.state here.loop-state.identifiers text _ w.0.taken w.2.ensures.1)
     (λ w. w.1 ∙ none-brought a.rules here.loop-state.state here.loop-state.identifiers text w.0.left)
     kept.if-state-eq-SATELLITES_KIND-2.branch in (
-      (after_read c.before.before.before.before.before.before.before _ known.end-in-Next-1.given.1).goes_on kept.if-state-eq-SATELLITES_KIND-2.identifiers c.count_line-tally.result brought c.count_line-tally.ensures,
+      (after_read c.before.before.before.before.before _ known.end-in-Next-1.given.1).goes_on kept.if-state-eq-SATELLITES_KIND-2.identifiers c.count_line-tally.result brought c.count_line-tally.ensures,
       covers-on a.rules a.bytes.now here.loop-state.tally.end here.loop-state.identifiers joined.if-state-eq-SATELLITES_KIND.marks joined.if-state-eq-SATELLITES_KIND.marked here.loop-state.state joined.if-state-eq-SATELLITES_KIND.many
-          (looked c.before.before.before.before.before.before.before.before.before.before.before) text kept.if-state-eq-SATELLITES_KIND-2.identifiers brought,
-      marks-many c.before.before.before.before.before.before.before.before.before.before.before,
+          (looked c.before.before.before.before.before.before.before.before.before) text kept.if-state-eq-SATELLITES_KIND-2.identifiers brought,
+      marks-many c.before.before.before.before.before.before.before.before.before,
     )
 
 pub scan_front_spec : {M : Type 1} → statement M

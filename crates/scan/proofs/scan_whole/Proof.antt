@@ -16,25 +16,25 @@ add-t11 c =
     let known = c in
     let ran = c in
     let a = ran.args in
-    omega (arith, lines-within a.rules a.bytes.now known.tally.given.0.0 (sym (told_front-one _ _ ran.scan_front.ensures) ∙ known.tally.given.1))
+    omega (arith, lines-within a.rules a.bytes.now known.in-File.tally (sym (told_front-one _ _ ran.scan_front.ensures) ∙ known.in-File.is))
 
 returns : tie.Need-returns-then-tally-bytes
 unfolding whole_front
 returns c =
     let known = c in
     let ran = c in
-    rw (sym (told_front-one _ _ ran.scan_front.ensures) ∙ known.tally.given.1, lt-ltb known.tally.given.0.0.end (length ran.args.bytes.now) c.if-tally-bytes.true)
+    rw (sym (told_front-one _ _ ran.scan_front.ensures) ∙ known.in-File.is, lt-ltb known.in-File.tally.end (length ran.args.bytes.now) c.if-tally-bytes.true)
 
 returns-2 : tie.Need-returns-in-Refused
 unfolding whole_front
-returns-2 c = let known = c in rw (sym (told_front-one _ _ known.scan_front.ensures) ∙ known.number.given.1)
+returns-2 c = let known = c in rw (sym (told_front-one _ _ known.scan_front.ensures) ∙ known.in-Refused.is)
 
 returns-3 : tie.Need-returns-else-tally-bytes
 unfolding whole_front
 returns-3 c =
     let known = c in
     let ran = c in
-    rw (sym (told_front-one _ _ ran.scan_front.ensures) ∙ known.tally.given.1, le-ltb known.tally.given.0.0.end (length ran.args.bytes.now) c.if-tally-bytes.false)
+    rw (sym (told_front-one _ _ ran.scan_front.ensures) ∙ known.in-File.is, le-ltb known.in-File.tally.end (length ran.args.bytes.now) c.if-tally-bytes.false)
 
 pub scan_whole_spec : {M : Type 1} → statement M
 scan_whole_spec =

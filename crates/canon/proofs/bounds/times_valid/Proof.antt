@@ -21,7 +21,7 @@ tested : (c : tie.After-within-2) → (((c.is_instant.result && c.within.result)
 tested c = both (both c.is_instant.ensures c.within.ensures) c.within-2.ensures
 
 bounded : (c : tie.Else-not-begun-within) → Begun c.args.h
-bounded c = begun c.args.h (sym (tested c.before) ∙ not-false _ c.if-not-begun-within.false)
+bounded c = begun c.args.h (sym (tested c.before) ∙ c.if-not-begun-within.false)
 
 returns : tie.Need-returns-then-not-begun-within
 unfolding times_valid
@@ -29,7 +29,7 @@ returns c =
     let h = c.args.h in
     sym
     (three-fail (is_instant h.start8) (within 1 max_epochs h.epochs) (within 1 max_interval h.interval8) (is_instant (last_epoch h))
-    (sym (tested c.before) ∙ not-true _ c.if-not-begun-within.true))
+    (sym (tested c.before) ∙ c.if-not-begun-within.true))
 
 returns-2 : tie.Need-returns
 unfolding times_valid
@@ -39,7 +39,7 @@ returns-2 c =
     c.is_instant-2.ensures
     ∙ sym
     (three-pass (is_instant h.start8) (within 1 max_epochs h.epochs) (within 1 max_interval h.interval8) (is_instant (last_epoch h))
-    (sym (tested c.before.before.before.before.before) ∙ not-false _ other.if-not-begun-within.false))
+    (sym (tested c.before.before.before.before.before) ∙ other.if-not-begun-within.false))
 
 pub times_valid_spec : {M : Type 1} → statement M
 times_valid_spec = tie.close (tie.spec (λ c κs. search rules) (λ c κs. search rules) (λ c κs. search rules) returns (λ c. let b = bounded c.before in omega arith) (λ c. let b = bounded c.before.before in omega (arith, last_within _ b)) (λ c. let b = bounded c.before.before.before in omega (arith, last_within _ b)) (λ c κs. search rules) returns-2)

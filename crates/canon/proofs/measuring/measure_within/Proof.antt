@@ -30,7 +30,7 @@ unfolding counts_hold
 answer c = c.counts_hold-hold.ensures
 
 hold : (c : tie.Else-not-hold) → counts_hold (start c.before).args.rules (table c.before) ≡ true
-hold c = sym (answer c.before) ∙ not-false _ c.if-not-hold.false
+hold c = sym (answer c.before) ∙ c.if-not-hold.false
 
 lists : (c : tie.Else-not-hold) → (
     let a = (start c.before).args in
@@ -42,7 +42,7 @@ returns : tie.Need-returns-then-not-hold
 returns c =
     let asked = c.before.before in
     let a = (start asked).args in
-    c.refuse.ensures ∙ no-counts a.rules (table asked) a.most (sym (answer c.before.before) ∙ not-true _ c.if-not-hold.true)
+    c.refuse.ensures ∙ no-counts a.rules (table asked) a.most (sym (answer c.before.before) ∙ c.if-not-hold.true)
 
 table-spent-requires : tie.Need-table_spent-spent-requires
 table-spent-requires c κs = let l = lists c.before.before in (l.said, l.placed, omega (arith, l.named), l.few)
@@ -74,7 +74,7 @@ returns-2 c =
     let asked = (known read).before in
     let a = (start asked).args in
     c.refuse-then-not-named-exponents_valid.ensures
-    ∙ no-lists a.rules (table asked) a.most (hold (known read)) _ (judged c.before.before.before) (not-true _ c.if-not-named-exponents_valid.true)
+    ∙ no-lists a.rules (table asked) a.most (hold (known read)) _ (judged c.before.before.before) (c.if-not-named-exponents_valid.true)
 
 returns-3 : tie.Need-returns-then-spent-eq0
 returns-3 c =
@@ -83,7 +83,7 @@ returns-3 c =
     let asked = (known read).before in
     let a = (start asked).args in
     c.refuse-then-spent-eq0.ensures
-    ∙ too_long a.rules (table asked) a.most (hold (known read)) _ (judged c.before.before.before.before.before) (not-false _ other.if-not-named-exponents_valid.false)
+    ∙ too_long a.rules (table asked) a.most (hold (known read)) _ (judged c.before.before.before.before.before) (other.if-not-named-exponents_valid.false)
     read.table_spent-spent.result.left (left c.before.before.before.before.before) c.if-spent-eq0.true
 
 returns-4 : tie.Need-returns
@@ -92,7 +92,7 @@ returns-4 c =
     let read = other.before.before in
     let asked = (known read).before in
     let a = (start asked).args in
-    written a.rules (table asked) a.most (hold (known read)) _ (judged c.before.before.before.before.before) (not-false _ other.if-not-named-exponents_valid.false)
+    written a.rules (table asked) a.most (hold (known read)) _ (judged c.before.before.before.before.before) (other.if-not-named-exponents_valid.false)
     read.table_spent-spent.result.left (left c.before.before.before.before.before) c.if-spent-eq0.false
 
 pub measure_within_spec : {M : Type 1} → statement M

@@ -18,7 +18,7 @@ unfolding note_valid note_length
 returns c =
     let asked = c in
     let note = asked.args.note.now in
-    let none : is_noted note ≡ false = sym asked.is_noted.ensures ∙ not-true _ c.if-not-is_noted.true in
+    let none : is_noted note ≡ false = sym asked.is_noted.ensures ∙ c.if-not-is_noted.true in
     rw (unmarked (entry note 0) none, none) (c.none_known.ensures, omega arith)
 
 returns-2 : tie.Need-returns
@@ -27,7 +27,7 @@ returns-2 c =
     let ten = c in
     let asked = c in
     let start = c in
-    let stood : is_noted start.args.note.now ≡ true = sym asked.is_noted.ensures ∙ not-false _ ten.if-not-is_noted.false in
+    let stood : is_noted start.args.note.now ≡ true = sym asked.is_noted.ensures ∙ ten.if-not-is_noted.false in
     rw stood (
       both ten.at_most.ensures ten.ten_valid.ensures,
       c.spend.ensures ∙ ap (λ (n : ℕ). start.args.left - n) c.line_length.ensures,

@@ -25,7 +25,7 @@ returns-2 c =
     let three : length a.out.now ≡ 3 = search rules in
     rw (not-false a.used c.if-not-used.false, c.if-accuracies.true) (c.put_number.ensures ∙ ap (λ (w : ℕ). shown_in (whole 0 999) w (one a.value)) three)
 
-returns-3 : tie.Need-returns
+returns-3 : tie.Need-returns-then-not-used
 returns-3 c =
     let a = c.args in
     rw (not-false a.used c.if-not-used.false, c.if-accuracies.false) c.put_identifier.ensures

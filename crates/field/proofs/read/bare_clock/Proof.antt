@@ -40,14 +40,14 @@ returns-4 : tie.Need-returns-in_default
 returns-4 c =
     let w = c in
     let e = c in
-    bare-none _ _ e.if-s-gt-WIDEST.false e.if-places-s.false e.if-s-point-ne46.false (sym (read c.before.before) ∙ c.enum_told.given.1)
+    bare-none _ _ e.if-s-gt-WIDEST.false e.if-places-s.false e.if-s-point-ne46.false (sym (read c.before) ∙ c.in_default.is)
 
 returns-5 : tie.Need-returns-then-high-ne-SIX_NINES
 returns-5 c =
     let h = c in
     let w = c in
     let e = c in
-    bare-other _ _ e.if-s-gt-WIDEST.false e.if-places-s.false e.if-s-point-ne46.false _ (sym (read c.before.before.before.before) ∙ h.high.given.1) c.if-high-ne-SIX_NINES.true
+    bare-other _ _ e.if-s-gt-WIDEST.false e.if-places-s.false e.if-s-point-ne46.false _ (sym (read c.before.before) ∙ h.in-Value.is) c.if-high-ne-SIX_NINES.true
 
 -- the columns after the point
 blanks-are : (c : tie.After-blanks) →
@@ -62,7 +62,7 @@ returns-6 c =
     let h = c in
     let w = c in
     let e = c in
-    bare-inked _ _ e.if-s-gt-WIDEST.false e.if-places-s.false e.if-s-point-ne46.false _ (sym (read c.before.before.before.before.before.before.before) ∙ h.high.given.1)
+    bare-inked _ _ e.if-s-gt-WIDEST.false e.if-places-s.false e.if-s-point-ne46.false _ (sym (read c.before.before.before.before.before) ∙ h.in-Value.is)
     (omega (arith, blanks-are c.before, c.if-blanks-places.true))
 
 -- the unit is the power of ten of its places
@@ -75,7 +75,7 @@ all-nines-requires c κs =
     let w = c in
     let e = c in
     let a = e.args in
-    let few = few-places a.s.now a.places e.if-s-gt-WIDEST.false e.if-places-s.false e.if-s-point-ne46.false _ (sym (read c.before.before.before.before.before.before.before.before) ∙ h.high.given.1) c.if-high-ne-SIX_NINES.false in
+    let few = few-places a.s.now a.places e.if-s-gt-WIDEST.false e.if-places-s.false e.if-s-point-ne46.false _ (sym (read c.before.before.before.before.before.before) ∙ h.in-Value.is) c.if-high-ne-SIX_NINES.false in
     (omega (arith, unit c, ten-pos a.places), omega (arith, unit c, few))
 
 returns-7 : tie.Need-returns
@@ -85,7 +85,7 @@ returns-7 c =
     let w = c in
     let e = c in
     ap (amount.Value false) (c.all_nines.ensures ∙ ap (λ (u : ℕ). (six_nines + 1) * u - 1) (unit c.before))
-    ∙ bare-nines _ _ e.if-s-gt-WIDEST.false e.if-places-s.false e.if-s-point-ne46.false _ (sym (read c.before.before.before.before.before.before.before.before.before) ∙ h.high.given.1)
+    ∙ bare-nines _ _ e.if-s-gt-WIDEST.false e.if-places-s.false e.if-s-point-ne46.false _ (sym (read c.before.before.before.before.before.before.before) ∙ h.in-Value.is)
     t.if-high-ne-SIX_NINES.false
     (omega (arith, blanks-are c.before.before.before, t.if-blanks-places.false))
 

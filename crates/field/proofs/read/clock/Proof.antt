@@ -19,16 +19,16 @@ returns c =
     let n = c in
     let d = c in
     let a = d.args in
-    let found = sym (read c.before.before.before.before) ∙ n.negative.given.1 in
+    let found = sym (read c.before.before) ∙ n.in-Value.is in
     ap told_amount
-    (ap (amount.Value n.negative.given.0.0) c.clock_held.ensures
-    ∙ sym (clock-decimal a.s.now a.places n.negative.given.0.0 n.negative.given.0.1.0 found))
+    (ap (amount.Value n.in-Value.negative) c.clock_held.ensures
+    ∙ sym (clock-decimal a.s.now a.places n.in-Value.negative n.in-Value.magnitude found))
 
 returns-2 : tie.Need-returns-in-Malformed
 returns-2 c =
     let d = c in
     let a = d.args in
-    ap told_amount (c.bare_clock.ensures ∙ sym (clock-bare a.s.now a.places (sym (read c.before.before.before) ∙ c.enum_told.given.1)))
+    ap told_amount (c.bare_clock.ensures ∙ sym (clock-bare a.s.now a.places (sym (read c.before.before) ∙ c.in-Malformed.is)))
 
 pub clock_spec : {M : Type 1} → statement M
 clock_spec =

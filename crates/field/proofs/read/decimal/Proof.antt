@@ -47,7 +47,7 @@ returns-4 : tie.Need-returns-in_default
 returns-4 c =
     let i = c in
     let a = i.args in
-    ap told_amount (ap (λ r. carried r (drop (point_of a.places (length a.s.now) + 1) a.s.now)) (sym c.enum_told.given.1) ∙ answer c.before.before)
+    ap told_amount (ap (λ r. carried r (drop (point_of a.places (length a.s.now) + 1) a.s.now)) (sym c.in_default.is) ∙ answer c.before)
 
 digits-from-requires : tie.Need-digits_from-requires
 digits-from-requires c κs =
@@ -56,38 +56,38 @@ digits-from-requires c κs =
     let told = c in
     let room = told.if-places-s.false in
     let a = told.args in
-    let high = high-below a.s.now a.places room a.signed _ _ (sym i.integer.ensures ∙ n.negative.given.1) in
+    let high = high-below a.s.now a.places room a.signed _ _ (sym i.integer.ensures ∙ n.in-Value.is) in
     rw (rest_part a.s.now (point_of a.places (length a.s.now) + 1), places-after a.s.now a.places room)
     (omega arith, wider (omega arith) high.1)
 
 -- the integer before the point, carried on by the digits after it
 answers : (c : tie.After-digits_from) →
-    let n = c.before.before.before in
+    let n = c in
     let a = n.args in
-    carried (amount.Value n.negative.given.0.0 n.negative.given.0.1.0) (drop (point_of a.places (length a.s.now) + 1) a.s.now)
+    carried (amount.Value n.in-Value.negative n.in-Value.high) (drop (point_of a.places (length a.s.now) + 1) a.s.now)
     ≡ decimal_of a.s.now a.places a.signed
 answers c =
-    let n = c.before.before.before in
+    let n = c in
     let i = c in
     let a = i.args in
-    ap (λ r. carried r (drop (point_of a.places (length a.s.now) + 1) a.s.now)) (sym n.negative.given.1) ∙ answer c.before.before.before.before.before
+    ap (λ r. carried r (drop (point_of a.places (length a.s.now) + 1) a.s.now)) (sym n.in-Value.is) ∙ answer c.before.before.before
 
 returns-5 : tie.Need-returns-in_default-digits_from
 returns-5 c =
     let d = c in
     let a = d.args in
-    let n = d.negative in
+    let n = c.in-Value in
     let none = d.digits_from.ensures ∙ ap (digits_from _) (rest_part a.s.now _) in
-    ap told_amount (carried_none n.given.0.0 n.given.0.1.0 _ (sym none ∙ c.enum_told-in_default-digits_from-1.given.1) ∙ answers c.before.before)
+    ap told_amount (carried_none n.negative n.high _ (sym none ∙ c.in_default-digits_from.is) ∙ answers c.before)
 
 returns-6 : tie.Need-returns
 returns-6 c =
     let m = c in
     let d = c in
     let a = d.args in
-    let n = d.negative in
+    let n = c.in-Value in
     let read = d.digits_from.ensures ∙ ap (digits_from _) (rest_part a.s.now _) in
-    ap told_amount (c.settle.ensures ∙ carried_some n.given.0.0 n.given.0.1.0 _ _ (sym read ∙ m.magnitude.given.1) ∙ answers c.before.before.before.before)
+    ap told_amount (c.settle.ensures ∙ carried_some n.negative n.high _ _ (sym read ∙ m.in-Value-digits_from.is) ∙ answers c.before.before)
 
 pub decimal_spec : {M : Type 1} → statement M
 decimal_spec =

@@ -31,10 +31,10 @@ answer c =
     ∙ exponent-read s narrow (λ e. c.if-start-s.false (blank.blanks-start.ensures ∙ e))
 
 returns-3 : tie.Need-returns-in-Value
-returns-3 c = ap told_exponent (ap as_exponent (sym c.in-Value.is) ∙ answer c.before.before.before)
+returns-3 c = ap told_exponent (ap as_exponent (sym c.in-Value.is) ∙ answer c.before)
 
 returns-4 : tie.Need-returns-in-Malformed
-returns-4 c = ap told_exponent (ap as_exponent (sym c.in-Malformed.is) ∙ answer c.before.before)
+returns-4 c = ap told_exponent (ap as_exponent (sym c.in-Malformed.is) ∙ answer c.before)
 
 pub exponent_spec : {M : Type 1} → statement M
 exponent_spec =

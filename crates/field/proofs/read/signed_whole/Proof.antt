@@ -18,10 +18,10 @@ answer c = ap (λ r. carried r []) c.integer.ensures ∙ signed-read _ c.if-s-gt
 returns-2 : tie.Need-returns-in-Value
 returns-2 c =
     let n = c in
-    ap told_amount (c.settle.ensures ∙ ap (λ r. carried r []) (sym n.negative.given.1) ∙ answer c.before.before.before.before)
+    ap told_amount (c.settle.ensures ∙ ap (λ r. carried r []) (sym n.in-Value.is) ∙ answer c.before.before)
 
 returns-3 : tie.Need-returns-in-Malformed
-returns-3 c = ap told_amount (ap (λ r. carried r []) (sym c.enum_told.given.1) ∙ answer c.before.before)
+returns-3 c = ap told_amount (ap (λ r. carried r []) (sym c.in-Malformed.is) ∙ answer c.before)
 
 pub signed_whole_spec : {M : Type 1} → statement M
 signed_whole_spec =

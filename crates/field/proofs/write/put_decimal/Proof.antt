@@ -22,13 +22,13 @@ use Rattle.field.proofs.write.put_decimal.Statement.{statement}
 use Rattle.field.proofs.write.put_decimal.Tie as tie
 
 returns : tie.Need-returns-then-not-fits_decimal
-returns c = rw (sym c.fits_decimal.ensures ∙ not-true _ c.if-not-fits_decimal.true) (refl, refl)
+returns c = rw (sym c.fits_decimal.ensures ∙ c.if-not-fits_decimal.true) (refl, refl)
 
 -- past the test it fits
 fits : (c : tie.Else-not-fits_decimal) →
     let a = c.args in
     fits_decimal (length a.out.now) a.places a.negative a.magnitude ≡ true
-fits c = sym c.fits_decimal.ensures ∙ not-false _ c.if-not-fits_decimal.false
+fits c = sym c.fits_decimal.ensures ∙ c.if-not-fits_decimal.false
 
 -- so there is a column for the point
 room : (c : tie.Else-not-fits_decimal) → c.args.places < length c.args.out.now

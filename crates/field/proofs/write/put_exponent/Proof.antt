@@ -14,7 +14,7 @@ returns c =
     rw (exponent-wide (length a.out.now) a.exponent c.if-out-gt-WIDEST.true) (refl, refl)
 
 returns-2 : tie.Need-returns-in-Value
-returns-2 c = rw c.exponent.given.1 c.put_whole.ensures
+returns-2 c = rw c.in-Value.is c.put_whole.ensures
 
 returns-3 : tie.Need-returns-in-Unknown
 returns-3 c =
@@ -22,7 +22,7 @@ returns-3 c =
     let told = c in
     let narrow = c in
     let out = narrow.args.out.now in
-    rw (told.enum_told.given.1, le-leb (length out) 18 narrow.if-out-gt-WIDEST.false) (refl, fill.fill_blanks.ensures)
+    rw (told.in-Unknown.is, le-leb (length out) 18 narrow.if-out-gt-WIDEST.false) (refl, fill.fill_blanks.ensures)
 
 pub put_exponent_spec : {M : Type 1} → statement M
 put_exponent_spec =

@@ -10,13 +10,13 @@ use Rattle.field.proofs.write.put_signed_whole.Statement.{statement}
 use Rattle.field.proofs.write.put_signed_whole.Tie as tie
 
 returns : tie.Need-returns-then-not-fits_signed_whole
-returns c = rw (sym c.fits_signed_whole.ensures ∙ not-true _ c.if-not-fits_signed_whole.true) (refl, refl)
+returns c = rw (sym c.fits_signed_whole.ensures ∙ c.if-not-fits_signed_whole.true) (refl, refl)
 
 -- past the test it fits
 fits : (c : tie.Else-not-fits_signed_whole) →
     let a = c.args in
     fits_signed (length a.out.now) a.negative a.magnitude ≡ true
-fits c = sym c.fits_signed_whole.ensures ∙ not-false _ c.if-not-fits_signed_whole.false
+fits c = sym c.fits_signed_whole.ensures ∙ c.if-not-fits_signed_whole.false
 
 put-integer-requires : tie.Need-put_integer-requires
 put-integer-requires c κs =

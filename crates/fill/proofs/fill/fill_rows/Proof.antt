@@ -48,7 +48,7 @@ add-stored : tie.Need-overflow_add-stored invariant-loop decreases-loop
 add-stored c =
     let room = c in
     let at-loop = room.before.before.before.before.before.before in
-    omega (arith, at-loop.well-formed, at-loop.loop-rules.invariant.has.kept, room.if-out-stored-lt-ROW_WIDTH.false)
+    omega (arith, at-loop.well_formed, at-loop.loop-rules.invariant.has.kept, room.if-out-stored-lt-ROW_WIDTH.false)
 
 loop-again : tie.Need-loop-rules-preserved invariant-loop decreases-loop
 loop-again c =

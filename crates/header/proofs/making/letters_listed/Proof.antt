@@ -17,9 +17,9 @@ unfolding letters_listed
 returns c =
     let timed = c in
     let start = c in
-    let e : length start.args.t4 ≡ 3 = search rules in
+    let e : length start.args.time_system ≡ 3 = search rules in
     all-four _ _ _ _ _ _ _ _ c.is_mode.ensures c.is_file_type.ensures
-    (timed.is_time_system-timed.ensures ∙ ap (λ (s : List ℕ). is_listed s time_systems) (three-bytes start.args.t4 e))
+    (timed.is_time_system-timed.ensures ∙ ap (λ (s : List ℕ). is_listed s time_systems) (three-bytes start.args.time_system e))
     c.texts_printable.ensures
 
 pub letters_listed_spec : {M : Type 1} → statement M

@@ -11,7 +11,7 @@ returns : tie.Need-returns-in_default
 unfolding told_instant instant_in
 returns c =
     let asked = c in
-    rw (no-moment asked.args.m (sym asked.instant.ensures ∙ ap told_instant c.enum_told.given.1))
+    rw (no-moment asked.args.m (sym asked.instant.ensures ∙ ap told_instant c.in_default.is))
 
 returns-2 : tie.Need-returns
 unfolding told_instant instant_in

@@ -11,7 +11,7 @@ unfolding told_week
 returns c =
     let asked = c in
     let a = asked.args in
-    sym (no-agreement a.start8 a.second (sym asked.week_of.ensures ∙ ap told_week c.enum_told.given.1))
+    sym (no-agreement a.start8 a.second (sym asked.week_of.ensures ∙ ap told_week c.in_default.is))
 
 returns-2 : tie.Need-returns
 unfolding told_week
@@ -21,7 +21,7 @@ returns-2 c =
     let asked = c in
     let a = asked.args in
     rw fraction.fraction_agrees-fraction.ensures
-    (week-agreement a.start8 a.second _ _ (sym asked.week_of.ensures ∙ ap told_week told.week.given.1))
+    (week-agreement a.start8 a.second _ _ (sym asked.week_of.ensures ∙ ap told_week told.in-Of.is))
 
 pub second_agrees_spec : {M : Type 1} → statement M
 second_agrees_spec =

@@ -109,8 +109,8 @@ returns-3 c = let g = read c.before in not_eight _ _ _ _ _ _ g (no-fault _ _ _ _
 returns-4 : tie.Need-returns-then-number-ne8
 returns-4 c =
     let told = c in
-    let g = read c.before.before.before.before in
-    not_eight _ _ _ _ _ _ g (number_is _ _ _ _ _ _ g _ _ told.number.given.1 ∙ ne_eqb _ _ c.if-number-ne8.true)
+    let g = read c.before.before in
+    not_eight _ _ _ _ _ _ g (number_is _ _ _ _ _ _ g _ _ told.in-Fault.is ∙ ne_eqb _ _ c.if-number-ne8.true)
 
 part-pad-end : tie.Need-slice_bounds-pad-end
 part-pad-end c = let told = c in omega (arith, told.if-end-bytes.false)
@@ -121,10 +121,10 @@ returns-5 c =
     let tested = c in
     let told = c in
     let a = told.args in
-    let g = read c.before.before.before.before.before.before.before.before in
+    let g = read c.before.before.before.before.before.before in
     c.slots_clean.ensures
     ∙ ap (λ (line : List ℕ). eqb (slots_fault a.rules a.state line) clean) c.pad-padded.ensures
-    ∙ eight _ _ _ _ _ _ g (number_is _ _ _ _ _ _ g _ _ told.number.given.1 ∙ eq-eqb _ _ tested.if-number-ne8.false)
+    ∙ eight _ _ _ _ _ _ g (number_is _ _ _ _ _ _ g _ _ told.in-Fault.is ∙ eq-eqb _ _ tested.if-number-ne8.false)
 
 pub names_again_spec : {M : Type 1} → statement M
 names_again_spec =

@@ -36,10 +36,10 @@ returns c =
     no-comment a.rules a.kind c.in-Comment.keys2
 
 returns-2 : tie.Need-returns-then-rules-lt80
-returns-2 c = rw c.enum_told.given.1 (omega arith)
+returns-2 c = rw c.in-Comment.is (omega arith)
 
 returns-3 : tie.Need-returns
-returns-3 c = rw c.enum_told.given.1 (omega arith)
+returns-3 c = rw c.in-Comment.is (omega arith)
 
 pub longest_line_spec : {M : Type 1} → statement M
 longest_line_spec = tie.close (tie.spec (λ c. search rules) returns returns-2 returns-3)

@@ -9,13 +9,13 @@ use Rattle.machine.proofs.step.is_due_row.Tie as tie
 returns : tie.Need-returns-then-not-due
 returns c =
     let a = c.args in
-    let none : (eqb a.state.due position_kind && leb (length a.line.now) 80) ≡ false = not-true _ c.if-not-due.true in
+    let none : (eqb a.state.due position_kind && leb (length a.line.now) 80) ≡ false = c.if-not-due.true in
     rw none
 
 returns-2 : tie.Need-returns
 returns-2 c =
     let a = c.args in
-    let due : (eqb a.state.due position_kind && leb (length a.line.now) 80) ≡ true = not-false _ c.if-not-due.false in
+    let due : (eqb a.state.due position_kind && leb (length a.line.now) 80) ≡ true = c.if-not-due.false in
     rw (
       due,
       c.is_usual.ensures,

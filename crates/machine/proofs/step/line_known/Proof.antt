@@ -29,13 +29,13 @@ judged c w is =
     c.if-end-bytes.false w (sym is ∙ told_verdict-one c.step_line.result _ c.step_line.ensures))
 
 returns-2 : tie.Need-returns-in-Fault
-returns-2 c = judged c.before.before.before _ c.number.given.1
+returns-2 c = judged c.before _ c.in-Fault.is
 
 returns-3 : tie.Need-returns-in-Finished
-returns-3 c = judged c.before.before _ c.enum_told.given.1
+returns-3 c = judged c.before _ c.in-Finished.is
 
 returns-4 : tie.Need-returns-in-Next
-returns-4 c = judged c.before.before.before _ c.next.given.1
+returns-4 c = judged c.before _ c.in-Next.is
 
 pub line_known_spec : {M : Type 1} → statement M
 line_known_spec =

@@ -27,7 +27,7 @@ returns-2 c =
     let told = c in
     let read = c in
     let a = read.args in
-    read-other a.rules a.bytes.now a.at a.state a.identifiers.now read.Line-known.result _ _ read.Line-known.ensures told.found.given.1 c.if-state-ne-SATELLITES_KIND.true
+    read-other a.rules a.bytes.now a.at a.state a.identifiers.now read.Line-known.result _ _ read.Line-known.ensures told.in-Next.is c.if-state-ne-SATELLITES_KIND.true
 
 returns-3 : tie.Need-returns-then-keep_identifiers
 returns-3 c =
@@ -36,7 +36,7 @@ returns-3 c =
     let told = c in
     let read = c in
     let a = read.args in
-    read-identifiers a.rules a.bytes.now a.at a.state a.identifiers.now read.Line-known.result _ _ read.Line-known.ensures told.found.given.1
+    read-identifiers a.rules a.bytes.now a.at a.state a.identifiers.now read.Line-known.result _ _ read.Line-known.ensures told.in-Next.is
     due.if-state-ne-SATELLITES_KIND.false true _ (sym c.if-keep_identifiers.true ∙ keeping.keep_identifiers.ensures.0) keeping.keep_identifiers.ensures.1
 
 returns-4 : tie.Need-returns
@@ -46,7 +46,7 @@ returns-4 c =
     let told = c in
     let read = c in
     let a = read.args in
-    read-identifiers a.rules a.bytes.now a.at a.state a.identifiers.now read.Line-known.result _ _ read.Line-known.ensures told.found.given.1
+    read-identifiers a.rules a.bytes.now a.at a.state a.identifiers.now read.Line-known.result _ _ read.Line-known.ensures told.in-Next.is
     due.if-state-ne-SATELLITES_KIND.false false _ (sym c.if-keep_identifiers.false ∙ keeping.keep_identifiers.ensures.0) keeping.keep_identifiers.ensures.1
 
 pub read_line_spec : {M : Type 1} → statement M

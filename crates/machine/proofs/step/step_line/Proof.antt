@@ -23,7 +23,7 @@ returns-2 c =
     let judged = c in
     let a = judged.args in
     ap told_verdict
-    (unprintable a.rules a.state a.identifiers.now a.line.now c.first_unprintable.result (sym judged.is_plain.ensures ∙ not-true _ c.if-not-is_plain.true) c.first_unprintable.ensures)
+    (unprintable a.rules a.state a.identifiers.now a.line.now c.first_unprintable.result (sym judged.is_plain.ensures ∙ c.if-not-is_plain.true) c.first_unprintable.ensures)
 
 returns-3 : tie.Need-returns-then-line-longest
 returns-3 c =
@@ -32,7 +32,7 @@ returns-3 c =
     let padding = c in
     let a = padding.args in
     ap told_verdict
-    (too_long a.rules a.state a.identifiers.now a.line.now (sym judged.is_plain.ensures ∙ not-false _ kinded.if-not-is_plain.false) padding.pad-padded.result padding.pad-padded.ensures kinded.kind_of-kind.result kinded.kind_of-kind.ensures c.longest_line-longest.result c.longest_line-longest.ensures c.if-line-longest.true)
+    (too_long a.rules a.state a.identifiers.now a.line.now (sym judged.is_plain.ensures ∙ kinded.if-not-is_plain.false) padding.pad-padded.result padding.pad-padded.ensures kinded.kind_of-kind.result kinded.kind_of-kind.ensures c.longest_line-longest.result c.longest_line-longest.ensures c.if-line-longest.true)
 
 returns-4 : tie.Need-returns
 returns-4 c =
@@ -42,7 +42,7 @@ returns-4 c =
     let padding = c in
     let a = padding.args in
     ap told_verdict
-    (short-enough a.rules a.state a.identifiers.now a.line.now (sym judged.is_plain.ensures ∙ not-false _ kinded.if-not-is_plain.false) padding.pad-padded.result padding.pad-padded.ensures kinded.kind_of-kind.result kinded.kind_of-kind.ensures measured.longest_line-longest.result measured.longest_line-longest.ensures c.judge_line.result c.if-line-longest.false c.judge_line.ensures)
+    (short-enough a.rules a.state a.identifiers.now a.line.now (sym judged.is_plain.ensures ∙ kinded.if-not-is_plain.false) padding.pad-padded.result padding.pad-padded.ensures kinded.kind_of-kind.result kinded.kind_of-kind.ensures measured.longest_line-longest.result measured.longest_line-longest.ensures c.judge_line.result c.if-line-longest.false c.judge_line.ensures)
 
 pub step_line_spec : {M : Type 1} → statement M
 step_line_spec =

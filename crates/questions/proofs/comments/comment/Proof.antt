@@ -18,22 +18,22 @@ use Rattle.questions.proofs.comments.comment.Statement.{statement}
 use Rattle.questions.proofs.comments.comment.Tie as tie
 
 -- what was found in the file
-found-file : (c : tie.In-File-2) → file_of (rules_in c.args.file.now) c.args.file.now ≡ front.File c.tally.given.0.0
+found-file : (c : tie.In-File-2) → file_of (rules_in c.args.file.now) c.args.file.now ≡ front.File c.in-File.tally
 found-file c =
     let ran = c in
-    found_as ran.told_by-rules.result ran.args.file.now ran.scan_whole.result (front.File c.tally.given.0.0)
-    ran.told_by-rules.ensures (told_front-one _ _ ran.scan_whole.ensures) c.tally.given.1
+    found_as ran.told_by-rules.result ran.args.file.now ran.scan_whole.result (front.File c.in-File.tally)
+    ran.told_by-rules.ensures (told_front-one _ _ ran.scan_whole.ensures) c.in-File.is
 
 part-line-of-end : tie.Need-slice_bounds-line_of-end
 part-line-of-end c =
     let known = c in
-    omega (arith, file-within (rules_in known.args.file.now) known.args.file.now known.tally.given.0.0 (found-file c.before.before.before))
+    omega (arith, file-within (rules_in known.args.file.now) known.args.file.now known.in-File.tally (found-file c.before.before.before))
 
 returns : tie.Need-returns-then-k-tally
 returns c =
     let known = c in
     let start = c in
-    let t = known.tally.given.0.0 in (
+    let t = known.in-File.tally in (
       words-as (rules_in start.args.file.now) start.args.file.now (front.File t) (found-file c.before.before.before.before.before.before) start.args.k c.text_of.result.now
           (words-there known.told_by-rules.result known.told_by-rules.ensures start.args.file.now t start.args.k c.text_of.result.now
           c.Line-of.result.now c.if-k-tally.true c.text_of.ensures.0 c.Line-of.ensures.0),
@@ -53,11 +53,11 @@ returns-2 c =
     let ran = c in
     let start = c in (
       words-as (rules_in start.args.file.now) start.args.file.now _
-          (found_as ran.told_by-rules.result start.args.file.now ran.scan_whole.result _ ran.told_by-rules.ensures (told_front-one _ _ ran.scan_whole.ensures) known.enum_told.given.1)
+          (found_as ran.told_by-rules.result start.args.file.now ran.scan_whole.result _ ran.told_by-rules.ensures (told_front-one _ _ ran.scan_whole.ensures) known.in-Refused.is)
           start.args.k c.nothing_at.result.now c.nothing_at.ensures.0,
       c.nothing_at.ensures.1 ∙ ap (byte_of start.args.file) (first_byte start.args.file.now) ∙ ap (λ (a : CommentAnswer). byte_of start.args.file a.at)
           (comment-as (rules_in start.args.file.now) start.args.file.now _
-          (found_as ran.told_by-rules.result start.args.file.now ran.scan_whole.result _ ran.told_by-rules.ensures (told_front-one _ _ ran.scan_whole.ensures) known.enum_told.given.1)
+          (found_as ran.told_by-rules.result start.args.file.now ran.scan_whole.result _ ran.told_by-rules.ensures (told_front-one _ _ ran.scan_whole.ensures) known.in-Refused.is)
           start.args.k (no_comment _ _ _) refl),
     )
 
@@ -65,7 +65,7 @@ returns-3 : tie.Need-returns-else-k-tally
 returns-3 c =
     let known = c in
     let start = c in
-    let t = known.tally.given.0.0 in (
+    let t = known.in-File.tally in (
       words-as (rules_in start.args.file.now) start.args.file.now (front.File t) (found-file c.before.before.before.before) start.args.k c.nothing_at-in-File.result.now
           (c.nothing_at-in-File.ensures.0 ∙ no-words-there (rules_in start.args.file.now) start.args.file.now t start.args.k c.if-k-tally.false),
       c.nothing_at-in-File.ensures.1 ∙ ap (byte_of start.args.file) (first_byte start.args.file.now) ∙ ap (λ (a : CommentAnswer). byte_of start.args.file a.at)

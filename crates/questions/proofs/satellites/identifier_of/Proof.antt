@@ -35,7 +35,7 @@ returns-2 c =
     let counted = c in
     let e = counted.if-text-ne3.false in
     let text = counted.args.text.now in
-    none text e (three text counted.two_digits-number.result asked.is_named.result e counted.two_digits-number.ensures.0 asked.is_named.ensures ∙ not-true _ c.if-not-is_named-number.true)
+    none text e (three text counted.two_digits-number.result asked.is_named.result e counted.two_digits-number.ensures.0 asked.is_named.ensures ∙ c.if-not-is_named-number.true)
 
 returns-3 : tie.Need-returns
 returns-3 c =
@@ -45,7 +45,7 @@ returns-3 c =
     let e = counted.if-text-ne3.false in
     let text = counted.args.text.now in
     some text c.identifier_code.result e
-    (three text counted.two_digits-number.result asked.is_named.result e counted.two_digits-number.ensures.0 asked.is_named.ensures ∙ not-false _ left.if-not-is_named-number.false)
+    (three text counted.two_digits-number.result asked.is_named.result e counted.two_digits-number.ensures.0 asked.is_named.ensures ∙ left.if-not-is_named-number.false)
     (c.identifier_code.ensures ∙ ap (λ (n : ℕ). get_or text 0 0 * 100 + n) counted.two_digits-number.ensures.0)
 
 pub identifier_of_spec : {M : Type 1} → statement M

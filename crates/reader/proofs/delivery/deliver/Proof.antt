@@ -25,7 +25,7 @@ returns c =
     let start = c in
     let a = start.args in
     let t = found.found-in-File-1.given.0.0 in (
-      c.refused-then-not-enough.ensures ∙ short-delivered a.rules a.bytes.now a.found (length a.identifiers.now) (length a.exponents.now) (length a.comments.now) (length a.rows.now) t found.found-in-File-1.given.1 start.requires counted.count_of-n.result counted.count_of-n.ensures roomed.has_room-enough.result roomed.has_room-enough.ensures (not-true _ c.if-not-enough.true),
+      c.refused-then-not-enough.ensures ∙ short-delivered a.rules a.bytes.now a.found (length a.identifiers.now) (length a.exponents.now) (length a.comments.now) (length a.rows.now) t found.found-in-File-1.given.1 start.requires counted.count_of-n.result counted.count_of-n.ensures roomed.has_room-enough.result roomed.has_room-enough.ensures (c.if-not-enough.true),
       lists-delivered a.rules a.bytes.now a.found (length a.identifiers.now) (length a.exponents.now) (length a.comments.now) (length a.rows.now) t found.found-in-File-1.given.1 start.requires counted.count_of-n.result counted.count_of-n.ensures roomed.has_room-enough.result roomed.has_room-enough.ensures
           a.identifiers.now a.exponents.now a.comments.now _ _ _ a.rows.now _ refl refl refl refl filled.fill_lists.ensures,
     )
@@ -57,7 +57,7 @@ returns-3 c =
     let start = c in
     let a = start.args in
     let t = found.found-in-File-1.given.0.0 in (
-      c.answer.ensures ∙ file-delivered a.rules a.bytes.now a.found (length a.identifiers.now) (length a.exponents.now) (length a.comments.now) (length a.rows.now) t found.found-in-File-1.given.1 start.requires counted.count_of-n.result counted.count_of-n.ensures roomed.has_room-enough.result roomed.has_room-enough.ensures (not-false _ c.if-not-enough.false),
+      c.answer.ensures ∙ file-delivered a.rules a.bytes.now a.found (length a.identifiers.now) (length a.exponents.now) (length a.comments.now) (length a.rows.now) t found.found-in-File-1.given.1 start.requires counted.count_of-n.result counted.count_of-n.ensures roomed.has_room-enough.result roomed.has_room-enough.ensures (c.if-not-enough.false),
       lists-delivered a.rules a.bytes.now a.found (length a.identifiers.now) (length a.exponents.now) (length a.comments.now) (length a.rows.now) t found.found-in-File-1.given.1 start.requires counted.count_of-n.result counted.count_of-n.ensures roomed.has_room-enough.result roomed.has_room-enough.ensures
           a.identifiers.now a.exponents.now a.comments.now _ _ _ a.rows.now _ refl refl refl refl filled.fill_lists.ensures,
     )

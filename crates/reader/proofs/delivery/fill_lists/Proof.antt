@@ -11,7 +11,7 @@ returns : tie.Need-returns-then-not-enough
 returns c =
     let a = c.args in
     lists-left a.enough a.rules a.n a.count (lines_of a.bytes.now) a.identifiers.now a.exponents.now a.comments.now a.rows.now
-    (not-true _ c.if-not-enough.true)
+    (c.if-not-enough.true)
 
 returns-2 : tie.Need-returns
 returns-2 c =
@@ -22,7 +22,7 @@ returns-2 c =
     let start = identifiers-laid.before.before in
     let a = start.args in
     lists_filled a.enough a.rules a.n a.count (lines_of a.bytes.now) a.identifiers.now a.exponents.now a.comments.now a.rows.now
-    _ _ _ _ (not-false _ start.if-not-enough.false)
+    _ _ _ _ (start.if-not-enough.false)
     identifiers-laid.fill_slots.ensures exponents-laid.fill_slots-2.ensures comments-laid.fill_comments.ensures rows-laid.fill_rows.ensures
 
 pub fill_lists_spec : {M : Type 1} → statement M

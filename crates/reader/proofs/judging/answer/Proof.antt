@@ -10,7 +10,7 @@ part-header-of-end : tie.Need-slice_bounds-header_of-end
 part-header-of-end c = file-within c.args.rules c.args.bytes.now c.args.found c.found-in-File-1.given.0.0 c.found-in-File-1.given.1 c.requires
 
 returns : tie.Need-returns-in-Refused
-returns c = c.refused.ensures ∙ refusal-judged c.args.rules c.args.bytes.now c.args.found c.found.given.0.0 c.found.given.0.1.0 c.found.given.0.1.1.0 c.found.given.1
+returns c = c.refused.ensures ∙ refusal-judged c.args.rules c.args.bytes.now c.args.found c.in-Refused.found c.found.given.0.1.0 c.found.given.0.1.1.0 c.in-Refused.is
 
 returns-2 : tie.Need-returns-in-File
 returns-2 c = file-judged c.args.rules c.args.bytes.now c.args.found c.found-in-File-1.given.0.0 c.found-in-File-1.given.1 c.requires c.header_of.result c.header_of.ensures

@@ -8,12 +8,12 @@ use Rattle.record.proofs.fields.dated.Tie as tie
 returns : tie.Need-returns-in_default
 returns c =
     let m = c.args.m in
-    rw (undated-case m.year m.month m.day _ c.date.ensures c.enum_told-in_default-1.given.1, c.fault_at.ensures)
+    rw (undated-case m.year m.month m.day _ c.date.ensures c.in_default.is, c.fault_at.ensures)
 
 returns-2 : tie.Need-returns
 returns-2 c =
     let m = c.args.m in
-    rw (dated-case m.year m.month m.day _ _ _ _ c.date.ensures c.enum_told.given.1)
+    rw (dated-case m.year m.month m.day _ _ _ _ c.date.ensures c.in-Day.is)
 
 pub dated_spec : {M : Type 1} → statement M
 dated_spec =

@@ -17,7 +17,7 @@ returns c =
 returns-2 : tie.Need-returns
 returns-2 c =
     let a = c.args in
-    rw (exponent-case (take (a.last - (a.first - 1)) (drop (a.first - 1) a.line.now)) _ _ c.exponent.ensures c.enum_told.given.1, c.fault_at.ensures)
+    rw (exponent-case (take (a.last - (a.first - 1)) (drop (a.first - 1) a.line.now)) _ _ c.exponent.ensures c.in-Malformed.is, c.fault_at.ensures)
 
 pub exponent_in_spec : {M : Type 1} → statement M
 exponent_in_spec =

@@ -7,10 +7,10 @@ use Rattle.record.proofs.fields.read_identifier.Statement.{statement}
 use Rattle.record.proofs.fields.read_identifier.Tie as tie
 
 returns : tie.Need-returns-then-not-is_named
-returns c = rw (sym c.is_named.ensures ∙ not-true _ c.if-not-is_named.true, c.fault_at.ensures)
+returns c = rw (sym c.is_named.ensures ∙ c.if-not-is_named.true, c.fault_at.ensures)
 
 returns-2 : tie.Need-returns
-returns-2 c = rw (sym c.is_named.ensures ∙ not-false _ c.if-not-is_named.false, c.identifier_code.ensures, c.fault_unless.ensures, c.within-bounded.ensures, c.two_digits-number.ensures.0)
+returns-2 c = rw (sym c.is_named.ensures ∙ c.if-not-is_named.false, c.identifier_code.ensures, c.fault_unless.ensures, c.within-bounded.ensures, c.two_digits-number.ensures.0)
 
 pub read_identifier_spec : {M : Type 1} → statement M
 read_identifier_spec =

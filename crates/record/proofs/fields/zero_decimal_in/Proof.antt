@@ -11,12 +11,12 @@ use Rattle.record.proofs.fields.zero_decimal_in.Tie as tie
 returns : tie.Need-returns-in_default
 returns c =
     let a = c.args in
-    rw (decimal-case (take (a.last - (a.first - 1)) (drop (a.first - 1) a.line.now)) a.places false _ _ c.decimal.ensures c.enum_told.given.1, c.fault_at.ensures)
+    rw (decimal-case (take (a.last - (a.first - 1)) (drop (a.first - 1) a.line.now)) a.places false _ _ c.decimal.ensures c.in_default.is, c.fault_at.ensures)
 
 returns-2 : tie.Need-returns
 returns-2 c =
     let a = c.args in
-    rw (decimal-case (take (a.last - (a.first - 1)) (drop (a.first - 1) a.line.now)) a.places false _ _ c.decimal.ensures c.magnitude.given.1, c.fault_unless.ensures)
+    rw (decimal-case (take (a.last - (a.first - 1)) (drop (a.first - 1) a.line.now)) a.places false _ _ c.decimal.ensures c.in-Value.is, c.fault_unless.ensures)
 
 pub zero_decimal_in_spec : {M : Type 1} → statement M
 zero_decimal_in_spec =

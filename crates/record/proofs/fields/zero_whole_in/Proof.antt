@@ -10,12 +10,12 @@ use Rattle.record.proofs.fields.zero_whole_in.Tie as tie
 returns : tie.Need-returns-in_default
 returns c =
     let a = c.args in
-    rw (whole-case (take (a.last - (a.first - 1)) (drop (a.first - 1) a.line.now)) _ _ c.whole.ensures c.enum_told.given.1, c.fault_at.ensures)
+    rw (whole-case (take (a.last - (a.first - 1)) (drop (a.first - 1) a.line.now)) _ _ c.whole.ensures c.in_default.is, c.fault_at.ensures)
 
 returns-2 : tie.Need-returns
 returns-2 c =
     let a = c.args in
-    rw (whole-case (take (a.last - (a.first - 1)) (drop (a.first - 1) a.line.now)) _ _ c.whole.ensures c.n.given.1, c.fault_unless.ensures)
+    rw (whole-case (take (a.last - (a.first - 1)) (drop (a.first - 1) a.line.now)) _ _ c.whole.ensures c.in-Value.is, c.fault_unless.ensures)
 
 pub zero_whole_in_spec : {M : Type 1} → statement M
 zero_whole_in_spec =

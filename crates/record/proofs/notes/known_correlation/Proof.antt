@@ -12,12 +12,12 @@ returns c = rw (sym c.is_blank.ensures ∙ c.if-is_blank.true)
 returns-2 : tie.Need-returns-in_default
 returns-2 c =
     let asked = c in
-    rw (sym asked.is_blank.ensures ∙ asked.if-is_blank.false, signed-case asked.args.bytes.now _ _ asked.signed_whole.ensures c.enum_told.given.1)
+    rw (sym asked.is_blank.ensures ∙ asked.if-is_blank.false, signed-case asked.args.bytes.now _ _ asked.signed_whole.ensures c.in_default.is)
 
 returns-3 : tie.Need-returns
 returns-3 c =
     let asked = c in
-    rw (sym asked.is_blank.ensures ∙ asked.if-is_blank.false, signed-case asked.args.bytes.now _ _ asked.signed_whole.ensures c.negative.given.1)
+    rw (sym asked.is_blank.ensures ∙ asked.if-is_blank.false, signed-case asked.args.bytes.now _ _ asked.signed_whole.ensures c.in-Value.is)
 
 pub known_correlation_spec : {M : Type 1} → statement M
 known_correlation_spec =

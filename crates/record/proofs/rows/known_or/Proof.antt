@@ -11,10 +11,10 @@ returns c =
     rw (exponent-case c.args.bytes.now r.result _ r.ensures (exponent-malformed r.result c.in-Value.keys2 c.in-Unknown.keys2))
 
 returns-2 : tie.Need-returns-in_default
-returns-2 c = rw (exponent-case c.args.bytes.now _ _ c.exponent-answer.ensures c.enum_told.given.1)
+returns-2 c = rw (exponent-case c.args.bytes.now _ _ c.exponent-answer.ensures c.in-Unknown.is)
 
 returns-3 : tie.Need-returns
-returns-3 c = rw (exponent-case c.args.bytes.now _ _ c.exponent-answer.ensures c.answer.given.1)
+returns-3 c = rw (exponent-case c.args.bytes.now _ _ c.exponent-answer.ensures c.in-Value.is)
 
 pub known_or_spec : {M : Type 1} → statement M
 known_or_spec =

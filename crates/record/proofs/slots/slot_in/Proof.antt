@@ -11,7 +11,7 @@ returns c = rw (not-true c.args.used c.if-not-used.true, c.fixed_in.ensures)
 returns-2 : tie.Need-returns-then-accuracies
 returns-2 c = rw (not-false c.args.used c.if-not-used.false, c.if-accuracies.true, c.whole_in.ensures)
 
-returns-3 : tie.Need-returns
+returns-3 : tie.Need-returns-then-not-used
 returns-3 c = rw (not-false c.args.used c.if-not-used.false, c.if-accuracies.false, c.identifier_in.ensures)
 
 pub slot_in_spec : {M : Type 1} → statement M

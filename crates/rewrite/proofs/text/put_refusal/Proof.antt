@@ -81,17 +81,17 @@ after-third c =
 add_at : tie.Need-overflow_add-at
 add_at c =
     let lined = c.before.before in
-    omega (arith, (start (earlier lined)).well-formed, (after_first (earlier lined)).ends, lined.put_said-at-2.ensures.length-told)
+    omega (arith, (start (earlier lined)).well_formed, (after_first (earlier lined)).ends, lined.put_said-at-2.ensures.length-told)
 
 add-at-2 : tie.Need-overflow_add-at-2
 add-at-2 c =
     let told = c.before.before in
-    omega (arith, (begun told).well-formed, (after-second (before-column told)).ends, told.put_said-at-3.ensures.length-told)
+    omega (arith, (begun told).well_formed, (after-second (before-column told)).ends, told.put_said-at-3.ensures.length-told)
 
 add-result : tie.Need-overflow_add-result
 add-result c =
     let told = c.before.before.before.before.before.before.before in
-    omega (arith, (begun told).well-formed, (after-third c.before.before.before.before.before.before.before.before).ends, c.put_bytes.ensures.length-told)
+    omega (arith, (begun told).well_formed, (after-third c.before.before.before.before.before.before.before.before).ends, c.put_bytes.ensures.length-told)
 
 returns : tie.Need-returns
 unfolding refused_text

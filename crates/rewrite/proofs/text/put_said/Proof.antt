@@ -23,7 +23,7 @@ after-word c = next (start c).args.word.now (number_text (start c).args.n) (star
 add-result : tie.Need-overflow_add-result
 add-result c =
     let worded = c.before.before.before.before.before.before in
-    omega (arith, (start worded).well-formed, (after-word c.before.before.before.before.before.before).ends, c.put_number.ensures.length-told)
+    omega (arith, (start worded).well_formed, (after-word c.before.before.before.before.before.before).ends, c.put_number.ensures.length-told)
 
 returns : tie.Need-returns
 returns c = (after-word c.before.before.before.before.before.before).both c.put_number.ensures

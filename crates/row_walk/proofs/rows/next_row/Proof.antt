@@ -27,17 +27,17 @@ read c w x is so =
 
 returns : tie.Need-returns-in-NoLine
 unfolding step_at
-returns c = read c.before.before.before _ _ c.enum_told.given.1 (ap (λ (l : ℕ). step.Refused 1 l 0) c.line_number.ensures)
+returns c = read c.before.before _ _ c.in-NoLine.is (ap (λ (l : ℕ). step.Refused 1 l 0) c.line_number.ensures)
 
 returns-2 : tie.Need-returns-in-Fault
 unfolding step_at
 returns-2 c =
     let known = c.number.given in
-    read c.before.before.before.before _ _ known.1 (ap (λ (l : ℕ). step.Refused known.0.0 l known.0.1.0) c.line_number-in-Fault.ensures)
+    read c.before.before _ _ known.1 (ap (λ (l : ℕ). step.Refused known.0.0 l known.0.1.0) c.line_number-in-Fault.ensures)
 
 returns-3 : tie.Need-returns-in-Finished
 unfolding step_at
-returns-3 c = read c.before.before _ _ c.enum_told-in-Finished-1.given.1 refl
+returns-3 c = read c.before _ _ c.in-Finished.is refl
 
 returns-4 : tie.Need-returns-in-Next
 unfolding step_at
@@ -47,7 +47,7 @@ returns-4 c =
     let placed = c in
     let a = placed.args in
     let there = told.end.given.0 in
-    read c.before.before.before.before.before _ _ told.end.given.1
+    read c.before.before.before _ _ told.in-Next.is
     (c.row_given.ensures
     ∙ ap (λ (n : ℕ). row_given a.file.now placed.at_row-spot.result.at placed.at_row-spot.result.state.satellites a.from.passed
     (record { spot = record { at = there.0; state = there.1.0 }; passed = n })) c.wrapping_add_u64.ensures)

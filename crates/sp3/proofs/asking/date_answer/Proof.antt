@@ -10,11 +10,11 @@ use Rattle.sp3.proofs.asking.date_answer.Tie as tie
 
 returns : tie.Need-returns-in-Day
 unfolding date_door told_date
-returns c = sym (ap (λ (f : Dated). date_door (told_date f)) c.found.given.1)
+returns c = sym (ap (λ (f : Dated). date_door (told_date f)) c.in-Day.is)
 
 returns-2 : tie.Need-returns-in-OutOfBounds
 unfolding date_door told_date
-returns-2 c = sym (ap (λ (f : Dated). date_door (told_date f)) c.enum_told.given.1)
+returns-2 c = sym (ap (λ (f : Dated). date_door (told_date f)) c.in-OutOfBounds.is)
 
 pub date_answer_spec : {M : Type 1} → statement M
 date_answer_spec =

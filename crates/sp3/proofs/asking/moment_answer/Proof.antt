@@ -10,11 +10,11 @@ use Rattle.sp3.proofs.asking.moment_answer.Tie as tie
 
 returns : tie.Need-returns-in-Date
 unfolding moment_door told_named
-returns c = sym (ap (λ (f : Named). moment_door (told_named f) c.args.clock) c.found.given.1)
+returns c = sym (ap (λ (f : Named). moment_door (told_named f) c.args.clock) c.in-Date.is)
 
 returns-2 : tie.Need-returns-in-OutOfBounds
 unfolding moment_door told_named
-returns-2 c = sym (ap (λ (f : Named). moment_door (told_named f) c.args.clock) c.enum_told.given.1)
+returns-2 c = sym (ap (λ (f : Named). moment_door (told_named f) c.args.clock) c.in-OutOfBounds.is)
 
 pub moment_answer_spec : {M : Type 1} → statement M
 moment_answer_spec =

@@ -10,15 +10,15 @@ use Rattle.sp3.proofs.lists.clock_answer.Tie as tie
 
 returns : tie.Need-returns-in-At
 unfolding clock_door
-returns c = rw (to_z-of_z w64 c.found.given.0.0 (record { sfits = c.known-told.given.0.1 })) (sym (ap clock_door c.found.given.1))
+returns c = rw (to_z-of_z w64 c.in-At.found (record { sfits = c.known-told.given.0.1 })) (sym (ap clock_door c.in-At.is))
 
 returns-2 : tie.Need-returns-in-Absent
 unfolding clock_door
-returns-2 c = c.no_clock.ensures ∙ sym (ap clock_door c.enum_told.given.1)
+returns-2 c = c.no_clock.ensures ∙ sym (ap clock_door c.in-Absent.is)
 
 returns-3 : tie.Need-returns-in-NotThere
 unfolding clock_door
-returns-3 c = c.no_clock-in-NotThere.ensures ∙ sym (ap clock_door c.enum_told-in-NotThere-1.given.1)
+returns-3 c = c.no_clock-in-NotThere.ensures ∙ sym (ap clock_door c.in-NotThere.is)
 
 pub clock_answer_spec : {M : Type 1} → statement M
 clock_answer_spec =

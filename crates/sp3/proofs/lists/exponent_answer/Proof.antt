@@ -8,19 +8,19 @@ use Rattle.sp3.proofs.lists.exponent_answer.Tie as tie
 
 returns : tie.Need-returns-in-Value
 unfolding exponent_door
-returns c = c.exponent.ensures ∙ sym (ap exponent_door c.found.given.1)
+returns c = c.exponent.ensures ∙ sym (ap exponent_door c.in-Value.is)
 
 returns-2 : tie.Need-returns-in-Unknown
 unfolding exponent_door
-returns-2 c = c.exponent-in-Unknown.ensures ∙ sym (ap exponent_door c.enum_told.given.1)
+returns-2 c = c.exponent-in-Unknown.ensures ∙ sym (ap exponent_door c.in-Unknown.is)
 
 returns-3 : tie.Need-returns-in-TooLarge
 unfolding exponent_door
-returns-3 c = c.exponent-in-TooLarge.ensures ∙ sym (ap exponent_door c.enum_told-in-TooLarge-1.given.1)
+returns-3 c = c.exponent-in-TooLarge.ensures ∙ sym (ap exponent_door c.in-TooLarge.is)
 
 returns-4 : tie.Need-returns-in-NotThere
 unfolding exponent_door
-returns-4 c = c.exponent-in-NotThere.ensures ∙ sym (ap exponent_door c.enum_told-in-NotThere-1.given.1)
+returns-4 c = c.exponent-in-NotThere.ensures ∙ sym (ap exponent_door c.in-NotThere.is)
 
 pub exponent_answer_spec : {M : Type 1} → statement M
 exponent_answer_spec =

@@ -8,15 +8,15 @@ use Rattle.sp3.proofs.lists.flag_answer.Tie as tie
 
 returns : tie.Need-returns-in-Set
 unfolding flag_door
-returns c = c.flag.ensures ∙ sym (ap flag_door c.enum_told.given.1)
+returns c = c.flag.ensures ∙ sym (ap flag_door c.in-Set.is)
 
 returns-2 : tie.Need-returns-in-NotSet
 unfolding flag_door
-returns-2 c = c.flag-in-NotSet.ensures ∙ sym (ap flag_door c.enum_told-in-NotSet-1.given.1)
+returns-2 c = c.flag-in-NotSet.ensures ∙ sym (ap flag_door c.in-NotSet.is)
 
 returns-3 : tie.Need-returns-in-NotThere
 unfolding flag_door
-returns-3 c = c.flag-in-NotThere.ensures ∙ sym (ap flag_door c.enum_told-in-NotThere-1.given.1)
+returns-3 c = c.flag-in-NotThere.ensures ∙ sym (ap flag_door c.in-NotThere.is)
 
 pub flag_answer_spec : {M : Type 1} → statement M
 flag_answer_spec =

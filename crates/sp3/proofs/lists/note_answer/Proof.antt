@@ -8,15 +8,15 @@ use Rattle.sp3.proofs.lists.note_answer.Tie as tie
 
 returns : tie.Need-returns-in-Stands
 unfolding note_door
-returns c = c.note.ensures ∙ sym (ap note_door c.enum_told.given.1)
+returns c = c.note.ensures ∙ sym (ap note_door c.in-Stands.is)
 
 returns-2 : tie.Need-returns-in-NoRecord
 unfolding note_door
-returns-2 c = c.note-in-NoRecord.ensures ∙ sym (ap note_door c.enum_told-in-NoRecord-1.given.1)
+returns-2 c = c.note-in-NoRecord.ensures ∙ sym (ap note_door c.in-NoRecord.is)
 
 returns-3 : tie.Need-returns-in-NotThere
 unfolding note_door
-returns-3 c = c.note-in-NotThere.ensures ∙ sym (ap note_door c.enum_told-in-NotThere-1.given.1)
+returns-3 c = c.note-in-NotThere.ensures ∙ sym (ap note_door c.in-NotThere.is)
 
 pub note_answer_spec : {M : Type 1} → statement M
 note_answer_spec =

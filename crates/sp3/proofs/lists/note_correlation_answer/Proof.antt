@@ -10,19 +10,19 @@ use Rattle.sp3.proofs.lists.note_correlation_answer.Tie as tie
 
 returns : tie.Need-returns-in-Value
 unfolding note_correlation_door
-returns c = rw (to_z-of_z w64 c.found.given.0.0 (record { sfits = c.known-told.given.0.1 })) (sym (ap note_correlation_door c.found.given.1))
+returns c = rw (to_z-of_z w64 c.in-Value.found (record { sfits = c.known-told.given.0.1 })) (sym (ap note_correlation_door c.in-Value.is))
 
 returns-2 : tie.Need-returns-in-Unknown
 unfolding note_correlation_door
-returns-2 c = c.no_correlation.ensures ∙ sym (ap note_correlation_door c.enum_told.given.1)
+returns-2 c = c.no_correlation.ensures ∙ sym (ap note_correlation_door c.in-Unknown.is)
 
 returns-3 : tie.Need-returns-in-NoRecord
 unfolding note_correlation_door
-returns-3 c = c.no_correlation-in-NoRecord.ensures ∙ sym (ap note_correlation_door c.enum_told-in-NoRecord-1.given.1)
+returns-3 c = c.no_correlation-in-NoRecord.ensures ∙ sym (ap note_correlation_door c.in-NoRecord.is)
 
 returns-4 : tie.Need-returns-in-NotThere
 unfolding note_correlation_door
-returns-4 c = c.no_correlation-in-NotThere.ensures ∙ sym (ap note_correlation_door c.enum_told-in-NotThere-1.given.1)
+returns-4 c = c.no_correlation-in-NotThere.ensures ∙ sym (ap note_correlation_door c.in-NotThere.is)
 
 pub note_correlation_answer_spec : {M : Type 1} → statement M
 note_correlation_answer_spec =

@@ -8,23 +8,23 @@ use Rattle.sp3.proofs.lists.note_deviation_answer.Tie as tie
 
 returns : tie.Need-returns-in-Value
 unfolding note_deviation_door
-returns c = sym (ap note_deviation_door c.found.given.1)
+returns c = sym (ap note_deviation_door c.in-Value.is)
 
 returns-2 : tie.Need-returns-in-Unknown
 unfolding note_deviation_door
-returns-2 c = c.no_deviation.ensures ∙ sym (ap note_deviation_door c.enum_told.given.1)
+returns-2 c = c.no_deviation.ensures ∙ sym (ap note_deviation_door c.in-Unknown.is)
 
 returns-3 : tie.Need-returns-in-TooLarge
 unfolding note_deviation_door
-returns-3 c = c.no_deviation-in-TooLarge.ensures ∙ sym (ap note_deviation_door c.enum_told-in-TooLarge-1.given.1)
+returns-3 c = c.no_deviation-in-TooLarge.ensures ∙ sym (ap note_deviation_door c.in-TooLarge.is)
 
 returns-4 : tie.Need-returns-in-NoRecord
 unfolding note_deviation_door
-returns-4 c = c.no_deviation-in-NoRecord.ensures ∙ sym (ap note_deviation_door c.enum_told-in-NoRecord-1.given.1)
+returns-4 c = c.no_deviation-in-NoRecord.ensures ∙ sym (ap note_deviation_door c.in-NoRecord.is)
 
 returns-5 : tie.Need-returns-in-NotThere
 unfolding note_deviation_door
-returns-5 c = c.no_deviation-in-NotThere.ensures ∙ sym (ap note_deviation_door c.enum_told-in-NotThere-1.given.1)
+returns-5 c = c.no_deviation-in-NotThere.ensures ∙ sym (ap note_deviation_door c.in-NotThere.is)
 
 pub note_deviation_answer_spec : {M : Type 1} → statement M
 note_deviation_answer_spec =

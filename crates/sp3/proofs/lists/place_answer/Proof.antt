@@ -12,18 +12,18 @@ returns : tie.Need-returns-in-At
 unfolding place_door
 returns c =
     rw (
-      to_z-of_z w64 c.found.given.0.0 (record { sfits = c.known-told.given.0.1 }),
+      to_z-of_z w64 c.in-At.found (record { sfits = c.known-told.given.0.1 }),
       to_z-of_z w64 c.found.given.0.1.0 (record { sfits = c.known-told.given.1.0.1 }),
       to_z-of_z w64 c.found.given.0.1.1.0 (record { sfits = c.known-told.given.1.1.0.1 }),
-    ) (sym (ap place_door c.found.given.1))
+    ) (sym (ap place_door c.in-At.is))
 
 returns-2 : tie.Need-returns-in-Absent
 unfolding place_door
-returns-2 c = c.no_place.ensures ∙ sym (ap place_door c.enum_told.given.1)
+returns-2 c = c.no_place.ensures ∙ sym (ap place_door c.in-Absent.is)
 
 returns-3 : tie.Need-returns-in-NotThere
 unfolding place_door
-returns-3 c = c.no_place-in-NotThere.ensures ∙ sym (ap place_door c.enum_told-in-NotThere-1.given.1)
+returns-3 c = c.no_place-in-NotThere.ensures ∙ sym (ap place_door c.in-NotThere.is)
 
 pub place_answer_spec : {M : Type 1} → statement M
 place_answer_spec =

@@ -8,11 +8,11 @@ use Rattle.sp3.proofs.walking.line_answer.Tie as tie
 
 returns : tie.Need-returns-in-NoLine
 unfolding line_door
-returns c = c.line_parts.ensures ∙ sym (ap (line_door c.args.spot) c.enum_told.given.1)
+returns c = c.line_parts.ensures ∙ sym (ap (line_door c.args.spot) c.in-NoLine.is)
 
 returns-2 : tie.Need-returns-in-Fault
 unfolding line_door
-returns-2 c = c.line_parts-in-Fault.ensures ∙ sym (ap (line_door c.args.spot) c.found.given.1)
+returns-2 c = c.line_parts-in-Fault.ensures ∙ sym (ap (line_door c.args.spot) c.in-Fault.is)
 
 returns-3 : tie.Need-returns-in-Next
 unfolding line_door

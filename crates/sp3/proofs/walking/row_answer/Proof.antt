@@ -8,7 +8,7 @@ use Rattle.sp3.proofs.walking.row_answer.Tie as tie
 
 returns : tie.Need-returns-in-At
 unfolding row_door
-returns c = c.row_found.ensures ∙ sym (ap (row_door c.args.from) c.found.given.1)
+returns c = c.row_found.ensures ∙ sym (ap (row_door c.args.from) c.in-At.is)
 
 returns-2 : tie.Need-returns-in-Absent
 unfolding row_door
@@ -16,7 +16,7 @@ returns-2 c = c.row_found-in-Absent.ensures ∙ sym (ap (row_door c.args.from) c
 
 returns-3 : tie.Need-returns-in-End
 unfolding row_door
-returns-3 c = c.no_row.ensures ∙ sym (ap (row_door c.args.from) c.enum_told.given.1)
+returns-3 c = c.no_row.ensures ∙ sym (ap (row_door c.args.from) c.in-End.is)
 
 returns-4 : tie.Need-returns-in-Refused
 unfolding row_door

@@ -17,7 +17,7 @@ use Rattle.stored_row.proofs.notes.note_correlation_of.Statement.{statement}
 use Rattle.stored_row.proofs.notes.note_correlation_of.Tie as tie
 
 asked : (c : tie.Else-not-is_there-which) → (is_there c.args.rows.now c.args.k && leb c.args.which 5) ≡ true
-asked c = ap (λ (t : Bool). t && leb c.args.which 5) (sym c.is_there.ensures) ∙ not-false _ c.if-not-is_there-which.false
+asked c = ap (λ (t : Bool). t && leb c.args.which 5) (sym c.is_there.ensures) ∙ c.if-not-is_there-which.false
 
 there : (c : tie.Else-not-is_there-which) → is_there c.args.rows.now c.args.k ≡ true
 there c =
@@ -40,7 +40,7 @@ returns c =
     let start = c in
     ap told_note_correlation
     (no-note-correlation start.args.rows.now start.args.k start.args.which
-    (ap (λ (t : Bool). t && leb start.args.which 5) (sym c.is_there.ensures) ∙ not-true _ c.if-not-is_there-which.true))
+    (ap (λ (t : Bool). t && leb start.args.which 5) (sym c.is_there.ensures) ∙ c.if-not-is_there-which.true))
 
 returns-2 : tie.Need-returns-then-not-has_note
 returns-2 c =
@@ -48,7 +48,7 @@ returns-2 c =
     let start = c in
     ap told_note_correlation
     (correlation-unrecorded start.args.rows.now start.args.k start.args.which (asked c.before.before) noted.has_note.ensures
-    (not-true _ c.if-not-has_note.true))
+    (c.if-not-has_note.true))
 
 returns-3 : tie.Need-returns-then-magnitude_of-eq-UNNOTED
 returns-3 c =
@@ -58,7 +58,7 @@ returns-3 c =
     let start = c in
     ap told_note_correlation
     (correlation-told start.args.rows.now start.args.k start.args.which (asked c.before.before.before.before.before) noted.has_note.ensures
-    (not-false _ read.if-not-has_note.false) true read.v.given sized.magnitude_of.ensures
+    (read.if-not-has_note.false) true read.v.given sized.magnitude_of.ensures
     (eq-eqb sized.magnitude_of.result unnoted c.if-magnitude_of-eq-UNNOTED.true))
 
 returns-4 : tie.Need-returns
@@ -69,7 +69,7 @@ returns-4 c =
     let start = c in
     ap told_note_correlation
     (correlation-told start.args.rows.now start.args.k start.args.which (asked c.before.before.before.before.before) noted.has_note.ensures
-    (not-false _ read.if-not-has_note.false) false read.v.given sized.magnitude_of.ensures
+    (read.if-not-has_note.false) false read.v.given sized.magnitude_of.ensures
     (ne_eqb sized.magnitude_of.result unnoted c.if-magnitude_of-eq-UNNOTED.false))
 
 pub note_correlation_of_spec : {M : Type 1} → statement M

@@ -15,7 +15,7 @@ use Rattle.stored_row.proofs.notes.note_deviation_of.Statement.{statement}
 use Rattle.stored_row.proofs.notes.note_deviation_of.Tie as tie
 
 asked : (c : tie.Else-not-is_there-which) → (is_there c.args.rows.now c.args.k && leb c.args.which 3) ≡ true
-asked c = ap (λ (t : Bool). t && leb c.args.which 3) (sym c.is_there.ensures) ∙ not-false _ c.if-not-is_there-which.false
+asked c = ap (λ (t : Bool). t && leb c.args.which 3) (sym c.is_there.ensures) ∙ c.if-not-is_there-which.false
 
 there : (c : tie.Else-not-is_there-which) → is_there c.args.rows.now c.args.k ≡ true
 there c =
@@ -32,7 +32,7 @@ returns c =
     let start = c in
     ap told_note_deviation
     (no-note-deviation start.args.rows.now start.args.k start.args.which
-    (ap (λ (t : Bool). t && leb start.args.which 3) (sym c.is_there.ensures) ∙ not-true _ c.if-not-is_there-which.true))
+    (ap (λ (t : Bool). t && leb start.args.which 3) (sym c.is_there.ensures) ∙ c.if-not-is_there-which.true))
 
 returns-2 : tie.Need-returns-then-not-has_note
 returns-2 c =
@@ -40,7 +40,7 @@ returns-2 c =
     let start = c in
     ap told_note_deviation
     (deviation-unrecorded start.args.rows.now start.args.k start.args.which (asked c.before.before) noted.has_note.ensures
-    (not-true _ c.if-not-has_note.true))
+    (c.if-not-has_note.true))
 
 returns-3 : tie.Need-returns-then-n-eq-UNNOTED
 returns-3 c =
@@ -49,7 +49,7 @@ returns-3 c =
     let start = c in
     ap told_note_deviation
     (deviation-unknown start.args.rows.now start.args.k start.args.which (asked c.before.before.before.before) noted.has_note.ensures
-    (not-false _ sized.if-not-has_note.false) sized.size_at-n.ensures (eq-eqb sized.size_at-n.result unnoted c.if-n-eq-UNNOTED.true))
+    (sized.if-not-has_note.false) sized.size_at-n.ensures (eq-eqb sized.size_at-n.result unnoted c.if-n-eq-UNNOTED.true))
 
 returns-4 : tie.Need-returns-then-is_largest
 returns-4 c =
@@ -59,7 +59,7 @@ returns-4 c =
     let start = c in
     ap told_note_deviation
     (deviation-known start.args.rows.now start.args.k start.args.which (asked c.before.before.before.before.before.before) noted.has_note.ensures
-    (not-false _ sized.if-not-has_note.false) sized.size_at-n.ensures true (ne_eqb sized.size_at-n.result unnoted known.if-n-eq-UNNOTED.false)
+    (sized.if-not-has_note.false) sized.size_at-n.ensures true (ne_eqb sized.size_at-n.result unnoted known.if-n-eq-UNNOTED.false)
     c.is_largest.ensures c.if-is_largest.true)
 
 returns-5 : tie.Need-returns
@@ -70,7 +70,7 @@ returns-5 c =
     let start = c in
     ap told_note_deviation
     (deviation-known start.args.rows.now start.args.k start.args.which (asked c.before.before.before.before.before.before) noted.has_note.ensures
-    (not-false _ sized.if-not-has_note.false) sized.size_at-n.ensures false (ne_eqb sized.size_at-n.result unnoted known.if-n-eq-UNNOTED.false)
+    (sized.if-not-has_note.false) sized.size_at-n.ensures false (ne_eqb sized.size_at-n.result unnoted known.if-n-eq-UNNOTED.false)
     c.is_largest.ensures c.if-is_largest.false)
 
 pub note_deviation_of_spec : {M : Type 1} → statement M

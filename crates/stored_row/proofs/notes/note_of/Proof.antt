@@ -10,12 +10,12 @@ use Rattle.stored_row.proofs.notes.note_of.Statement.{statement}
 use Rattle.stored_row.proofs.notes.note_of.Tie as tie
 
 there : (c : tie.Else-not-is_there) → is_there c.args.rows.now c.args.k ≡ true
-there c = sym c.is_there.ensures ∙ not-false _ c.if-not-is_there.false
+there c = sym c.is_there.ensures ∙ c.if-not-is_there.false
 
 returns : tie.Need-returns-then-not-is_there
 returns c =
     let start = c in
-    ap told_note (no-mark start.args.rows.now start.args.k (sym c.is_there.ensures ∙ not-true _ c.if-not-is_there.true))
+    ap told_note (no-mark start.args.rows.now start.args.k (sym c.is_there.ensures ∙ c.if-not-is_there.true))
 
 returns-2 : tie.Need-returns-then-has_note
 returns-2 c =

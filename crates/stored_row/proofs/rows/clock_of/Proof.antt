@@ -14,7 +14,7 @@ use Rattle.stored_row.proofs.rows.clock_of.Statement.{statement}
 use Rattle.stored_row.proofs.rows.clock_of.Tie as tie
 
 there : (c : tie.Else-not-is_there) → is_there c.args.rows.now c.args.k ≡ true
-there c = sym c.is_there.ensures ∙ not-false _ c.if-not-is_there.false
+there c = sym c.is_there.ensures ∙ c.if-not-is_there.false
 
 within : (c : tie.Else-not-is_there) → c.args.k * row_width + 3 < length c.args.rows.now
 within c = row_within (length c.args.rows.now) c.args.k 3 (there c) (omega arith)
@@ -23,7 +23,7 @@ returns : tie.Need-returns-then-not-is_there
 returns c =
     let start = c in
     ap told_clock
-    (no-clock start.args.rows.now start.args.k (sym c.is_there.ensures ∙ not-true _ c.if-not-is_there.true))
+    (no-clock start.args.rows.now start.args.k (sym c.is_there.ensures ∙ c.if-not-is_there.true))
 
 returns-2 : tie.Need-returns-then-clock_absent
 returns-2 c =

@@ -16,7 +16,7 @@ use Rattle.stored_row.proofs.rows.flag_of.Statement.{statement}
 use Rattle.stored_row.proofs.rows.flag_of.Tie as tie
 
 asked : (c : tie.Else-not-is_there-which) → (is_there c.args.rows.now c.args.k && leb c.args.which 3) ≡ true
-asked c = ap (λ (t : Bool). t && leb c.args.which 3) (sym c.is_there.ensures) ∙ not-false _ c.if-not-is_there-which.false
+asked c = ap (λ (t : Bool). t && leb c.args.which 3) (sym c.is_there.ensures) ∙ c.if-not-is_there-which.false
 
 few : (c : tie.Else-not-is_there-which) → c.args.which ≤ 3
 few c =
@@ -35,7 +35,7 @@ returns c =
     let start = c in
     ap told_flag
     (no_flag start.args.rows.now start.args.k start.args.which
-    (ap (λ (t : Bool). t && leb start.args.which 3) (sym c.is_there.ensures) ∙ not-true _ c.if-not-is_there-which.true))
+    (ap (λ (t : Bool). t && leb start.args.which 3) (sym c.is_there.ensures) ∙ c.if-not-is_there-which.true))
 
 returns-2 : tie.Need-returns-then-n-eq0
 returns-2 c =

@@ -14,7 +14,7 @@ use Rattle.stored_row.proofs.rows.place_of.Statement.{statement}
 use Rattle.stored_row.proofs.rows.place_of.Tie as tie
 
 there : (c : tie.Else-not-is_there) → is_there c.args.rows.now c.args.k ≡ true
-there c = sym c.is_there.ensures ∙ not-false _ c.if-not-is_there.false
+there c = sym c.is_there.ensures ∙ c.if-not-is_there.false
 
 within : (c : tie.Else-not-is_there) (i : ℕ) → i < row_width → c.args.k * row_width + i < length c.args.rows.now
 within c i h = row_within (length c.args.rows.now) c.args.k i (there c) h
@@ -23,7 +23,7 @@ returns : tie.Need-returns-then-not-is_there
 returns c =
     let start = c in
     ap told_place
-    (no_place start.args.rows.now start.args.k (sym c.is_there.ensures ∙ not-true _ c.if-not-is_there.true))
+    (no_place start.args.rows.now start.args.k (sym c.is_there.ensures ∙ c.if-not-is_there.true))
 
 returns-2 : tie.Need-returns-then-absent
 returns-2 c =

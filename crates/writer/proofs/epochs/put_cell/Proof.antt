@@ -35,10 +35,10 @@ put-noted-requires c κs =
 returns : tie.Need-returns-then-not-velocity
 returns c =
     let start = c in
-    rw (cell-placed start.args.velocity start.args.cell.now start.requires.0 start.args.identifier (not-true _ c.if-not-velocity.true)) c.put_noted-at.ensures
+    rw (cell-placed start.args.velocity start.args.cell.now start.requires.0 start.args.identifier (c.if-not-velocity.true)) c.put_noted-at.ensures
 
 moving : (c : tie.Else-not-velocity) → c.args.velocity ≡ true
-moving c = not-false _ c.if-not-velocity.false
+moving c = c.if-not-velocity.false
 
 first-laid : (c : tie.Else-not-velocity) → Laid c.before.before.before.before.before.before.before c.put_noted-at.result c.put_noted-at.new.1.1.1.0 (moved c.before.before.before.before.before.before.before ++ [])
 first-laid c =
@@ -89,6 +89,6 @@ put_cell_spec =
     (λ c. laying-within (first-laid c.before))
     (λ c. search rules)
     put-noted-requires-2
-    (λ c. omega (arith, c.well-formed, laying-fits (both-laid c.before.before)))
+    (λ c. omega (arith, c.well_formed, laying-fits (both-laid c.before.before)))
     (λ c. search rules)
     returns-2)

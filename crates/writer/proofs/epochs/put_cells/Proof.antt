@@ -98,7 +98,7 @@ put_cells_spec =
     decreases-loop
     (λ c κs. search rules)
     loop-holds
-    (λ c. omega (arith, c.well-formed, here (c)))
+    (λ c. omega (arith, c.well_formed, here (c)))
     (λ c. search rules)
     (λ c. search rules)
     (λ c. search rules)
@@ -109,7 +109,7 @@ put_cells_spec =
     (λ c. laying-within (next c.before.before))
     (λ c. search rules)
     put-cell-requires
-    (λ c. omega (arith, c.well-formed, laying-fits (laid c.before.before)))
+    (λ c. omega (arith, c.well_formed, laying-fits (laid c.before.before)))
     (λ c. search rules)
     (λ c. search rules)
     loop-again

@@ -45,6 +45,6 @@ put_epoch_spec =
     (λ c. laying-within (first-laid c.before.before))
     (λ c. search rules)
     put-cells-requires
-    (λ c. omega (arith, c.well-formed, laying-fits (all_laid c.before.before)))
+    (λ c. omega (arith, c.well_formed, laying-fits (all_laid c.before.before)))
     (λ c. search rules)
     returns)

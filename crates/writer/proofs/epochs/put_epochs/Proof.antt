@@ -119,9 +119,9 @@ put_epochs_spec =
     invariant-loop
     decreases-loop
     (λ c κs. search rules)
-    (λ c. omega (arith, c.well-formed, left_here (all_left c) (timed c.args.h c.requires.0).epochs.0))
+    (λ c. omega (arith, c.well_formed, left_here (all_left c) (timed c.args.h c.requires.0).epochs.0))
     loop-holds
-    (λ c. omega (arith, c.well-formed, here c))
+    (λ c. omega (arith, c.well_formed, here c))
     (λ c. search rules)
     (λ c. search rules)
     (λ c. search rules)
@@ -130,7 +130,7 @@ put_epochs_spec =
     (λ c. laying-within (next c.before))
     (λ c. search rules)
     put-epoch-requires
-    (λ c. omega (arith, c.well-formed, laying-fits (laid c.before.before)))
+    (λ c. omega (arith, c.well_formed, laying-fits (laid c.before.before)))
     add-at8
     (λ c. search rules)
     (λ c. search rules)

@@ -27,14 +27,14 @@ Laid c at now rest = Laying (line c ∷ note c ∷ []) c.args.out.now at now res
 returns : tie.Need-returns-then-not-flag_at
 returns c =
     let start = c.before.before.before.before.before.before.before.before.before in
-    rw (noted-alone start.args.velocity start.args.identifier start.args.row.now start.requires.0 c.flag_at.ensures (not-true _ c.if-not-flag_at.true))
+    rw (noted-alone start.args.velocity start.args.identifier start.args.row.now start.requires.0 c.flag_at.ensures (c.if-not-flag_at.true))
     (one_line (line start) (rw c.row_shown.ensures at c.write_row-at.ensures))
 
 -- its note stood there
 both : (c : tie.Else-not-flag_at) → noted_lines c.args.velocity c.args.identifier c.args.row.now ≡ line c.before.before.before.before.before.before.before.before.before ∷ note c.before.before.before.before.before.before.before.before.before ∷ []
 both c =
     let start = c in
-    noted-both start.args.velocity start.args.identifier start.args.row.now start.requires.0 c.flag_at.ensures (not-false _ c.if-not-flag_at.false)
+    noted-both start.args.velocity start.args.identifier start.args.row.now start.requires.0 c.flag_at.ensures (c.if-not-flag_at.false)
 
 first-laid : (c : tie.Else-not-flag_at) → Laid c.before.before.before.before.before.before.before.before.before c.write_row-at.result c.write_row-at.new.1.1.0 (note c.before.before.before.before.before.before.before.before.before ∷ [])
 first-laid c =
@@ -69,6 +69,6 @@ put_noted_spec =
     (λ c. laying-within (first-laid c.before))
     (λ c. search rules)
     (λ c κs. search rules)
-    (λ c. omega (arith, c.well-formed, laying-fits (both-laid c.before.before)))
+    (λ c. omega (arith, c.well_formed, laying-fits (both-laid c.before.before)))
     (λ c. search rules)
     returns-2)

@@ -50,7 +50,7 @@ third-laid c =
     (one_line line (rw c.seventeen.ensures at c.write_satellites.ensures))
 
 add-result : tie.Need-overflow_add-result
-add-result c = omega (arith, c.well-formed, laying-fits (third-laid c.before.before))
+add-result c = omega (arith, c.well_formed, laying-fits (third-laid c.before.before))
 
 returns : tie.Need-returns
 returns c = laying-end (third-laid c.before.before)

@@ -73,7 +73,7 @@ put_slots_spec =
     (λ c. laying-within c.loop-more.invariant.1)
     (λ c. search rules)
     (λ c κs. search rules)
-    (λ c. omega (arith, c.well-formed, laying-fits (laid c.before.before)))
+    (λ c. omega (arith, c.well_formed, laying-fits (laid c.before.before)))
     (λ c. search rules)
     (λ c κs. search rules)
     (λ c. search rules)

@@ -14,15 +14,15 @@ fraction-is c = fractional c.args.time c.fraction_of.result c.requires c.fractio
 
 returns : tie.Need-returns-in_default
 returns c =
-    let none = c.enum_told.given.1 in
-    let some = fraction-is c.before.before in
+    let none = c.in_default.is in
+    let some = fraction-is c.before in
     let z : ◌≡◌ {A = ℕ} 0 1 = cc in
     absurd (omega arith)
 
 returns-2 : tie.Need-returns
 returns-2 c =
-    let known = c.f.given.1 in
-    let some = fraction-is c.before.before.before in
+    let known = c.in-Of.is in
+    let some = fraction-is c.before in
     cc
 
 pub fraction_of_spec : {M : Type 1} → statement M

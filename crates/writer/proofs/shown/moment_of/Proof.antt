@@ -18,8 +18,8 @@ date-named c =
 
 returns : tie.Need-returns-in_default
 returns c =
-    let none = c.enum_told.given.1 in
-    let some = date-named c.before.before in
+    let none = c.in_default.is in
+    let some = date-named c.before in
     let z : ◌≡◌ {A = ℕ} 0 1 = cc in
     absurd (omega arith)
 
@@ -27,7 +27,7 @@ returns-2 : tie.Need-returns
 unfolding moment_of
 returns-2 c =
     let known = c.date.given in
-    let some = date-named c.before.before.before in
+    let some = date-named c.before in
     let same : known.0.0 ≡ date_of (clock_of c.args.at8).day = cc in
     rw (same, c.clock_of-clock.ensures)
 

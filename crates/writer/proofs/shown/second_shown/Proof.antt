@@ -22,15 +22,15 @@ week-is c = weekly c.args.h.start8 c.week_of.result c.requires c.week_of.ensures
 
 returns : tie.Need-returns-in_default
 returns c =
-    let none = c.enum_told.given.1 in
-    let some = week-is c.before.before in
+    let none = c.in_default.is in
+    let some = week-is c.before in
     let z : ◌≡◌ {A = ℕ} 0 1 = cc in
     absurd (omega arith)
 
 returns-2 : tie.Need-returns
 returns-2 c =
     let told = c.week.given in
-    let some = week-is c.before.before.before.before.before.before in
+    let some = week-is c.before.before.before.before in
     let known = told.1 in
     let at8 = c.args.h.start8 in
     let week : told.0.0 ≡ week_of at8 = cc in

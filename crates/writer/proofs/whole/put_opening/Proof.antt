@@ -81,7 +81,7 @@ identifiers-laid c =
     (rw (rest-identifiers c.before.before.before) at c.put_slots-at.ensures)
 
 add_at : tie.Need-overflow_add-at
-add_at c = omega (arith, c.well-formed, laying-fits (identifiers-laid c.before.before))
+add_at c = omega (arith, c.well_formed, laying-fits (identifiers-laid c.before.before))
 
 put-slots-requires-2 : tie.Need-put_slots-at-requires-2
 put-slots-requires-2 c κs =
@@ -103,7 +103,7 @@ exponents-laid c =
     (rw c.slot_lines-lines.ensures at c.put_slots-at-2.ensures))
 
 add-at-2 : tie.Need-overflow_add-at-2
-add-at-2 c = omega (arith, c.well-formed, laying-fits (exponents-laid c.before.before))
+add-at-2 c = omega (arith, c.well_formed, laying-fits (exponents-laid c.before.before))
 
 put-descriptors-requires : tie.Need-put_descriptors-requires
 put-descriptors-requires c κs = laying-room (descriptors c.before.before.before.before.before.before.before.before.before.before.before.before.before.before.before.before.before.before.before) [] (exponents-laid c.before.before.before)
@@ -114,7 +114,7 @@ all_laid : (c : tie.After-put_descriptors)
 all_laid c = laying-more (descriptors c.before.before.before.before.before.before.before.before.before.before.before.before.before.before.before.before.before.before.before.before) [] (exponents-laid c.before.before.before.before) c.put_descriptors.ensures
 
 add-result : tie.Need-overflow_add-result
-add-result c = omega (arith, c.well-formed, laying-fits (all_laid c.before.before))
+add-result c = omega (arith, c.well_formed, laying-fits (all_laid c.before.before))
 
 returns : tie.Need-returns
 unfolding lines_before

@@ -59,7 +59,7 @@ opening-laid c =
     (rw (sub-zero start.args.h.satellites) at c.put_opening-at.ensures)
 
 mul-put-comments : tie.Need-overflow_mul-count
-mul-put-comments c = omega (arith, c.well-formed, (fits c.before.before.before.before.before.before.before.before.before.before.before).comments)
+mul-put-comments c = omega (arith, c.well_formed, (fits c.before.before.before.before.before.before.before.before.before.before.before).comments)
 
 put-comments-requires : tie.Need-put_comments-at-requires
 put-comments-requires c κs =
@@ -82,7 +82,7 @@ comments-laid c =
     (rw (sub-zero (start.args.h.comments * comment_width)) at c.put_comments-at.ensures)
 
 add_at : tie.Need-overflow_add-at
-add_at c = omega (arith, c.well-formed, laying-fits (comments-laid c.before.before))
+add_at c = omega (arith, c.well_formed, laying-fits (comments-laid c.before.before))
 
 part-put-epochs-end : tie.Need-slice_bounds-put_epochs-end
 part-put-epochs-end c = omega (arith, numbers c.before.before.before.before.before.before.before.before.before.before, (fits c.before.before.before.before.before.before.before.before.before.before.before.before.before.before.before.before).rows)
@@ -119,7 +119,7 @@ epochs-laid c =
     (rw (lent_rows c.before.before.before.before.before.before.before.before.before.before.before.before.before, sub-zero start.args.h.satellites) at c.put_epochs-at.ensures)
 
 add-at-2 : tie.Need-overflow_add-at-2
-add-at-2 c = omega (arith, c.well-formed, laying-fits (epochs-laid c.before.before))
+add-at-2 c = omega (arith, c.well_formed, laying-fits (epochs-laid c.before.before))
 
 returns : tie.Need-returns
 unfolding canonical canonical_lines
@@ -135,9 +135,9 @@ put_table_spec =
     (λ c. search rules)
     (λ c. search rules)
     (λ c. (fits c.before.before.before.before).listed)
-    (λ c. omega (arith, c.well-formed, (fits c.before.before.before.before.before).cells))
+    (λ c. omega (arith, c.well_formed, (fits c.before.before.before.before.before).cells))
     (λ c κs. search rules)
-    (λ c. omega (arith, c.well-formed, numbers c, (fits c.before.before.before.before.before.before).rows))
+    (λ c. omega (arith, c.well_formed, numbers c, (fits c.before.before.before.before.before.before).rows))
     (λ c. search rules)
     (λ c. search rules)
     (λ c. (fits c.before.before.before.before.before.before).exponents)

@@ -16,14 +16,14 @@ returns : tie.Need-returns-then-not-letters_listed
 returns c =
     let asked = c in
     c.refuse.ensures
-    ∙ sym (no-letters _ _ _ _ _ _ _ _ _ _ (sym asked.letters_listed.ensures ∙ not-true _ c.if-not-letters_listed.true))
+    ∙ sym (no-letters _ _ _ _ _ _ _ _ _ _ (sym asked.letters_listed.ensures ∙ c.if-not-letters_listed.true))
 
 -- past the first test every letter is listed
 listed : (c : tie.Else-not-letters_listed) →
     letters_listed c.args.mode c.args.texts c.args.file_type
-    c.args.time-system
+    c.args.time_system
     ≡ true
-listed c = sym c.letters_listed.ensures ∙ not-false _ c.if-not-letters_listed.false
+listed c = sym c.letters_listed.ensures ∙ c.if-not-letters_listed.false
 
 returns-2 : tie.Need-returns-in_default
 unfolding told_instant
@@ -32,12 +32,12 @@ returns-2 c =
     let asked = c in
     c.refuse-in_default.ensures
     ∙ sym
-    (no_start _ _ _ _ _ _ _ _ _ _ (listed c.before.before.before.before) (sym asked.instant_of.ensures ∙ ap told_instant told.enum_told.given.1))
+    (no_start _ _ _ _ _ _ _ _ _ _ (listed c.before.before.before) (sym asked.instant_of.ensures ∙ ap told_instant told.in_default.is))
 
 -- where the start has an instant, the calendar gave it
-given : (c : tie.In-At-2) → start_answer c.args.start ≡ 0 ∷ c.start8.given.0.0 ∷ []
+given : (c : tie.In-At) → start_answer c.args.start ≡ 0 ∷ c.in-At.start8 ∷ []
 unfolding told_instant
-given c = sym c.instant_of.ensures ∙ ap told_instant c.start8.given.1
+given c = sym c.instant_of.ensures ∙ ap told_instant c.in-At.is
 
 returns-3 : tie.Need-returns-then-not-numbers_bounded
 returns-3 c =
@@ -45,7 +45,7 @@ returns-3 c =
     let at = c in
     c.refuse-then-not-numbers_bounded.ensures
     ∙ sym
-    (no-numbers _ _ _ _ _ _ _ _ _ _ (listed c.before.before.before.before.before.before.before) _ (given c.before.before.before.before) (sym asked.numbers_bounded.ensures ∙ not-true _ c.if-not-numbers_bounded.true))
+    (no-numbers _ _ _ _ _ _ _ _ _ _ (listed c.before.before.before.before.before) _ (given c.before.before.before) (sym asked.numbers_bounded.ensures ∙ c.if-not-numbers_bounded.true))
 
 returns-4 : tie.Need-returns
 returns-4 c =
@@ -53,7 +53,7 @@ returns-4 c =
     let at = c in
     ap (λ (h : Header). record { refusal = 0; header = h }) c.of.ensures
     ∙ sym
-    (made _ _ _ _ _ _ _ _ _ _ (listed c.before.before.before.before.before.before.before) _ (given c.before.before.before.before) (sym asked.numbers_bounded.ensures ∙ not-false _ c.if-not-numbers_bounded.false))
+    (made _ _ _ _ _ _ _ _ _ _ (listed c.before.before.before.before.before) _ (given c.before.before.before) (sym asked.numbers_bounded.ensures ∙ c.if-not-numbers_bounded.false))
 
 pub new_spec : {M : Type 1} → statement M
 new_spec =
