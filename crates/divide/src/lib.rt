@@ -1,5 +1,6 @@
 // A stretch divided into the accepted files that stand at its front, one after another, each of the version that its first bytes tell.
 #![tactic(auto)]
+
 ghost use Rattle.std.specs.Prelude.{◌≡◌, ◌≤◌, length, take};
 ghost use Rattle.lines.specs.Lent.{over};
 ghost use Rattle.header.specs.Versions.{rules_in};

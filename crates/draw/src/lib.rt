@@ -1,5 +1,6 @@
 // Every line of the format written: its canonical text laid at the front of the lent output. What each line is, `record` defines.
 #![tactic(auto)]
+
 mod columns;
 pub mod descriptors;
 pub mod notes;

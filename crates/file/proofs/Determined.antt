@@ -5,8 +5,8 @@ use Rattle.laws.specs.Places.{Same}
 use Rattle.file.proofs.kind_in.Reads as kind-in
 use Rattle.file.proofs.line_begins.Reads as line-begins
 use Rattle.file.proofs.nothing_at.Reads as nothing-at
-use Rattle.file.proofs.line_at.Reads as line_at_lem
-use Rattle.file.proofs.line_of.Reads as Line-of
+use Rattle.file.proofs.line_at.Reads as line-at
+use Rattle.file.proofs.line_of.Reads as line-of
 use Rattle.file.proofs.records.padded_line.Reads as padded-line
 use Rattle.file.proofs.records.first_of.Reads as first_of
 use Rattle.file.proofs.records.count_of.Reads as count_of
@@ -20,10 +20,10 @@ line-begins-determined κs a r r' s s' p q = p ∙ sym q
 pub nothing-at-determined : (κs : _) (a : _) (r r' : _) (s s' : _) → nothing-at.Post κs a r s → nothing-at.Post κs a r' s' → Same r r'
 nothing-at-determined κs a r r' s s' p q = (p.0 ∙ sym q.0, p.1 ∙ sym q.1)
 
-pub line-at-determined : (κs : _) (a : _) (r r' : _) (s s' : _) → line_at_lem.Post κs a r s → line_at_lem.Post κs a r' s' → Same r r'
+pub line-at-determined : (κs : _) (a : _) (r r' : _) (s s' : _) → line-at.Post κs a r s → line-at.Post κs a r' s' → Same r r'
 line-at-determined κs a r r' s s' p q = (p.0 ∙ sym q.0, p.1 ∙ sym q.1)
 
-pub line-of-determined : (κs : _) (a : _) (r r' : _) (s s' : _) → Line-of.Post κs a r s → Line-of.Post κs a r' s' → Same r r'
+pub line-of-determined : (κs : _) (a : _) (r r' : _) (s s' : _) → line-of.Post κs a r s → line-of.Post κs a r' s' → Same r r'
 line-of-determined κs a r r' s s' p q = (p.0 ∙ sym q.0, p.1 ∙ sym q.1)
 
 pub padded-line-determined : (κs : _) (a : _) (r r' : _) (s s' : _) → padded-line.Post κs a r s → padded-line.Post κs a r' s' → r ≡ r'

@@ -1,5 +1,6 @@
 // The lines of a file by their kind: which kind a line is, and where the k-th line of a kind begins.
 #![tactic(auto)]
+
 ghost use Rattle.std.specs.Prelude.{◌≡◌, [], min, length, get_or, drop};
 ghost use Rattle.laws.specs.Places.{byte_of};
 ghost use Rattle.lines.specs.Lines.{lines_of, nth, begins_from};

@@ -3,7 +3,7 @@
 use mathlib.Core.Path.{◌≡◌, refl, sym, ap, ◌∙◌}
 use mathlib.Core.Bool.{Bool, true, false, cond, not, ◌||◌}
 use mathlib.Core.List.{List, [], ◌∷◌, ◌++◌}
-use Prim.Native.Nat.{ℕ, suc, ◌+◌}
+use Prim.Native.Nat.{ℕ, suc, ◌+◌, ◌-◌}
 use native.Mathlib.Omega.{arith}
 use borrow.Author.Tests.{eqb-true}
 use lib.Dec.{leb, eqb}
@@ -130,7 +130,7 @@ module _ (rules : Rules) where
   slots-kind accuracies left (l ∷ ls) e =
       let fault = (more_of accuracies left (padded l)).fault in (
         record-kind (slots_of_kind accuracies) fault l (and_left (is_record rules (slots_of_kind accuracies) fault l) _ e),
-        slots-kind accuracies _ ls (and_right (is_record rules (slots_of_kind accuracies) fault l) _ e),
+        slots-kind accuracies (left - 17) ls (and_right (is_record rules (slots_of_kind accuracies) fault l) _ e),
       )
 
   -- the lines whose kind passes a test, such as P, or P and V

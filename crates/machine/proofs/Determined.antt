@@ -11,7 +11,7 @@ use Rattle.machine.proofs.step.step_line.Reads as step_line
 use Rattle.machine.proofs.step.keep_identifiers.Reads as keep-identifiers
 use Rattle.machine.proofs.step.mark_brought.Reads as mark-brought
 use Rattle.machine.proofs.step.mark_known.Reads as mark-known
-use Rattle.machine.proofs.step.line_known.Reads as Line-known
+use Rattle.machine.proofs.step.line_known.Reads as line-known
 use Rattle.machine.proofs.step.read_line.Reads as read-line
 
 pub instant-in-determined : (κs : _) (a : _) (r r' : _) (s s' : _) → instant-in.Post κs a r s → instant-in.Post κs a r' s' → r ≡ r'
@@ -44,7 +44,7 @@ pub mark-known-determined : (κs : _) (a : _) (r r' : _) (s s' : _) → mark-kno
     → (r ≡ r') × (s.1.1.1.0.now ≡ s'.1.1.1.0.now)
 mark-known-determined κs a r r' s s' p q = (p.0 ∙ sym q.0, p.1 ∙ sym q.1)
 
-pub line-known-determined : (κs : _) (a : _) (r r' : _) (s s' : _) → Line-known.Post κs a r s → Line-known.Post κs a r' s' → r ≡ r'
+pub line-known-determined : (κs : _) (a : _) (r r' : _) (s s' : _) → line-known.Post κs a r s → line-known.Post κs a r' s' → r ≡ r'
 line-known-determined κs a r r' s s' p q = told_read-one r r' (p ∙ sym q)
 
 pub read-line-determined : (κs : _) (a : _) (r r' : _) (s s' : _) → read-line.Post κs a r s → read-line.Post κs a r' s'

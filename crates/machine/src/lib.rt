@@ -1,5 +1,6 @@
 // The machine that a file is judged by, line by line: what may stand where, and what each line does.
 #![tactic(auto)]
+
 mod checks;
 mod due;
 mod faults;

@@ -1,11 +1,9 @@
 -- What a field's reader told, as the definition's own case: the enum by its told numbers.
 -- Assumes nothing.
 use mathlib.Core.Path.{◌≡◌, refl, sym, ◌∙◌, ap}
-use mathlib.Core.List.{List, [], ◌∷◌}
+use mathlib.Core.List.{List}
 use mathlib.Core.Bool.{Bool, true, false}
 use Prim.Native.Nat.{ℕ}
-use denote.Enum.Declared.{tag_of}
-use types.Run.{OneOf, miss}
 use Rattle.layout.specs.Fault.{clean, lower}
 use Rattle.layout.specs.Kind.{amount_fault, exponent_fault}
 use Rattle.field.specs.Read.{whole_of, whole_answer, told_whole, decimal_of, decimal_answer, signed_whole_of, signed_answer, told_amount, exponent_of, exponent_answer, told_exponent}
@@ -16,7 +14,6 @@ use Rattle.field.specs.declared.Amount.{Amount}
 use Rattle.field.specs.declared.Exponent.{Exponent}
 use Rattle.calendar.specs.declared.types.Dated.{Dated}
 use Rattle.calendar.specs.declared.types.Dated.TheVariants as dated
-use Rattle.field.specs.contracts.Exponent.{the_type}
 use Rattle.field.proofs.Told.{told_whole-one, told_amount-one, told_exponent-one}
 use Rattle.calendar.proofs.Days.{date-told, date-refused}
 
@@ -47,13 +44,13 @@ unfolding told_date
 undated-case y m d r e h = date-refused y m d (rw (sym e, h))
 
 -- an exponent that is not malformed has no fault
-pub exponent-good : (column : ℕ) (e : Exponent) → OneOf (0 ∷ 1 ∷ []) (tag_of the_type e) → exponent_fault column e ≡ clean
+pub exponent-good : (column : ℕ) (e : Exponent) → (e ≡ exponents.Malformed → ⊥) → exponent_fault column e ≡ clean
 exponent-good column (exponents.Value v) h = refl
 exponent-good column exponents.Unknown h = refl
-exponent-good column exponents.Malformed h = absurd (miss (0 ∷ 1 ∷ []) 2 tt h)
+exponent-good column exponents.Malformed h = absurd (h refl)
 
 -- neither a value nor unknown
-pub exponent-malformed : (e : Exponent) → OneOf (1 ∷ 2 ∷ []) (tag_of the_type e) → OneOf (0 ∷ 2 ∷ []) (tag_of the_type e) → e ≡ exponents.Malformed
-exponent-malformed (exponents.Value v) h k = absurd (miss (1 ∷ 2 ∷ []) 0 tt h)
-exponent-malformed exponents.Unknown h k = absurd (miss (0 ∷ 2 ∷ []) 1 tt k)
+pub exponent-malformed : (e : Exponent) → ((v : ℕ) → e ≡ exponents.Value v → ⊥) → (e ≡ exponents.Unknown → ⊥) → e ≡ exponents.Malformed
+exponent-malformed (exponents.Value v) h k = absurd (h v refl)
+exponent-malformed exponents.Unknown h k = absurd (k refl)
 exponent-malformed exponents.Malformed h k = refl

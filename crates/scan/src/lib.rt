@@ -1,5 +1,6 @@
 // A file at the front of some bytes, judged line by line.
 #![tactic(auto)]
+
 ghost use Rattle.std.specs.Prelude.{◌≡◌, ◌+◌, ◌<◌, ◌^◌, length};
 ghost use Rattle.record.specs.LineKinds.{satellites_kind};
 ghost use Rattle.marks.specs.Marks.{Covers};

@@ -1,5 +1,6 @@
 // Writing: a table judged and measured, then its canonical form laid into the lent output, line directly after line.
 #![tactic(auto)]
+
 mod epochs;
 mod heads;
 mod shown;

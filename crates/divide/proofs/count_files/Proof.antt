@@ -36,17 +36,17 @@ seen c =
 
 returns : tie.Need-returns-in-Refused invariant-loop decreases-loop
 returns c =
-    let known = c.number.given in
+    let known = c.in-Refused in
     let ran = c in
     let turn = c in
     let at-loop = turn.before in
     let a = at-loop.args in
     c.answer.ensures
     ∙ counted-refused a.stretch.now a.room at-loop.loop-rest.count at-loop.loop-rest.rest at-loop.loop-rest.invariant
-    ran.scan_front.result (seen c.before.before) known.0.0 known.0.1.0 known.0.1.1.0 turn.loop-rest-test.true known.1
+    ran.scan_front.result (seen c.before.before) known.number known.line known.column turn.loop-rest-test.true known.is
 
 -- where the rest begins with a file
-file-there : (c : tie.In-File-2 invariant-loop decreases-loop)
+file-there : (c : tie.In-File invariant-loop decreases-loop)
     → Cut c.args.stretch.now
     c.loop-rest.rest c.in-File.tally.end
 file-there c =
@@ -54,7 +54,7 @@ file-there c =
     let at-loop = ran.before.before.before.before in
     let a = at-loop.args in
     file-here a.stretch.now a.room at-loop.loop-rest.count at-loop.loop-rest.rest at-loop.loop-rest.invariant
-    ran.scan_front.result (seen c.before.before) c.in-File.tally c.in-File.is
+    ran.scan_front.result (seen c.before) c.in-File.tally c.in-File.is
 
 returns-2 : tie.Need-returns-then-count-room invariant-loop decreases-loop
 returns-2 c =
@@ -67,10 +67,10 @@ returns-2 c =
     ran.scan_front.result (seen c.before.before.before) known.in-File.tally known.in-File.is (omega (arith, c.if-count-room.true))
 
 add-rest : tie.Need-overflow_add-rest invariant-loop decreases-loop
-add-rest c = omega (arith, (file-there c.before.before.before).within)
+add-rest c = omega (arith, (file-there c.before.before).within)
 
 loop-less : tie.Need-loop-rest-smaller invariant-loop decreases-loop
-loop-less c = let cut = file-there c.before.before.before in omega (arith, cut.byte, cut.within)
+loop-less c = let cut = file-there c.before.before in omega (arith, cut.byte, cut.within)
 
 loop-again : tie.Need-loop-rest-preserved invariant-loop decreases-loop
 loop-again c =

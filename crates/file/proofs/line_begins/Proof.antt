@@ -2,13 +2,13 @@
 -- Assumes nothing.
 use Prim.Native.Nat.{◌-◌}
 use mathlib.Core.Path.{sym, ◌∙◌}
-use mathlib.Core.Logic.{⊎_elim}
 use borrow.Author.Rules.{rules}
 use borrow.Author.Tests.{eq-eqb, ne_eqb}
 use lib.ListN.{length}
 use Rattle.lines.proofs.Picking.{Seeking, seeking-first, seeking-none, seeking-other, seeking-place, seeking-later}
 use Rattle.file.specs.Kinds.{is_kind}
 use Rattle.file.proofs.line_begins.Statement.{statement}
+use Rattle.file.proofs.line_begins.Lts.{then-kind_in-kind+else-left-eq0, else-kind_in-kind}
 use Rattle.file.proofs.line_begins.Tie as tie
 
 abbrev invariant-loop : tie.invariant-loop-rules
@@ -40,16 +40,16 @@ loop-again c =
     let a = ended.args in
     let inv = ended.loop-rules.invariant in
     let found = told.if-end-bytes.false in
-    ⊎_elim
-    (λ w.
-    rw w.2
-    (seeking-later inv ended.line_end-end.result ended.line_end-end.ensures found
-    (eq-eqb _ a.kind (sym told.kind_in.ensures ∙ w.0.taken)) w.1.left))
-    (λ w.
-    rw w.1
-    (seeking-other inv ended.line_end-end.result ended.line_end-end.ensures found
-    (ne_eqb _ a.kind (λ e. w.0.left (told.kind_in.ensures ∙ e)))))
-    c.if-kind_in-kind.branch
+    elim c.if-kind_in-kind.branch [
+      | then-kind_in-kind+else-left-eq0 w ↦
+          rw w.left-is
+          (seeking-later inv ended.line_end-end.result ended.line_end-end.ensures found
+          (eq-eqb _ a.kind (sym told.kind_in.ensures ∙ w.if-kind_in-kind.true)) w.if-left-eq0.false)
+      | else-kind_in-kind w ↦
+          rw w.left-is
+          (seeking-other inv ended.line_end-end.result ended.line_end-end.ensures found
+          (ne_eqb _ a.kind (λ e. w.if-kind_in-kind.false (told.kind_in.ensures ∙ e))))
+    ]
 
 pub line_begins_spec : {M : Type 1} → statement M
 line_begins_spec =

@@ -19,10 +19,10 @@ returns c =
     let told = c.line_begins-at.ensures in
     let test = is_kind a.rules a.kind in
     let here : min at (length a.bytes.now) ≡ begins_from test a.k 0 (lines_of a.bytes.now) = omega (arith, told, line-within test a.k a.bytes.now) in (
-      c.line_at_lem.ensures.0
+      c.line_at.ensures.0
           ∙ ap (λ (n : ℕ). nth 0 (lines_of (drop n a.bytes.now))) told
           ∙ line-at-place test a.k a.bytes.now,
-      c.line_at_lem.ensures.1 ∙ ap (byte_of a.bytes) here,
+      c.line_at.ensures.1 ∙ ap (byte_of a.bytes) here,
     )
 
 pub line_of_spec : {M : Type 1} → statement M

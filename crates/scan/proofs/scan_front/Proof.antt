@@ -1,6 +1,5 @@
 -- `scan::scan_front` meets its contract. The loop's invariant and its turn are in `Turn`.
 -- Assumes nothing.
-use mathlib.Core.Logic.{⊎_elim}
 use mathlib.Core.List.{List}
 use mathlib.Core.Path.{◌≡◌, refl, ◌∙◌, sym, ap, subst}
 use Prim.Native.Nat.{ℕ, ◌-◌}
@@ -17,6 +16,7 @@ use Rattle.machine.specs.Step.{identifiers_brought, line_known}
 use Rattle.scan.proofs.Looked.{Looked, looked-due, looked-else, covers-on}
 use Rattle.scan.proofs.Turn.{Going, going-first, Turned, turned, brought-so, none-brought, no_overflow}
 use Rattle.scan.proofs.scan_front.Statement.{statement}
+use Rattle.scan.proofs.scan_front.Lts.{then-state-eq-SATELLITES_KIND, else-state-eq-SATELLITES_KIND, then-state-eq-SATELLITES_KIND-2, else-state-eq-SATELLITES_KIND-2}
 use Rattle.scan.proofs.scan_front.Tie as tie
 
 abbrev invariant-loop : tie.invariant-loop-state
@@ -29,12 +29,12 @@ decreases-loop rules bytes identifiers₀ marks₀ marked₀ state₀ tally₀ i
 loop-holds : tie.Need-loop-state-init invariant-loop decreases-loop
 loop-holds c =
     let a = c.args in
-    (going-first a.rules a.bytes.now c.start-state.result c.nothing_Seen.result c.start-state.ensures c.nothing_Seen.ensures, none-covered _, refl)
+    (going-first a.rules a.bytes.now c.start-state.result c.nothing_seen-tally.result c.start-state.ensures c.nothing_seen-tally.ensures, none-covered _, refl)
 
 -- where a `+ ` line is due, those known are marked
 marked-known : (c : tie.After-mark_known-marked invariant-loop decreases-loop)
     → let here = c.before.before.before.before.before.before in
-    Covers (known_identifiers here.loop-state.state here.loop-state.identifiers) c.mark_known-marked.new.1.1.1.0
+    Covers (known_identifiers here.loop-state.state here.loop-state.identifiers) c.mark_known-marked.new.marks
 marked-known c =
     let here = c.before.before.before.before.before.before in
     subst (λ (m : List ℕ). Covers (known_identifiers here.loop-state.state here.loop-state.identifiers) m) (sym c.mark_known-marked.ensures.1)
@@ -48,24 +48,26 @@ looked : (c : tie.Joined-state-eq-SATELLITES_KIND invariant-loop decreases-loop)
 looked c =
     let here = c.before.before.before in
     let a = here.args in
-    ⊎_elim
-    (λ w. looked-due a.rules a.bytes.now here.loop-state.tally.end here.loop-state.identifiers here.loop-state.state _ c.if-state-eq-SATELLITES_KIND.marks c.if-state-eq-SATELLITES_KIND.marked _ c.if-state-eq-SATELLITES_KIND.many
-    w.7.ensures.0 w.7.ensures.1 w.9 (w.10 ∙ w.3.ensures.0) w.11)
-    (λ w. looked-else a.rules a.bytes.now here.loop-state.tally.end here.loop-state.identifiers here.loop-state.state here.loop-state.marks c.if-state-eq-SATELLITES_KIND.marks here.loop-state.marked c.if-state-eq-SATELLITES_KIND.marked
-    c.if-state-eq-SATELLITES_KIND.many w.0.left here.loop-state.invariant.1 w.1 w.2 (w.3 ∙ sym here.loop-state.invariant.0.size))
-    c.if-state-eq-SATELLITES_KIND.branch
+    elim c.if-state-eq-SATELLITES_KIND.branch [
+      | then-state-eq-SATELLITES_KIND w ↦
+          looked-due a.rules a.bytes.now here.loop-state.tally.end here.loop-state.identifiers here.loop-state.state _ c.if-state-eq-SATELLITES_KIND.marks c.if-state-eq-SATELLITES_KIND.marked _ c.if-state-eq-SATELLITES_KIND.many
+          w.looked_at-many.ensures.0 w.looked_at-many.ensures.1 w.marks-is (w.marked-is ∙ w.mark_known-marked.ensures.0) w.many-is
+      | else-state-eq-SATELLITES_KIND w ↦
+          looked-else a.rules a.bytes.now here.loop-state.tally.end here.loop-state.identifiers here.loop-state.state here.loop-state.marks c.if-state-eq-SATELLITES_KIND.marks here.loop-state.marked c.if-state-eq-SATELLITES_KIND.marked
+          c.if-state-eq-SATELLITES_KIND.many w.if-state-eq-SATELLITES_KIND.false here.loop-state.invariant.1 w.marks-is w.marked-is (w.many-is ∙ sym here.loop-state.invariant.0.size)
+    ]
 
 -- as many marks as before
 marks-many : (c : tie.Joined-state-eq-SATELLITES_KIND invariant-loop decreases-loop) → length c.if-state-eq-SATELLITES_KIND.marks ≡ marks_many
 marks-many c =
     let many = c.loop-state.invariant.2 in
-    ⊎_elim
-    (λ w. ap length w.9 ∙ w.7.kept.1.1.1.1.1.0 ∙ w.3.kept.1.1.1.0 ∙ many)
-    (λ w. ap length w.1 ∙ many)
-    c.if-state-eq-SATELLITES_KIND.branch
+    elim c.if-state-eq-SATELLITES_KIND.branch [
+      | then-state-eq-SATELLITES_KIND w ↦ ap length w.marks-is ∙ w.looked_at-many.auto.marks ∙ w.mark_known-marked.auto.marks ∙ many
+      | else-state-eq-SATELLITES_KIND w ↦ ap length w.marks-is ∙ many
+    ]
 
 -- where the line has been read
-after_read : (c : tie.After-line_known invariant-loop decreases-loop) (w : LineRead) → c.Line-known.result ≡ w
+after_read : (c : tie.After-line_known invariant-loop decreases-loop) (w : LineRead) → c.line_known.result ≡ w
     → let here = c.before.before.before.before.before.before.before in
     let a = here.args in
     Turned a.rules a.bytes.now here.loop-state.identifiers here.loop-state.state here.loop-state.tally w
@@ -74,7 +76,7 @@ after_read c w e =
     let here = joined.before.before.before in
     let a = here.args in
     turned a.rules a.bytes.now here.loop-state.identifiers here.loop-state.state here.loop-state.tally here.loop-state.invariant.0
-    c.Line-known.result w (told_read-one _ _ c.Line-known.ensures
+    c.line_known.result w (told_read-one _ _ c.line_known.ensures
     ∙ ap (λ (n : ℕ). line_known a.rules a.bytes.now here.loop-state.tally.end here.loop-state.state (take n here.loop-state.identifiers)) (sub-zero joined.if-state-eq-SATELLITES_KIND.many)
     ∙ (looked c.before.before.before.before).enough.same) e
 
@@ -95,14 +97,14 @@ counts c κs =
     let known = c in
     let here = c in
     let a = here.args in
-    let p = after_read c.before.before.before.before _ known.end-in-Next-1.given.1 in
-    no_overflow a.rules a.bytes.now here.loop-state.identifiers here.loop-state.state here.loop-state.tally here.loop-state.invariant.0 known.end-in-Next-1.given.0.0 p.starts p.within
+    let p = after_read c.before.before.before.before _ known.in-Next.is in
+    no_overflow a.rules a.bytes.now here.loop-state.identifiers here.loop-state.state here.loop-state.tally here.loop-state.invariant.0 known.in-Next.end p.starts p.within
     (search rules)
 
 loop-less : tie.Need-loop-state-smaller invariant-loop decreases-loop
 loop-less c =
     let known = c in
-    (after_read c.before.before.before.before.before _ known.end-in-Next-1.given.1).falls c.count_line-tally.result c.count_line-tally.ensures
+    (after_read c.before.before.before.before.before _ known.in-Next.is).falls c.count_line-tally.result c.count_line-tally.ensures
 
 -- the identifiers that the line brings are kept, where a `+ ` line was due
 loop-again : tie.Need-loop-state-preserved invariant-loop decreases-loop
@@ -112,13 +114,13 @@ loop-again c =
     let joined = c in
     let here = c in
     let a = here.args in
-    let text = take (known.end-in-Next-1.given.0.0 - 1 - here.loop-state.tally.end) (drop here.loop-state.tally.end a.bytes.now) in
+    let text = take (known.in-Next.end - 1 - here.loop-state.tally.end) (drop here.loop-state.tally.end a.bytes.now) in
     let brought : kept.if-state-eq-SATELLITES_KIND-2.identifiers ≡ identifiers_brought a.rules here.loop-state.state here.loop-state.identifiers text =
-    ⊎_elim
-    (λ w. w.4 ∙ brought-so a.rules here.loop-state.state here.loop-state.identifiers text _ w.0.taken w.2.ensures.1)
-    (λ w. w.1 ∙ none-brought a.rules here.loop-state.state here.loop-state.identifiers text w.0.left)
-    kept.if-state-eq-SATELLITES_KIND-2.branch in (
-      (after_read c.before.before.before.before.before _ known.end-in-Next-1.given.1).goes_on kept.if-state-eq-SATELLITES_KIND-2.identifiers c.count_line-tally.result brought c.count_line-tally.ensures,
+    elim kept.if-state-eq-SATELLITES_KIND-2.branch [
+      | then-state-eq-SATELLITES_KIND-2 w ↦ w.identifiers-is ∙ brought-so a.rules here.loop-state.state here.loop-state.identifiers text _ w.if-state-eq-SATELLITES_KIND-2.true w.keep_identifiers.ensures.1
+      | else-state-eq-SATELLITES_KIND-2 w ↦ w.identifiers-is ∙ none-brought a.rules here.loop-state.state here.loop-state.identifiers text w.if-state-eq-SATELLITES_KIND-2.false
+    ] in (
+      (after_read c.before.before.before.before.before _ known.in-Next.is).goes_on kept.if-state-eq-SATELLITES_KIND-2.identifiers c.count_line-tally.result brought c.count_line-tally.ensures,
       covers-on a.rules a.bytes.now here.loop-state.tally.end here.loop-state.identifiers joined.if-state-eq-SATELLITES_KIND.marks joined.if-state-eq-SATELLITES_KIND.marked here.loop-state.state joined.if-state-eq-SATELLITES_KIND.many
           (looked c.before.before.before.before.before.before.before.before.before) text kept.if-state-eq-SATELLITES_KIND-2.identifiers brought,
       marks-many c.before.before.before.before.before.before.before.before.before,
@@ -152,17 +154,17 @@ scan_front_spec =
     (λ c κs. search rules)
     returns-2
     (λ c. search rules)
-    (λ c. let p = after_read c.before.before.before _ c.end.given.1 in search rules)
-    (λ c. let p = after_read c.before.before.before _ c.end.given.1 in search rules)
-    (λ c. let p = after_read c.before.before.before _ c.end.given.1 in search rules)
-    (λ c. let p = after_read c.before.before.before _ c.end.given.1 in search rules)
-    (λ c κs. let p = after_read c.before.before.before.before _ c.end.given.1 in search rules)
+    (λ c. let p = after_read c.before.before.before _ c.in-Finished.is in search rules)
+    (λ c. let p = after_read c.before.before.before _ c.in-Finished.is in search rules)
+    (λ c. let p = after_read c.before.before.before _ c.in-Finished.is in search rules)
+    (λ c. let p = after_read c.before.before.before _ c.in-Finished.is in search rules)
+    (λ c κs. let p = after_read c.before.before.before.before _ c.in-Finished.is in search rules)
     returns-3
     (λ c. search rules)
-    (λ c. let p = after_read c.before.before.before _ c.end-in-Next-1.given.1 in search rules)
-    (λ c. let p = after_read c.before.before.before _ c.end-in-Next-1.given.1 in search rules)
-    (λ c. let p = after_read c.before.before.before _ c.end-in-Next-1.given.1 in search rules)
-    (λ c. let p = after_read c.before.before.before _ c.end-in-Next-1.given.1 in search rules)
+    (λ c. let p = after_read c.before.before.before _ c.in-Next.is in search rules)
+    (λ c. let p = after_read c.before.before.before _ c.in-Next.is in search rules)
+    (λ c. let p = after_read c.before.before.before _ c.in-Next.is in search rules)
+    (λ c. let p = after_read c.before.before.before _ c.in-Next.is in search rules)
     (λ c. search rules)
     (λ c κs. search rules)
     counts

@@ -16,7 +16,7 @@ returns-2 : tie.Need-returns
 returns-2 c =
     let put = c in
     let a = put.args in
-    rw (put.fill_blanks.ensures, put.fill-blanks-arg.given.2) (reached a.first a.last _ a.line.now (omega arith))
+    rw (put.fill_blanks.ensures, put.fill_blanks-arg-1.given.2) (reached a.first a.last _ a.line.now (omega arith))
 
 pub ink_blank_spec : {M : Type 1} → statement M
 ink_blank_spec =

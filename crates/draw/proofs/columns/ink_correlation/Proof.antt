@@ -18,7 +18,7 @@ returns-2 c =
     let put = c in
     let a = put.args in
     let ends : a.first - 1 + 8 ≡ a.last = omega (arith, put.requires) in
-    rw (put.put_correlation.ensures, put.put-correlation-arg.given.2, ends) (reached a.first a.last _ a.line.now (omega arith))
+    rw (put.put_correlation.ensures, put.put_correlation-arg-1.given.2, ends) (reached a.first a.last _ a.line.now (omega arith))
 
 pub ink_correlation_spec : {M : Type 1} → statement M
 ink_correlation_spec =

@@ -16,7 +16,7 @@ returns-2 : tie.Need-returns
 returns-2 c =
     let put = c in
     let a = put.args in
-    rw (put.put_places.ensures, put.put-places-arg.given.2) (reached a.first a.last _ a.line.now (omega arith))
+    rw (put.put_places.ensures, put.put_places-arg-1.given.2) (reached a.first a.last _ a.line.now (omega arith))
 
 pub ink_decimal_spec : {M : Type 1} → statement M
 ink_decimal_spec =

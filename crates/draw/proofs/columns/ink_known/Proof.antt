@@ -16,7 +16,7 @@ returns-2 : tie.Need-returns
 returns-2 c =
     let put = c in
     let a = put.args in
-    rw (put.put_known.ensures, put.put-known-arg.given.2) (reached a.first a.last _ a.line.now (omega arith))
+    rw (put.put_known.ensures, put.put_known-arg-1.given.2) (reached a.first a.last _ a.line.now (omega arith))
 
 pub ink_known_spec : {M : Type 1} → statement M
 ink_known_spec =

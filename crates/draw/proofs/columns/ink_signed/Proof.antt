@@ -18,7 +18,7 @@ returns-2 c =
     let put = c in
     let a = put.args in
     let ends : a.first - 1 + 14 ≡ a.last = omega (arith, put.requires) in
-    rw (put.put_places.ensures, put.put-places-arg.given.2, ends) (reached a.first a.last _ a.line.now (omega arith))
+    rw (put.put_places.ensures, put.put_places-arg-1.given.2, ends) (reached a.first a.last _ a.line.now (omega arith))
 
 pub ink_signed_spec : {M : Type 1} → statement M
 ink_signed_spec =

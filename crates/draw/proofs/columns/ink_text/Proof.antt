@@ -20,7 +20,7 @@ returns c =
     let w = a.last - (a.first - 1) in
     let to = reach.fewer-to.result in
     let words = a.text.now in
-    rw (put.put_text.ensures, put.put-text-arg.given.2, text-part (to - (a.first - 1)) w words (omega arith))
+    rw (put.put_text.ensures, put.put_text-arg-1.given.2, text-part (to - (a.first - 1)) w words (omega arith))
     (columns-put a.first a.last (shown_text w words) a.line.now (omega arith) (text-wide w words) to reach.fewer-to.ensures (omega arith))
 
 returns-2 : tie.Need-returns-else-from-to

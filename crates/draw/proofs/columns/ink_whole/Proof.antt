@@ -16,7 +16,7 @@ returns-2 : tie.Need-returns
 returns-2 c =
     let put = c in
     let a = put.args in
-    rw (put.put_number.ensures, put.put-number-arg.given.2) (reached a.first a.last _ a.line.now (omega arith))
+    rw (put.put_number.ensures, put.put_number-arg-1.given.2) (reached a.first a.last _ a.line.now (omega arith))
 
 pub ink_whole_spec : {M : Type 1} → statement M
 ink_whole_spec =

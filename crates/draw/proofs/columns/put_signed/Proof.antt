@@ -1,6 +1,7 @@
 -- `draw::columns::put_signed` meets its contract.
 -- Assumes nothing.
-use mathlib.Core.Path.{◌∙◌}
+use mathlib.Core.Path.{ap, ◌∙◌}
+use mathlib.Core.Bool.{not}
 use Prim.Native.Nat.{ℕ}
 use borrow.Author.Rules.{rules}
 use Rattle.field.specs.Show.{fits_signed, show_signed}
@@ -14,7 +15,7 @@ returns c =
     let a = put.args in
     c.fill_blanks.ensures
     ∙ too_wide (λ (w : ℕ). fits_signed w a.negative a.m) (λ (w : ℕ). show_signed w a.negative a.m) a.out.now put.put_signed_whole.result put.put_signed_whole.ensures.0
-    put.put_signed_whole.new.out put.put_signed_whole.ensures.1 c.if-not-put_signed_whole.true
+    put.put_signed_whole.new.out put.put_signed_whole.ensures.1 (ap not c.if-not-put_signed_whole.true)
 
 returns-2 : tie.Need-returns-else-not-put_signed_whole
 returns-2 c =
@@ -22,7 +23,7 @@ returns-2 c =
     let a = put.args in
     put.put_signed_whole.ensures.1
     ∙ fitting (λ (w : ℕ). fits_signed w a.negative a.m) (λ (w : ℕ). show_signed w a.negative a.m) a.out.now put.put_signed_whole.result put.put_signed_whole.ensures.0
-    c.if-not-put_signed_whole.false
+    (ap not c.if-not-put_signed_whole.false)
 
 pub put_signed_spec : {M : Type 1} → statement M
 put_signed_spec =

@@ -52,12 +52,10 @@ pub put_bases_spec : {M : Type 1} → statement M
 put_bases_spec =
     tie.close
     (tie.spec
-    (λ c. search rules)
     (λ c κs. search rules)
     (λ c κs. search rules)
     (λ c κs. search rules)
     (λ c κs. search rules)
-    (λ c. search rules)
     (λ c κs. search rules)
     same_length
     returns)

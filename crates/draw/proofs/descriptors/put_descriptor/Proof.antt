@@ -51,14 +51,11 @@ pub put_descriptor_spec : {M : Type 1} → statement M
 put_descriptor_spec =
     tie.close
     (tie.spec
-    (λ c. search rules)
     (λ c κs. search rules)
     (λ c κs. search rules)
-    (λ c. search rules)
     (λ c κs. search rules)
     (λ c. search rules)
     (λ c κs. search rules)
-    (λ c. search rules)
     (λ c κs. search rules)
     same_length
     returns)

@@ -12,4 +12,4 @@ returns c = c.write_same.ensures
 
 pub write_integers_spec : {M : Type 1} → statement M
 write_integers_spec =
-    tie.close (tie.spec (λ c. search rules) (λ c κs. search rules) (λ c. search rules) returns)
+    tie.close (tie.spec (λ c κs. search rules) (λ c. search rules) returns)

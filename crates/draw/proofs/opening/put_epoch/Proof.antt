@@ -25,7 +25,6 @@ pub put_epoch_spec : {M : Type 1} → statement M
 put_epoch_spec =
     tie.close
     (tie.spec
-    (λ c. search rules)
     (λ c κs. search rules)
     (λ c κs. search rules)
     (λ c κs. search rules)

@@ -68,7 +68,6 @@ pub put_second_spec : {M : Type 1} → statement M
 put_second_spec =
     tie.close
     (tie.spec
-    (λ c. search rules)
     (λ c κs. search rules)
     (λ c κs. search rules)
     (λ c κs. search rules)

@@ -24,7 +24,6 @@ pub put_comment_spec : {M : Type 1} → statement M
 put_comment_spec =
     tie.close
     (tie.spec
-    (λ c. search rules)
     (λ c κs. search rules)
     (λ c κs. search rules)
     (λ c κs. search rules)

@@ -27,15 +27,15 @@ without-x-exponent : (c : tie.Else-fits_whole-4) → Ends end_to_clock c.args.p
 without-x-exponent c = ends-before _ c.fits_whole-4.ensures c.if-fits_whole-4.false (without-y-exponent c.before.before)
 
 without-clock : (c : tie.Else-fits) → Ends end_to_z c.args.p
-without-clock c = ends-before _ c.fits-2.ensures c.if-fits.false (without-x-exponent c.before.before.before)
+without-clock c = ends-before _ c.fits.ensures c.if-fits.false (without-x-exponent c.before.before.before)
 
 without-z : (c : tie.Else-fits-2)
     → Ends end_to_y c.args.p
-without-z c = ends-before _ c.fits-3.ensures c.if-fits-2.false (without-clock c.before.before.before)
+without-z c = ends-before _ c.fits-2.ensures c.if-fits-2.false (without-clock c.before.before.before)
 
 without-y : (c : tie.Else-fits-3)
     → Ends end_to_x c.args.p
-without-y c = ends-before _ c.fits-4.ensures c.if-fits-3.false (without-z c.before.before.before)
+without-y c = ends-before _ c.fits-3.ensures c.if-fits-3.false (without-z c.before.before.before)
 
 returns : tie.Need-returns-then-fits_whole
 returns c = ends-here _ c.fits_whole.ensures c.if-fits_whole.true (body-ends c.args.p)
@@ -50,19 +50,19 @@ returns-4 : tie.Need-returns-then-fits_whole-4
 returns-4 c = ends-here _ c.fits_whole-4.ensures c.if-fits_whole-4.true (without-y-exponent c.before.before)
 
 returns-5 : tie.Need-returns-then-fits
-returns-5 c = ends-here _ c.fits-2.ensures c.if-fits.true (without-x-exponent c.before.before.before)
+returns-5 c = ends-here _ c.fits.ensures c.if-fits.true (without-x-exponent c.before.before.before)
 
 returns-6 : tie.Need-returns-then-fits-2
-returns-6 c = ends-here _ c.fits-3.ensures c.if-fits-2.true (without-clock c.before.before.before)
+returns-6 c = ends-here _ c.fits-2.ensures c.if-fits-2.true (without-clock c.before.before.before)
 
 returns-7 : tie.Need-returns-then-fits-3
-returns-7 c = ends-here _ c.fits-4.ensures c.if-fits-3.true (without-z c.before.before.before)
+returns-7 c = ends-here _ c.fits-3.ensures c.if-fits-3.true (without-z c.before.before.before)
 
 returns-8 : tie.Need-returns-then-fits-4
-returns-8 c = ends-here _ c.fits5.ensures c.if-fits-4.true (without-y c.before.before.before)
+returns-8 c = ends-here _ c.fits-4.ensures c.if-fits-4.true (without-y c.before.before.before)
 
 returns-9 : tie.Need-returns-else-fits-4
-returns-9 c = ends-before _ c.fits5.ensures c.if-fits-4.false (without-y c.before.before.before)
+returns-9 c = ends-before _ c.fits-4.ensures c.if-fits-4.false (without-y c.before.before.before)
 
 pub body_end_spec : {M : Type 1} → statement M
 body_end_spec =

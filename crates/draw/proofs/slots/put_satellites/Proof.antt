@@ -29,7 +29,6 @@ pub put_satellites_spec : {M : Type 1} → statement M
 put_satellites_spec =
     tie.close
     (tie.spec
-    (λ c. search rules)
     (λ c κs. search rules)
     (λ c κs. search rules)
     (λ c κs. search rules)

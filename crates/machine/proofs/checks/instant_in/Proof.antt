@@ -18,7 +18,7 @@ unfolding told_instant instant_in
 returns-2 c =
     let told = c in
     let asked = c in
-    let at = moment-at asked.args.m _ (sym asked.instant.ensures ∙ ap told_instant told.instant-1.given.1) in
+    let at = moment-at asked.args.m _ (sym asked.instant.ensures ∙ ap told_instant told.in-At.is) in
     rw at.0 (sym at.1)
 
 pub instant_in_spec : {M : Type 1} → statement M

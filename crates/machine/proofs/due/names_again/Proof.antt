@@ -91,7 +91,7 @@ returns-2 c =
 -- where the line has been read
 read : (c : tie.After-line_known)
     → let a = c.args in
-    LineAt a.rules a.state a.identifiers.now a.bytes.now a.at c.Line-known.result
+    LineAt a.rules a.state a.identifiers.now a.bytes.now a.at c.line_known.result
 read c =
     let ended = c in
     let a = ended.args in
@@ -100,11 +100,11 @@ read c =
       after = _;
       first = first-line a.bytes.now a.at ended.line_end-end.result ended.line_end-end.ensures c.if-end-bytes.false;
       due = eq-eqb _ _ ended.if-state-ne-SATELLITES_KIND.false;
-      told = c.Line-known.ensures;
+      told = c.line_known.ensures;
     }
 
 returns-3 : tie.Need-returns-in_default
-returns-3 c = let g = read c.before in not_eight _ _ _ _ _ _ g (no-fault _ _ _ _ _ _ g c.in-Fault.keys2)
+returns-3 c = let g = read c.before in not_eight _ _ _ _ _ _ g (no-fault _ _ _ _ _ _ g c.in_default.in_default-own.keys2)
 
 returns-4 : tie.Need-returns-then-number-ne8
 returns-4 c =

@@ -33,7 +33,7 @@ no-comment rules kind.EndOfFile e = refl
 returns : tie.Need-returns-in_default
 returns c =
     let a = c.args in
-    no-comment a.rules a.kind c.in-Comment.keys2
+    no-comment a.rules a.kind c.in_default.in_default-own.keys2
 
 returns-2 : tie.Need-returns-then-rules-lt80
 returns-2 c = rw c.in-Comment.is (omega arith)

@@ -11,15 +11,15 @@ returns : tie.Need-returns-in_default
 returns c =
     let read = c in
     let a = read.args in
-    read_same a.rules a.bytes.now a.at a.state a.identifiers.now read.Line-known.result read.Line-known.ensures c.in-Next.keys2
+    read_same a.rules a.bytes.now a.at a.state a.identifiers.now read.line_known-found.result read.line_known-found.ensures c.in_default.in_default-own.keys2
 
 -- where the line goes on: its bounds
-bounds : (c : tie.After-line_known-found) (place : ℕ) (s' : State) → c.Line-known.result ≡ found.Next place s'
+bounds : (c : tie.After-line_known-found) (place : ℕ) (s' : State) → c.line_known-found.result ≡ found.Next place s'
     → let a = c.args in
     (a.at < place) × (place ≤ length a.bytes.now)
 bounds c place s' is =
     let a = c.args in
-    let g = (goes_on a.rules a.bytes.now a.at a.state a.identifiers.now c.Line-known.result place s' c.Line-known.ensures is).lined-so in
+    let g = (goes_on a.rules a.bytes.now a.at a.state a.identifiers.now c.line_known-found.result place s' c.line_known-found.ensures is).lined-so in
     (g.starts, g.within)
 
 returns-2 : tie.Need-returns-then-state-ne-SATELLITES_KIND
@@ -27,7 +27,7 @@ returns-2 c =
     let told = c in
     let read = c in
     let a = read.args in
-    read-other a.rules a.bytes.now a.at a.state a.identifiers.now read.Line-known.result _ _ read.Line-known.ensures told.in-Next.is c.if-state-ne-SATELLITES_KIND.true
+    read-other a.rules a.bytes.now a.at a.state a.identifiers.now read.line_known-found.result _ _ read.line_known-found.ensures told.in-Next.is c.if-state-ne-SATELLITES_KIND.true
 
 returns-3 : tie.Need-returns-then-keep_identifiers
 returns-3 c =
@@ -36,7 +36,7 @@ returns-3 c =
     let told = c in
     let read = c in
     let a = read.args in
-    read-identifiers a.rules a.bytes.now a.at a.state a.identifiers.now read.Line-known.result _ _ read.Line-known.ensures told.in-Next.is
+    read-identifiers a.rules a.bytes.now a.at a.state a.identifiers.now read.line_known-found.result _ _ read.line_known-found.ensures told.in-Next.is
     due.if-state-ne-SATELLITES_KIND.false true _ (sym c.if-keep_identifiers.true ∙ keeping.keep_identifiers.ensures.0) keeping.keep_identifiers.ensures.1
 
 returns-4 : tie.Need-returns
@@ -46,7 +46,7 @@ returns-4 c =
     let told = c in
     let read = c in
     let a = read.args in
-    read-identifiers a.rules a.bytes.now a.at a.state a.identifiers.now read.Line-known.result _ _ read.Line-known.ensures told.in-Next.is
+    read-identifiers a.rules a.bytes.now a.at a.state a.identifiers.now read.line_known-found.result _ _ read.line_known-found.ensures told.in-Next.is
     due.if-state-ne-SATELLITES_KIND.false false _ (sym c.if-keep_identifiers.false ∙ keeping.keep_identifiers.ensures.0) keeping.keep_identifiers.ensures.1
 
 pub read_line_spec : {M : Type 1} → statement M
@@ -59,10 +59,10 @@ read_line_spec =
     returns
     (λ c. search rules)
     returns-2
-    (λ c. let told = c.before.before.before.before in let h = bounds told.before.before _ _ told.found.given.1 in omega (arith, h))
-    (λ c. let told = c.before.before.before.before in let h = bounds told.before.before _ _ told.found.given.1 in omega (arith, h))
-    (λ c. let told = c.before.before.before.before in let h = bounds told.before.before _ _ told.found.given.1 in omega (arith, h))
-    (λ c. let told = c.before.before.before.before in let h = bounds told.before.before _ _ told.found.given.1 in omega (arith, h))
+    (λ c. let h = bounds c.before.before.before.before.before.before _ _ c.in-Next.is in omega (arith, h))
+    (λ c. let h = bounds c.before.before.before.before.before.before _ _ c.in-Next.is in omega (arith, h))
+    (λ c. let h = bounds c.before.before.before.before.before.before _ _ c.in-Next.is in omega (arith, h))
+    (λ c. let h = bounds c.before.before.before.before.before.before _ _ c.in-Next.is in omega (arith, h))
     (λ c κs. search rules)
     (λ c. search rules)
     returns-3

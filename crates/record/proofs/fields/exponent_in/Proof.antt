@@ -12,7 +12,7 @@ returns : tie.Need-returns-in_default
 returns c =
     let a = c.args in
     let r = c.exponent in
-    rw (exponent-case (take (a.last - (a.first - 1)) (drop (a.first - 1) a.line.now)) r.result r.result r.ensures refl, exponent-good a.first r.result c.in-Malformed.keys2)
+    rw (exponent-case (take (a.last - (a.first - 1)) (drop (a.first - 1) a.line.now)) r.result r.result r.ensures refl, exponent-good a.first r.result c.in_default.not-Malformed)
 
 returns-2 : tie.Need-returns
 returns-2 c =

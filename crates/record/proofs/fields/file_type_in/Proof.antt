@@ -14,7 +14,7 @@ returns : tie.Need-returns
 returns c =
     let line = c.args.line.now in
     let bytes = take 2 (drop 3 line) in
-    let long : length bytes ≡ 2 = length-take-le 2 (drop 3 line) (omega (arith, length-drop 3 line, c.s.given)) in
+    let long : length bytes ≡ 2 = length-take-le 2 (drop 3 line) (omega (arith, length-drop 3 line)) in
     rw (c.fault_unless.ensures, c.is_file_type.ensures, ← lettered-two bytes file_types long, byte_of line 3 2 0 (omega arith), byte_of line 3 2 1 (omega arith))
 
 pub file_type_in_spec : {M : Type 1} → statement M

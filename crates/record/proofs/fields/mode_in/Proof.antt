@@ -14,7 +14,7 @@ returns : tie.Need-returns
 returns c =
     let line = c.args.line.now in
     let bytes = take 1 (drop 2 line) in
-    let long : length bytes ≡ 1 = length-take-le 1 (drop 2 line) (omega (arith, length-drop 2 line, c.s.given)) in
+    let long : length bytes ≡ 1 = length-take-le 1 (drop 2 line) (omega (arith, length-drop 2 line)) in
     rw (c.fault_unless.ensures, c.is_mode-listed.ensures, ← lettered-one bytes modes long, byte_of line 2 1 0 (omega arith))
 
 pub mode_in_spec : {M : Type 1} → statement M

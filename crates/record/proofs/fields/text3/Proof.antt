@@ -16,7 +16,7 @@ returns c =
     let a = c.args in
     let rest = drop (a.first - 1) a.line.now in
     let wide : length (take (a.last - (a.first - 1)) rest) ≡ 3 =
-    length-take-le (a.last - (a.first - 1)) rest (omega (arith, length-drop (a.first - 1) a.line.now, c.s.given)) ∙ omega arith in
+    length-take-le (a.last - (a.first - 1)) rest (omega (arith, length-drop (a.first - 1) a.line.now)) ∙ omega arith in
     c.copy_front.ensures ∙ covering (take (a.last - (a.first - 1)) rest) (blanks 3) wide
 
 pub text3_spec : {M : Type 1} → statement M

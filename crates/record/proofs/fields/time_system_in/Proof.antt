@@ -14,7 +14,7 @@ returns : tie.Need-returns
 returns c =
     let line = c.args.line.now in
     let bytes = take 3 (drop 9 line) in
-    let long : length bytes ≡ 3 = length-take-le 3 (drop 9 line) (omega (arith, length-drop 9 line, c.s.given)) in
+    let long : length bytes ≡ 3 = length-take-le 3 (drop 9 line) (omega (arith, length-drop 9 line)) in
     rw (c.fault_unless.ensures, c.is_time_system-listed.ensures, ← three-bytes bytes long, byte_of line 9 3 0 (omega arith), byte_of line 9 3 1 (omega arith), byte_of line 9 3 2 (omega arith))
 
 pub time_system_in_spec : {M : Type 1} → statement M

@@ -9,7 +9,7 @@ returns : tie.Need-returns
 unfolding note_taken
 returns c =
     λ i. record {
-      x_deviation = c.Known-of.ensures i;
+      x_deviation = c.known_of.ensures i;
       y_deviation = c.known_of-2.ensures i;
       z_deviation = c.known_of-3.ensures i;
       clock_deviation = c.known_of-4.ensures i;

@@ -18,7 +18,6 @@ pub end_fault_spec : {M : Type 1} → statement M
 end_fault_spec =
     tie.close
     (tie.spec
-    (λ c. search rules)
     (λ c κs. search rules)
     (λ c κs. search rules)
     returns)

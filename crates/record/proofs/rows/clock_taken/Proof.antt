@@ -9,7 +9,7 @@ use Rattle.record.proofs.rows.clock_taken.Tie as tie
 
 returns : tie.Need-returns
 returns c =
-    let read = c.Signed-of.ensures in
+    let read = c.signed_of-read.ensures in
     λ i. record {
       negative = (ap (λ (s : Signed). s.negative) read) i;
       magnitude = (c.clock_held.ensures ∙ ap (λ (s : Signed). clock_held 6 s.negative s.magnitude) read) i;

@@ -8,7 +8,7 @@ use Rattle.record.proofs.rows.known_or.Tie as tie
 returns : tie.Need-returns-in_default-answer
 returns c =
     let r = c.exponent-answer in
-    rw (exponent-case c.args.bytes.now r.result _ r.ensures (exponent-malformed r.result c.in-Value.keys2 c.in-Unknown.keys2))
+    rw (exponent-case c.args.bytes.now r.result _ r.ensures (exponent-malformed r.result c.in_default.not-Value c.in_default-answer.not-Unknown))
 
 returns-2 : tie.Need-returns-in_default
 returns-2 c = rw (exponent-case c.args.bytes.now _ _ c.exponent-answer.ensures c.in-Unknown.is)

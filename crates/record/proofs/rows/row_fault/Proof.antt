@@ -17,7 +17,7 @@ returns c =
     (past c.unused_in.ensures
     judged))))
 
-returns-2 : tie.Need-returns-then-velocity
+returns-2 : tie.Need-returns
 returns-2 c =
     rw c.if-velocity.false
     (judges (row_items false) c.args.line.now clean

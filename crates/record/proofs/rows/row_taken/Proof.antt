@@ -10,11 +10,11 @@ unfolding row_taken
 returns c =
     λ i. record {
       satellite = c.satellite_in.ensures i;
-      x = c.Signed-of.ensures i;
+      x = c.signed_of-x.ensures i;
       y = c.signed_of-y.ensures i;
       z = c.signed_of-z.ensures i;
       clock = c.clock_taken-clock.ensures i;
-      x_exponent = c.Known-of.ensures i;
+      x_exponent = c.known_of-x_exponent.ensures i;
       y_exponent = c.known_of-y_exponent.ensures i;
       z_exponent = c.known_of-z_exponent.ensures i;
       clock_exponent = c.known_of-clock_exponent.ensures i;

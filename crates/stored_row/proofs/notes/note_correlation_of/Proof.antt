@@ -58,7 +58,7 @@ returns-3 c =
     let start = c in
     ap told_note_correlation
     (correlation-told start.args.rows.now start.args.k start.args.which (asked c.before.before.before.before.before) noted.has_note.ensures
-    (read.if-not-has_note.false) true read.v.given sized.magnitude_of.ensures
+    (read.if-not-has_note.false) true read.v-1.given sized.magnitude_of.ensures
     (eq-eqb sized.magnitude_of.result unnoted c.if-magnitude_of-eq-UNNOTED.true))
 
 returns-4 : tie.Need-returns
@@ -69,7 +69,7 @@ returns-4 c =
     let start = c in
     ap told_note_correlation
     (correlation-told start.args.rows.now start.args.k start.args.which (asked c.before.before.before.before.before) noted.has_note.ensures
-    (read.if-not-has_note.false) false read.v.given sized.magnitude_of.ensures
+    (read.if-not-has_note.false) false read.v-1.given sized.magnitude_of.ensures
     (ne_eqb sized.magnitude_of.result unnoted c.if-magnitude_of-eq-UNNOTED.false))
 
 pub note_correlation_of_spec : {M : Type 1} → statement M

@@ -15,7 +15,7 @@ within c = row_within (length c.args.rows.now) c.args.k c.args.i c.requires.0 c.
 returns : tie.Need-returns
 returns c =
     let start = c in
-    size-read start.args.rows.now start.args.k start.args.i c.magnitude-of-arg.given c.magnitude_of.ensures
+    size-read start.args.rows.now start.args.k start.args.i c.magnitude_of-arg-1.given c.magnitude_of.ensures
 
 pub size_at_spec : {M : Type 1} → statement M
 size_at_spec =

@@ -30,7 +30,7 @@ returns-2 c =
     let read = c in
     let start = c in
     ap told_clock
-    (clock-is start.args.rows.now start.args.k (there c.before.before.before.before.before) true read.clock.given c.is_negative-negative.ensures
+    (clock-is start.args.rows.now start.args.k (there c.before.before.before.before.before) true read.clock-1.given c.is_negative-negative.ensures
     c.magnitude_of.ensures c.clock_absent.ensures c.if-clock_absent.true)
 
 returns-3 : tie.Need-returns
@@ -38,7 +38,7 @@ returns-3 c =
     let read = c in
     let start = c in
     ap told_clock
-    (clock-is start.args.rows.now start.args.k (there c.before.before.before.before.before) false read.clock.given c.is_negative-negative.ensures
+    (clock-is start.args.rows.now start.args.k (there c.before.before.before.before.before) false read.clock-1.given c.is_negative-negative.ensures
     c.magnitude_of.ensures c.clock_absent.ensures c.if-clock_absent.false)
 
 pub clock_of_spec : {M : Type 1} → statement M

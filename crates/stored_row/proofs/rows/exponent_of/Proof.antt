@@ -42,7 +42,7 @@ returns-2 c =
     let read = c in
     let start = c in
     ap told_exponent_read
-    (unknown-is start.args.rows.now start.args.k start.args.which (asked c.before.before.before.before) read.magnitude-of-arg.given
+    (unknown-is start.args.rows.now start.args.k start.args.which (asked c.before.before.before.before) read.magnitude_of-arg-1.given
     c.magnitude_of-n.ensures c.is_unknown.ensures c.if-is_unknown.true)
 
 returns-3 : tie.Need-returns-then-is_too_large
@@ -51,7 +51,7 @@ returns-3 c =
     let read = c in
     let start = c in
     ap told_exponent_read
-    (known_is start.args.rows.now start.args.k start.args.which (asked c.before.before.before.before.before.before) read.magnitude-of-arg.given
+    (known_is start.args.rows.now start.args.k start.args.which (asked c.before.before.before.before.before.before) read.magnitude_of-arg-1.given
     known.magnitude_of-n.ensures true known.is_unknown.ensures known.if-is_unknown.false c.is_too_large.ensures
     c.if-is_too_large.true)
 
@@ -61,7 +61,7 @@ returns-4 c =
     let read = c in
     let start = c in
     ap told_exponent_read
-    (known_is start.args.rows.now start.args.k start.args.which (asked c.before.before.before.before.before.before) read.magnitude-of-arg.given
+    (known_is start.args.rows.now start.args.k start.args.which (asked c.before.before.before.before.before.before) read.magnitude_of-arg-1.given
     known.magnitude_of-n.ensures false known.is_unknown.ensures known.if-is_unknown.false c.is_too_large.ensures
     c.if-is_too_large.false)
 

@@ -42,7 +42,7 @@ returns-2 c =
     let read = c in
     let start = c in
     ap told_flag
-    (flag_is start.args.rows.now start.args.k start.args.which (asked c.before.before.before) read.magnitude-of-arg.given
+    (flag_is start.args.rows.now start.args.k start.args.which (asked c.before.before.before) read.magnitude_of-arg-1.given
     c.magnitude_of-n.ensures true (eq-eqb c.magnitude_of-n.result 0 c.if-n-eq0.true))
 
 returns-3 : tie.Need-returns
@@ -50,7 +50,7 @@ returns-3 c =
     let read = c in
     let start = c in
     ap told_flag
-    (flag_is start.args.rows.now start.args.k start.args.which (asked c.before.before.before) read.magnitude-of-arg.given
+    (flag_is start.args.rows.now start.args.k start.args.which (asked c.before.before.before) read.magnitude_of-arg-1.given
     c.magnitude_of-n.ensures false (ne_eqb c.magnitude_of-n.result 0 c.if-n-eq0.false))
 
 pub flag_of_spec : {M : Type 1} → statement M

@@ -31,8 +31,8 @@ returns-2 c =
     let read = c in
     let start = c in
     ap told_place
-    (place_is start.args.rows.now start.args.k (there c.before.before.before.before.before.before.before.before) true read.x.given read.y.given
-    read.z.given tested.magnitude_of.ensures tested.magnitude_of-2.ensures
+    (place_is start.args.rows.now start.args.k (there c.before.before.before.before.before.before.before.before) true read.x-1.given read.y-1.given
+    read.z-1.given tested.magnitude_of.ensures tested.magnitude_of-2.ensures
     tested.magnitude_of-3.ensures tested.place_absent-absent.ensures c.if-absent.true)
 
 returns-3 : tie.Need-returns
@@ -41,8 +41,8 @@ returns-3 c =
     let read = c in
     let start = c in
     ap told_place
-    (place_is start.args.rows.now start.args.k (there c.before.before.before.before.before.before.before.before) false read.x.given read.y.given
-    read.z.given tested.magnitude_of.ensures tested.magnitude_of-2.ensures
+    (place_is start.args.rows.now start.args.k (there c.before.before.before.before.before.before.before.before) false read.x-1.given read.y-1.given
+    read.z-1.given tested.magnitude_of.ensures tested.magnitude_of-2.ensures
     tested.magnitude_of-3.ensures tested.place_absent-absent.ensures c.if-absent.false)
 
 pub place_of_spec : {M : Type 1} → statement M

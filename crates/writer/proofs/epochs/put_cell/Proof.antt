@@ -40,7 +40,7 @@ returns c =
 moving : (c : tie.Else-not-velocity) → c.args.velocity ≡ true
 moving c = c.if-not-velocity.false
 
-first-laid : (c : tie.Else-not-velocity) → Laid c.before.before.before.before.before.before.before c.put_noted-at.result c.put_noted-at.new.1.1.1.0 (moved c.before.before.before.before.before.before.before ++ [])
+first-laid : (c : tie.Else-not-velocity) → Laid c.before.before.before.before.before.before.before c.put_noted-at.result c.put_noted-at.new.out (moved c.before.before.before.before.before.before.before ++ [])
 first-laid c =
     let start = c.before.before.before.before.before.before.before in
     laying-alone
@@ -63,7 +63,7 @@ put-noted-requires-2 c κs =
 
 both-laid : (c : tie.After-put_noted)
     → Laid c.before.before.before.before.before.before.before.before.before.before (c.put_noted-at.result + c.put_noted.result)
-    (then c.put_noted-at.result c.put_noted-at.new.1.1.1.0 c.put_noted.new.1.1.1.0) []
+    (then c.put_noted-at.result c.put_noted-at.new.out c.put_noted.new.out) []
 both-laid c = laying-more (moved c.before.before.before.before.before.before.before.before.before.before) [] (first-laid c.before.before.before) c.put_noted.ensures
 
 returns-2 : tie.Need-returns

@@ -73,7 +73,7 @@ put-cell-requires c κs =
 
 -- a satellite more
 laid : (c : tie.After-put_cell-at invariant-loop decreases-loop)
-    → Laid c.before.before.before.before.before (c.loop-j.at + c.put_cell-at.result) (then c.loop-j.at c.loop-j.out c.put_cell-at.new.1.1.1.0) (rest c.before.before.before.before.before)
+    → Laid c.before.before.before.before.before (c.loop-j.at + c.put_cell-at.result) (then c.loop-j.at c.loop-j.out c.put_cell-at.new.out) (rest c.before.before.before.before.before)
 laid c = laying-more (cell c.before.before.before.before.before) (rest c.before.before.before.before.before) (next c.before.before.before.before) c.put_cell-at.ensures
 
 loop-again : tie.Need-loop-j-preserved invariant-loop decreases-loop

@@ -16,7 +16,7 @@ cells c = cells_lines c.args.velocity c.args.identifiers.now c.args.rows.now
 abbrev Laid : tie.Start → ℕ → List ℕ → List (List ℕ) → Type 0
 Laid c at now rest = Laying (epoch_line (epoch_shown c.args.at8) ∷ cells c) c.args.out.now at now rest
 
-first-laid : (c : tie.After-write_epoch-at) → Laid c.before.before.before.before.before c.write_epoch-at.result c.write_epoch-at.new.1.0 (cells c.before.before.before.before.before ++ [])
+first-laid : (c : tie.After-write_epoch-at) → Laid c.before.before.before.before.before c.write_epoch-at.result c.write_epoch-at.new.out (cells c.before.before.before.before.before ++ [])
 unfolding epoch_shown
 first-laid c =
     let start = c.before.before.before.before.before in
@@ -26,7 +26,7 @@ first-laid c =
 
 all_laid : (c : tie.After-put_cells)
     → Laid c.before.before.before.before.before.before.before.before.before (c.write_epoch-at.result + c.put_cells.result)
-    (then c.write_epoch-at.result c.write_epoch-at.new.1.0 c.put_cells.new.1.1.1.0) []
+    (then c.write_epoch-at.result c.write_epoch-at.new.out c.put_cells.new.out) []
 all_laid c = laying-more (cells c.before.before.before.before.before.before.before.before.before) [] (first-laid c.before.before.before.before) c.put_cells.ensures
 
 put-cells-requires : tie.Need-put_cells-requires

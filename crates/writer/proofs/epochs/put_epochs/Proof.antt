@@ -88,7 +88,7 @@ put-epoch-requires c κs =
 
 -- an epoch more
 laid : (c : tie.After-put_epoch-at invariant-loop decreases-loop)
-    → Laid c.before.before.before.before (c.loop-more.at + c.put_epoch-at.result) (then c.loop-more.at c.loop-more.out c.put_epoch-at.new.1.1.1.1.0) (rest c.before.before.before.before)
+    → Laid c.before.before.before.before (c.loop-more.at + c.put_epoch-at.result) (then c.loop-more.at c.loop-more.out c.put_epoch-at.new.out) (rest c.before.before.before.before)
 laid c = laying-more (epoch c.before.before.before.before) (rest c.before.before.before.before) (next c.before.before.before) c.put_epoch-at.ensures
 
 add-at8 : tie.Need-overflow_add-at8 invariant-loop decreases-loop

@@ -36,7 +36,7 @@ both c =
     let start = c in
     noted-both start.args.velocity start.args.identifier start.args.row.now start.requires.0 c.flag_at.ensures (c.if-not-flag_at.false)
 
-first-laid : (c : tie.Else-not-flag_at) → Laid c.before.before.before.before.before.before.before.before.before c.write_row-at.result c.write_row-at.new.1.1.0 (note c.before.before.before.before.before.before.before.before.before ∷ [])
+first-laid : (c : tie.Else-not-flag_at) → Laid c.before.before.before.before.before.before.before.before.before c.write_row-at.result c.write_row-at.new.out (note c.before.before.before.before.before.before.before.before.before ∷ [])
 first-laid c =
     let start = c.before.before.before.before.before.before.before.before.before in
     laying-first (line start ∷ []) (note start ∷ []) (rw (both c) at start.requires.1)
@@ -44,7 +44,7 @@ first-laid c =
 
 both-laid : (c : tie.After-write_note)
     → Laid c.before.before.before.before.before.before.before.before.before.before.before.before (c.write_row-at.result + c.write_note.result)
-    (then c.write_row-at.result c.write_row-at.new.1.1.0 c.write_note.new.1.1.0) []
+    (then c.write_row-at.result c.write_row-at.new.out c.write_note.new.out) []
 both-laid c =
     laying-more (note c.before.before.before.before.before.before.before.before.before.before.before.before ∷ []) [] (first-laid c.before.before.before)
     (one_line (note c.before.before.before.before.before.before.before.before.before.before.before.before) (rw c.note_shown.ensures at c.write_note.ensures))

@@ -38,7 +38,7 @@ abbrev Laid : tie.At-loop-more invariant-loop decreases-loop → ℕ → List �
 Laid c at now = Laying (comment_lines c.args.count c.args.bytes.now) c.args.out.now at now (rest c)
 
 laid : (c : tie.After-write_comment-at invariant-loop decreases-loop)
-    → Laid c.before.before.before.before (c.loop-more.at + c.write_comment-at.result) (then c.loop-more.at c.loop-more.out c.write_comment-at.new.1.0)
+    → Laid c.before.before.before.before (c.loop-more.at + c.write_comment-at.result) (then c.loop-more.at c.loop-more.out c.write_comment-at.new.out)
 laid c =
     let bytes = c.args.bytes.now in
     let l = c.loop-more in

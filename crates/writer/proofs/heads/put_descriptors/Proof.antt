@@ -21,7 +21,7 @@ five c = fixed_line character_items ∷ base_line (bases_shown c.args.h) ∷ zer
 abbrev Laid : tie.Start → ℕ → List ℕ → ℕ → Type 0
 Laid c at now k = Laying (descriptor_lines c.args.h) c.args.out.now at now (drop k (five c))
 
-laid-1 : (c : tie.After-write_descriptor-at) → Laid c.before.before.before.before.before c.write_descriptor-at.result c.write_descriptor-at.new.1.0 0
+laid-1 : (c : tie.After-write_descriptor-at) → Laid c.before.before.before.before.before c.write_descriptor-at.result c.write_descriptor-at.new.out 0
 unfolding descriptor_lines descriptor_shown
 laid-1 c =
     let line = descriptor_line (descriptor_shown c.args.h) in
@@ -31,7 +31,7 @@ abbrev at-2 : tie.After-write_characters-at → ℕ
 at-2 c = c.write_descriptor-at.result + c.write_characters-at.result
 
 abbrev out-2 : tie.After-write_characters-at → List ℕ
-out-2 c = then c.write_descriptor-at.result c.write_descriptor-at.new.1.0 c.write_characters-at.new.out
+out-2 c = then c.write_descriptor-at.result c.write_descriptor-at.new.out c.write_characters-at.new.out
 
 laid-2 : (c : tie.After-write_characters-at) → Laid c.before.before.before.before.before.before.before.before.before (at-2 c) (out-2 c) 1
 laid-2 c =
@@ -42,7 +42,7 @@ abbrev at-3 : tie.After-write_bases-at → ℕ
 at-3 c = at-2 c.before.before.before.before + c.write_bases-at.result
 
 abbrev out-3 : tie.After-write_bases-at → List ℕ
-out-3 c = then (at-2 c.before.before.before.before) (out-2 c.before.before.before.before) c.write_bases-at.new.1.0
+out-3 c = then (at-2 c.before.before.before.before) (out-2 c.before.before.before.before) c.write_bases-at.new.out
 
 laid-3 : (c : tie.After-write_bases-at) → Laid c.before.before.before.before.before.before.before.before.before.before.before.before.before (at-3 c) (out-3 c) 2
 unfolding bases_shown

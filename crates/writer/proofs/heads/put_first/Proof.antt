@@ -20,7 +20,7 @@ second c = second_line (second_shown c.args.h) ∷ third c
 abbrev Laid : tie.Start → ℕ → List ℕ → (tie.Start → List (List ℕ)) → Type 0
 Laid c at now rest = Laying (first_line c.args.rules (first_shown c.args.h) ∷ second c) c.args.out.now at now (rest c)
 
-first-laid : (c : tie.After-write_first-at) → Laid c.before.before.before.before.before c.write_first-at.result c.write_first-at.new.1.1.0 second
+first-laid : (c : tie.After-write_first-at) → Laid c.before.before.before.before.before c.write_first-at.result c.write_first-at.new.out second
 first-laid c =
     let start = c.before.before.before.before.before in
     let line = first_line start.args.rules (first_shown start.args.h) in
@@ -30,7 +30,7 @@ abbrev at-2 : tie.After-write_second-at → ℕ
 at-2 c = c.write_first-at.result + c.write_second-at.result
 
 abbrev out-2 : tie.After-write_second-at → List ℕ
-out-2 c = then c.write_first-at.result c.write_first-at.new.1.1.0 c.write_second-at.new.1.0
+out-2 c = then c.write_first-at.result c.write_first-at.new.out c.write_second-at.new.out
 
 second-laid : (c : tie.After-write_second-at) → Laid c.before.before.before.before.before.before.before.before.before.before (at-2 c) (out-2 c) third
 second-laid c =
@@ -41,7 +41,7 @@ second-laid c =
 
 third-laid : (c : tie.After-write_satellites)
     → Laid c.before.before.before.before.before.before.before.before.before.before.before.before.before.before.before (at-2 c.before.before.before.before.before + c.write_satellites.result)
-    (then (at-2 c.before.before.before.before.before) (out-2 c.before.before.before.before.before) c.write_satellites.new.1.1.0) (λ start. [])
+    (then (at-2 c.before.before.before.before.before) (out-2 c.before.before.before.before.before) c.write_satellites.new.out) (λ start. [])
 unfolding satellites_shown
 third-laid c =
     let start = c.before.before.before.before.before.before.before.before.before.before.before.before.before.before.before in

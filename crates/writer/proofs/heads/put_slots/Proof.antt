@@ -38,7 +38,7 @@ Laid c at now =
     Laying (slot_lines_of start.accuracies start.lines start.numbers.now) start.out.now at now (rest c)
 
 laid : (c : tie.After-write_slots-at invariant-loop decreases-loop)
-    → Laid c.before.before.before.before.before (c.loop-more.at + c.write_slots-at.result) (then c.loop-more.at c.loop-more.out c.write_slots-at.new.1.1.1.0)
+    → Laid c.before.before.before.before.before (c.loop-more.at + c.write_slots-at.result) (then c.loop-more.at c.loop-more.out c.write_slots-at.new.out)
 laid c =
     let start = c.args in
     let numbers = start.numbers.now in

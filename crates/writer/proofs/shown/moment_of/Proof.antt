@@ -26,9 +26,9 @@ returns c =
 returns-2 : tie.Need-returns
 unfolding moment_of
 returns-2 c =
-    let known = c.date.given in
+    let known = c.in-Date.is in
     let some = date-named c.before in
-    let same : known.0.0 ≡ date_of (clock_of c.args.at8).day = cc in
+    let same : c.in-Date.date ≡ date_of (clock_of c.args.at8).day = cc in
     rw (same, c.clock_of-clock.ensures)
 
 pub moment_of_spec : {M : Type 1} → statement M

@@ -29,12 +29,11 @@ returns c =
 
 returns-2 : tie.Need-returns
 returns-2 c =
-    let told = c.week.given in
     let some = week-is c.before.before.before.before in
-    let known = told.1 in
+    let known = c.in-Of.is in
     let at8 = c.args.h.start8 in
-    let week : told.0.0 ≡ week_of at8 = cc in
-    let seconds : told.0.1.0 ≡ seconds_of at8 = cc in
+    let week : c.in-Of.week ≡ week_of at8 = cc in
+    let seconds : c.in-Of.second8 ≡ seconds_of at8 = cc in
     second-read c.args.h week seconds c.fraction_of.ensures
 
 pub second_shown_spec : {M : Type 1} → statement M

@@ -43,7 +43,7 @@ put-first-requires c κs =
     (start.requires.0, first-room (opening start) (identifiers start ++ (exponents start ++ descriptors start)) start.args.out.now start.requires.1)
 
 first-laid : (c : tie.After-put_first-at)
-    → Laid c.before.before.before.before.before.before c.put_first-at.result c.put_first-at.new.1.1.1.0 (λ start. identifiers start ++ (exponents start ++ descriptors start))
+    → Laid c.before.before.before.before.before.before c.put_first-at.result c.put_first-at.new.out (λ start. identifiers start ++ (exponents start ++ descriptors start))
 unfolding lines_before
 first-laid c =
     let start = c.before.before.before.before.before.before in
@@ -72,7 +72,7 @@ abbrev at-2 : tie.After-put_slots-at → ℕ
 at-2 c = c.put_first-at.result + c.put_slots-at.result
 
 abbrev out-2 : tie.After-put_slots-at → List ℕ
-out-2 c = then c.put_first-at.result c.put_first-at.new.1.1.1.0 c.put_slots-at.new.1.1.1.0
+out-2 c = then c.put_first-at.result c.put_first-at.new.out c.put_slots-at.new.out
 
 identifiers-laid : (c : tie.After-put_slots-at) → Laid c.before.before.before.before.before.before.before.before.before.before.before.before (at-2 c) (out-2 c) (λ start. exponents start ++ descriptors start)
 identifiers-laid c =
@@ -93,7 +93,7 @@ abbrev at-3 : tie.After-put_slots-at-2 → ℕ
 at-3 c = at-2 c.before.before.before.before + c.put_slots-at-2.result
 
 abbrev out-3 : tie.After-put_slots-at-2 → List ℕ
-out-3 c = then (at-2 c.before.before.before.before) (out-2 c.before.before.before.before) c.put_slots-at-2.new.1.1.1.0
+out-3 c = then (at-2 c.before.before.before.before) (out-2 c.before.before.before.before) c.put_slots-at-2.new.out
 
 exponents-laid : (c : tie.After-put_slots-at-2) → Laid c.before.before.before.before.before.before.before.before.before.before.before.before.before.before.before.before (at-3 c) (out-3 c) (λ start. descriptors start ++ [])
 exponents-laid c =
@@ -110,7 +110,7 @@ put-descriptors-requires c κs = laying-room (descriptors c.before.before.before
 
 all_laid : (c : tie.After-put_descriptors)
     → Laid c.before.before.before.before.before.before.before.before.before.before.before.before.before.before.before.before.before.before.before.before (at-3 c.before.before.before.before + c.put_descriptors.result)
-    (then (at-3 c.before.before.before.before) (out-3 c.before.before.before.before) c.put_descriptors.new.1.0) (λ start. [])
+    (then (at-3 c.before.before.before.before) (out-3 c.before.before.before.before) c.put_descriptors.new.out) (λ start. [])
 all_laid c = laying-more (descriptors c.before.before.before.before.before.before.before.before.before.before.before.before.before.before.before.before.before.before.before.before) [] (exponents-laid c.before.before.before.before) c.put_descriptors.ensures
 
 add-result : tie.Need-overflow_add-result

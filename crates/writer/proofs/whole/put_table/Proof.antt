@@ -51,7 +51,7 @@ put-opening-requires c κs =
       rw (sub-zero start.args.h.satellites) (first-room (opening start) (comments start ++ (epochs start ++ ending)) start.args.out.now start.requires.1),
     )
 
-opening-laid : (c : tie.After-put_opening-at) → Laid c.before.before.before.before.before.before.before.before.before c.put_opening-at.result c.put_opening-at.new.1.1.1.1.0 (λ start. comments start ++ (epochs start ++ ending))
+opening-laid : (c : tie.After-put_opening-at) → Laid c.before.before.before.before.before.before.before.before.before c.put_opening-at.result c.put_opening-at.new.out (λ start. comments start ++ (epochs start ++ ending))
 unfolding canonical canonical_lines
 opening-laid c =
     let start = c.before.before.before.before.before.before.before.before.before in
@@ -73,7 +73,7 @@ abbrev at-2 : tie.After-put_comments-at → ℕ
 at-2 c = c.put_opening-at.result + c.put_comments-at.result
 
 abbrev out-2 : tie.After-put_comments-at → List ℕ
-out-2 c = then c.put_opening-at.result c.put_opening-at.new.1.1.1.1.0 c.put_comments-at.new.1.1.0
+out-2 c = then c.put_opening-at.result c.put_opening-at.new.out c.put_comments-at.new.out
 
 comments-laid : (c : tie.After-put_comments-at) → Laid c.before.before.before.before.before.before.before.before.before.before.before.before.before.before (at-2 c) (out-2 c) (λ start. epochs start ++ ending)
 comments-laid c =
@@ -110,7 +110,7 @@ abbrev at-3 : tie.After-put_epochs-at → ℕ
 at-3 c = at-2 c.before.before.before.before.before + c.put_epochs-at.result
 
 abbrev out-3 : tie.After-put_epochs-at → List ℕ
-out-3 c = then (at-2 c.before.before.before.before.before) (out-2 c.before.before.before.before.before) c.put_epochs-at.new.1.1.1.0
+out-3 c = then (at-2 c.before.before.before.before.before) (out-2 c.before.before.before.before.before) c.put_epochs-at.new.out
 
 epochs-laid : (c : tie.After-put_epochs-at) → Laid c.before.before.before.before.before.before.before.before.before.before.before.before.before.before.before.before.before.before.before (at-3 c) (out-3 c) (λ start. ending)
 epochs-laid c =
