@@ -1,5 +1,6 @@
 // A table to be written: whether it is valid, and how long its canonical form is.
 #![tactic(auto)]
+
 mod bounds;
 mod lists;
 mod measuring;

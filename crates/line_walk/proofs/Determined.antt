@@ -1,4 +1,4 @@
--- Any two outcomes that a contract allows agree, in the result and in the identifiers lent. The functions over a walker are proved by hand: of them it is said
+-- Any two outcomes that a contract allows agree, in the result and in the identifiers lent. Of the functions over a walker it is said
 -- of the clauses themselves, that two outcomes which they allow are the same.
 -- Assumes nothing.
 use mathlib.Core.Path.{◌≡◌, sym, ap₂, ◌∙◌}

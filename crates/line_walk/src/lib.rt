@@ -1,6 +1,7 @@
 // A walker over the lines of a file: it holds the file's bytes and its spot. The identifiers of the header are lent at each step. Each function over
 // a walker takes it apart and calls the plain line reader; `after_lines` stands above them and has plain parameters.
 #![tactic(auto)]
+
 ghost use Rattle.std.specs.Prelude.{◌≡◌};
 ghost use Rattle.header.specs.Versions.{rules_in};
 ghost use Rattle.machine.specs.Step.{line_read, line_identifiers};

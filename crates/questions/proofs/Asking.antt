@@ -203,8 +203,8 @@ module _ (identifiers old now : List ℕ) (is : now ≡ laid identifiers old) (f
   named : now ≡ identifiers ++ drop (length identifiers) old
   named = is ∙ laid-fits identifiers old fits
 
-  pub first-identifiers : (n : ℕ) → n ≡ length identifiers → take (n - 0) (λ x. x.now) ≡ identifiers
+  pub first-identifiers : (n : ℕ) → n ≡ length identifiers → take (n - 0) now ≡ identifiers
   first-identifiers n e = ap₂ (λ (k : ℕ) (l : List ℕ). take k l) (sub-zero n ∙ e) named ∙ take-append_seam identifiers (drop (length identifiers) old)
 
-  pub all-identifiers : length old ≤ length identifiers → (λ x. x.now) ≡ identifiers
+  pub all-identifiers : length old ≤ length identifiers → now ≡ identifiers
   all-identifiers h = named ∙ ap (λ (l : List ℕ). identifiers ++ l) (drop_of_length-le old h) ∙ append-nil identifiers

@@ -1,5 +1,6 @@
 // Questions about one whole file: its comments and the satellites of its header by number, and a row with where it begins.
 #![tactic(auto)]
+
 mod comments;
 mod rows;
 mod satellites;

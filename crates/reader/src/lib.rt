@@ -1,5 +1,6 @@
 // Reading: one file judged, then its table filled into lent memory.
 #![tactic(auto)]
+
 mod delivery;
 mod judging;
 mod types;

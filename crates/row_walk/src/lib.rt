@@ -1,5 +1,6 @@
 // The rows of a file in order, for the adjustment's loop: judged once, then walked row by row, absence a case of its own.
 #![tactic(auto)]
+
 mod beginning;
 mod rows;
 mod types;

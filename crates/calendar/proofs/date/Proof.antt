@@ -4,7 +4,6 @@ use mathlib.Core.Bool.{true}
 use mathlib.Core.Path.{◌≡◌, sym, ap, ◌∙◌}
 use native.Mathlib.Omega.{arith}
 use borrow.Author.Rules.{rules}
-use borrow.Author.Tests.{not-true, not-false}
 use Rattle.calendar.specs.Gregorian.{is_day, day_answer, told_date}
 use Rattle.calendar.proofs.Days.{day-is, no-day, too-early, in_bounds}
 use Rattle.calendar.proofs.date.Statement.{statement}

@@ -6,7 +6,6 @@ use mathlib.Core.Path.{◌≡◌, sym, ap, ◌∙◌}
 use Prim.Native.Nat.{ℕ}
 use native.Mathlib.Omega.{arith}
 use borrow.Author.Rules.{rules}
-use borrow.Author.Tests.{not-true, not-false}
 use Rattle.calendar.specs.Clock.{is_time, time_of, told_instant}
 use Rattle.calendar.specs.Gregorian.{told_date}
 use Rattle.calendar.proofs.Days.{DayTold, date-told, date-refused}

@@ -3,7 +3,6 @@
 use mathlib.Core.Bool.{Bool, true}
 use mathlib.Core.Path.{◌≡◌, sym, ap, ◌∙◌}
 use borrow.Author.Rules.{rules}
-use borrow.Author.Tests.{not-true, not-false}
 use Rattle.laws.specs.Tests.{within}
 use Rattle.calendar.specs.Gregorian.{month_length, is_day}
 use Rattle.laws.proofs.Bounds.{within-true}

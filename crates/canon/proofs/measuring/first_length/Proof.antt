@@ -37,15 +37,12 @@ text-end-requires-4 c κs = (search rules, omega (arith, agency c.before.before.
 measured : (c : tie.After-text_end) → c.text_end.result + 1 ≡ first_length c.args.t
 unfolding first_length
 measured c =
-    let third = c in
-    let second = c in
-    let first = c in
-    rw (c.text_end.ensures, third.text_end-c.ensures, second.text_end-b.ensures, first.text_end-a.ensures)
+    rw (c.text_end.ensures, c.text_end-c.ensures, c.text_end-b.ensures, c.text_end-a.ensures)
 
 reach : (c : tie.After-text_end) → c.text_end.result + 1 ≤ 61
 reach c =
-    let start = c in
-    rw (measured c) (first_reach start.args.t (used c.before.before.before.before.before.before.before.before.before.before.before.before) (coordinates c.before.before.before.before.before.before.before.before.before.before.before.before) (orbit c.before.before.before.before.before.before.before.before.before.before.before.before) (agency c.before.before.before.before.before.before.before.before.before.before.before.before))
+    let start = c.before.before.before.before.before.before.before.before.before.before.before.before in
+    rw (measured c) (first_reach start.args.t (used start) (coordinates start) (orbit start) (agency start))
 
 add-result : tie.Need-overflow_add-result
 add-result c = omega (arith, reach c)

@@ -54,24 +54,20 @@ returns c =
 
 returns-2 : tie.Need-returns-then-widest-eq13
 returns-2 c =
-    let again = c in
-    let read = again.before.before.before.before.before in
+    let read = c.before.before.before.before.before.before.before in
     let start = begun read in
-    first c.before.before.before.before.before.before.before
+    first read
     ∙ invalid (rules_of start.args.version) (table start) start.args.most
     (thirteen-invalid d (table start) start.args.most (sym (ap (λ (m : Measured). m.refusal) (second c.before.before)) ∙ c.if-widest-eq13.true))
 
 returns-3 : tie.Need-returns
 returns-3 c =
-    let left = c in
-    let again = c in
-    let wide = c in
-    let read = wide.before.before.before in
+    let read = c.before.before.before.before.before.before.before.before in
     let start = begun read in
     c.refuse.ensures
     ∙ outside (rules_of start.args.version) (table start) start.args.most
-    (other-valid d (table start) start.args.most (λ e. left.if-widest-eq13.false (ap (λ (m : Measured). m.refusal) (second c.before.before.before) ∙ e)))
-    (version-goes start.args.version (table start) start.args.most (tested c.before.before.before.before.before.before.before.before false wide.if-answer-rules.false))
+    (other-valid d (table start) start.args.most (λ e. c.if-widest-eq13.false (ap (λ (m : Measured). m.refusal) (second c.before.before.before) ∙ e)))
+    (version-goes start.args.version (table start) start.args.most (tested read false c.if-answer-rules.false))
 
 pub measure_in_spec : {M : Type 1} → statement M
 measure_in_spec =

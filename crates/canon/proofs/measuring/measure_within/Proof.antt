@@ -74,26 +74,24 @@ returns-2 c =
     let asked = (known read).before in
     let a = (start asked).args in
     c.refuse-then-not-named-exponents_valid.ensures
-    ∙ no-lists a.rules (table asked) a.most (hold (known read)) _ (judged c.before.before.before) (c.if-not-named-exponents_valid.true)
+    ∙ no-lists a.rules (table asked) a.most (hold (known read)) _ (judged read) (c.if-not-named-exponents_valid.true)
 
 returns-3 : tie.Need-returns-then-spent-eq0
 returns-3 c =
-    let other = c in
-    let read = other.before.before in
+    let read = c.before.before.before.before.before in
     let asked = (known read).before in
     let a = (start asked).args in
     c.refuse-then-spent-eq0.ensures
-    ∙ too_long a.rules (table asked) a.most (hold (known read)) _ (judged c.before.before.before.before.before) (other.if-not-named-exponents_valid.false)
-    read.table_spent-spent.result.left (left c.before.before.before.before.before) c.if-spent-eq0.true
+    ∙ too_long a.rules (table asked) a.most (hold (known read)) _ (judged read) (c.if-not-named-exponents_valid.false)
+    read.table_spent-spent.result.left (left read) c.if-spent-eq0.true
 
 returns-4 : tie.Need-returns
 returns-4 c =
-    let other = c in
-    let read = other.before.before in
+    let read = c.before.before.before.before.before in
     let asked = (known read).before in
     let a = (start asked).args in
-    written a.rules (table asked) a.most (hold (known read)) _ (judged c.before.before.before.before.before) (other.if-not-named-exponents_valid.false)
-    read.table_spent-spent.result.left (left c.before.before.before.before.before) c.if-spent-eq0.false
+    written a.rules (table asked) a.most (hold (known read)) _ (judged read) (c.if-not-named-exponents_valid.false)
+    read.table_spent-spent.result.left (left read) c.if-spent-eq0.false
 
 pub measure_within_spec : {M : Type 1} → statement M
 measure_within_spec = tie.close (tie.spec (λ c κs. search rules) (λ c κs. search rules) returns (λ c. search rules) (λ c. search rules) (λ c. let l = lists c in search rules) (λ c κs. search rules) (λ c. search rules) table-spent-requires (λ c. search rules) (λ c. search rules) (λ c. let l = lists c.before.before.before in search rules) (λ c κs. search rules) (λ c κs. search rules) returns-2 (λ c κs. search rules) returns-3 (λ c. search rules) returns-4)

@@ -13,7 +13,7 @@ use Rattle.canon.proofs.notes.correlation_valid.Tie as tie
 returns : tie.Need-returns
 returns c =
     let a = c.args in
-    one_of (ap (λ (m : ℕ). leb m largest_correlation) (magnitude-read a.note.now a.i c.magnitude-of-arg.given c.magnitude_of.ensures))
+    one_of (ap (λ (m : ℕ). leb m largest_correlation) (magnitude-read a.note.now a.i c.magnitude_of-arg-1.given c.magnitude_of.ensures))
     c.is_unnoted.ensures
 
 pub correlation_valid_spec : {M : Type 1} → statement M

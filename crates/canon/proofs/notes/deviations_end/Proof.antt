@@ -9,9 +9,7 @@ use Rattle.canon.proofs.notes.deviations_end.Tie as tie
 returns : tie.Need-returns
 unfolding deviations_end
 returns c =
-    let z = c in
-    let y = c in
-    c.end_at.ensures ∙ rw (z.end_at-z.ensures, y.end_at-y.ensures, y.end_at-x.ensures)
+    c.end_at.ensures ∙ rw (c.end_at-z.ensures, c.end_at-y.ensures, c.end_at-x.ensures)
 
 pub deviations_end_spec : {M : Type 1} → statement M
 deviations_end_spec =

@@ -6,7 +6,7 @@ use Rattle.canon.proofs.notes.is_noted.Statement.{statement}
 use Rattle.canon.proofs.notes.is_noted.Tie as tie
 
 returns : tie.Need-returns
-returns c = mark-read c.args.note.now 0 c.result.given
+returns c = mark-read c.args.note.now 0 c.result-1.given
 
 pub is_noted_spec : {M : Type 1} → statement M
 is_noted_spec =

@@ -3,7 +3,6 @@
 use mathlib.Core.Path.{◌≡◌, ap, ◌∙◌}
 use mathlib.Core.Bool.{true}
 use native.Mathlib.Omega.{arith}
-use borrow.Author.Tests.{not-true, not-false}
 use borrow.Author.Rules.{rules}
 use lib.ListN.{length, drop, length-drop}
 use lib.Seq.{take_all}
@@ -16,26 +15,23 @@ use Rattle.canon.proofs.numbers.cell_spent.Statement.{statement}
 use Rattle.canon.proofs.numbers.cell_spent.Tie as tie
 
 row-spent-requires : tie.Need-row_spent-requires
-row-spent-requires c κs = c.requires ∙ ap cell_width (not-true c.args.velocity c.if-not-velocity.true)
+row-spent-requires c κs = c.requires ∙ ap cell_width c.if-not-velocity.true
 
 returns : tie.Need-returns-then-not-velocity
 unfolding cell_valid cell_length
-returns c = rw (not-true c.args.velocity c.if-not-velocity.true) c.row_spent.ensures
+returns c = rw c.if-not-velocity.true c.row_spent.ensures
 
 long : (c : tie.Else-not-velocity) → length c.args.cell.now ≡ both_width
-long c = c.requires ∙ ap cell_width (not-false c.args.velocity c.if-not-velocity.false)
+long c = c.requires ∙ ap cell_width c.if-not-velocity.false
 
 returns-2 : tie.Need-returns
 unfolding cell_valid cell_length
 returns-2 c =
-    let motion = c in
-    let place = c in
-    let mode = c in
-    let cell = mode.args.cell.now in
+    let cell = c.args.cell.now in
     let second = take_all row_width (drop row_width cell) (omega (arith, length-drop row_width cell, long c.before.before.before.before.before.before)) in
-    rw (not-false mode.args.velocity mode.if-not-velocity.false) (
-      both place.row_spent-place.ensures.0 (motion.row_spent-motion.ensures.0 ∙ ap (noted_valid true) second),
-      omega (arith, place.row_spent-place.ensures.1, motion.row_spent-motion.ensures.1, ap noted_length second),
+    rw c.if-not-velocity.false (
+      both c.row_spent-place.ensures.0 (c.row_spent-motion.ensures.0 ∙ ap (noted_valid true) second),
+      omega (arith, c.row_spent-place.ensures.1, c.row_spent-motion.ensures.1, ap noted_length second),
     )
 
 pub cell_spent_spec : {M : Type 1} → statement M

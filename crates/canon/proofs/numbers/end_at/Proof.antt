@@ -12,7 +12,7 @@ use Rattle.canon.proofs.numbers.end_at.Tie as tie
 read : (c : tie.After-magnitude_of) → c.magnitude_of.result ≡ nat_abs (entry c.args.row.now c.args.i)
 read c =
     let a = c.args in
-    magnitude-read a.row.now a.i c.magnitude-of-arg.given c.magnitude_of.ensures
+    magnitude-read a.row.now a.i c.magnitude_of-arg-1.given c.magnitude_of.ensures
 
 returns : tie.Need-returns-then-magnitude_of-none
 returns c =

@@ -9,9 +9,7 @@ use Rattle.canon.proofs.numbers.exponents_end.Tie as tie
 returns : tie.Need-returns
 unfolding exponents_end
 returns c =
-    let z = c in
-    let y = c in
-    c.end_at.ensures ∙ rw (z.end_at-z.ensures, y.end_at-y.ensures, y.end_at-x.ensures)
+    c.end_at.ensures ∙ rw (c.end_at-z.ensures, c.end_at-y.ensures, c.end_at-x.ensures)
 
 pub exponents_end_spec : {M : Type 1} → statement M
 exponents_end_spec = tie.close (tie.spec (λ c κs. search rules) (λ c κs. search rules) (λ c κs. search rules) (λ c κs. search rules) returns)

@@ -14,17 +14,17 @@ use Rattle.canon.proofs.numbers.is_count.Tie as tie
 returns : tie.Need-returns-then-v-lt0
 returns c =
     let a = c.args in
-    let below : is_negative (entry a.row.now a.i) ≡ true = sym (negative-read a.row.now a.i c.v.given) ∙ c.if-v-lt0.true in
+    let below : is_negative (entry a.row.now a.i) ≡ true = sym (negative-read a.row.now a.i c.v-1.given) ∙ c.if-v-lt0.true in
     rw below refl
 
 counted : (c : tie.Else-v-lt0) → is_negative (entry c.args.row.now c.args.i) ≡ false
-counted c = let a = c.args in sym (negative-read a.row.now a.i c.v.given) ∙ c.if-v-lt0.false
+counted c = let a = c.args in sym (negative-read a.row.now a.i c.v-1.given) ∙ c.if-v-lt0.false
 
 cast-result : tie.Need-overflow_cast-result
-cast-result c = let a = c.args in count_fits a.row.now a.i c.v.given (counted c)
+cast-result c = let a = c.args in count_fits a.row.now a.i c.v-1.given (counted c)
 
 returns-2 : tie.Need-returns
-returns-2 c = let a = c.args in count-read a.row.now a.i c.v.given (λ (m : ℕ). eqb m a.n) (counted c)
+returns-2 c = let a = c.args in count-read a.row.now a.i c.v-1.given (λ (m : ℕ). eqb m a.n) (counted c)
 
 pub is_count_spec : {M : Type 1} → statement M
 is_count_spec = tie.close (tie.spec (λ c. search rules) (λ c. search rules) returns cast-result returns-2)

@@ -12,10 +12,7 @@ use Rattle.canon.proofs.numbers.row_length.Tie as tie
 measured : (c : tie.After-end_at) → c.end_at.result + 1 ≡ row_length c.args.row.now
 unfolding row_length
 measured c =
-    let maneuver = c in
-    let predicted = c in
-    let event = c in
-    rw (c.end_at.ensures, maneuver.end_at-maneuver.ensures, predicted.end_at-predicted.ensures, event.end_at-event.ensures, event.exponents_end-none.ensures)
+    rw (c.end_at.ensures, c.end_at-maneuver.ensures, c.end_at-predicted.ensures, c.end_at-event.ensures, c.exponents_end-none.ensures)
 
 reach : (c : tie.After-end_at) → c.end_at.result + 1 ≤ 81
 reach c = rw (measured c) (row-reach c.args.row.now)

@@ -3,7 +3,6 @@
 use Prim.Native.Nat.{◌-◌, ◌<◌}
 use mathlib.Core.Path.{refl, sym, ◌∙◌}
 use mathlib.Core.List.{map}
-use mathlib.Core.Logic.{⊎_elim}
 use borrow.Author.Rules.{rules}
 use borrow.Author.Tests.{eq-eqb, ne_eqb}
 use lib.ListN.{length, take}
@@ -16,6 +15,7 @@ use Rattle.fill.proofs.Filling.{Filling, filling-first, filling-other, parts_lef
 use Rattle.fill.proofs.FillingComments.{no-comments, comments-end, comments-done, comments-more}
 use Rattle.fill.proofs.fill.fill_comments.Statement.{statement}
 use Rattle.fill.proofs.fill.fill_comments.Tie as tie
+use Rattle.fill.proofs.fill.fill_comments.Lts.{then-kind_in-eq-COMMENT_KIND+else-left-out, else-kind_in-eq-COMMENT_KIND}
 
 abbrev invariant-loop : tie.invariant-loop-rules
 invariant-loop rules bytes count out₀ at₀ stored₀ left₀ out at stored left =
@@ -56,18 +56,18 @@ loop-again c =
     let ended = c in
     let inv = ended.loop-rules.invariant in
     let found = told.if-end-bytes.false in
-    ⊎_elim
-    (λ w.
-    rw (w.6, w.7, w.8)
+    elim c.if-kind_in-eq-COMMENT_KIND.branch [
+    | then-kind_in-eq-COMMENT_KIND+else-left-out w ↦
+        rw (w.out-is, w.stored-is, w.left-is)
     (comments-more inv.1 ended.line_end-end.result ended.line_end-end.ensures found
-    (eq-eqb _ 8 (sym told.kind_in.ensures ∙ w.0.taken)) inv.0 w.2.ensures w.5.left))
-    (λ w.
-    rw (w.1, w.2, w.3) (
+    (eq-eqb _ 8 (sym told.kind_in.ensures ∙ w.if-kind_in-eq-COMMENT_KIND.true)) inv.0 w.lay_comment.ensures w.if-left-out.false)
+    | else-kind_in-eq-COMMENT_KIND w ↦
+    rw (w.out-is, w.stored-is, w.left-is) (
       inv.0,
       filling-other inv.1 ended.line_end-end.result ended.line_end-end.ensures found
-          (ne_eqb _ 8 (λ e. w.0.left (told.kind_in.ensures ∙ e))),
-    ))
-    c.if-kind_in-eq-COMMENT_KIND.branch
+          (ne_eqb _ 8 (λ e. w.if-kind_in-eq-COMMENT_KIND.false (told.kind_in.ensures ∙ e))),
+    )
+    ]
 
 pub fill_comments_spec : {M : Type 1} → statement M
 fill_comments_spec =

@@ -3,7 +3,6 @@
 use Prim.Native.Nat.{ℕ, ◌-◌}
 use mathlib.Core.Path.{sym, ap, ◌∙◌}
 use mathlib.Core.Bool.{Bool, ◌||◌}
-use mathlib.Core.Logic.{⊎_elim}
 use native.Mathlib.Omega.{arith}
 use borrow.Author.Rules.{rules}
 use lib.Dec.{eqb}
@@ -12,6 +11,7 @@ use Rattle.record.specs.Rows.{row_of}
 use Rattle.fill.proofs.FillingRows.{RowsFilling, rows-first, rows_end, rows-full, rows-passed, rows_more}
 use Rattle.fill.proofs.fill.fill_rows.Statement.{statement}
 use Rattle.fill.proofs.fill.fill_rows.Tie as tie
+use Rattle.fill.proofs.fill.fill_rows.Lts.{then-kind+else-out-stored-lt-ROW_WIDTH, else-kind}
 
 abbrev invariant-loop : tie.invariant-loop-rules
 invariant-loop rules bytes out₀ at₀ stored₀ out at stored = RowsFilling rules bytes out₀ out at stored
@@ -58,17 +58,17 @@ loop-again c =
     let a = at-loop.args in
     let found = told.if-end-bytes.false in
     let line = take (ended.line_end-end.result - at-loop.loop-rules.at) (drop at-loop.loop-rules.at a.bytes.now) in
-    ⊎_elim
-    (λ w.
-    rw (w.6, w.7)
+    elim c.if-kind.branch [
+    | then-kind+else-out-stored-lt-ROW_WIDTH w ↦
+    rw (w.out-is, w.stored-is)
     (rows_more a.rules a.bytes.now a.out.now at-loop.loop-rules.out at-loop.loop-rules.at at-loop.loop-rules.stored at-loop.loop-rules.invariant
-    ended.line_end-end.result ended.line_end-end.ensures found (sym (ap is_row_kind told.kind_in-kind.ensures) ∙ w.0.taken) w.1.left
-    w.2.result (w.2.ensures ∙ ap (λ (kind : ℕ). row_of (eqb kind 11) line) told.kind_in-kind.ensures) (w.4.ensures a.rules)))
-    (λ w.
-    rw (w.1, w.2)
+    ended.line_end-end.result ended.line_end-end.ensures found (sym (ap is_row_kind told.kind_in-kind.ensures) ∙ w.if-kind.true) w.if-out-stored-lt-ROW_WIDTH.false
+    w.row_of.result (w.row_of.ensures ∙ ap (λ (kind : ℕ). row_of (eqb kind 11) line) told.kind_in-kind.ensures) (w.store_noted.ensures a.rules))
+    | else-kind w ↦
+    rw (w.out-is, w.stored-is)
     (rows-passed a.rules a.bytes.now a.out.now at-loop.loop-rules.out at-loop.loop-rules.at at-loop.loop-rules.stored at-loop.loop-rules.invariant
-    ended.line_end-end.result ended.line_end-end.ensures found (sym (ap is_row_kind told.kind_in-kind.ensures) ∙ w.0.left)))
-    c.if-kind.branch
+    ended.line_end-end.result ended.line_end-end.ensures found (sym (ap is_row_kind told.kind_in-kind.ensures) ∙ w.if-kind.false))
+    ]
 
 pub fill_rows_spec : {M : Type 1} → statement M
 fill_rows_spec =

@@ -2,7 +2,6 @@
 -- Assumes nothing.
 use Prim.Native.Nat.{◌-◌}
 use mathlib.Core.Path.{sym, ap, ◌∙◌}
-use mathlib.Core.Logic.{⊎_elim}
 use native.Mathlib.Omega.{arith}
 use borrow.Author.Rules.{rules}
 use borrow.Author.Tests.{eq-eqb, ne_eqb}
@@ -15,6 +14,7 @@ use Rattle.fill.proofs.Filling.{Filling, neither-met, filling-other}
 use Rattle.fill.proofs.FillingSlots.{slots_left, slots-first, slots_end, slots-done, slots-more}
 use Rattle.fill.proofs.fill.fill_slots.Statement.{statement}
 use Rattle.fill.proofs.fill.fill_slots.Tie as tie
+use Rattle.fill.proofs.fill.fill_slots.Lts.{then-accuracies, else-accuracies, then-kind_in-kind+else-left-out, else-kind_in-kind}
 
 abbrev invariant-loop : tie.invariant-loop-rules
 invariant-loop rules bytes accuracies n out₀ kind at₀ stored₀ left₀ out at stored left =
@@ -27,7 +27,10 @@ loop-holds : tie.Need-loop-rules-init invariant-loop decreases-loop
 loop-holds c =
     let a = c.args in
     slots-first a.rules a.accuracies c.if-accuracies.kind a.n a.bytes.now a.out.now
-    (⊎_elim (λ w. w.1 ∙ sym (ap slot_line_kind w.0.taken)) (λ w. w.1 ∙ sym (ap slot_line_kind w.0.left)) c.if-accuracies.branch)
+    (elim c.if-accuracies.branch [
+    | then-accuracies w ↦ w.kind-is ∙ sym (ap slot_line_kind w.if-accuracies.true)
+    | else-accuracies w ↦ w.kind-is ∙ sym (ap slot_line_kind w.if-accuracies.false)
+    ])
 
 returns : tie.Need-returns-then-end-bytes invariant-loop decreases-loop
 returns c =
@@ -49,7 +52,7 @@ sub-left : tie.Need-overflow_sub-left invariant-loop decreases-loop
 sub-left c =
     let laid = c in
     let loop = laid.loop-rules in
-    let out = put_mid loop.stored (length loop.out - loop.stored) loop.out laid.lay_slots.new.1.1.1.0 in
+    let out = put_mid loop.stored (length loop.out - loop.stored) loop.out laid.lay_slots.new.out in
     omega (arith, (neither-met loop.left 17 (length out - loop.stored) 17 c.if-left-out.false).0)
 
 loop-again : tie.Need-loop-rules-preserved invariant-loop decreases-loop
@@ -60,16 +63,16 @@ loop-again c =
     let a = joined.args in
     let inv = ended.loop-rules.invariant in
     let found = told.if-end-bytes.false in
-    ⊎_elim
-    (λ w.
-    rw (w.6, w.7, w.8)
+    elim c.if-kind_in-kind.branch [
+    | then-kind_in-kind+else-left-out w ↦
+    rw (w.out-is, w.stored-is, w.left-is)
     (slots-more a.accuracies inv ended.line_end-end.result ended.line_end-end.ensures found
-    (eq-eqb _ joined.if-accuracies.kind (sym told.kind_in.ensures ∙ w.0.taken)) w.2.ensures w.5.left))
-    (λ w.
-    rw (w.1, w.2, w.3)
+    (eq-eqb _ joined.if-accuracies.kind (sym told.kind_in.ensures ∙ w.if-kind_in-kind.true)) w.lay_slots.ensures w.if-left-out.false)
+    | else-kind_in-kind w ↦
+    rw (w.out-is, w.stored-is, w.left-is)
     (filling-other inv ended.line_end-end.result ended.line_end-end.ensures found
-    (ne_eqb _ joined.if-accuracies.kind (λ e. w.0.left (told.kind_in.ensures ∙ e)))))
-    c.if-kind_in-kind.branch
+    (ne_eqb _ joined.if-accuracies.kind (λ e. w.if-kind_in-kind.false (told.kind_in.ensures ∙ e))))
+    ]
 
 pub fill_slots_spec : {M : Type 1} → statement M
 fill_slots_spec =

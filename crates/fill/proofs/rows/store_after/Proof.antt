@@ -1,7 +1,6 @@
 -- `fill::rows::store_after` meets its contract.
 -- Assumes nothing.
 use mathlib.Core.Path.{ap, ◌∙◌}
-use mathlib.Core.Logic.{⊎_elim}
 use borrow.Author.Rules.{rules}
 use Rattle.lines.specs.Lent.{over}
 use Rattle.record.specs.declared.types.Note.{Note}
@@ -9,6 +8,7 @@ use Rattle.file.specs.Table.{note_numbers}
 use Rattle.fill.proofs.After.{after_none, after-cut, after-note}
 use Rattle.fill.proofs.rows.store_after.Statement.{statement}
 use Rattle.fill.proofs.rows.store_after.Tie as tie
+use Rattle.fill.proofs.rows.store_after.Lts.{then-begins_note+else-end-bytes, else-begins_note}
 
 returns : tie.Need-returns-then-end-bytes
 returns c rules =
@@ -30,10 +30,11 @@ returns-2 c rules =
     let begun = c in
     let a = begun.args in
     stored.store_no_note.ensures
-    ∙ ⊎_elim
-    (λ w. after-cut rules a.bytes.now a.at begun.begins_note.ensures a.out.now w.1.result w.1.ensures w.2.left)
-    (λ w. after_none rules a.bytes.now a.at begun.begins_note.ensures a.out.now w.left)
-    joined.if-begins_note.branch
+    ∙ elim joined.if-begins_note.branch [
+      | then-begins_note+else-end-bytes w ↦
+          after-cut rules a.bytes.now a.at begun.begins_note.ensures a.out.now w.line_end-end.result w.line_end-end.ensures w.if-end-bytes.false
+      | else-begins_note w ↦ after_none rules a.bytes.now a.at begun.begins_note.ensures a.out.now w.if-begins_note.false
+      ]
 
 pub store_after_spec : {M : Type 1} → statement M
 store_after_spec =

@@ -59,10 +59,10 @@ read_line_spec =
     returns
     (λ c. search rules)
     returns-2
-    (λ c. let h = bounds c.before.before.before.before.before.before _ _ c.in-Next.is in omega (arith, h))
-    (λ c. let h = bounds c.before.before.before.before.before.before _ _ c.in-Next.is in omega (arith, h))
-    (λ c. let h = bounds c.before.before.before.before.before.before _ _ c.in-Next.is in omega (arith, h))
-    (λ c. let h = bounds c.before.before.before.before.before.before _ _ c.in-Next.is in omega (arith, h))
+    (λ c. let h = bounds c.before.before.before.before _ _ c.in-Next.is in omega (arith, h))
+    (λ c. let h = bounds c.before.before.before.before _ _ c.in-Next.is in omega (arith, h))
+    (λ c. let h = bounds c.before.before.before.before _ _ c.in-Next.is in omega (arith, h))
+    (λ c. let h = bounds c.before.before.before.before _ _ c.in-Next.is in omega (arith, h))
     (λ c κs. search rules)
     (λ c. search rules)
     returns-3

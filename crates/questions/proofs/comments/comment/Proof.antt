@@ -18,28 +18,24 @@ use Rattle.questions.proofs.comments.comment.Statement.{statement}
 use Rattle.questions.proofs.comments.comment.Tie as tie
 
 -- what was found in the file
-found-file : (c : tie.In-File-2) → file_of (rules_in c.args.file.now) c.args.file.now ≡ front.File c.in-File.tally
+found-file : (c : tie.In-File) → file_of (rules_in c.args.file.now) c.args.file.now ≡ front.File c.in-File.tally
 found-file c =
-    let ran = c in
-    found_as ran.told_by-rules.result ran.args.file.now ran.scan_whole.result (front.File c.in-File.tally)
-    ran.told_by-rules.ensures (told_front-one _ _ ran.scan_whole.ensures) c.in-File.is
+    found_as c.told_by-rules.result c.args.file.now c.scan_whole.result (front.File c.in-File.tally)
+    c.told_by-rules.ensures (told_front-one _ _ c.scan_whole.ensures) c.in-File.is
 
 part-line-of-end : tie.Need-slice_bounds-line_of-end
 part-line-of-end c =
-    let known = c in
-    omega (arith, file-within (rules_in known.args.file.now) known.args.file.now known.in-File.tally (found-file c.before.before.before))
+    omega (arith, file-within (rules_in c.args.file.now) c.args.file.now c.in-File.tally (found-file c.before.before))
 
 returns : tie.Need-returns-then-k-tally
 returns c =
-    let known = c in
-    let start = c in
-    let t = known.in-File.tally in (
-      words-as (rules_in start.args.file.now) start.args.file.now (front.File t) (found-file c.before.before.before.before.before.before) start.args.k c.text_of.result.now
-          (words-there known.told_by-rules.result known.told_by-rules.ensures start.args.file.now t start.args.k c.text_of.result.now
-          c.Line-of.result.now c.if-k-tally.true c.text_of.ensures.0 c.Line-of.ensures.0),
-      at-comment known.told_by-rules.result known.told_by-rules.ensures start.args.file t (found-file c.before.before.before.before.before.before) start.args.k
-          c.Line-of.result c.text_of.result c.if-k-tally.true
-          c.Line-of.ensures.0 c.Line-of.ensures.1 c.text_of.ensures.0 c.text_of.ensures.1,
+    let t = c.in-File.tally in (
+      words-as (rules_in c.args.file.now) c.args.file.now (front.File t) (found-file c.before.before.before.before.before) c.args.k c.text_of.result.now
+          (words-there c.told_by-rules.result c.told_by-rules.ensures c.args.file.now t c.args.k c.text_of.result.now
+          c.line_of.result.now c.if-k-tally.true c.text_of.ensures.0 c.line_of.ensures.0),
+      at-comment c.told_by-rules.result c.told_by-rules.ensures c.args.file t (found-file c.before.before.before.before.before) c.args.k
+          c.line_of.result c.text_of.result c.if-k-tally.true
+          c.line_of.ensures.0 c.line_of.ensures.1 c.text_of.ensures.0 c.text_of.ensures.1,
     )
 
 -- nothing lies at the first byte
@@ -48,29 +44,24 @@ first_byte bytes = omega arith
 
 returns-2 : tie.Need-returns-in-Refused
 unfolding comment_answer comment_words
-returns-2 c =
-    let known = c in
-    let ran = c in
-    let start = c in (
-      words-as (rules_in start.args.file.now) start.args.file.now _
-          (found_as ran.told_by-rules.result start.args.file.now ran.scan_whole.result _ ran.told_by-rules.ensures (told_front-one _ _ ran.scan_whole.ensures) known.in-Refused.is)
-          start.args.k c.nothing_at.result.now c.nothing_at.ensures.0,
-      c.nothing_at.ensures.1 ∙ ap (byte_of start.args.file) (first_byte start.args.file.now) ∙ ap (λ (a : CommentAnswer). byte_of start.args.file a.at)
-          (comment-as (rules_in start.args.file.now) start.args.file.now _
-          (found_as ran.told_by-rules.result start.args.file.now ran.scan_whole.result _ ran.told_by-rules.ensures (told_front-one _ _ ran.scan_whole.ensures) known.in-Refused.is)
-          start.args.k (no_comment _ _ _) refl),
-    )
+returns-2 c = (
+  words-as (rules_in c.args.file.now) c.args.file.now _
+      (found_as c.told_by-rules.result c.args.file.now c.scan_whole.result _ c.told_by-rules.ensures (told_front-one _ _ c.scan_whole.ensures) c.in-Refused.is)
+      c.args.k c.nothing_at.result.now c.nothing_at.ensures.0,
+  c.nothing_at.ensures.1 ∙ ap (byte_of c.args.file) (first_byte c.args.file.now) ∙ ap (λ (a : CommentAnswer). byte_of c.args.file a.at)
+      (comment-as (rules_in c.args.file.now) c.args.file.now _
+      (found_as c.told_by-rules.result c.args.file.now c.scan_whole.result _ c.told_by-rules.ensures (told_front-one _ _ c.scan_whole.ensures) c.in-Refused.is)
+      c.args.k (no_comment _ _ _) refl),
+)
 
 returns-3 : tie.Need-returns-else-k-tally
 returns-3 c =
-    let known = c in
-    let start = c in
-    let t = known.in-File.tally in (
-      words-as (rules_in start.args.file.now) start.args.file.now (front.File t) (found-file c.before.before.before.before) start.args.k c.nothing_at-in-File.result.now
-          (c.nothing_at-in-File.ensures.0 ∙ no-words-there (rules_in start.args.file.now) start.args.file.now t start.args.k c.if-k-tally.false),
-      c.nothing_at-in-File.ensures.1 ∙ ap (byte_of start.args.file) (first_byte start.args.file.now) ∙ ap (λ (a : CommentAnswer). byte_of start.args.file a.at)
-          (comment-as (rules_in start.args.file.now) start.args.file.now (front.File t) (found-file c.before.before.before.before) start.args.k (no_comment 13 0 0)
-          (no-comment-there (rules_in start.args.file.now) start.args.file.now t start.args.k (no_comment 13 0 0) c.if-k-tally.false refl)),
+    let t = c.in-File.tally in (
+      words-as (rules_in c.args.file.now) c.args.file.now (front.File t) (found-file c.before.before.before) c.args.k c.nothing_at-in-File.result.now
+          (c.nothing_at-in-File.ensures.0 ∙ no-words-there (rules_in c.args.file.now) c.args.file.now t c.args.k c.if-k-tally.false),
+      c.nothing_at-in-File.ensures.1 ∙ ap (byte_of c.args.file) (first_byte c.args.file.now) ∙ ap (λ (a : CommentAnswer). byte_of c.args.file a.at)
+          (comment-as (rules_in c.args.file.now) c.args.file.now (front.File t) (found-file c.before.before.before) c.args.k (no_comment 13 0 0)
+          (no-comment-there (rules_in c.args.file.now) c.args.file.now t c.args.k (no_comment 13 0 0) c.if-k-tally.false refl)),
     )
 
 pub comment_spec : {M : Type 1} → statement M

@@ -26,9 +26,9 @@ returns-2 : tie.Need-returns
 returns-2 c =
     let line = c.args.line in
     let here : 3 ≡ min 3 (length line.now) = omega arith in
-    let first : 0 + (3 + line.ptr.1) ≡ 3 + line.ptr.1 = omega arith in (
+    let first : 0 + (3 + line.ref_ptr.1) ≡ 3 + line.ref_ptr.1 = omega arith in (
       text-told line.now c.trimmed_length-n.result c.trimmed_length-n.ensures,
-      ap (λ (n : ℕ). (line.ptr.0, n)) first ∙ ap (byte_of line) here,
+      ap (λ (n : ℕ). (line.ref_ptr.0, n)) first ∙ ap (byte_of line) here,
     )
 
 pub text_of_spec : {M : Type 1} → statement M

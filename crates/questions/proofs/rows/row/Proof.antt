@@ -7,14 +7,11 @@ use Rattle.questions.proofs.rows.row.Tie as tie
 
 returns : tie.Need-returns-then-found-ne0
 returns c =
-    let placed = c in
-    refused_as placed.args.file.now placed.row_begins-found.ensures c.if-found-ne0.true c.absent_row.ensures
+    refused_as c.args.file.now c.row_begins-found.ensures c.if-found-ne0.true c.absent_row.ensures
 
 returns-2 : tie.Need-returns
 returns-2 c =
-    let found = c in
-    let placed = c in
-    answered-as placed.args.file.now placed.row_begins-found.ensures found.if-found-ne0.false c.line_at_lem.ensures.0
+    answered-as c.args.file.now c.row_begins-found.ensures c.if-found-ne0.false c.line_at-line.ensures.0
     c.row_of.ensures c.float_row.ensures
 
 pub row_spec : {M : Type 1} → statement M

@@ -16,13 +16,11 @@ small : (c : tie.Then-epoch-first)
     → (c.args.epoch * c.count_of-n.result ≤ max_epochs * max_satellites)
     × (c.args.satellite < max_satellites)
 small c =
-    let counted = c in
-    let start = c in
-    let a = start.args in
-    let epochs = ap (λ (x : First). x.epochs) counted.first_of-first.ensures in
-    row-bounds counted.first_of-first.result a.epoch a.satellite counted.count_of-n.result c.if-epoch-first.true
-    (omega (arith, start.requires.0, epochs))
-    (omega (arith, start.requires.1, counted.count_of-n.ensures))
+    let a = c.args in
+    let epochs = ap (λ (x : First). x.epochs) c.first_of-first.ensures in
+    row-bounds c.first_of-first.result a.epoch a.satellite c.count_of-n.result c.if-epoch-first.true
+    (omega (arith, c.requires.0, epochs))
+    (omega (arith, c.requires.1, c.count_of-n.ensures))
 
 mul-line-begins : tie.Need-overflow_mul-epoch
 mul-line-begins c = omega (arith, (small c).0, (small c).1)
@@ -32,18 +30,16 @@ add-line-begins c = omega (arith, (small c).0, (small c).1)
 
 returns : tie.Need-returns-then-epoch-first
 returns c =
-    let counted = c in
-    let a = counted.args in
-    row_told a.rules (lines_of a.bytes.now) a.epoch a.satellite counted.first_of-first.result counted.count_of-n.result
-    counted.first_of-first.ensures counted.count_of-n.ensures c.line_begins.result c.if-epoch-first.true c.line_begins.ensures
+    let a = c.args in
+    row_told a.rules (lines_of a.bytes.now) a.epoch a.satellite c.first_of-first.result c.count_of-n.result
+    c.first_of-first.ensures c.count_of-n.ensures c.line_begins.result c.if-epoch-first.true c.line_begins.ensures
 
 returns-2 : tie.Need-returns
 returns-2 c =
-    let counted = c in
-    let a = counted.args in
+    let a = c.args in
     c.no_row.ensures
-    ∙ row-missing a.rules (lines_of a.bytes.now) a.epoch a.satellite counted.first_of-first.result counted.count_of-n.result
-    counted.first_of-first.ensures counted.count_of-n.ensures c.if-epoch-first.false
+    ∙ row-missing a.rules (lines_of a.bytes.now) a.epoch a.satellite c.first_of-first.result c.count_of-n.result
+    c.first_of-first.ensures c.count_of-n.ensures c.if-epoch-first.false
 
 pub row_at_spec : {M : Type 1} → statement M
 row_at_spec =

@@ -31,22 +31,17 @@ returns c = rw (ne_eqb _ _ c.if-text-ne3.true)
 
 returns-2 : tie.Need-returns-then-not-is_named-number
 returns-2 c =
-    let asked = c in
-    let counted = c in
-    let e = counted.if-text-ne3.false in
-    let text = counted.args.text.now in
-    none text e (three text counted.two_digits-number.result asked.is_named.result e counted.two_digits-number.ensures.0 asked.is_named.ensures ∙ c.if-not-is_named-number.true)
+    let e = c.if-text-ne3.false in
+    let text = c.args.text.now in
+    none text e (three text c.two_digits-number.result c.is_named.result e c.two_digits-number.ensures.0 c.is_named.ensures ∙ c.if-not-is_named-number.true)
 
 returns-3 : tie.Need-returns
 returns-3 c =
-    let left = c in
-    let asked = c in
-    let counted = c in
-    let e = counted.if-text-ne3.false in
-    let text = counted.args.text.now in
+    let e = c.if-text-ne3.false in
+    let text = c.args.text.now in
     some text c.identifier_code.result e
-    (three text counted.two_digits-number.result asked.is_named.result e counted.two_digits-number.ensures.0 asked.is_named.ensures ∙ left.if-not-is_named-number.false)
-    (c.identifier_code.ensures ∙ ap (λ (n : ℕ). get_or text 0 0 * 100 + n) counted.two_digits-number.ensures.0)
+    (three text c.two_digits-number.result c.is_named.result e c.two_digits-number.ensures.0 c.is_named.ensures ∙ c.if-not-is_named-number.false)
+    (c.identifier_code.ensures ∙ ap (λ (n : ℕ). get_or text 0 0 * 100 + n) c.two_digits-number.ensures.0)
 
 pub identifier_of_spec : {M : Type 1} → statement M
 identifier_of_spec =

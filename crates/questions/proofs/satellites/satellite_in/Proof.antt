@@ -9,14 +9,12 @@ use Rattle.questions.proofs.satellites.satellite_in.Tie as tie
 
 returns : tie.Need-returns-then-number-identifiers
 returns c =
-    let known = c in
-    rw (← known.index_of-number.ensures, lt-ltb known.index_of-number.result (length known.args.identifiers.now) c.if-number-identifiers.true)
+    rw (← c.index_of-number.ensures, lt-ltb c.index_of-number.result (length c.args.identifiers.now) c.if-number-identifiers.true)
 
 returns-2 : tie.Need-returns
 returns-2 c =
-    let known = c in
     c.no_satellite.ensures
-    ∙ rw (← known.index_of-number.ensures, le-ltb known.index_of-number.result (length known.args.identifiers.now) c.if-number-identifiers.false)
+    ∙ rw (← c.index_of-number.ensures, le-ltb c.index_of-number.result (length c.args.identifiers.now) c.if-number-identifiers.false)
 
 pub satellite_in_spec : {M : Type 1} → statement M
 satellite_in_spec = tie.close (tie.spec (λ c κs. search rules) returns (λ c κs. search rules) returns-2)

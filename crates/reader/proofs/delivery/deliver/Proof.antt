@@ -14,52 +14,39 @@ use Rattle.reader.proofs.delivery.deliver.Statement.{statement}
 use Rattle.reader.proofs.delivery.deliver.Tie as tie
 
 part-used-end : tie.Need-slice_bounds-used-end
-part-used-end c = file-within c.args.rules c.args.bytes.now c.args.found c.found-in-File-1.given.0.0 c.found-in-File-1.given.1 c.requires
+part-used-end c = file-within c.args.rules c.args.bytes.now c.args.found c.in-File.tally c.in-File.is c.requires
 
 returns : tie.Need-returns-then-not-enough
 returns c =
-    let filled = c in
-    let roomed = c in
-    let counted = c in
-    let found = c in
-    let start = c in
-    let a = start.args in
-    let t = found.found-in-File-1.given.0.0 in (
-      c.refused-then-not-enough.ensures ∙ short-delivered a.rules a.bytes.now a.found (length a.identifiers.now) (length a.exponents.now) (length a.comments.now) (length a.rows.now) t found.found-in-File-1.given.1 start.requires counted.count_of-n.result counted.count_of-n.ensures roomed.has_room-enough.result roomed.has_room-enough.ensures (c.if-not-enough.true),
-      lists-delivered a.rules a.bytes.now a.found (length a.identifiers.now) (length a.exponents.now) (length a.comments.now) (length a.rows.now) t found.found-in-File-1.given.1 start.requires counted.count_of-n.result counted.count_of-n.ensures roomed.has_room-enough.result roomed.has_room-enough.ensures
-          a.identifiers.now a.exponents.now a.comments.now _ _ _ a.rows.now _ refl refl refl refl filled.fill_lists.ensures,
+    let a = c.args in
+    let t = c.in-File.tally in (
+      c.refused-then-not-enough.ensures ∙ short-delivered a.rules a.bytes.now a.found (length a.identifiers.now) (length a.exponents.now) (length a.comments.now) (length a.rows.now) t c.in-File.is c.requires c.count_of-n.result c.count_of-n.ensures c.has_room-enough.result c.has_room-enough.ensures (c.if-not-enough.true),
+      lists-delivered a.rules a.bytes.now a.found (length a.identifiers.now) (length a.exponents.now) (length a.comments.now) (length a.rows.now) t c.in-File.is c.requires c.count_of-n.result c.count_of-n.ensures c.has_room-enough.result c.has_room-enough.ensures
+          a.identifiers.now a.exponents.now a.comments.now _ _ _ a.rows.now _ refl refl refl refl c.fill_lists.ensures,
     )
 
 answer-requires : tie.Need-answer-requires
 answer-requires c κs =
-    let found = c in
-    let start = c in
-    file-accounted start.args.rules start.args.bytes.now start.args.found found.found-in-File-1.given.0.0 found.found-in-File-1.given.1 start.requires
+    file-accounted c.args.rules c.args.bytes.now c.args.found c.in-File.tally c.in-File.is c.requires
 
 returns-2 : tie.Need-returns-in-Refused
 returns-2 c =
     let a = c.args in
-    let found = c.found in
-    let number = found.given.0.0 in
-    let line = found.given.0.1.0 in
-    let column = found.given.0.1.1.0 in
-    let none = refusal-fills-none a.rules a.bytes.now a.found (length a.identifiers.now) (length a.exponents.now) (length a.comments.now) (length a.rows.now) number line column found.given.1 in
+    let number = c.in-Refused.number in
+    let line = c.in-Refused.line in
+    let column = c.in-Refused.column in
+    let none = refusal-fills-none a.rules a.bytes.now a.found (length a.identifiers.now) (length a.exponents.now) (length a.comments.now) (length a.rows.now) number line column c.in-Refused.is in
     let lines = lines_in a.bytes.now a.found in
     let still = enough a.rules a.bytes.now a.found (length a.identifiers.now) (length a.exponents.now) (length a.comments.now) (length a.rows.now) in
-    (c.refused.ensures ∙ refusal-delivered a.rules a.bytes.now a.found (length a.identifiers.now) (length a.exponents.now) (length a.comments.now) (length a.rows.now) number line column found.given.1, (left_alone {A = ℕ} still (identifiers_of a.rules lines) a.identifiers.now none, (left_alone {A = ℕ} still (exponents_of a.rules lines) a.exponents.now none, (left_alone {A = ℕ} still (comments_in a.rules lines) a.comments.now none, left_alone {A = ℤ} still (rows_in a.rules lines) a.rows.now none))))
+    (c.refused.ensures ∙ refusal-delivered a.rules a.bytes.now a.found (length a.identifiers.now) (length a.exponents.now) (length a.comments.now) (length a.rows.now) number line column c.in-Refused.is, (left_alone {A = ℕ} still (identifiers_of a.rules lines) a.identifiers.now none, (left_alone {A = ℕ} still (exponents_of a.rules lines) a.exponents.now none, (left_alone {A = ℕ} still (comments_in a.rules lines) a.comments.now none, left_alone {A = ℤ} still (rows_in a.rules lines) a.rows.now none))))
 
 returns-3 : tie.Need-returns-else-not-enough
 returns-3 c =
-    let filled = c in
-    let roomed = c in
-    let counted = c in
-    let found = c in
-    let start = c in
-    let a = start.args in
-    let t = found.found-in-File-1.given.0.0 in (
-      c.answer.ensures ∙ file-delivered a.rules a.bytes.now a.found (length a.identifiers.now) (length a.exponents.now) (length a.comments.now) (length a.rows.now) t found.found-in-File-1.given.1 start.requires counted.count_of-n.result counted.count_of-n.ensures roomed.has_room-enough.result roomed.has_room-enough.ensures (c.if-not-enough.false),
-      lists-delivered a.rules a.bytes.now a.found (length a.identifiers.now) (length a.exponents.now) (length a.comments.now) (length a.rows.now) t found.found-in-File-1.given.1 start.requires counted.count_of-n.result counted.count_of-n.ensures roomed.has_room-enough.result roomed.has_room-enough.ensures
-          a.identifiers.now a.exponents.now a.comments.now _ _ _ a.rows.now _ refl refl refl refl filled.fill_lists.ensures,
+    let a = c.args in
+    let t = c.in-File.tally in (
+      c.answer.ensures ∙ file-delivered a.rules a.bytes.now a.found (length a.identifiers.now) (length a.exponents.now) (length a.comments.now) (length a.rows.now) t c.in-File.is c.requires c.count_of-n.result c.count_of-n.ensures c.has_room-enough.result c.has_room-enough.ensures (c.if-not-enough.false),
+      lists-delivered a.rules a.bytes.now a.found (length a.identifiers.now) (length a.exponents.now) (length a.comments.now) (length a.rows.now) t c.in-File.is c.requires c.count_of-n.result c.count_of-n.ensures c.has_room-enough.result c.has_room-enough.ensures
+          a.identifiers.now a.exponents.now a.comments.now _ _ _ a.rows.now _ refl refl refl refl c.fill_lists.ensures,
     )
 
 pub deliver_spec : {M : Type 1} → statement M

@@ -7,13 +7,13 @@ use Rattle.reader.proofs.judging.answer.Statement.{statement}
 use Rattle.reader.proofs.judging.answer.Tie as tie
 
 part-header-of-end : tie.Need-slice_bounds-header_of-end
-part-header-of-end c = file-within c.args.rules c.args.bytes.now c.args.found c.found-in-File-1.given.0.0 c.found-in-File-1.given.1 c.requires
+part-header-of-end c = file-within c.args.rules c.args.bytes.now c.args.found c.in-File.tally c.in-File.is c.requires
 
 returns : tie.Need-returns-in-Refused
-returns c = c.refused.ensures ∙ refusal-judged c.args.rules c.args.bytes.now c.args.found c.in-Refused.found c.found.given.0.1.0 c.found.given.0.1.1.0 c.in-Refused.is
+returns c = c.refused.ensures ∙ refusal-judged c.args.rules c.args.bytes.now c.args.found c.in-Refused.number c.in-Refused.line c.in-Refused.column c.in-Refused.is
 
 returns-2 : tie.Need-returns-in-File
-returns-2 c = file-judged c.args.rules c.args.bytes.now c.args.found c.found-in-File-1.given.0.0 c.found-in-File-1.given.1 c.requires c.header_of.result c.header_of.ensures
+returns-2 c = file-judged c.args.rules c.args.bytes.now c.args.found c.in-File.tally c.in-File.is c.requires c.header_of.result c.header_of.ensures
 
 pub answer_spec : {M : Type 1} → statement M
 answer_spec = tie.close (tie.spec (λ c. search rules) (λ c κs. search rules) (λ c. search rules) (λ c. search rules) (λ c. search rules) part-header-of-end (λ c κs. search rules) returns returns-2)

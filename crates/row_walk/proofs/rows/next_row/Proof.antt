@@ -14,15 +14,13 @@ use Rattle.row_walk.proofs.rows.next_row.Tie as tie
 
 -- where the line at the spot of the next row has been read
 read : (c : tie.After-read_by) (w : LineRead) (x : RowStep) → c.read_by.result ≡ w
-    → let placed = c.before.before in
-    let a = placed.args in
-    x ≡ step_at a.file.now placed.at_row-spot.result a.from.passed w → told_step x ≡ told_step (row_step (rules_in a.file.now) a.file.now a.identifiers.now a.from)
+    → let a = c.args in
+    x ≡ step_at a.file.now c.at_row-spot.result a.from.passed w → told_step x ≡ told_step (row_step (rules_in a.file.now) a.file.now a.identifiers.now a.from)
 read c w x is so =
-    let placed = c.before.before in
-    let a = placed.args in
-    let rules = placed.told_by-rules.result in
-    let told : rules ≡ rules_in a.file.now = placed.told_by-rules.ensures in
-    steps-so rules a.file.now a.identifiers.now a.from placed.at_row-spot.result placed.at_row-spot.ensures c.read_by.result w x c.read_by.ensures is so
+    let a = c.args in
+    let rules = c.told_by-rules.result in
+    let told : rules ≡ rules_in a.file.now = c.told_by-rules.ensures in
+    steps-so rules a.file.now a.identifiers.now a.from c.at_row-spot.result c.at_row-spot.ensures c.read_by.result w x c.read_by.ensures is so
     ∙ ap (λ (r : Rules). told_step (row_step r a.file.now a.identifiers.now a.from)) told
 
 returns : tie.Need-returns-in-NoLine
@@ -31,9 +29,7 @@ returns c = read c.before.before _ _ c.in-NoLine.is (ap (λ (l : ℕ). step.Refu
 
 returns-2 : tie.Need-returns-in-Fault
 unfolding step_at
-returns-2 c =
-    let known = c.number.given in
-    read c.before.before _ _ known.1 (ap (λ (l : ℕ). step.Refused known.0.0 l known.0.1.0) c.line_number-in-Fault.ensures)
+returns-2 c = read c.before.before _ _ c.in-Fault.is (ap (λ (l : ℕ). step.Refused c.in-Fault.number l c.in-Fault.column) c.line_number-in-Fault.ensures)
 
 returns-3 : tie.Need-returns-in-Finished
 unfolding step_at
@@ -42,15 +38,11 @@ returns-3 c = read c.before _ _ c.in-Finished.is refl
 returns-4 : tie.Need-returns-in-Next
 unfolding step_at
 returns-4 c =
-    let told = c in
-    let read_at = c in
-    let placed = c in
-    let a = placed.args in
-    let there = told.end.given.0 in
-    read c.before.before.before _ _ told.in-Next.is
+    let a = c.args in
+    read c.before.before.before _ _ c.in-Next.is
     (c.row_given.ensures
-    ∙ ap (λ (n : ℕ). row_given a.file.now placed.at_row-spot.result.at placed.at_row-spot.result.state.satellites a.from.passed
-    (record { spot = record { at = there.0; state = there.1.0 }; passed = n })) c.wrapping_add_u64.ensures)
+    ∙ ap (λ (n : ℕ). row_given a.file.now c.at_row-spot.result.at c.at_row-spot.result.state.satellites a.from.passed
+    (record { spot = record { at = c.in-Next.end; state = c.in-Next.after }; passed = n })) c.wrapping_add_u64.ensures)
 
 pub next_row_spec : {M : Type 1} → statement M
 next_row_spec =

@@ -7,16 +7,14 @@ use Rattle.row_walk.proofs.rows.row_given.Tie as tie
 
 returns : tie.Need-returns-then-row
 returns c =
-    let lined = c in
-    let a = lined.args in
-    given-absent a.file.now a.at a.satellites a.passed a.next _ _ _ _ _ lined.line_at_lem.ensures.0 c.row_of.ensures
+    let a = c.args in
+    given-absent a.file.now a.at a.satellites a.passed a.next _ _ _ _ _ c.line_at-line.ensures.0 c.row_of.ensures
     c.float_row-row.ensures c.epoch_of-epoch.ensures c.satellite_of-satellite.ensures c.if-row.true
 
 returns-2 : tie.Need-returns
 returns-2 c =
-    let lined = c in
-    let a = lined.args in
-    given-at a.file.now a.at a.satellites a.passed a.next _ _ _ _ _ lined.line_at_lem.ensures.0 c.row_of.ensures
+    let a = c.args in
+    given-at a.file.now a.at a.satellites a.passed a.next _ _ _ _ _ c.line_at-line.ensures.0 c.row_of.ensures
     c.float_row-row.ensures c.epoch_of-epoch.ensures c.satellite_of-satellite.ensures c.if-row.false
 
 pub row_given_spec : {M : Type 1} → statement M

@@ -17,36 +17,36 @@ use Rattle.writer.proofs.whole.write.Tie as tie
 abbrev table : tie.Start → Table
 table c = table_of c.args.h c.args.identifiers.now c.args.exponents.now c.args.comments.now c.args.rows.now
 
-abbrev rules : tie.Start → Rules
-rules c = rules_of c.args.version
+abbrev rules_asked : tie.Start → Rules
+rules_asked c = rules_of c.args.version
 
 abbrev start : tie.After-measure-answer → tie.Start
-start c = c.before.before.before.before.before.before
+start c = c.before.before.before.before.before
 
 -- the table is valid in the version, and its form has room
 fits : (c : tie.Else-answer-ne0) → (
     let s = start c.before.before in
-    (valid (rules s) (table s) ≡ true) × (length (canonical (rules s) (table s)) ≤ length s.args.out.now))
+    (valid (rules_asked s) (table s) ≡ true) × (length (canonical (rules_asked s) (table s)) ≤ length s.args.out.now))
 fits c =
     let asked = c.before.before in
     let s = start asked in
-    written-fits (rules s) (table s) s.args.out.now asked.measure-answer.ensures c.if-answer-ne0.false
+    written-fits (rules_asked s) (table s) s.args.out.now asked.measure-answer.ensures c.if-answer-ne0.false
 
 returns : tie.Need-returns-then-answer-ne0
 returns c =
     let asked = c.before.before in
     let s = start asked in
-    (asked.measure-answer.ensures, refused-keeps (rules s) (table s) s.args.out.now asked.measure-answer.ensures c.if-answer-ne0.true)
+    (asked.measure-answer.ensures, refused-keeps (rules_asked s) (table s) s.args.out.now asked.measure-answer.ensures c.if-answer-ne0.true)
 
 returns-2 : tie.Need-returns
 returns-2 c =
     let put = c in
     let ruled = c in
-    let good = c in
+    let good = c.before.before.before.before.before in
     let asked = good.before.before in
     let s = start asked in
     let laid = rw ruled.of-rules.ensures at put.put_table.ensures in
-    (asked.measure-answer.ensures, written-lays (rules s) (table s) s.args.out.now (fits c.before.before.before.before.before) laid)
+    (asked.measure-answer.ensures, written-lays (rules_asked s) (table s) s.args.out.now (fits c.before.before.before.before.before) laid)
 
 pub write_spec : {M : Type 1} → statement M
 write_spec =
