@@ -2,20 +2,13 @@
 -- Assumes nothing.
 use mathlib.Core.Path.{sym, ap, ◌∙◌}
 use borrow.Author.Rules.{rules}
-use mir.Syntax.{w64}
-use mir.ValLaws.{to_z-of_z}
 use Rattle.sp3.specs.Doors.{place_door}
 use Rattle.sp3.proofs.lists.place_answer.Statement.{statement}
 use Rattle.sp3.proofs.lists.place_answer.Tie as tie
 
 returns : tie.Need-returns-in-At
 unfolding place_door
-returns c =
-    rw (
-      to_z-of_z w64 c.in-At.found (record { sfits = c.known-told.given.0.1 }),
-      to_z-of_z w64 c.found.given.0.1.0 (record { sfits = c.known-told.given.1.0.1 }),
-      to_z-of_z w64 c.found.given.0.1.1.0 (record { sfits = c.known-told.given.1.1.0.1 }),
-    ) (sym (ap place_door c.in-At.is))
+returns c = sym (ap place_door c.in-At.is)
 
 returns-2 : tie.Need-returns-in-Absent
 unfolding place_door
