@@ -1,14 +1,17 @@
 -- `sp3::lists::clock_answer` meets its contract.
 -- Assumes nothing.
 use mathlib.Core.Path.{sym, ap, ◌∙◌}
+use native.Mathlib.Omega.{arith}
 use borrow.Author.Rules.{rules}
+use mir.Syntax.{w64}
+use mir.ValLaws.{to_z-of_z}
 use Rattle.sp3.specs.Doors.{clock_door}
 use Rattle.sp3.proofs.lists.clock_answer.Statement.{statement}
 use Rattle.sp3.proofs.lists.clock_answer.Tie as tie
 
 returns : tie.Need-returns-in-At
 unfolding clock_door
-returns c = sym (ap clock_door c.in-At.is)
+returns c = rw (to_z-of_z w64 c.in-At.clock (record { sfits = omega arith })) (sym (ap clock_door c.in-At.is))
 
 returns-2 : tie.Need-returns-in-Absent
 unfolding clock_door
