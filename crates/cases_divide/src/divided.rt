@@ -4,21 +4,21 @@ use crate::input::at_most;
 use crate::{lent, print};
 
 // A stretch divided into this room.
-fn into(bytes: &[u8], room: &mut [u64]) {
+fn into(rt: &impl Print, bytes: &[u8], room: &mut [u64]) {
     let division = divide::divide(bytes, room);
-    print::text(b"divide");
-    print::value(division.refusal as u64);
-    print::value(division.line);
-    print::value(division.column as u64);
-    print::value(division.count);
-    print::value(division.rest as u64);
-    print::text(b"\n");
-    lent::shown(false, room, division.count);
+    print::text(rt, b"divide");
+    print::value(rt, division.refusal as u64);
+    print::value(rt, division.line);
+    print::value(rt, division.column as u64);
+    print::value(rt, division.count);
+    print::value(rt, division.rest as u64);
+    print::text(rt, b"\n");
+    lent::shown(rt, false, room, division.count);
 }
 
 // A stretch divided into a room of `size` places, 1,000 at most.
-pub(crate) fn shown(bytes: &[u8], size: u64) {
+pub(crate) fn shown(rt: &impl Print, bytes: &[u8], size: u64) {
     let mut room = [lent::MARK; 1000];
     let n = at_most(size, 1000);
-    into(bytes, &mut room[0..n]);
+    into(rt, bytes, &mut room[0..n]);
 }

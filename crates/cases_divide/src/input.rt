@@ -3,7 +3,8 @@
 ghost use Rattle.std.specs.Prelude.{◌+◌, ◌≤◌, length};
 
 use crate::{divided, print, walked};
-use libc::STDIN_FILENO;
+use std::io;
+use std::io::Read as _;
 
 // A number, and where the text goes on after the byte that ended it.
 #[derive(Clone, Copy)]
@@ -67,29 +68,42 @@ fn numbers(text: &[u8], at: usize, list: &mut [u64]) -> usize
 }
 
 // The answers to one case: `front` has whether it is walked, and the room for identifiers.
-fn answer<'a>(room: u64, front: &[u64; 4], identifiers: &'a [u64], bytes: &'a [u8]) {
-    print::text(b"case");
-    print::value(bytes.len() as u64);
-    print::text(b"\n");
-    divided::shown(bytes, room);
+fn answer<'a>(
+    rt: &impl Print,
+    room: u64,
+    front: &[u64; 4],
+    identifiers: &'a [u64],
+    bytes: &'a [u8],
+) {
+    print::text(rt, b"case");
+    print::value(rt, bytes.len() as u64);
+    print::text(rt, b"\n");
+    divided::shown(rt, bytes, room);
     if front[0] == 1 {
-        walked::shown(bytes, front[1], identifiers);
+        walked::shown(rt, bytes, front[1], identifiers);
     }
 }
 
 // A case of which the identifiers, as many as this list has, stand at `second`; gives where the next one begins.
-fn named(input: &[u8], room: u64, front: &[u64; 4], second: usize, identifiers: &mut [u64]) -> usize
+fn named(
+    rt: &impl Print,
+    input: &[u8],
+    room: u64,
+    front: &[u64; 4],
+    second: usize,
+    identifiers: &mut [u64],
+) -> usize
     requires { second ≤ length input.now }
     ensures { (second ≤ result) × (result ≤ length input.now) }
 {
     let from = numbers(input, second, identifiers);
     let to = from + at_most(front[3], input.len() - from);
-    answer(room, front, identifiers, &input[from..to]);
+    answer(rt, room, front, identifiers, &input[from..to]);
     to
 }
 
 // The case at `at`, and where the next one begins.
-fn case(input: &[u8], at: usize) -> usize
+fn case(rt: &impl Print, input: &[u8], at: usize) -> usize
     requires { at + 1 ≤ length input.now }
     ensures { (at + 1 ≤ result) × (result ≤ length input.now) }
 {
@@ -98,25 +112,36 @@ fn case(input: &[u8], at: usize) -> usize
     let second = numbers(input, room.next, &mut front);
     let mut identifiers = [0u64; 1000];
     let n = at_most(front[2], 1000);
-    named(input, room.value, &front, second, &mut identifiers[0..n])
+    named(
+        rt,
+        input,
+        room.value,
+        &front,
+        second,
+        &mut identifiers[0..n],
+    )
 }
 
 // Every case of the input.
-fn batch(input: &[u8]) {
+fn batch(rt: &impl Print, input: &[u8]) {
     let mut at = 0;
     while at < input.len() {
-        at = case(input, at);
+        at = case(rt, input, at);
     }
 }
 
+// The most bytes of standard input that are read.
+const MOST_BYTES: u64 = 1_000_000;
+
 // Standard input read into `room`, and its cases.
-fn taken(room: &mut [u8]) {
-    let n = io::read_full(STDIN_FILENO, room);
-    batch(&room[..n]);
+fn taken(rt: &(impl Print + Input), room: &mut Vec<u8>) -> io::Result<()> {
+    rt.reader().take(MOST_BYTES).read_to_end(room)?;
+    batch(rt, room);
+    Ok(())
 }
 
 // Standard input, of at most 1,000,000 bytes.
-pub(crate) fn all() {
-    let mut room = [0u8; 1_000_000];
-    taken(&mut room);
+pub(crate) fn all(rt: &(impl Print + Input + AllocGlobal)) -> io::Result<()> {
+    let mut room = Vec::new(rt.alloc());
+    taken(rt, &mut room)
 }

@@ -5,21 +5,21 @@ use crate::print;
 pub(crate) const MARK: u64 = 7777;
 
 // A filled number: the length of a file, or a satellite's identifier.
-fn one(named: bool, n: u64) {
+fn one(rt: &impl Print, named: bool, n: u64) {
     if named {
-        print::identifier(n);
+        print::identifier(rt, n);
     } else {
-        print::text(b"length");
-        print::value(n);
-        print::text(b"\n");
+        print::text(rt, b"length");
+        print::value(rt, n);
+        print::text(rt, b"\n");
     }
 }
 
 // All filled numbers.
-fn filled(named: bool, numbers: &[u64]) {
+fn filled(rt: &impl Print, named: bool, numbers: &[u64]) {
     let mut i = 0;
     while i < numbers.len() {
-        one(named, numbers[i]);
+        one(rt, named, numbers[i]);
         i += 1;
     }
 }
@@ -37,12 +37,12 @@ fn marked(numbers: &[u64]) -> bool {
 }
 
 // Lent numbers of which the first n are filled.
-pub(crate) fn shown(named: bool, numbers: &[u64], n: u64) {
+pub(crate) fn shown(rt: &impl Print, named: bool, numbers: &[u64], n: u64) {
     let to = crate::input::at_most(n, numbers.len());
-    filled(named, &numbers[0..to]);
+    filled(rt, named, &numbers[0..to]);
     if marked(&numbers[to..]) {
-        print::text(b"kept\n");
+        print::text(rt, b"kept\n");
     } else {
-        print::text(b"changed\n");
+        print::text(rt, b"changed\n");
     }
 }

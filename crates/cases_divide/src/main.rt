@@ -3,12 +3,15 @@
 // What it must print is made by tests/divide.rs, out of the documents, and out of the definitions where the documents are silent: what the state of a
 // spot is, what other identifiers than the file's do, and what is told of a line that is due. The batches too. It shares no code with this.
 #![tactic(auto)]
+
 mod divided;
 mod input;
 mod lent;
 mod print;
 mod walked;
 
-fn main() {
-    input::all();
+use std::io;
+
+fn main(rt: HostRuntime) -> io::Result<()> {
+    input::all(&rt)
 }

@@ -1,39 +1,38 @@
 // Answers as text.
-use libc::STDOUT_FILENO;
 
 // Bytes as they stand.
-pub(crate) fn text(s: &[u8]) {
-    io::write_all(STDOUT_FILENO, s);
+pub(crate) fn text(rt: &impl Print, s: &[u8]) {
+    let _ = rt.write_all(s);
 }
 
 // A number with a blank before it.
-pub(crate) fn value(n: u64) {
-    text(b" ");
-    io::print_decimal(STDOUT_FILENO, n);
+pub(crate) fn value(rt: &impl Print, n: u64) {
+    text(rt, b" ");
+    let _ = rt.print(n);
 }
 
 // A satellite's identifier: 7107 is G07.
-pub(crate) fn identifier(n: u64) {
+pub(crate) fn identifier(rt: &impl Print, n: u64) {
     let letter = [(n / 100 % 256) as u8];
-    text(b"identifier ");
-    text(&letter);
-    io::print_decimal(STDOUT_FILENO, n % 100 / 10);
-    io::print_decimal(STDOUT_FILENO, n % 10);
-    text(b"\n");
+    text(rt, b"identifier ");
+    text(rt, &letter);
+    let _ = rt.print(n % 100 / 10);
+    let _ = rt.print(n % 10);
+    text(rt, b"\n");
 }
 
 // The letter of a version, and the end of a line.
-pub(crate) fn version(letter: u8) {
+pub(crate) fn version(rt: &impl Print, letter: u8) {
     let one = [letter];
-    text(b" |");
-    text(&one);
-    text(b"|\n");
+    text(rt, b" |");
+    text(rt, &one);
+    text(rt, b"|\n");
 }
 
 // A mark that something is not as it must be.
-pub(crate) fn mark(wrong: bool) {
+pub(crate) fn mark(rt: &impl Print, wrong: bool) {
     if wrong {
-        text(b"?");
+        text(rt, b"?");
     }
 }
 
@@ -48,12 +47,12 @@ fn whole_of(x: f64) -> i64 {
 }
 
 // A float that is a whole number, with a blank before it; any other is followed by a mark.
-pub(crate) fn float(x: f64) {
+pub(crate) fn float(rt: &impl Print, x: f64) {
     let v = whole_of(x);
-    text(b" ");
+    text(rt, b" ");
     if field::sign::is_negative(v) {
-        text(b"-");
+        text(rt, b"-");
     }
-    io::print_decimal(STDOUT_FILENO, field::sign::magnitude_of(v));
-    mark(std::num::nearest_i64_to_f64(v) != x);
+    let _ = rt.print(field::sign::magnitude_of(v));
+    mark(rt, std::num::nearest_i64_to_f64(v) != x);
 }

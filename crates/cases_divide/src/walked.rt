@@ -10,68 +10,68 @@ use record::kind::SATELLITES_KIND;
 use row_walk::RowStep;
 
 // The epoch and the satellite of a row.
-fn head(epoch: u64, satellite: u64) {
-    print::text(b"row");
-    print::value(epoch);
-    print::value(satellite);
+fn head(rt: &impl Print, epoch: u64, satellite: u64) {
+    print::text(rt, b"row");
+    print::value(rt, epoch);
+    print::value(rt, satellite);
 }
 
 // A place, whose mark must not be set.
-fn known_place(row: FloatRow) {
-    print::text(b" at");
-    print::float(row.x);
-    print::float(row.y);
-    print::float(row.z);
-    print::mark(row.place_absent);
+fn known_place(rt: &impl Print, row: FloatRow) {
+    print::text(rt, b" at");
+    print::float(rt, row.x);
+    print::float(rt, row.y);
+    print::float(rt, row.z);
+    print::mark(rt, row.place_absent);
 }
 
 // No place: its mark must be set, and no coordinate is a number.
-fn no_place(row: FloatRow) {
-    print::text(b" absent");
-    print::mark(row.x == row.x);
-    print::mark(row.y == row.y);
-    print::mark(row.z == row.z);
-    print::mark(!row.place_absent);
+fn no_place(rt: &impl Print, row: FloatRow) {
+    print::text(rt, b" absent");
+    print::mark(rt, row.x == row.x);
+    print::mark(rt, row.y == row.y);
+    print::mark(rt, row.z == row.z);
+    print::mark(rt, !row.place_absent);
 }
 
 // A clock, or none, which is no number.
-fn clock(row: FloatRow) {
+fn clock(rt: &impl Print, row: FloatRow) {
     if row.clock_absent {
-        print::text(b" absent");
-        print::mark(row.clock == row.clock);
+        print::text(rt, b" absent");
+        print::mark(rt, row.clock == row.clock);
     } else {
-        print::float(row.clock);
+        print::float(rt, row.clock);
     }
-    print::text(b"\n");
+    print::text(rt, b"\n");
 }
 
 // A row with a place.
-fn row_at(epoch: u64, satellite: u64, row: FloatRow) {
-    head(epoch, satellite);
-    known_place(row);
-    clock(row);
+fn row_at(rt: &impl Print, epoch: u64, satellite: u64, row: FloatRow) {
+    head(rt, epoch, satellite);
+    known_place(rt, row);
+    clock(rt, row);
 }
 
 // A row without one.
-fn row_absent(epoch: u64, satellite: u64, row: FloatRow) {
-    head(epoch, satellite);
-    no_place(row);
-    clock(row);
+fn row_absent(rt: &impl Print, epoch: u64, satellite: u64, row: FloatRow) {
+    head(rt, epoch, satellite);
+    no_place(rt, row);
+    clock(rt, row);
 }
 
 // The line and the column at which a walk is refused.
-fn refused(number: usize, line: u64, column: usize) {
-    print::text(b"refused");
-    print::value(number as u64);
-    print::text(b" line");
-    print::value(line);
-    print::text(b" column");
-    print::value(column as u64);
-    print::text(b"\n");
+fn refused(rt: &impl Print, number: usize, line: u64, column: usize) {
+    print::text(rt, b"refused");
+    print::value(rt, number as u64);
+    print::text(rt, b" line");
+    print::value(rt, line);
+    print::text(rt, b" column");
+    print::value(rt, column as u64);
+    print::text(rt, b"\n");
 }
 
 // The rows of a file in order, and how the walk ends. A file has no more rows than bytes.
-fn rows<'a>(file: &'a [u8], header: &'a [u64]) {
+fn rows<'a>(rt: &impl Print, file: &'a [u8], header: &'a [u64]) {
     let mut from = row_walk::first();
     let mut left = file.len();
     loop {
@@ -82,7 +82,7 @@ fn rows<'a>(file: &'a [u8], header: &'a [u64]) {
                 row,
                 next,
             } => {
-                row_at(epoch, satellite, row);
+                row_at(rt, epoch, satellite, row);
                 from = next;
             }
             RowStep::Absent {
@@ -91,18 +91,18 @@ fn rows<'a>(file: &'a [u8], header: &'a [u64]) {
                 row,
                 next,
             } => {
-                row_absent(epoch, satellite, row);
+                row_absent(rt, epoch, satellite, row);
                 from = next;
             }
-            RowStep::End => return print::text(b"end\n"),
+            RowStep::End => return print::text(rt, b"end\n"),
             RowStep::Refused {
                 number,
                 line,
                 column,
-            } => return refused(number, line, column),
+            } => return refused(rt, number, line, column),
         }
         if left == 0 {
-            print::text(b"more rows than bytes\n");
+            print::text(rt, b"more rows than bytes\n");
             return;
         }
         left -= 1;
@@ -139,15 +139,15 @@ fn more(n: usize) -> usize {
 }
 
 // A spot after so many lines: its byte, the kind of line due there, and the satellites and epochs still to come.
-fn stands(word: &[u8], k: usize, at: Spot) {
+fn stands(rt: &impl Print, word: &[u8], k: usize, at: Spot) {
     let state = at.state;
-    print::text(word);
-    print::value(k as u64);
-    print::value(at.at as u64);
-    print::value(state.due);
-    print::value(state.left);
-    print::value(state.epochs);
-    print::text(b"\n");
+    print::text(rt, word);
+    print::value(rt, k as u64);
+    print::value(rt, at.at as u64);
+    print::value(rt, state.due);
+    print::value(rt, state.left);
+    print::value(rt, state.epochs);
+    print::text(rt, b"\n");
 }
 
 // 1 for true, 0 for false.
@@ -160,16 +160,16 @@ fn truth(b: bool) -> u64 {
 
 // What is due at a spot where these identifiers are lent: the kind of line, the kind that may stand before it, instant, satellite, and whether the
 // line there repeats an identifier.
-fn due(word: &[u8], file: &[u8], at: Spot, identifiers: &[u64]) {
+fn due(rt: &impl Print, word: &[u8], file: &[u8], at: Spot, identifiers: &[u64]) {
     let state = at.state;
     let found = machine::due_at(Rules::told_by(file), file, at.at, state, identifiers);
-    print::text(word);
-    print::value(found.kind);
-    print::value(found.also);
-    print::value(found.instant8);
-    print::value(found.identifier);
-    print::value(truth(found.repeats));
-    print::text(b"\n");
+    print::text(rt, word);
+    print::value(rt, found.kind);
+    print::value(rt, found.also);
+    print::value(rt, found.instant8);
+    print::value(rt, found.identifier);
+    print::value(rt, truth(found.repeats));
+    print::text(rt, b"\n");
 }
 
 // The spot after the first k lines.
@@ -179,11 +179,12 @@ fn after(file: &[u8], k: usize) -> Spot {
 }
 
 // The spot after n lines, half of them first.
-fn in_two(file: &[u8], n: usize) {
+fn in_two(rt: &impl Print, file: &[u8], n: usize) {
     let mut identifiers = [0; Header::MAX_SATELLITES as usize];
     let half = line_walk::after_lines(file, line_walk::first_spot(), n / 2, &mut identifiers);
-    stands(b"spot", n / 2, half);
+    stands(rt, b"spot", n / 2, half);
     stands(
+        rt,
         b"then",
         n,
         line_walk::after_lines(file, half, n - n / 2, &mut identifiers),
@@ -191,23 +192,23 @@ fn in_two(file: &[u8], n: usize) {
 }
 
 // The spot after n lines, and what is due there: with the identifiers that the lines brought, and with those given.
-fn last(file: &[u8], n: usize, given: &[u64]) {
+fn last(rt: &impl Print, file: &[u8], n: usize, given: &[u64]) {
     let mut identifiers = [0; Header::MAX_SATELLITES as usize];
     let at = line_walk::after_lines(file, line_walk::first_spot(), n, &mut identifiers);
-    stands(b"spot", n, at);
-    due(b"due", file, at, &identifiers);
-    due(b"given", file, at, given);
+    stands(rt, b"spot", n, at);
+    due(rt, b"due", file, at, &identifiers);
+    due(rt, b"given", file, at, given);
 }
 
 // The spots after no line, one, three, half of them, all of them and more, and what is due at the last.
-fn spots(file: &[u8], given: &[u64]) {
+fn spots(rt: &impl Print, file: &[u8], given: &[u64]) {
     let n = line_count(file);
-    stands(b"spot", 0, after(file, 0));
-    stands(b"spot", 1, after(file, 1));
-    stands(b"spot", 3, after(file, 3));
-    in_two(file, n);
-    stands(b"spot", n, after(file, n));
-    last(file, more(n), given);
+    stands(rt, b"spot", 0, after(file, 0));
+    stands(rt, b"spot", 1, after(file, 1));
+    stands(rt, b"spot", 3, after(file, 3));
+    in_two(rt, file, n);
+    stands(rt, b"spot", n, after(file, n));
+    last(rt, file, more(n), given);
 }
 
 // How many identifiers the lines before a spot have brought: where `+ ` lines are still due, those of the satellites that have had their slot.
@@ -223,40 +224,40 @@ fn brought(at: Spot) -> u64 {
 }
 
 // The spot after all lines with no more room for identifiers than this, what is due there, and the identifiers that they brought.
-fn short(file: &[u8], identifiers: &mut [u64]) {
+fn short(rt: &impl Print, file: &[u8], identifiers: &mut [u64]) {
     let n = line_count(file);
     let at = line_walk::after_lines(file, line_walk::first_spot(), n, identifiers);
-    stands(b"short", n, at);
-    due(b"due", file, at, identifiers);
-    lent::shown(true, identifiers, brought(at));
+    stands(rt, b"short", n, at);
+    due(rt, b"due", file, at, identifiers);
+    lent::shown(rt, true, identifiers, brought(at));
 }
 
 // A file walked over rows with the identifiers that `begin` fills, or with the given identifiers where it is refused; and over lines.
-fn into<'a>(file: &'a [u8], identifiers: &mut [u64], given: &'a [u64]) {
+fn into<'a>(rt: &impl Print, file: &'a [u8], identifiers: &mut [u64], given: &'a [u64]) {
     let reading = row_walk::begin(file, identifiers);
     let header = reading.header;
-    print::text(b"begin");
-    print::value(reading.refusal as u64);
-    print::value(reading.line);
-    print::value(reading.column as u64);
-    print::value(reading.length as u64);
-    print::value(header.satellites);
-    print::value(header.epochs);
-    print::version(reading.version);
-    lent::shown(true, identifiers, header.satellites);
+    print::text(rt, b"begin");
+    print::value(rt, reading.refusal as u64);
+    print::value(rt, reading.line);
+    print::value(rt, reading.column as u64);
+    print::value(rt, reading.length as u64);
+    print::value(rt, header.satellites);
+    print::value(rt, header.epochs);
+    print::version(rt, reading.version);
+    lent::shown(rt, true, identifiers, header.satellites);
     if reading.refusal == 0 {
-        rows(file, identifiers);
+        rows(rt, file, identifiers);
     } else {
-        rows(file, given);
+        rows(rt, file, given);
     }
-    spots(file, given);
+    spots(rt, file, given);
 }
 
 // A file walked with room for `size` identifiers, 1,000 at most.
-pub(crate) fn shown<'a>(file: &'a [u8], size: u64, given: &'a [u64]) {
+pub(crate) fn shown<'a>(rt: &impl Print, file: &'a [u8], size: u64, given: &'a [u64]) {
     let mut identifiers = [lent::MARK; 1000];
     let n = at_most(size, 1000);
-    into(file, &mut identifiers[0..n], given);
+    into(rt, file, &mut identifiers[0..n], given);
     let mut identifiers = [lent::MARK; 1000];
-    short(file, &mut identifiers[0..n]);
+    short(rt, file, &mut identifiers[0..n]);
 }

@@ -60,19 +60,19 @@ fn year_sum(year: u64) -> u64 {
     sum
 }
 
-fn year_line(year: u64) {
-    print::text(b"year ");
-    print::number(year);
-    print::text(b":");
-    print::value(year_sum(year));
-    print::text(b"\n");
+fn year_line(rt: &impl Print, year: u64) {
+    print::text(rt, b"year ");
+    print::number(rt, year);
+    print::text(rt, b":");
+    print::value(rt, year_sum(year));
+    print::text(rt, b"\n");
 }
 
 // A line for each year, with its sum.
-fn years() {
+fn years(rt: &impl Print) {
     let mut year: u64 = 1979;
     while year < 2101 {
-        year_line(year);
+        year_line(rt, year);
         year += 1;
     }
 }
@@ -157,11 +157,11 @@ fn every_second() -> u64 {
     sum
 }
 
-pub(crate) fn all() {
-    years();
-    print::text(b"days:");
-    print::value(every_day());
-    print::text(b"\nseconds:");
-    print::value(every_second());
-    print::text(b"\n");
+pub(crate) fn all(rt: &impl Print) {
+    years(rt);
+    print::text(rt, b"days:");
+    print::value(rt, every_day());
+    print::text(rt, b"\nseconds:");
+    print::value(rt, every_second());
+    print::text(rt, b"\n");
 }

@@ -3,13 +3,16 @@
 // What it must print is made by tests/fields.py, out of Python's own dates, its regular expressions and its whole numbers; the
 // spellings too. It shares no code with this.
 #![tactic(auto)]
+
 mod cases;
 mod days;
 mod print;
 mod spellings;
 
-fn main() {
-    cases::all();
-    days::all();
-    spellings::all();
+use std::io;
+
+fn main(rt: HostRuntime) -> io::Result<()> {
+    cases::all(&rt);
+    days::all(&rt);
+    spellings::all(&rt)
 }

@@ -1,85 +1,84 @@
 // Answers as text: the paper's number, then the values, a blank before each.
 use calendar::Dated;
 use field::{Amount, Exponent, Number, Whole};
-use libc::STDOUT_FILENO;
 
-pub(crate) fn text(s: &[u8]) {
-    io::write_all(STDOUT_FILENO, s);
+pub(crate) fn text(rt: &impl Print, s: &[u8]) {
+    let _ = rt.write_all(s);
 }
 
-pub(crate) fn number(n: u64) {
-    io::print_decimal(STDOUT_FILENO, n);
+pub(crate) fn number(rt: &impl Print, n: u64) {
+    let _ = rt.print(n);
 }
 
-pub(crate) fn value(n: u64) {
-    text(b" ");
-    number(n);
+pub(crate) fn value(rt: &impl Print, n: u64) {
+    text(rt, b" ");
+    number(rt, n);
 }
 
 // A minus is 1, none is 0.
-fn sign(negative: bool) {
+fn sign(rt: &impl Print, negative: bool) {
     if negative {
-        value(1);
+        value(rt, 1);
     } else {
-        value(0);
+        value(rt, 0);
     }
 }
 
-pub(crate) fn whole(answer: Whole) {
+pub(crate) fn whole(rt: &impl Print, answer: Whole) {
     match answer {
         Whole::Value(v) => {
-            number(0);
-            value(v);
+            number(rt, 0);
+            value(rt, v);
         }
-        Whole::Malformed => number(6),
+        Whole::Malformed => number(rt, 6),
     }
 }
 
-pub(crate) fn exponent(answer: Exponent) {
+pub(crate) fn exponent(rt: &impl Print, answer: Exponent) {
     match answer {
         Exponent::Value(v) => {
-            number(0);
-            value(v);
+            number(rt, 0);
+            value(rt, v);
         }
-        Exponent::Unknown => number(0),
-        Exponent::Malformed => number(6),
+        Exponent::Unknown => number(rt, 0),
+        Exponent::Malformed => number(rt, 6),
     }
 }
 
-pub(crate) fn amount(answer: Amount) {
+pub(crate) fn amount(rt: &impl Print, answer: Amount) {
     match answer {
         Amount::Value {
             negative,
             magnitude,
         } => {
-            number(0);
-            sign(negative);
-            value(magnitude);
+            number(rt, 0);
+            sign(rt, negative);
+            value(rt, magnitude);
         }
-        Amount::Malformed => number(6),
+        Amount::Malformed => number(rt, 6),
     }
 }
 
 // A number of the table by its sign and magnitude, taken off it again.
-pub(crate) fn signed(answer: Number) {
+pub(crate) fn signed(rt: &impl Print, answer: Number) {
     match answer {
         Number::Value(v) => {
-            number(0);
-            sign(field::sign::is_negative(v));
-            value(field::sign::magnitude_of(v));
+            number(rt, 0);
+            sign(rt, field::sign::is_negative(v));
+            value(rt, field::sign::magnitude_of(v));
         }
-        Number::OutOfBounds => number(7),
+        Number::OutOfBounds => number(rt, 7),
     }
 }
 
-pub(crate) fn date(answer: Dated) {
+pub(crate) fn date(rt: &impl Print, answer: Dated) {
     match answer {
         Dated::Day { mjd, week, seconds } => {
-            number(0);
-            value(mjd);
-            value(week);
-            value(seconds);
+            number(rt, 0);
+            value(rt, mjd);
+            value(rt, week);
+            value(rt, seconds);
         }
-        Dated::OutOfBounds => number(7),
+        Dated::OutOfBounds => number(rt, 7),
     }
 }

@@ -4,10 +4,14 @@ ghost use Rattle.std.specs.Prelude.{◌≤◌, length};
 
 use crate::print;
 use field::{Amount, Exponent, Whole};
-use libc::STDIN_FILENO;
+use std::io;
+use std::io::Read;
 
 // The most columns that are shown: two more than a field has.
 const MOST: usize = 20;
+
+// The most bytes of standard input that are read.
+const MOST_BYTES: u64 = 65_536;
 
 // Where the next LF stands from `at` on, or the end.
 fn line_end(bytes: &[u8], at: usize) -> usize
@@ -25,57 +29,57 @@ fn line_end(bytes: &[u8], at: usize) -> usize
 }
 
 // What stands in so many columns that held a mark in each.
-fn shown(columns: &[u8]) {
-    print::text(b" |");
-    print::text(columns);
-    print::text(b"|");
+fn shown(rt: &impl Print, columns: &[u8]) {
+    print::text(rt, b" |");
+    print::text(rt, columns);
+    print::text(rt, b"|");
 }
 
-fn put_whole(columns: &mut [u8], v: u64) {
+fn put_whole(rt: &impl Print, columns: &mut [u8], v: u64) {
     field::write::put_whole(columns, v);
-    shown(columns);
+    shown(rt, columns);
 }
 
-fn written_whole(width: usize, v: u64) {
+fn written_whole(rt: &impl Print, width: usize, v: u64) {
     let mut columns = [35u8; 20];
     if width <= MOST {
-        put_whole(&mut columns[0..width], v);
+        put_whole(rt, &mut columns[0..width], v);
     }
 }
 
-fn put_signed(columns: &mut [u8], negative: bool, magnitude: u64) {
+fn put_signed(rt: &impl Print, columns: &mut [u8], negative: bool, magnitude: u64) {
     field::write::put_signed_whole(columns, negative, magnitude);
-    shown(columns);
+    shown(rt, columns);
 }
 
-fn written_signed(width: usize, negative: bool, magnitude: u64) {
+fn written_signed(rt: &impl Print, width: usize, negative: bool, magnitude: u64) {
     let mut columns = [35u8; 20];
     if width <= MOST {
-        put_signed(&mut columns[0..width], negative, magnitude);
+        put_signed(rt, &mut columns[0..width], negative, magnitude);
     }
 }
 
-fn put_exponent(columns: &mut [u8], exponent: Exponent) {
+fn put_exponent(rt: &impl Print, columns: &mut [u8], exponent: Exponent) {
     field::write::put_exponent(columns, exponent);
-    shown(columns);
+    shown(rt, columns);
 }
 
-fn written_exponent(width: usize, exponent: Exponent) {
+fn written_exponent(rt: &impl Print, width: usize, exponent: Exponent) {
     let mut columns = [35u8; 20];
     if width <= MOST {
-        put_exponent(&mut columns[0..width], exponent);
+        put_exponent(rt, &mut columns[0..width], exponent);
     }
 }
 
-fn put_decimal(columns: &mut [u8], places: usize, negative: bool, magnitude: u64) {
+fn put_decimal(rt: &impl Print, columns: &mut [u8], places: usize, negative: bool, magnitude: u64) {
     field::write::put_decimal(columns, places, negative, magnitude);
-    shown(columns);
+    shown(rt, columns);
 }
 
-fn written_decimal(width: usize, places: usize, negative: bool, magnitude: u64) {
+fn written_decimal(rt: &impl Print, width: usize, places: usize, negative: bool, magnitude: u64) {
     let mut columns = [35u8; 20];
     if width <= MOST {
-        put_decimal(&mut columns[0..width], places, negative, magnitude);
+        put_decimal(rt, &mut columns[0..width], places, negative, magnitude);
     }
 }
 
@@ -84,63 +88,63 @@ fn narrower(width: usize) -> usize {
     if width == 0 { 0 } else { width - 1 }
 }
 
-fn whole(s: &[u8]) {
+fn whole(rt: &impl Print, s: &[u8]) {
     let answer = field::read::whole(s);
-    print::whole(answer);
+    print::whole(rt, answer);
     match answer {
         Whole::Value(v) => {
-            written_whole(s.len(), v);
-            written_whole(narrower(s.len()), v);
+            written_whole(rt, s.len(), v);
+            written_whole(rt, narrower(s.len()), v);
         }
         Whole::Malformed => {}
     }
 }
 
-fn signed_whole(s: &[u8]) {
+fn signed_whole(rt: &impl Print, s: &[u8]) {
     let answer = field::read::signed_whole(s);
-    print::amount(answer);
+    print::amount(rt, answer);
     match answer {
         Amount::Value {
             negative,
             magnitude,
         } => {
-            written_signed(s.len(), negative, magnitude);
-            written_signed(narrower(s.len()), negative, magnitude);
+            written_signed(rt, s.len(), negative, magnitude);
+            written_signed(rt, narrower(s.len()), negative, magnitude);
         }
         Amount::Malformed => {}
     }
 }
 
-fn exponent(s: &[u8]) {
+fn exponent(rt: &impl Print, s: &[u8]) {
     let answer = field::read::exponent(s);
-    print::exponent(answer);
-    written_exponent(s.len(), answer);
-    written_exponent(narrower(s.len()), answer);
+    print::exponent(rt, answer);
+    written_exponent(rt, s.len(), answer);
+    written_exponent(rt, narrower(s.len()), answer);
 }
 
 // The answer of a decimal or a clock that stood in so many columns, its text written again, and its signed number.
-fn decimal_answer(answer: Amount, width: usize, places: usize) {
-    print::amount(answer);
+fn decimal_answer(rt: &impl Print, answer: Amount, width: usize, places: usize) {
+    print::amount(rt, answer);
     match answer {
         Amount::Value {
             negative,
             magnitude,
         } => {
-            written_decimal(width, places, negative, magnitude);
-            written_decimal(narrower(width), places, negative, magnitude);
-            print::text(b" ");
-            print::signed(field::sign::number(negative, magnitude));
+            written_decimal(rt, width, places, negative, magnitude);
+            written_decimal(rt, narrower(width), places, negative, magnitude);
+            print::text(rt, b" ");
+            print::signed(rt, field::sign::number(negative, magnitude));
         }
         Amount::Malformed => {}
     }
 }
 
-fn decimal(s: &[u8], places: usize, signed: bool) {
-    decimal_answer(field::read::decimal(s, places, signed), s.len(), places);
+fn decimal(rt: &impl Print, s: &[u8], places: usize, signed: bool) {
+    decimal_answer(rt, field::read::decimal(s, places, signed), s.len(), places);
 }
 
-fn clock(s: &[u8], places: usize) {
-    decimal_answer(field::read::clock(s, places), s.len(), places);
+fn clock(rt: &impl Print, s: &[u8], places: usize) {
+    decimal_answer(rt, field::read::clock(s, places), s.len(), places);
 }
 
 // The number of the places, of two digits.
@@ -149,37 +153,38 @@ fn places_of(tens: u8, ones: u8) -> usize {
 }
 
 // One line's field by its kind.
-fn field_of(kind: u8, places: usize, s: &[u8]) {
+fn field_of(rt: &impl Print, kind: u8, places: usize, s: &[u8]) {
     match kind {
-        b'W' => whole(s),
-        b'S' => signed_whole(s),
-        b'E' => exponent(s),
-        b'U' => decimal(s, places, false),
-        b'D' => decimal(s, places, true),
-        b'C' => clock(s, places),
-        _ => print::text(b"?"),
+        b'W' => whole(rt, s),
+        b'S' => signed_whole(rt, s),
+        b'E' => exponent(rt, s),
+        b'U' => decimal(rt, s, places, false),
+        b'D' => decimal(rt, s, places, true),
+        b'C' => clock(rt, s, places),
+        _ => print::text(rt, b"?"),
     }
 }
 
-fn line(s: &[u8]) {
+fn line(rt: &impl Print, s: &[u8]) {
     if s.len() < 3 {
         return;
     }
-    field_of(s[0], places_of(s[1] % 16, s[2] % 16), &s[3..]);
-    print::text(b"\n");
+    field_of(rt, s[0], places_of(s[1] % 16, s[2] % 16), &s[3..]);
+    print::text(rt, b"\n");
 }
 
-fn lines(input: &[u8]) {
+fn lines(rt: &impl Print, input: &[u8]) {
     let mut at = 0;
     while at < input.len() {
         let end = line_end(input, at);
-        line(&input[at..end]);
+        line(rt, &input[at..end]);
         at = end + 1;
     }
 }
 
-pub(crate) fn all() {
-    let mut input = [0u8; 65536];
-    let n = io::read_full(STDIN_FILENO, &mut input);
-    lines(&input[..n]);
+pub(crate) fn all(rt: &(impl Print + Input + AllocGlobal)) -> io::Result<()> {
+    let mut input = Vec::new(rt.alloc());
+    rt.reader().take(MOST_BYTES).read_to_end(&mut input)?;
+    lines(rt, &input);
+    Ok(())
 }

@@ -22,6 +22,7 @@ fn changed(h: Header, n: &mut [u64], field: u64, value: u64) -> Header
 
 // The lists of the table, in the order of the text.
 fn lists(
+    rt: &impl Print,
     h: Header,
     text: &[u8],
     at: usize,
@@ -37,11 +38,11 @@ fn lists(
     let second = words::numbers(text, first, exponents);
     let third = words::signed_numbers(text, second, rows);
     words::bytes(text, third, comments);
-    shown::table(h, identifiers, exponents, comments, rows, wanted);
+    shown::table(rt, h, identifiers, exponents, comments, rows, wanted);
 }
 
 // Lists of the lengths that the text says.
-fn body(h: Header, text: &[u8], at: usize, lengths: &[u64], wanted: Wanted)
+fn body(rt: &impl Print, h: Header, text: &[u8], at: usize, lengths: &[u64], wanted: Wanted)
     requires at_in_bounds { at ≤ length text.now }
     requires lengths_len { length lengths.now ≡ 4 }
 {
@@ -54,6 +55,7 @@ fn body(h: Header, text: &[u8], at: usize, lengths: &[u64], wanted: Wanted)
     let c = at_most(lengths[2], 8000);
     let r = at_most(lengths[3], 23_000);
     lists(
+        rt,
         h,
         text,
         at,
@@ -66,35 +68,43 @@ fn body(h: Header, text: &[u8], at: usize, lengths: &[u64], wanted: Wanted)
 }
 
 // The table of an accepted header: `rest` has the field that is another, its value and the lengths of the lists, which stand at `at`.
-fn accepted(h: Header, n: &mut [u64], rest: &[u64], text: &[u8], at: usize, wanted: Wanted)
+fn accepted(
+    rt: &impl Print,
+    h: Header,
+    n: &mut [u64],
+    rest: &[u64],
+    text: &[u8],
+    at: usize,
+    wanted: Wanted,
+)
     requires n_len { length n.old ≡ 34 }
     requires rest_len { length rest.now ≡ 6 }
     requires at_in_bounds { at ≤ length text.now }
 {
     let other = changed(h, n, rest[0], rest[1]);
-    body(other, text, at, &rest[2..6], wanted);
+    body(rt, other, text, at, &rest[2..6], wanted);
 }
 
 // The header's answer, and what is written where it is accepted.
-fn answered(n: &mut [u64], rest: &[u64], text: &[u8], at: usize, wanted: Wanted)
+fn answered(rt: &impl Print, n: &mut [u64], rest: &[u64], text: &[u8], at: usize, wanted: Wanted)
     requires n_len { length n.old ≡ 34 }
     requires rest_len { length rest.now ≡ 6 }
     requires at_in_bounds { at ≤ length text.now }
 {
     let answer = fields::made(n);
-    print::text(b"new");
-    print::value(answer.refusal);
-    print::text(b"\n");
+    print::text(rt, b"new");
+    print::value(rt, answer.refusal);
+    print::text(rt, b"\n");
     if answer.refusal == 0 {
-        accepted(answer.header, n, rest, text, at, wanted);
+        accepted(rt, answer.header, n, rest, text, at, wanted);
     }
 }
 
 // One table.
-pub(crate) fn table(text: &[u8], wanted: Wanted) {
+pub(crate) fn table(rt: &impl Print, text: &[u8], wanted: Wanted) {
     let mut n = [0u64; 34];
     let mut rest = [0u64; 6];
     let first = words::numbers(text, 0, &mut n);
     let second = words::numbers(text, first, &mut rest);
-    answered(&mut n, &rest, text, second, wanted);
+    answered(rt, &mut n, &rest, text, second, wanted);
 }

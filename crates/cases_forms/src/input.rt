@@ -4,21 +4,22 @@ ghost use Rattle.std.specs.Prelude.{◌+◌, ◌≤◌, length};
 use crate::shown::Wanted;
 use crate::words::at_most;
 use crate::{given, print, shown, words};
-use libc::STDIN_FILENO;
+use std::io;
+use std::io::Read;
 
 // The answers to one case.
-fn answer(kind: u64, wanted: Wanted, bytes: &[u8]) {
+fn answer(rt: &impl Print, kind: u64, wanted: Wanted, bytes: &[u8]) {
     if kind == 0 {
-        print::told(b"file", wanted.size, bytes.len() as u64);
-        shown::file(bytes, wanted);
+        print::told(rt, b"file", wanted.size, bytes.len() as u64);
+        shown::file(rt, bytes, wanted);
     } else {
-        print::told(b"table", wanted.size, bytes.len() as u64);
-        given::table(bytes, wanted);
+        print::told(rt, b"table", wanted.size, bytes.len() as u64);
+        given::table(rt, bytes, wanted);
     }
 }
 
 // The case at `at`, and where the next one begins.
-fn case(input: &[u8], at: usize) -> usize
+fn case(rt: &impl Print, input: &[u8], at: usize) -> usize
     requires { at + 1 ≤ length input.now }
     ensures { (at + 1 ≤ result) × (result ≤ length input.now) }
 {
@@ -30,26 +31,30 @@ fn case(input: &[u8], at: usize) -> usize
         letter: (front[0] % 256) as u8,
         size: front[1],
     };
-    answer(words::value(input, at), wanted, &input[from..to]);
+    answer(rt, words::value(input, at), wanted, &input[from..to]);
     to
 }
 
 // Every case of the input.
-fn batch(input: &[u8]) {
+fn batch(rt: &impl Print, input: &[u8]) {
     let mut at = 0;
     while at < input.len() {
-        at = case(input, at);
+        at = case(rt, input, at);
     }
 }
 
+// The most bytes of standard input that are read.
+const MOST_BYTES: u64 = 1_000_000;
+
 // Standard input read into `room`, and its cases.
-fn taken(room: &mut [u8]) {
-    let n = io::read_full(STDIN_FILENO, room);
-    batch(&room[..n]);
+fn taken(rt: &(impl Print + Input), room: &mut Vec<u8>) -> io::Result<()> {
+    rt.reader().take(MOST_BYTES).read_to_end(room)?;
+    batch(rt, room);
+    Ok(())
 }
 
 // Standard input, of at most 1,000,000 bytes.
-pub(crate) fn all() {
-    let mut room = [0u8; 1_000_000];
-    taken(&mut room);
+pub(crate) fn all(rt: &(impl Print + Input + AllocGlobal)) -> io::Result<()> {
+    let mut room = Vec::new(rt.alloc());
+    taken(rt, &mut room)
 }

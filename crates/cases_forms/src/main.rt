@@ -2,6 +2,7 @@
 // number and the length, the bytes written, and whether every other byte of the room is as it was.
 // What it must print is made by tests/forms.rs, out of the documents alone; the batches too. It shares no code with this.
 #![tactic(auto)]
+
 mod fields;
 mod given;
 mod input;
@@ -9,6 +10,8 @@ mod print;
 mod shown;
 mod words;
 
-fn main() {
-    input::all();
+use std::io;
+
+fn main(rt: HostRuntime) -> io::Result<()> {
+    input::all(&rt)
 }

@@ -13,111 +13,111 @@ use record::kind::{
 use record::{LineKind, descriptors, kind, notes, opening, plain, rows, slots};
 
 // Line 1.
-fn first(rules: Rules, line: &[u8; 80]) {
+fn first(rt: &impl Print, rules: Rules, line: &[u8; 80]) {
     let read = opening::read_first(rules, line);
     let mut out = [35u8; 81];
     let n = draw::opening::write_first(rules, read, &mut out);
-    print::written(read.fault, &out, n);
+    print::written(rt, read.fault, &out, n);
 }
 
 // Line 2.
-fn second(line: &[u8; 80]) {
+fn second(rt: &impl Print, line: &[u8; 80]) {
     let read = opening::read_second(line);
     let mut out = [35u8; 81];
     let n = draw::opening::write_second(read, &mut out);
-    print::written(read.fault, &out, n);
+    print::written(rt, read.fault, &out, n);
 }
 
 // The first `+ ` line.
-fn satellites(rules: Rules, line: &[u8; 80]) {
+fn satellites(rt: &impl Print, rules: Rules, line: &[u8; 80]) {
     let read = slots::read_satellites(rules, line);
     let mut out = [35u8; 81];
     let n = draw::slots::write_satellites(rules, read, &mut out);
-    print::written(read.fault, &out, n);
+    print::written(rt, read.fault, &out, n);
 }
 
 // A further `+ ` line, or a `++` line where `accuracies` says so.
-fn more(line: &[u8; 80], accuracies: bool, left: u64) {
+fn more(rt: &impl Print, line: &[u8; 80], accuracies: bool, left: u64) {
     let read = slots::read_slots(line, accuracies, left);
     let mut out = [35u8; 81];
     let n = draw::slots::write_slots(read, accuracies, left, &mut out);
-    print::written(read.fault, &out, n);
+    print::written(rt, read.fault, &out, n);
 }
 
 // The first `%c` line.
-fn descriptor(line: &[u8; 80]) {
+fn descriptor(rt: &impl Print, line: &[u8; 80]) {
     let read = descriptors::read_descriptor(line);
     let mut out = [35u8; 81];
     let n = draw::descriptors::write_descriptor(read, &mut out);
-    print::written(read.fault, &out, n);
+    print::written(rt, read.fault, &out, n);
 }
 
 // The second `%c` line.
-fn characters(line: &[u8; 80]) {
+fn characters(rt: &impl Print, line: &[u8; 80]) {
     let mut out = [35u8; 81];
     let n = draw::descriptors::write_characters(&mut out);
-    print::written(descriptors::characters_fault(line), &out, n);
+    print::written(rt, descriptors::characters_fault(line), &out, n);
 }
 
 // The first `%f` line.
-fn bases(line: &[u8; 80]) {
+fn bases(rt: &impl Print, line: &[u8; 80]) {
     let read = descriptors::read_bases(line);
     let mut out = [35u8; 81];
     let n = draw::descriptors::write_bases(read, &mut out);
-    print::written(read.fault, &out, n);
+    print::written(rt, read.fault, &out, n);
 }
 
 // The second `%f` line.
-fn floats(line: &[u8; 80]) {
+fn floats(rt: &impl Print, line: &[u8; 80]) {
     let mut out = [35u8; 81];
     let n = draw::descriptors::write_floats(&mut out);
-    print::written(descriptors::floats_fault(line), &out, n);
+    print::written(rt, descriptors::floats_fault(line), &out, n);
 }
 
 // A `%i` line.
-fn integers(line: &[u8; 80]) {
+fn integers(rt: &impl Print, line: &[u8; 80]) {
     let mut out = [35u8; 81];
     let n = draw::descriptors::write_integers(&mut out);
-    print::written(descriptors::integers_fault(line), &out, n);
+    print::written(rt, descriptors::integers_fault(line), &out, n);
 }
 
 // A comment, of which columns 4 to 80 are the text.
-fn comment(line: &[u8; 80]) {
+fn comment(rt: &impl Print, line: &[u8; 80]) {
     let s = &line[..];
     let mut out = [35u8; 81];
     let n = draw::plain::write_comment(&s[3..80], &mut out);
-    print::written(plain::comment_fault(line), &out, n);
+    print::written(rt, plain::comment_fault(line), &out, n);
 }
 
 // An epoch line.
-fn epoch(line: &[u8; 80]) {
+fn epoch(rt: &impl Print, line: &[u8; 80]) {
     let read = opening::read_epoch(line);
     let mut out = [35u8; 81];
     let n = draw::opening::write_epoch(read, &mut out);
-    print::written(read.fault, &out, n);
+    print::written(rt, read.fault, &out, n);
 }
 
 // A P line, or a V line where `velocity` says so.
-fn row(line: &[u8; 80], velocity: bool) {
+fn row(rt: &impl Print, line: &[u8; 80], velocity: bool) {
     let read = rows::row_of(&line[..], velocity);
     let mut out = [35u8; 81];
     let n = draw::rows::write_row(read, velocity, &mut out);
-    print::written(rows::row_fault(line, velocity), &out, n);
+    print::written(rt, rows::row_fault(line, velocity), &out, n);
 }
 
 // An EP line, or an EV line where `velocity` says so.
-fn note(line: &[u8; 80], velocity: bool) {
+fn note(rt: &impl Print, line: &[u8; 80], velocity: bool) {
     let read = notes::note_of(&line[..]);
     let mut out = [35u8; 81];
     let n = draw::notes::write_note(read, velocity, &mut out);
-    print::written(notes::correlation_fault(line, velocity), &out, n);
+    print::written(rt, notes::correlation_fault(line, velocity), &out, n);
 }
 
 // The end of the file.
-fn end(line: &[u8; 80]) {
+fn end(rt: &impl Print, line: &[u8; 80]) {
     let mut out = [35u8; 81];
     let n = draw::plain::write_end(&mut out);
-    print::written(plain::end_fault(line), &out, n);
+    print::written(rt, plain::end_fault(line), &out, n);
 }
 
 // A number for each kind, in the order of the records; 0 for no kind.
@@ -144,42 +144,42 @@ fn kind_number(k: LineKind) -> u64
 }
 
 // The kind of a line.
-fn which(rules: Rules, line: &[u8; 80]) {
-    print::text(b"kind ");
-    print::number(kind_number(kind::kind_of(rules, line)));
-    print::text(b"\n");
+fn which(rt: &impl Print, rules: Rules, line: &[u8; 80]) {
+    print::text(rt, b"kind ");
+    print::number(rt, kind_number(kind::kind_of(rules, line)));
+    print::text(rt, b"\n");
 }
 
 // The line by the letter of its kind.
-fn told(rules: Rules, letter: u8, left: u64, line: &[u8; 80]) {
+fn told(rt: &impl Print, rules: Rules, letter: u8, left: u64, line: &[u8; 80]) {
     match letter {
-        b'a' => first(rules, line),
-        b'b' => second(line),
-        b'c' => satellites(rules, line),
-        b'd' => more(line, false, left),
-        b'e' => more(line, true, left),
-        b'f' => descriptor(line),
-        b'g' => characters(line),
-        b'h' => bases(line),
-        b'i' => floats(line),
-        b'j' => integers(line),
-        b'k' => comment(line),
-        b'l' => epoch(line),
-        b'm' => row(line, false),
-        b'n' => row(line, true),
-        b'o' => note(line, false),
-        b'p' => note(line, true),
-        b'q' => end(line),
-        b'z' => which(rules, line),
-        _ => print::text(b"?\n"),
+        b'a' => first(rt, rules, line),
+        b'b' => second(rt, line),
+        b'c' => satellites(rt, rules, line),
+        b'd' => more(rt, line, false, left),
+        b'e' => more(rt, line, true, left),
+        b'f' => descriptor(rt, line),
+        b'g' => characters(rt, line),
+        b'h' => bases(rt, line),
+        b'i' => floats(rt, line),
+        b'j' => integers(rt, line),
+        b'k' => comment(rt, line),
+        b'l' => epoch(rt, line),
+        b'm' => row(rt, line, false),
+        b'n' => row(rt, line, true),
+        b'o' => note(rt, line, false),
+        b'p' => note(rt, line, true),
+        b'q' => end(rt, line),
+        b'z' => which(rt, rules, line),
+        _ => print::text(rt, b"?\n"),
     }
 }
 
 // The line by the letter of its kind: a capital letter asks for it by the rules of SP3-c.
-pub(crate) fn answer(letter: u8, left: u64, line: &[u8; 80]) {
+pub(crate) fn answer(rt: &impl Print, letter: u8, left: u64, line: &[u8; 80]) {
     if letter < b'a' {
-        told(Rules::c(), letter + 32, left, line);
+        told(rt, Rules::c(), letter + 32, left, line);
     } else {
-        told(Rules::d(), letter, left, line);
+        told(rt, Rules::d(), letter, left, line);
     }
 }

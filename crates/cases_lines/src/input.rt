@@ -3,7 +3,8 @@
 ghost use Rattle.std.specs.Prelude.{◌≤◌, length};
 
 use crate::{cases, written};
-use libc::STDIN_FILENO;
+use std::io;
+use std::io::Read;
 
 // Where the next LF stands from `at` on, or the end.
 fn line_end(bytes: &[u8], at: usize) -> usize
@@ -26,37 +27,41 @@ fn digits(hundreds: u8, tens: u8, ones: u8) -> u64 {
 }
 
 // One case; what has no kind or digits is passed over.
-fn case(s: &[u8]) {
+fn case(rt: &impl Print, s: &[u8]) {
     if s.len() < 4 {
         return;
     }
     let argument = digits(s[1], s[2], s[3]);
     if s[0] == b'w' {
-        written::answer(argument, &s[4..]);
+        written::answer(rt, argument, &s[4..]);
         return;
     }
     let padded = layout::pad(&s[4..]);
-    cases::answer(s[0], argument, &padded);
+    cases::answer(rt, s[0], argument, &padded);
 }
 
 // Every case of the input.
-fn lines(input: &[u8]) {
+fn lines(rt: &impl Print, input: &[u8]) {
     let mut at = 0;
     while at < input.len() {
         let end = line_end(input, at);
-        case(&input[at..end]);
+        case(rt, &input[at..end]);
         at = end + 1;
     }
 }
 
+// The most bytes of standard input that are read.
+const MOST_BYTES: u64 = 1_000_000;
+
 // Standard input read into `room`, and its cases.
-fn taken(room: &mut [u8]) {
-    let n = io::read_full(STDIN_FILENO, room);
-    lines(&room[..n]);
+fn taken(rt: &(impl Print + Input), room: &mut Vec<u8>) -> io::Result<()> {
+    rt.reader().take(MOST_BYTES).read_to_end(room)?;
+    lines(rt, room);
+    Ok(())
 }
 
 // Standard input, of at most 1,000,000 bytes.
-pub(crate) fn all() {
-    let mut room = [0u8; 1_000_000];
-    taken(&mut room);
+pub(crate) fn all(rt: &(impl Print + Input + AllocGlobal)) -> io::Result<()> {
+    let mut room = Vec::new(rt.alloc());
+    taken(rt, &mut room)
 }

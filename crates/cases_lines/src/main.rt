@@ -3,12 +3,15 @@
 // the room that it is lent.
 // What it must print is made by tests/lines.rs, out of the documents alone; the cases too. It shares no code with this.
 #![tactic(auto)]
+
 mod cases;
 mod input;
 mod print;
 mod words;
 mod written;
 
-fn main() {
-    input::all();
+use std::io;
+
+fn main(rt: HostRuntime) -> io::Result<()> {
+    input::all(&rt)
 }

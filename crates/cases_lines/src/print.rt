@@ -1,44 +1,43 @@
 // Answers as text, a line for each.
-use libc::STDOUT_FILENO;
 
 // Bytes as they stand.
-pub(crate) fn text(s: &[u8]) {
-    io::write_all(STDOUT_FILENO, s);
+pub(crate) fn text(rt: &impl Print, s: &[u8]) {
+    let _ = rt.write_all(s);
 }
 
 // A number in decimal.
-pub(crate) fn number(n: u64) {
-    io::print_decimal(STDOUT_FILENO, n);
+pub(crate) fn number(rt: &impl Print, n: u64) {
+    let _ = rt.print(n);
 }
 
 // A fault: the paper's number and the column; 0 and 0 for none.
-fn key(fault: usize) {
-    number(layout::number_of(fault) as u64);
-    text(b" ");
-    number(layout::column_of(fault) as u64);
+fn key(rt: &impl Print, fault: usize) {
+    number(rt, layout::number_of(fault) as u64);
+    text(rt, b" ");
+    number(rt, layout::column_of(fault) as u64);
 }
 
 // A line that is judged and not written.
-fn judged(fault: usize) {
-    key(fault);
-    text(b"\n");
+fn judged(rt: &impl Print, fault: usize) {
+    key(rt, fault);
+    text(rt, b"\n");
 }
 
 // The first `n` bytes of what was written, if there was room for them: a line with its LF.
-fn canonical(out: &[u8], n: usize) {
+fn canonical(rt: &impl Print, out: &[u8], n: usize) {
     if n <= out.len() {
-        text(&out[0..n]);
+        text(rt, &out[0..n]);
     }
 }
 
 // A line that is judged and, where it has no fault, written.
-pub(crate) fn written(fault: usize, out: &[u8; 81], n: usize) {
+pub(crate) fn written(rt: &impl Print, fault: usize, out: &[u8; 81], n: usize) {
     if fault != 0 {
-        judged(fault);
+        judged(rt, fault);
         return;
     }
-    text(b"0 0 ");
-    canonical(&out[..], n);
+    text(rt, b"0 0 ");
+    canonical(rt, &out[..], n);
 }
 
 // A byte of a room as it is printed: an LF as `$`, so that an answer is one line.
@@ -56,10 +55,10 @@ fn show(out: &mut [u8]) {
 }
 
 // What a writer answered, and every byte of the room that it was lent.
-pub(crate) fn room(out: &mut [u8], n: usize) {
+pub(crate) fn room(rt: &impl Print, out: &mut [u8], n: usize) {
     show(out);
-    number(n as u64);
-    text(b" |");
-    text(out);
-    text(b"|\n");
+    number(rt, n as u64);
+    text(rt, b" |");
+    text(rt, out);
+    text(rt, b"|\n");
 }

@@ -197,23 +197,23 @@ fn laid_in(letter: u8, s: &[u8], out: &mut [u8]) -> usize {
 }
 
 // The record written into all of `out`, and what came of it.
-fn into(letter: u8, s: &[u8], out: &mut [u8]) {
+fn into(rt: &impl Print, letter: u8, s: &[u8], out: &mut [u8]) {
     let n = laid_in(letter, s, out);
-    print::room(out, n);
+    print::room(rt, out, n);
 }
 
 // The record written into the first bytes of `out`, as many as the room has.
-fn into_part(letter: u8, s: &[u8], out: &mut [u8], room: u64) {
+fn into_part(rt: &impl Print, letter: u8, s: &[u8], out: &mut [u8], room: u64) {
     let n = laws::fewer(room as usize, out.len());
-    into(letter, s, &mut out[0..n]);
+    into(rt, letter, s, &mut out[0..n]);
 }
 
 // A case: the kind letter, the mark and the values.
-pub(crate) fn answer(room: u64, s: &[u8]) {
+pub(crate) fn answer(rt: &impl Print, room: u64, s: &[u8]) {
     if s.len() < 2 {
         return;
     }
     let mark = s[1];
     let mut out = [mark; MOST];
-    into_part(s[0], &s[2..], &mut out, room);
+    into_part(rt, s[0], &s[2..], &mut out, room);
 }

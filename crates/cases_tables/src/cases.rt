@@ -16,25 +16,25 @@ pub(crate) struct Case {
 }
 
 // A judgement or a reading: the refusal, its line, its column, the length, and the letter of the version.
-pub(crate) fn told(name: &[u8], reading: Reading) {
-    print::text(name);
-    print::refusal(reading.refusal, reading.line, reading.column);
-    print::value(reading.length as u64);
-    print::text(b" |");
-    print::byte(reading.version);
-    print::text(b"|\n");
+pub(crate) fn told(rt: &impl Print, name: &[u8], reading: Reading) {
+    print::text(rt, name);
+    print::refusal(rt, reading.refusal, reading.line, reading.column);
+    print::value(rt, reading.length as u64);
+    print::text(rt, b" |");
+    print::byte(rt, reading.version);
+    print::text(rt, b"|\n");
 }
 
 // Every answer about some bytes.
-pub(crate) fn answer(case: Case, file: &[u8]) {
-    print::text(b"case");
-    print::value(file.len() as u64);
-    print::text(b"\n");
-    told(b"front", reader::judge_front(file));
-    told(b"whole", reader::judge(file));
-    lent::read(case, file, false);
-    lent::read(case, file, true);
-    asked::comment(file, case.comment);
-    asked::satellite(file, case.name);
-    asked::row(file, case.epoch, case.satellite);
+pub(crate) fn answer(rt: &impl Print, case: Case, file: &[u8]) {
+    print::text(rt, b"case");
+    print::value(rt, file.len() as u64);
+    print::text(rt, b"\n");
+    told(rt, b"front", reader::judge_front(file));
+    told(rt, b"whole", reader::judge(file));
+    lent::read(rt, case, file, false);
+    lent::read(rt, case, file, true);
+    asked::comment(rt, file, case.comment);
+    asked::satellite(rt, file, case.name);
+    asked::row(rt, file, case.epoch, case.satellite);
 }

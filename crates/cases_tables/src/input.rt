@@ -3,7 +3,8 @@ ghost use Rattle.std.specs.Prelude.{◌+◌, ◌≤◌, length};
 
 use crate::cases;
 use crate::cases::Case;
-use libc::STDIN_FILENO;
+use std::io;
+use std::io::Read;
 
 // Where the next LF stands from `at` on, or the end.
 fn line_end(bytes: &[u8], at: usize) -> usize
@@ -81,7 +82,7 @@ pub(crate) fn at_most(n: u64, most: usize) -> usize
 }
 
 // The case at `at`, and where the next one begins.
-fn case(input: &[u8], at: usize) -> usize
+fn case(rt: &impl Print, input: &[u8], at: usize) -> usize
     requires { at + 1 ≤ length input.now }
     ensures { (at + 1 ≤ result) × (result ≤ length input.now) }
 {
@@ -92,26 +93,30 @@ fn case(input: &[u8], at: usize) -> usize
     let line = &input[at..end];
     let from = end + 1;
     let to = from + at_most(number(line, 0), input.len() - from);
-    cases::answer(case_of(line), &input[from..to]);
+    cases::answer(rt, case_of(line), &input[from..to]);
     to
 }
 
 // Every case of the input.
-fn batch(input: &[u8]) {
+fn batch(rt: &impl Print, input: &[u8]) {
     let mut at = 0;
     while at < input.len() {
-        at = case(input, at);
+        at = case(rt, input, at);
     }
 }
 
+// The most bytes of standard input that are read.
+const MOST_BYTES: u64 = 1_000_000;
+
 // Standard input read into `room`, and its cases.
-fn taken(room: &mut [u8]) {
-    let n = io::read_full(STDIN_FILENO, room);
-    batch(&room[..n]);
+fn taken(rt: &(impl Print + Input), room: &mut Vec<u8>) -> io::Result<()> {
+    rt.reader().take(MOST_BYTES).read_to_end(room)?;
+    batch(rt, room);
+    Ok(())
 }
 
 // Standard input, of at most 1,000,000 bytes.
-pub(crate) fn all() {
-    let mut room = [0u8; 1_000_000];
-    taken(&mut room);
+pub(crate) fn all(rt: &(impl Print + Input + AllocGlobal)) -> io::Result<()> {
+    let mut room = Vec::new(rt.alloc());
+    taken(rt, &mut room)
 }

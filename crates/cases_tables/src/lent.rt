@@ -62,17 +62,18 @@ fn sum_of_rows(rows: &[i64]) -> u64 {
 }
 
 // The sums of the four lists.
-fn sums(identifiers: &[u64], exponents: &[u64], comments: &[u8], rows: &[i64]) {
-    print::text(b"sums");
-    print::value(sum_of(identifiers));
-    print::value(sum_of(exponents));
-    print::value(sum_of_bytes(comments));
-    print::value(sum_of_rows(rows));
-    print::text(b"\n");
+fn sums(rt: &impl Print, identifiers: &[u64], exponents: &[u64], comments: &[u8], rows: &[i64]) {
+    print::text(rt, b"sums");
+    print::value(rt, sum_of(identifiers));
+    print::value(rt, sum_of(exponents));
+    print::value(rt, sum_of_bytes(comments));
+    print::value(rt, sum_of_rows(rows));
+    print::text(rt, b"\n");
 }
 
 // What a reading left: the sums, and the table of a file that was read whole.
 fn shown(
+    rt: &impl Print,
     reading: Reading,
     front: bool,
     identifiers: &[u64],
@@ -80,15 +81,16 @@ fn shown(
     comments: &[u8],
     rows: &[i64],
 ) {
-    sums(identifiers, exponents, comments, rows);
+    sums(rt, identifiers, exponents, comments, rows);
     if front | (reading.refusal != 0) {
         return;
     }
-    table::show(reading.header, identifiers, exponents, comments, rows);
+    table::show(rt, reading.header, identifiers, exponents, comments, rows);
 }
 
 // A reading into these lists: of a whole file, or of the file at the front.
 fn into(
+    rt: &impl Print,
     file: &[u8],
     front: bool,
     identifiers: &mut [u64],
@@ -98,17 +100,18 @@ fn into(
 ) {
     if front {
         let reading = reader::read_front(file, identifiers, exponents, comments, rows);
-        cases::told(b"read_front", reading);
-        shown(reading, front, identifiers, exponents, comments, rows);
+        cases::told(rt, b"read_front", reading);
+        shown(rt, reading, front, identifiers, exponents, comments, rows);
     } else {
         let reading = reader::read(file, identifiers, exponents, comments, rows);
-        cases::told(b"read", reading);
-        shown(reading, front, identifiers, exponents, comments, rows);
+        cases::told(rt, b"read", reading);
+        shown(rt, reading, front, identifiers, exponents, comments, rows);
     }
 }
 
 // A reading into the first places of the lists, as many as the case says.
 fn into_parts(
+    rt: &impl Print,
     case: Case,
     file: &[u8],
     front: bool,
@@ -122,6 +125,7 @@ fn into_parts(
     let c = at_most(case.comments, comments.len());
     let r = at_most(case.rows, rows.len());
     into(
+        rt,
         file,
         front,
         &mut identifiers[0..i],
@@ -132,12 +136,13 @@ fn into_parts(
 }
 
 // A reading into lists that hold marks alone.
-pub(crate) fn read(case: Case, file: &[u8], front: bool) {
+pub(crate) fn read(rt: &impl Print, case: Case, file: &[u8], front: bool) {
     let mut identifiers = [7777u64; 1000];
     let mut exponents = [7777u64; 1000];
     let mut comments = [b'#'; 8000];
     let mut rows = [-7i64; 23_000];
     into_parts(
+        rt,
         case,
         file,
         front,

@@ -2,6 +2,7 @@
 // judgements, the readings with everything that was lent, the table by its accessors, and the questions.
 // What it must print is made by tests/files.rs, out of the documents alone; the batches too. It shares no code with this.
 #![tactic(auto)]
+
 mod asked;
 mod cases;
 mod input;
@@ -9,6 +10,8 @@ mod lent;
 mod print;
 mod table;
 
-fn main() {
-    input::all();
+use std::io;
+
+fn main(rt: HostRuntime) -> io::Result<()> {
+    input::all(&rt)
 }

@@ -1,49 +1,48 @@
 // Answers as text.
-use libc::STDOUT_FILENO;
 
 // Bytes as they stand.
-pub(crate) fn text(s: &[u8]) {
-    io::write_all(STDOUT_FILENO, s);
+pub(crate) fn text(rt: &impl Print, s: &[u8]) {
+    let _ = rt.write_all(s);
 }
 
 // One byte.
-pub(crate) fn byte(b: u8) {
+pub(crate) fn byte(rt: &impl Print, b: u8) {
     let one = [b];
-    text(&one);
+    text(rt, &one);
 }
 
 // A number in decimal.
-pub(crate) fn number(n: u64) {
-    io::print_decimal(STDOUT_FILENO, n);
+pub(crate) fn number(rt: &impl Print, n: u64) {
+    let _ = rt.print(n);
 }
 
 // A number with a blank before it.
-pub(crate) fn value(n: u64) {
-    text(b" ");
-    number(n);
+pub(crate) fn value(rt: &impl Print, n: u64) {
+    text(rt, b" ");
+    number(rt, n);
 }
 
 // A signed number with a blank before it.
-pub(crate) fn signed(v: i64) {
-    text(b" ");
+pub(crate) fn signed(rt: &impl Print, v: i64) {
+    text(rt, b" ");
     if field::sign::is_negative(v) {
-        text(b"-");
+        text(rt, b"-");
     }
-    number(field::sign::magnitude_of(v));
+    number(rt, field::sign::magnitude_of(v));
 }
 
 // A refusal, its line and its column.
-pub(crate) fn refusal(refusal: usize, line: u64, column: usize) {
-    value(refusal as u64);
-    value(line);
-    value(column as u64);
+pub(crate) fn refusal(rt: &impl Print, refusal: usize, line: u64, column: usize) {
+    value(rt, refusal as u64);
+    value(rt, line);
+    value(rt, column as u64);
 }
 
 // A satellite's identifier: 7107 is G07.
-pub(crate) fn identifier(n: u64) {
-    byte((n / 100 % 256) as u8);
-    number(n % 100 / 10);
-    number(n % 10);
+pub(crate) fn identifier(rt: &impl Print, n: u64) {
+    byte(rt, (n / 100 % 256) as u8);
+    number(rt, n % 100 / 10);
+    number(rt, n % 10);
 }
 
 // The whole number that a float is, where it is one of 64 bits; else 0.
@@ -57,18 +56,18 @@ fn whole_of(x: f64) -> i64 {
 }
 
 // A float that is a whole number, with a blank before it; any other is followed by a mark.
-pub(crate) fn float(x: f64) {
+pub(crate) fn float(rt: &impl Print, x: f64) {
     let v = whole_of(x);
-    signed(v);
+    signed(rt, v);
     if std::num::nearest_i64_to_f64(v) != x {
-        text(b"?");
+        text(rt, b"?");
     }
 }
 
 // What is absent, which is no number; a number is followed by a mark.
-pub(crate) fn absent_float(x: f64) {
-    text(b" absent");
+pub(crate) fn absent_float(rt: &impl Print, x: f64) {
+    text(rt, b" absent");
     if x == x {
-        text(b"?");
+        text(rt, b"?");
     }
 }

@@ -8,62 +8,62 @@ use record::rows::ROW_WIDTH;
 use stored_row::{ClockRead, ExponentRead, Flag, NoteCorrelation, NoteDeviation, NoteMark, Place};
 
 // The four texts of line 1.
-fn texts(t: Texts) {
+fn texts(rt: &impl Print, t: Texts) {
     let data_used = t.data_used;
     let coordinates = t.coordinates;
     let orbit = t.orbit;
     let agency = t.agency;
-    print::text(b"texts |");
-    print::text(&data_used);
-    print::text(b"|");
-    print::text(&coordinates);
-    print::text(b"|");
-    print::text(&orbit);
-    print::text(b"|");
-    print::text(&agency);
-    print::text(b"|\n");
+    print::text(rt, b"texts |");
+    print::text(rt, &data_used);
+    print::text(rt, b"|");
+    print::text(rt, &coordinates);
+    print::text(rt, b"|");
+    print::text(rt, &orbit);
+    print::text(rt, b"|");
+    print::text(rt, &agency);
+    print::text(rt, b"|\n");
 }
 
 // The mode, as its letter.
-fn mode(velocity: bool) {
+fn mode(rt: &impl Print, velocity: bool) {
     if velocity {
-        print::text(b"mode V\n");
+        print::text(rt, b"mode V\n");
     } else {
-        print::text(b"mode P\n");
+        print::text(rt, b"mode P\n");
     }
 }
 
 // A number after its name.
-fn named(name: &[u8], n: u64) {
-    print::text(name);
-    print::value(n);
-    print::text(b"\n");
+fn named(rt: &impl Print, name: &[u8], n: u64) {
+    print::text(rt, name);
+    print::value(rt, n);
+    print::text(rt, b"\n");
 }
 
 // The header, but for the counts of its lists.
-fn front(header: Header) {
+fn front(rt: &impl Print, header: Header) {
     let time_system = header.time_system;
     let bases = header.bases;
-    mode(header.velocity);
-    named(b"start8", header.start8);
-    named(b"epochs", header.epochs);
-    named(b"interval8", header.interval8);
-    texts(header.texts);
-    print::text(b"type ");
-    print::byte(header.file_type);
-    print::text(b"\ntime ");
-    print::text(&time_system);
-    print::text(b"\nbases");
-    print::value(bases.place);
-    print::value(bases.clock);
-    print::text(b"\n");
+    mode(rt, header.velocity);
+    named(rt, b"start8", header.start8);
+    named(rt, b"epochs", header.epochs);
+    named(rt, b"interval8", header.interval8);
+    texts(rt, header.texts);
+    print::text(rt, b"type ");
+    print::byte(rt, header.file_type);
+    print::text(rt, b"\ntime ");
+    print::text(rt, &time_system);
+    print::text(rt, b"\nbases");
+    print::value(rt, bases.place);
+    print::value(rt, bases.clock);
+    print::text(rt, b"\n");
 }
 
 // A satellite and its accuracy.
-fn satellite(name: u64, exponent: u64) {
-    print::identifier(name);
-    print::value(exponent);
-    print::text(b"\n");
+fn satellite(rt: &impl Print, name: u64, exponent: u64) {
+    print::identifier(rt, name);
+    print::value(rt, exponent);
+    print::text(rt, b"\n");
 }
 
 // The k-th number of a list; 0 where there is none.
@@ -75,141 +75,141 @@ fn number_in(numbers: &[u64], k: usize) -> u64 {
 }
 
 // The first n satellites.
-fn satellites(n: usize, identifiers: &[u64], exponents: &[u64]) {
+fn satellites(rt: &impl Print, n: usize, identifiers: &[u64], exponents: &[u64]) {
     let mut k = 0;
     while k < n {
-        satellite(number_in(identifiers, k), number_in(exponents, k));
+        satellite(rt, number_in(identifiers, k), number_in(exponents, k));
         k += 1;
     }
 }
 
 // A comment without its trailing blanks.
-fn comment(text: &[u8]) {
+fn comment(rt: &impl Print, text: &[u8]) {
     let n = layout::trimmed_length(text);
-    print::text(b"|");
-    print::text(&text[0..n]);
-    print::text(b"|\n");
+    print::text(rt, b"|");
+    print::text(rt, &text[0..n]);
+    print::text(rt, b"|\n");
 }
 
 // The k-th comment, where there is one.
-fn comment_in(bytes: &[u8], k: usize) {
+fn comment_in(rt: &impl Print, bytes: &[u8], k: usize) {
     if k < bytes.len() / COMMENT_WIDTH {
         let from = k * COMMENT_WIDTH;
         let to = from + COMMENT_WIDTH;
-        comment(&bytes[from..to]);
+        comment(rt, &bytes[from..to]);
     }
 }
 
 // The first n comments.
-fn comments(n: u64, bytes: &[u8]) {
+fn comments(rt: &impl Print, n: u64, bytes: &[u8]) {
     let mut k = 0;
     while k < n {
-        comment_in(bytes, k as usize);
+        comment_in(rt, bytes, k as usize);
         k += 1;
     }
 }
 
 // The place or velocity of a row.
-fn place(rows: &[i64], k: usize) {
+fn place(rt: &impl Print, rows: &[i64], k: usize) {
     match stored_row::place_of(rows, k) {
         Place::At { x, y, z } => {
-            print::signed(x);
-            print::signed(y);
-            print::signed(z);
+            print::signed(rt, x);
+            print::signed(rt, y);
+            print::signed(rt, z);
         }
-        Place::Absent => print::text(b" absent"),
-        Place::NotThere => print::text(b" none"),
+        Place::Absent => print::text(rt, b" absent"),
+        Place::NotThere => print::text(rt, b" none"),
     }
 }
 
 // The clock or rate of a row.
-fn clock(rows: &[i64], k: usize) {
+fn clock(rt: &impl Print, rows: &[i64], k: usize) {
     match stored_row::clock_of(rows, k) {
-        ClockRead::At(v) => print::signed(v),
-        ClockRead::Absent => print::text(b" absent"),
-        ClockRead::NotThere => print::text(b" none"),
+        ClockRead::At(v) => print::signed(rt, v),
+        ClockRead::Absent => print::text(rt, b" absent"),
+        ClockRead::NotThere => print::text(rt, b" none"),
     }
 }
 
 // An exponent of a row.
-fn exponent(rows: &[i64], k: usize, which: usize) {
+fn exponent(rt: &impl Print, rows: &[i64], k: usize, which: usize) {
     match stored_row::exponent_of(rows, k, which) {
-        ExponentRead::Value(n) => print::value(n),
-        ExponentRead::Unknown => print::text(b" unknown"),
-        ExponentRead::TooLarge => print::text(b" large"),
-        ExponentRead::NotThere => print::text(b" none"),
+        ExponentRead::Value(n) => print::value(rt, n),
+        ExponentRead::Unknown => print::text(rt, b" unknown"),
+        ExponentRead::TooLarge => print::text(rt, b" large"),
+        ExponentRead::NotThere => print::text(rt, b" none"),
     }
 }
 
 // A flag of a row: its letter, or a point.
-fn flag(rows: &[i64], k: usize, which: usize, letter: u8) {
+fn flag(rt: &impl Print, rows: &[i64], k: usize, which: usize, letter: u8) {
     match stored_row::flag_of(rows, k, which) {
-        Flag::Set => print::byte(letter),
-        Flag::NotSet => print::text(b"."),
-        Flag::NotThere => print::text(b"none"),
+        Flag::Set => print::byte(rt, letter),
+        Flag::NotSet => print::text(rt, b"."),
+        Flag::NotThere => print::text(rt, b"none"),
     }
 }
 
 // A deviation of a row's note.
-fn note_deviation(rows: &[i64], k: usize, which: usize) {
+fn note_deviation(rt: &impl Print, rows: &[i64], k: usize, which: usize) {
     match stored_row::note_deviation_of(rows, k, which) {
-        NoteDeviation::Value(n) => print::value(n),
-        NoteDeviation::Unknown => print::text(b" unknown"),
-        NoteDeviation::TooLarge => print::text(b" large"),
-        NoteDeviation::NoRecord => print::text(b" norecord"),
-        NoteDeviation::NotThere => print::text(b" none"),
+        NoteDeviation::Value(n) => print::value(rt, n),
+        NoteDeviation::Unknown => print::text(rt, b" unknown"),
+        NoteDeviation::TooLarge => print::text(rt, b" large"),
+        NoteDeviation::NoRecord => print::text(rt, b" norecord"),
+        NoteDeviation::NotThere => print::text(rt, b" none"),
     }
 }
 
 // A correlation of a row's note.
-fn note_correlation(rows: &[i64], k: usize, which: usize) {
+fn note_correlation(rt: &impl Print, rows: &[i64], k: usize, which: usize) {
     match stored_row::note_correlation_of(rows, k, which) {
-        NoteCorrelation::Value(v) => print::signed(v),
-        NoteCorrelation::Unknown => print::text(b" unknown"),
-        NoteCorrelation::NoRecord => print::text(b" norecord"),
-        NoteCorrelation::NotThere => print::text(b" none"),
+        NoteCorrelation::Value(v) => print::signed(rt, v),
+        NoteCorrelation::Unknown => print::text(rt, b" unknown"),
+        NoteCorrelation::NoRecord => print::text(rt, b" norecord"),
+        NoteCorrelation::NotThere => print::text(rt, b" none"),
     }
 }
 
 // The ten numbers of a row's note.
-fn noted(rows: &[i64], k: usize) {
-    print::text(b" note");
-    note_deviation(rows, k, 0);
-    note_deviation(rows, k, 1);
-    note_deviation(rows, k, 2);
-    note_deviation(rows, k, 3);
-    note_correlation(rows, k, 0);
-    note_correlation(rows, k, 1);
-    note_correlation(rows, k, 2);
-    note_correlation(rows, k, 3);
-    note_correlation(rows, k, 4);
-    note_correlation(rows, k, 5);
+fn noted(rt: &impl Print, rows: &[i64], k: usize) {
+    print::text(rt, b" note");
+    note_deviation(rt, rows, k, 0);
+    note_deviation(rt, rows, k, 1);
+    note_deviation(rt, rows, k, 2);
+    note_deviation(rt, rows, k, 3);
+    note_correlation(rt, rows, k, 0);
+    note_correlation(rt, rows, k, 1);
+    note_correlation(rt, rows, k, 2);
+    note_correlation(rt, rows, k, 3);
+    note_correlation(rt, rows, k, 4);
+    note_correlation(rt, rows, k, 5);
 }
 
 // The note of a row, where one stands.
-fn note(rows: &[i64], k: usize) {
+fn note(rt: &impl Print, rows: &[i64], k: usize) {
     match stored_row::note_of(rows, k) {
-        NoteMark::Stands => noted(rows, k),
+        NoteMark::Stands => noted(rt, rows, k),
         NoteMark::NoRecord => {}
-        NoteMark::NotThere => print::text(b" none"),
+        NoteMark::NotThere => print::text(rt, b" none"),
     }
 }
 
 // What the k-th row holds.
-fn held(rows: &[i64], k: usize) {
-    place(rows, k);
-    clock(rows, k);
-    exponent(rows, k, 0);
-    exponent(rows, k, 1);
-    exponent(rows, k, 2);
-    exponent(rows, k, 3);
-    print::text(b" ");
-    flag(rows, k, 0, b'E');
-    flag(rows, k, 1, b'P');
-    flag(rows, k, 2, b'M');
-    flag(rows, k, 3, b'P');
-    note(rows, k);
-    print::text(b"\n");
+fn held(rt: &impl Print, rows: &[i64], k: usize) {
+    place(rt, rows, k);
+    clock(rt, rows, k);
+    exponent(rt, rows, k, 0);
+    exponent(rt, rows, k, 1);
+    exponent(rt, rows, k, 2);
+    exponent(rt, rows, k, 3);
+    print::text(rt, b" ");
+    flag(rt, rows, k, 0, b'E');
+    flag(rt, rows, k, 1, b'P');
+    flag(rt, rows, k, 2, b'M');
+    flag(rt, rows, k, 3, b'P');
+    note(rt, rows, k);
+    print::text(rt, b"\n");
 }
 
 // The letter of the k-th row: in mode V each P has its V after it.
@@ -229,20 +229,26 @@ fn places_before(velocity: bool, k: usize) -> usize {
 }
 
 // The k-th row, with its letter, its epoch and its satellite.
-fn row(velocity: bool, identifiers: &[u64], rows: &[i64], k: usize)
+fn row(rt: &impl Print, velocity: bool, identifiers: &[u64], rows: &[i64], k: usize)
     requires { 1 ≤ length identifiers.now }
 {
     let n = identifiers.len();
     let p = places_before(velocity, k);
-    print::byte(letter(velocity, k));
-    print::value((p / n) as u64);
-    print::text(b" ");
-    print::identifier(number_in(identifiers, p % n));
-    held(rows, k);
+    print::byte(rt, letter(velocity, k));
+    print::value(rt, (p / n) as u64);
+    print::text(rt, b" ");
+    print::identifier(rt, number_in(identifiers, p % n));
+    held(rt, rows, k);
 }
 
 // The rows of so many epochs, and how many they are.
-fn all_rows(velocity: bool, epochs: u64, identifiers: &[u64], rows: &[i64]) -> usize
+fn all_rows(
+    rt: &impl Print,
+    velocity: bool,
+    epochs: u64,
+    identifiers: &[u64],
+    rows: &[i64],
+) -> usize
     requires { 1 ≤ length identifiers.now }
 {
     let n = identifiers.len();
@@ -251,7 +257,7 @@ fn all_rows(velocity: bool, epochs: u64, identifiers: &[u64], rows: &[i64]) -> u
         if (places_before(velocity, k) / n) as u64 >= epochs {
             return k;
         }
-        row(velocity, identifiers, rows, k);
+        row(rt, velocity, identifiers, rows, k);
         k += 1;
     }
     k
@@ -282,30 +288,32 @@ fn absent_places(rows: &[i64], n: usize) -> u64
 }
 
 // How many rows there are, and how many of their places are known and absent.
-fn counts(rows: &[i64], n: usize) {
+fn counts(rt: &impl Print, rows: &[i64], n: usize) {
     let absent = absent_places(rows, n);
-    print::text(b"rows");
-    print::value(n as u64);
-    print::text(b" known");
-    print::value(n as u64 - absent);
-    print::text(b" absent");
-    print::value(absent);
-    print::text(b"\n");
+    print::text(rt, b"rows");
+    print::value(rt, n as u64);
+    print::text(rt, b" known");
+    print::value(rt, n as u64 - absent);
+    print::text(rt, b" absent");
+    print::value(rt, absent);
+    print::text(rt, b"\n");
 }
 
 // The rows of these satellites.
-fn body(header: Header, identifiers: &[u64], rows: &[i64]) {
+fn body(rt: &impl Print, header: Header, identifiers: &[u64], rows: &[i64]) {
     if identifiers.len() == 0 {
         return;
     }
     counts(
+        rt,
         rows,
-        all_rows(header.velocity, header.epochs, identifiers, rows),
+        all_rows(rt, header.velocity, header.epochs, identifiers, rows),
     );
 }
 
 // The whole table.
 pub(crate) fn show(
+    rt: &impl Print,
     header: Header,
     identifiers: &[u64],
     exponents: &[u64],
@@ -313,10 +321,10 @@ pub(crate) fn show(
     rows: &[i64],
 ) {
     let n = crate::input::at_most(header.satellites, identifiers.len());
-    front(header);
-    named(b"satellites", header.satellites);
-    satellites(n, identifiers, exponents);
-    named(b"comments", header.comments);
-    comments(header.comments, comments_lent);
-    body(header, &identifiers[0..n], rows);
+    front(rt, header);
+    named(rt, b"satellites", header.satellites);
+    satellites(rt, n, identifiers, exponents);
+    named(rt, b"comments", header.comments);
+    comments(rt, header.comments, comments_lent);
+    body(rt, header, &identifiers[0..n], rows);
 }

@@ -1,17 +1,19 @@
 // Takes one SP3-c or SP3-d file from standard input and prints its canonical form in the same version, or one line `refused 6 line 24 column 5` (number, line, column), or
 // `too long` where the input has more than 65,536 bytes. What is printed is `printed` (specs/Printed.antt) of the bytes that were read; 65,537 of them tell enough.
 #![tactic(auto)]
+
 mod answer;
 mod rewriting;
 mod text;
 mod types;
 
-use libc::{STDIN_FILENO, STDOUT_FILENO};
+use std::io;
+use std::io::Read;
 
-fn main() {
-    let mut input = [0u8; 65_537];
+fn main(rt: HostRuntime) -> io::Result<()> {
+    let mut input = Vec::new(rt.alloc());
+    rt.reader().take(65_537).read_to_end(&mut input)?;
     let mut out = [0u8; 65_536];
-    let n = io::read_full(STDIN_FILENO, &mut input);
-    let length = answer::answer(&input[..n], &mut out);
-    io::write_all(STDOUT_FILENO, &out[..length]);
+    let length = answer::answer(&input, &mut out);
+    Print::write_all(&rt, &out[..length])
 }

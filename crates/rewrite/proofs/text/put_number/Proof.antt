@@ -9,10 +9,10 @@ use Rattle.rewrite.proofs.Digits.{digits-shown}
 use Rattle.rewrite.proofs.text.put_number.Statement.{statement}
 use Rattle.rewrite.proofs.text.put_number.Tie as tie
 
-shown : (c : tie.After-decimal-count) → take c.decimal-count.result c.decimal-count.new.1.0 ≡ number_text c.args.n
+shown : (c : tie.After-decimal-count) → take c.decimal-count.result c.decimal-count.new.out ≡ number_text c.args.n
 shown c =
     let start = c in
-    c.decimal-count.ensures.1.1 ∙ digits-shown 19 c.decimal-count.result start.args.n (omega (arith, start.ranges)) c.decimal-count.ensures.1.0
+    c.decimal-count.ensures.1.1.0 ∙ digits-shown 19 c.decimal-count.result start.args.n (omega (arith, start.ranges)) c.decimal-count.ensures.1.0
 
 put-bytes-requires : tie.Need-put_bytes-requires
 put-bytes-requires c κs = rw (shown c.before.before) c.requires

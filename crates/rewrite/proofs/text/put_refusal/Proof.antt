@@ -32,26 +32,26 @@ both-room c = omega (arith, three-room c, length-append (first c ++ second c) (t
 
 put-said-requires : tie.Need-put_said-at-requires
 put-said-requires c κs =
-    let start = c.before.before.before in
+    let start = c.before.before.before.before in
     omega (arith, both-room c.before.before.before.before, length-append (first start) (second start))
 
 -- after the number the line
 abbrev start : tie.After-put_said-at → tie.Start
-start c = c.before.before.before.before
+start c = c.before.before.before.before.before
 
 after_first : (c : tie.After-put_said-at)
-    → Next (first (start c)) (second (start c)) (start c).args.out.now c.put_said-at.result c.put_said-at.new.1.1.0
+    → Next (first (start c)) (second (start c)) (start c).args.out.now c.put_said-at.result c.put_said-at.new.out
 after_first c = next (first (start c)) (second (start c)) (start c).args.out.now (both-room (start c)) c.put_said-at.ensures
 
 -- after the line the column
 abbrev earlier : tie.After-put_said-at-2 → tie.After-put_said-at
-earlier c = c.before.before.before.before.before
+earlier c = c.before.before.before.before.before.before
 
 abbrev at-2 : tie.After-put_said-at-2 → ℕ
 at-2 c = (earlier c).put_said-at.result + c.put_said-at-2.result
 
 abbrev out-2 : tie.After-put_said-at-2 → List ℕ
-out-2 c = then (earlier c).put_said-at.result (earlier c).put_said-at.new.1.1.0 c.put_said-at-2.new.1.1.0
+out-2 c = then (earlier c).put_said-at.result (earlier c).put_said-at.new.out c.put_said-at-2.new.out
 
 after-second : (c : tie.After-put_said-at-2)
     → Next (first (start (earlier c)) ++ second (start (earlier c))) (third (start (earlier c))) (start (earlier c)).args.out.now (at-2 c) (out-2 c)
@@ -61,7 +61,7 @@ after-second c =
 
 -- after the column LF
 abbrev before-column : tie.After-put_said-at-3 → tie.After-put_said-at-2
-before-column c = c.before.before.before.before.before
+before-column c = c.before.before.before.before.before.before
 
 abbrev begun : tie.After-put_said-at-3 → tie.Start
 begun c = start (earlier (before-column c))
@@ -70,7 +70,7 @@ abbrev at-3 : tie.After-put_said-at-3 → ℕ
 at-3 c = at-2 (before-column c) + c.put_said-at-3.result
 
 abbrev out-3 : tie.After-put_said-at-3 → List ℕ
-out-3 c = then (at-2 (before-column c)) (out-2 (before-column c)) c.put_said-at-3.new.1.1.0
+out-3 c = then (at-2 (before-column c)) (out-2 (before-column c)) c.put_said-at-3.new.out
 
 after-third : (c : tie.After-put_said-at-3)
     → Next ((first (begun c) ++ second (begun c)) ++ third (begun c)) (10 ∷ []) (begun c).args.out.now (at-3 c) (out-3 c)
@@ -90,7 +90,7 @@ add-at-2 c =
 
 add-result : tie.Need-overflow_add-result
 add-result c =
-    let told = c.before.before.before.before.before.before.before in
+    let told = c.before.before.before.before.before.before.before.before in
     omega (arith, (begun told).well_formed, (after-third c.before.before.before.before.before.before.before.before).ends, c.put_bytes.ensures.length-told)
 
 returns : tie.Need-returns
@@ -101,25 +101,21 @@ pub put_refusal_spec : {M : Type 1} → statement M
 put_refusal_spec =
     tie.close
     (tie.spec
-    (λ c. search rules)
     put-said-requires
+    (λ c. (after_first c.before.before.before.before).within)
+    (λ c. (after_first c.before.before.before.before).within)
     (λ c. search rules)
-    (λ c. (after_first c.before.before.before).within)
-    (λ c. (after_first c.before.before.before).within)
-    (λ c. search rules)
-    (λ c κs. (after_first c.before.before.before.before).room)
+    (λ c κs. (after_first c.before.before.before.before.before).room)
     add_at
+    (λ c. (after-second c.before.before.before.before).within)
+    (λ c. (after-second c.before.before.before.before).within)
     (λ c. search rules)
-    (λ c. (after-second c.before.before.before).within)
-    (λ c. (after-second c.before.before.before).within)
-    (λ c. search rules)
-    (λ c κs. (after-second c.before.before.before.before).room)
+    (λ c κs. (after-second c.before.before.before.before.before).room)
     add-at-2
+    (λ c. (after-third c.before.before.before.before).within)
+    (λ c. (after-third c.before.before.before.before).within)
     (λ c. search rules)
-    (λ c. (after-third c.before.before.before).within)
-    (λ c. (after-third c.before.before.before).within)
-    (λ c. search rules)
-    (λ c κs. (after-third c.before.before.before.before).room)
+    (λ c κs. (after-third c.before.before.before.before.before).room)
     add-result
     (λ c. search rules)
     returns)

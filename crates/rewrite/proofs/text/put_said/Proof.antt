@@ -17,7 +17,7 @@ abbrev start : tie.After-put_bytes-at → tie.Start
 start c = c.before.before.before.before
 
 after-word : (c : tie.After-put_bytes-at)
-    → Next (start c).args.word.now (number_text (start c).args.n) (start c).args.out.now c.put_bytes-at.result c.put_bytes-at.new.1.0
+    → Next (start c).args.word.now (number_text (start c).args.n) (start c).args.out.now c.put_bytes-at.result c.put_bytes-at.new.out
 after-word c = next (start c).args.word.now (number_text (start c).args.n) (start c).args.out.now (start c).requires c.put_bytes-at.ensures
 
 add-result : tie.Need-overflow_add-result
