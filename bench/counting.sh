@@ -43,25 +43,24 @@ archive() {
     cd "$work"
 }
 
-# What target/ has proved is not proved again as long as rt finds it unchanged.
+# What was proved in the repository is not proved again as long as rt finds it unchanged.
 doors() {
     tools
     name=$1
     shift
-    mkdir -p "$work/crates/doors/src" "$work/target/rlib" "$work/target/stamp"
+    mkdir -p "$work/crates/doors/src"
     for crate in "$@"; do
-        cp -R "$root/crates/$crate" "$work/crates/"
+        mkdir "$work/crates/$crate"
+        for part in src specs proofs; do
+            [ ! -d "$root/crates/$crate/$part" ] || cp -R "$root/crates/$crate/$part" "$work/crates/$crate/"
+        done
         grep "^$crate:" "$root/crates.txt" >>"$work/crates.txt"
-        if [ -f "$root/target/stamp/$crate" ]; then
-            cp -R "$root/target/rlib/$crate.rlib" "$work/target/rlib/"
-            cp "$root/target/stamp/$crate" "$work/target/stamp/"
-        fi
     done
     cp "$bench/$name.rt.txt" "$work/crates/doors/src/lib.rt"
-    printf 'doors: %s\n' "$*" >>"$work/crates.txt"
+    printf 'doors staticlib: %s\n' "$*" >>"$work/crates.txt"
+    (cd "$work/crates/doors" && rt lib --cpu x86-64) >"$work/log" 2>&1 || { tail -n 20 "$work/log"; exit 1; }
+    built=$work/crates/doors/out/libdoors.a
     cd "$work"
-    rt staticlib doors >log 2>&1 || { tail -n 20 log; exit 1; }
-    built=$work/target/staticlib/libdoors.a
 }
 
 harness() {

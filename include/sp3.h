@@ -1,7 +1,7 @@
 /* sp3.h: the reader and writer of SP3-c and SP3-d files for C.
  *
  * Every function here is a door to one function of the proved library (crates/sp3); docs/STATEMENTS.md says what is proved of each. Link with
- * target/staticlib/libsp3.a, which `rt staticlib sp3` proves and builds for x86-64.
+ * target/staticlib/libsp3.a, which `tests/archive.sh` proves and builds for x86-64.
  *
  * LENT MEMORY. A slice is a pointer and a number of elements (not bytes). A function looks at just so many and keeps no pointer. The pointer is never
  * NULL, also where the number is 0, and the slices of one call that are written (no `const`) overlap no other slice of that call. No function

@@ -30,7 +30,7 @@
 #
 # compares the proved program `cases_..` of that name in the same way, on inputs that it has room for: 2,000 of them, or COUNT.
 #
-# What is missing is built first, in target/: the archive (`rt staticlib sp3` proves it), the driver, the oracles. `tests/compare.sh build` does that
+# What is missing is built first, in target/: the archive (tests/archive.sh), the driver, the oracles. `tests/compare.sh build` does that
 # alone; `tests/compare.sh run FORMAT < BATCH` runs the driver.
 set -eu
 

@@ -1,13 +1,14 @@
 #!/usr/bin/env python3
 """Every wrong program of this repository: the edits that the gate tries (crates/NAME/must-fail) and further ones (tests/edits/NAME).
 
+    tests/edits.py stand [NAME..]     the text that each edit changes stands once in the file that it names
     tests/edits.py run [NAME..]       applies each edit of the named libraries (of all) to a copy without proofs, compiles the programs that
                                       reach it with `rt try`, and says whether one prints something else than is stored: an edit that
                                       none tells from the right program is printed as NOT SEEN
     tests/edits.py refused [NAME..]   the prover must refuse each further edit (`rt must-fail` in a copy); those of the gate are the gate's
 
 The edits of programs speak of reading past an end or going on for ever, an edit of a definition or of a promise changes no code, and the doors
-for C are in no program of crates/, so they are only refused, not run. Exit status 0: all seen, or all refused."""
+for C are in no program of crates/, so they are only refused, not run. Exit status 0: all stand, all seen, or all refused."""
 import shutil
 import subprocess
 import sys
@@ -16,10 +17,12 @@ from pathlib import Path
 
 root = Path(__file__).resolve().parent.parent
 needs = {}
+words_of = {}
 for line in (root / "crates.txt").read_text().splitlines():
-    name, colon, names = line.split("#")[0].partition(":")
+    words, colon, names = line.split("#")[0].partition(":")
     if colon:
-        needs[name.strip()] = names.split()
+        words_of[words.split()[0]] = " ".join(words.split())
+        needs[words.split()[0]] = names.split()
 
 
 def program(name):
@@ -54,9 +57,12 @@ def bare_copy(work, name):
     crates = [crate for crate in needs if crate in reached(name) and has_code(crate)]
     listed = []
     for crate in crates:
-        shutil.copytree(root / "crates" / crate, work / "crates" / crate, ignore=shutil.ignore_patterns("proofs", "must-fail"))
-        listed.append(crate + ": " + " ".join(need for need in needs[crate] if need in crates or need not in needs))
+        shutil.copytree(root / "crates" / crate, work / "crates" / crate, ignore=shutil.ignore_patterns("proofs", "must-fail", "out"))
+        listed.append(words_of[crate] + ": " + " ".join(need for need in needs[crate] if need in crates or need not in needs))
     (work / "crates.txt").write_text("\n".join(listed) + "\n")
+    (work / "cases").mkdir()
+    for stream, case in ("stdin", "stored"), ("stdout", "stored.stdout"):
+        shutil.copy(root / "crates" / name / stream, work / "cases" / case)
 
 
 def promised(crate, change):
@@ -66,12 +72,24 @@ def promised(crate, change):
 
 
 def tells(work, name):
-    """Whether a program, compiled and run, prints something else than is stored."""
-    said = subprocess.run(["rt", "try", name], cwd=work, capture_output=True, text=True)
-    native = [line for line in said.stdout.splitlines() + said.stderr.splitlines() if "-O3" in line]
-    if not native:
-        sys.exit(f"rt try {name} did not run:\n{said.stdout[-2000:]}{said.stderr[-2000:]}")
-    return not native[-1].startswith("ok:")
+    """Whether a program, compiled and run, prints something else than is stored, faults or does not end."""
+    tried = subprocess.run(["rt", "try", "--steps", "1", "--cases", work / "cases"], cwd=work / "crates" / name, capture_output=True, text=True)
+    if tried.returncode not in (0, 4, 5, 6):
+        sys.exit(f"rt try did not run {name}:\n{tried.stdout[-2000:]}{tried.stderr[-2000:]}")
+    return tried.returncode != 0
+
+
+def stand(names):
+    all_stand = True
+    for crate in names:
+        for edit in edits(crate):
+            change = parts(edit)
+            file = root / "crates" / crate / change["file"]
+            times = file.read_text().count(change["old"]) if file.is_file() else 0
+            if times != 1:
+                all_stand = False
+                print(f"{edit.relative_to(root)}: its old text stands {times} times in {change['file']}")
+    return all_stand
 
 
 def run(names):
@@ -112,11 +130,7 @@ def refused(names):
         work = Path(folder) / "copy"
         work.mkdir()
         shutil.copy(root / "crates.txt", work)
-        shutil.copytree(root / "crates", work / "crates")
-        for crate in needs:
-            shutil.rmtree(work / "crates" / crate / "must-fail", ignore_errors=True)
-        if (root / "target").is_dir():
-            shutil.copytree(root / "target", work / "target", symlinks=True)
+        shutil.copytree(root / "crates", work / "crates", ignore=shutil.ignore_patterns("must-fail", "out"))
         for crate in names:
             if (root / "tests/edits" / crate).is_dir():
                 shutil.copytree(root / "tests/edits" / crate, work / "crates" / crate / "must-fail")
@@ -125,7 +139,7 @@ def refused(names):
 
 if __name__ == "__main__":
     words = sys.argv[1:]
-    ways = {"run": run, "refused": refused}
+    ways = {"stand": stand, "run": run, "refused": refused}
     if not words or words[0] not in ways or any(name not in needs for name in words[1:]):
         sys.exit(__doc__)
     sys.exit(0 if ways[words[0]](words[1:] or [name for name in needs if edits(name)]) else 1)

@@ -3,8 +3,8 @@
 #   x86_cc ARGS..             compiles and links, as gcc does
 #   x86_run PROGRAM ARGS..    runs a program that x86_cc linked
 #
-# On x86-64 this is gcc and nothing else. On another processor it is Debian's cross compiler, with programs that need no shared library, and the kit's
-# emulator or else Debian's; x86_emulator is then its path, and empty otherwise. SP3_CROSS=1 takes this way on x86-64 too. What is missing is
+# On x86-64 this is gcc and nothing else. On another processor it is Debian's cross compiler, with programs that need no shared library, and Debian's
+# emulator; x86_emulator is then its path, and empty otherwise. SP3_CROSS=1 takes this way on x86-64 too. What is missing is
 # installed with apt-get where the script runs as root; otherwise it is named and the script ends with 2.
 
 x86_cross=${SP3_CROSS:-0}
@@ -41,11 +41,9 @@ x86_links() {
     return "$x86_status"
 }
 
-# The kit's emulator, or Debian's.
+# Debian's emulator.
 x86_find_emulator() {
-    x86_rt=$(command -v rt) && x86_rt=$(readlink -f "$x86_rt") || x86_rt=/
-    x86_emulator=${RATTLE_HOME:-$(dirname "$(dirname "$x86_rt")")}/on/$(uname -m)/toolchain/bin/qemu-x86_64
-    [ -x "$x86_emulator" ] || x86_emulator=$(command -v qemu-x86_64)
+    x86_emulator=$(command -v qemu-x86_64)
 }
 
 x86_packages="gcc libc6-dev"

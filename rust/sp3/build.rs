@@ -19,7 +19,7 @@ fn main() {
     println!("cargo::rerun-if-changed={}", archive.display());
     if !archive.is_file() {
         println!(
-            "cargo::error=no file {}: run `rt staticlib sp3` in the repository, or set SP3_LIB_DIR to the folder of libsp3.a",
+            "cargo::error=no file {}: run `tests/archive.sh` in the repository, or set SP3_LIB_DIR to the folder of libsp3.a",
             archive.display()
         );
         return;

@@ -1,5 +1,6 @@
 // A table filled into lent memory from the lines of a file.
 #![tactic(auto)]
+
 mod fill;
 mod rows;
 

@@ -1,5 +1,6 @@
 // The row of the adjustment: three coordinates and the clock as floats, or absent for either.
 #![tactic(auto)]
+
 ghost use Rattle.std.specs.Prelude.{◌≡◌};
 ghost use Rattle.std.specs.Float.{nan, binary64};
 ghost use Rattle.std.specs.Float.Ieee.{of_int};

@@ -430,13 +430,13 @@ module _ {rules : Rules} (proper : Proper rules) where
 -- A comment's text is handed back as that stretch of the lent file: for every file and every number it is the part that `comment_answer` names, those
 -- bytes at that address. So any two outcomes are one machine value, a pointer and a count.
 pub comment-part : (κs : _) (a : _) (r : _) (s : _) → CommentPost κs a r s
-    → let file = now a.0 in let answer = comment_answer (rules_in file) file (file_of (rules_in file) file) a.1.0 in PartAt a.0 answer.at answer.length r
+    → let file = a.0.now in let answer = comment_answer (rules_in file) file (file_of (rules_in file) file) a.1.0 in PartAt a.0 answer.at answer.length r
 comment-part κs a r s promised = asking.comment-part κs a r s promised
 
 -- Of an accepted file these bytes are columns 4 on of that comment's line, without trailing blanks.
-pub comment-says : (κs : _) (a : _) (r : _) (s : _) → CommentPost κs a r s → let file = now a.0 in AnyFile file → a.1.0 < (header (rules_in file) file).comments
-    → now r ≡ text_in (comment_line (rules_in file) (lines_of file) a.1.0)
-comment-says κs a r s promised accepted there = promised.0 ∙ answers.comment-text (told-proper (now a.0)) (now a.0) accepted a.1.0 there
+pub comment-says : (κs : _) (a : _) (r : _) (s : _) → CommentPost κs a r s → let file = a.0.now in AnyFile file → a.1.0 < (header (rules_in file) file).comments
+    → r.now ≡ text_in (comment_line (rules_in file) (lines_of file) a.1.0)
+comment-says κs a r s promised accepted there = promised.0 ∙ answers.comment-text (told-proper a.0.now) a.0.now accepted a.1.0 there
 
 pub comment-one : (κs : _) (a : _) (r r' : _) (s s' : _) → CommentPost κs a r s → CommentPost κs a r' s' → shr_slice_vals r ≡ shr_slice_vals r'
 comment-one κs a r r' s s' p q = places.same-value r r' (comment-determined κs a r r' s s' p q)
@@ -496,7 +496,7 @@ module _ {rules : Rules} (proper : Proper rules) where
 
 -- By the promises of `new` and `moved`: k moves after a new walker at the first line it is where the judge's run is,
 pub walker-walks : (file : Bor (List ℕ)) (from : Walker) → Begins file first_spot from → (k : ℕ) (w : Walker) (identifiers : List ℕ) → After from no_identifiers k w identifiers
-    → let rules = rules_in (now file) in AllGoOn rules (now file) k → k ≤ length (lines_of (now file)) → going_at w.spot identifiers ≡ after rules (now file) k
+    → let rules = rules_in file.now in AllGoOn rules file.now k → k ≤ length (lines_of file.now) → going_at w.spot identifiers ≡ after rules file.now k
 walker-walks file from begins k w identifiers steps goes h = walks.walker-walks file from begins k w identifiers steps goes h
 
 -- and the clauses of their contracts say just that of every outcome: that a walker begins so, and that it moves so.
@@ -506,7 +506,7 @@ module _ {M : Type 1} {𝓤 : Ura M} (𝓛 : Logic 𝓤) (mem : Memory → SProp
   walker-begins κs a w s = promised.new-begins 𝓛 mem run κs a w s
 
   pub walker-moves : (κs : Lfts 2) (a : Args moved.signature κs) (v : Res moved.signature κs) (s : AtExit moved.ended κs)
-      → ent 𝓤 ((moved.clauses 𝓛 mem run κs a).ensures tt v s) (fact 𝓤 (Moves a.0 (now a.1.0) v (now s.1.0)))
+      → ent 𝓤 ((moved.clauses 𝓛 mem run κs a).ensures tt v s) (fact 𝓤 (Moves a.0 a.1.0.now v s.1.0.now))
   walker-moves κs a v s = promised.moved-moves 𝓛 mem run κs a v s
 
 module _ {rules : Rules} (proper : Proper rules) where

@@ -1,6 +1,7 @@
 // Every line of the format by its layout: its kind, its columns judged and read. A reader takes a line of 80 columns; a shorter one is padded
 // by `layout::pad`. The definitions say too how each line is shown, and `draw` writes it.
 #![tactic(auto)]
+
 pub mod absence;
 pub mod descriptors;
 mod fields;

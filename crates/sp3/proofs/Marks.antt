@@ -117,11 +117,11 @@ no_field v small e = go (nat_abs v) small (ap nat_abs e)
     go n s q = omega arith
 
 -- a step of a walk that gives no row gives no coordinates, and the walk stays
-pub no_row : (from : RowWalk) (s : RowStep) → (s ≡ step.End) ⊎ ((number : ℕ) × (line : ℕ) × (column : ℕ) × (s ≡ step.Refused number line column))
+pub no-row : (from : RowWalk) (s : RowStep) → (s ≡ step.End) ⊎ ((number : ℕ) × (line : ℕ) × (column : ℕ) × (s ≡ step.Refused number line column))
     → ((row_door from s).row ≡ absent_row) × ((row_door from s).next ≡ from)
 unfolding row_door
-no_row from s (inl e) = rw e (refl, refl)
-no_row from s (inr (number, line, column, e)) = rw e (refl, refl)
+no-row from s (inl e) = rw e (refl, refl)
+no-row from s (inr (number, line, column, e)) = rw e (refl, refl)
 
 -- a step that is refused is handed on with its number, its line and its column
 pub refused-row : (from : RowWalk) (number line column : ℕ)

@@ -14,32 +14,28 @@ use header::{Header, HeaderAnswer, Moment};
 use questions::{CommentAnswer, RowAnswer, SatelliteAnswer};
 
 // Where the text of the k-th comment of a file lies.
-#[unsafe(no_mangle)]
-pub extern "C" fn sp3_comment(file: &[u8], k: u64) -> CommentAnswer
+pub fn sp3_comment(file: &[u8], k: u64) -> CommentAnswer
     ensures result { result ≡ comment_answer (rules_in file.now) file.now (file_of (rules_in file.now) file.now) k }
 {
     questions::comment_answer(file, k)
 }
 
 // The identifier that a text names, as one number: 7107 for `G07`, 0 for a text that names none.
-#[unsafe(no_mangle)]
-pub extern "C" fn sp3_identifier(text: &[u8]) -> u64
+pub fn sp3_identifier(text: &[u8]) -> u64
     ensures result { result ≡ identifier_named text.now }
 {
     questions::identifier_of(text)
 }
 
 // The number in a file's header of the satellite with this identifier.
-#[unsafe(no_mangle)]
-pub extern "C" fn sp3_satellite_of(file: &[u8], identifier: u64) -> SatelliteAnswer
+pub fn sp3_satellite_of(file: &[u8], identifier: u64) -> SatelliteAnswer
     ensures result { result ≡ satellite_answer (rules_in file.now) file.now (file_of (rules_in file.now) file.now) identifier }
 {
     questions::satellite_of(file, identifier)
 }
 
 // The row of an epoch and a satellite of a file, as floats.
-#[unsafe(no_mangle)]
-pub extern "C" fn sp3_row(file: &[u8], epoch: u64, satellite: u64) -> RowAnswer
+pub fn sp3_row(file: &[u8], epoch: u64, satellite: u64) -> RowAnswer
     ensures result { result ≡ row_answer file.now (row_begins (rules_in file.now) file.now (file_of (rules_in file.now) file.now) epoch satellite) }
 {
     questions::row(file, epoch, satellite)
@@ -66,8 +62,7 @@ fn date_answer(found: Dated) -> DateAnswer
 }
 
 // MJD, GPS week and seconds of week of a date.
-#[unsafe(no_mangle)]
-pub extern "C" fn sp3_date(year: u64, month: u64, day: u64) -> DateAnswer
+pub fn sp3_date(year: u64, month: u64, day: u64) -> DateAnswer
     ensures result { result ≡ date_door (date_answer year month day) }
 {
     date_answer(calendar::date(year, month, day))
@@ -104,8 +99,7 @@ fn moment_answer(found: Named, clock: Clock) -> MomentAnswer
 }
 
 // The date and time of day of an instant in 10^-8 s since MJD 0.
-#[unsafe(no_mangle)]
-pub extern "C" fn sp3_moment(instant8: u64) -> MomentAnswer
+pub fn sp3_moment(instant8: u64) -> MomentAnswer
     ensures result { result ≡ moment_door (civil_answer (clock_of instant8).day) (clock_of instant8) }
 {
     let clock = calendar::clock_of(instant8);
@@ -113,8 +107,7 @@ pub extern "C" fn sp3_moment(instant8: u64) -> MomentAnswer
 }
 
 // A header out of its parts.
-#[unsafe(no_mangle)]
-pub extern "C" fn sp3_header(parts: HeaderParts) -> HeaderAnswer
+pub fn sp3_header(parts: HeaderParts) -> HeaderAnswer
     ensures result { result ≡ header_of parts.mode parts.start parts.epochs parts.interval8 parts.texts parts.satellites parts.comments parts.file_type parts.time_system parts.bases }
 {
     let start = parts.start;

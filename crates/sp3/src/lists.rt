@@ -46,8 +46,7 @@ fn place_answer(found: Place) -> StoredPlace
 }
 
 // The place or velocity of the k-th stored row.
-#[unsafe(no_mangle)]
-pub extern "C" fn sp3_place_of(rows: &[i64], k: usize) -> StoredPlace
+pub fn sp3_place_of(rows: &[i64], k: usize) -> StoredPlace
     ensures result { result ≡ place_door (place_in rows.now k) }
 {
     place_answer(stored_row::place_of(rows, k))
@@ -80,8 +79,7 @@ fn clock_answer(found: ClockRead) -> StoredClock
 }
 
 // The clock or rate of the k-th stored row.
-#[unsafe(no_mangle)]
-pub extern "C" fn sp3_clock_of(rows: &[i64], k: usize) -> StoredClock
+pub fn sp3_clock_of(rows: &[i64], k: usize) -> StoredClock
     ensures result { result ≡ clock_door (clock_in rows.now k) }
 {
     clock_answer(stored_row::clock_of(rows, k))
@@ -112,8 +110,7 @@ fn exponent_answer(found: ExponentRead) -> StoredExponent
 }
 
 // The exponent of x, y, z or clock (0 to 3) of the k-th stored row.
-#[unsafe(no_mangle)]
-pub extern "C" fn sp3_exponent_of(rows: &[i64], k: usize, which: usize) -> StoredExponent
+pub fn sp3_exponent_of(rows: &[i64], k: usize, which: usize) -> StoredExponent
     ensures result { result ≡ exponent_door (exponent_read_in rows.now k which) }
 {
     exponent_answer(stored_row::exponent_of(rows, k, which))
@@ -138,8 +135,7 @@ fn flag_answer(found: Flag) -> StoredFlag
 }
 
 // The flag of column 75, 76, 79 or 80 (0 to 3) of the k-th stored row.
-#[unsafe(no_mangle)]
-pub extern "C" fn sp3_flag_of(rows: &[i64], k: usize, which: usize) -> StoredFlag
+pub fn sp3_flag_of(rows: &[i64], k: usize, which: usize) -> StoredFlag
     ensures result { result ≡ flag_door (flag_in rows.now k which) }
 {
     flag_answer(stored_row::flag_of(rows, k, which))
@@ -164,8 +160,7 @@ fn note_answer(found: NoteMark) -> StoredNote
 }
 
 // Whether an EP or EV line stood after the k-th stored row.
-#[unsafe(no_mangle)]
-pub extern "C" fn sp3_note_of(rows: &[i64], k: usize) -> StoredNote
+pub fn sp3_note_of(rows: &[i64], k: usize) -> StoredNote
     ensures result { result ≡ note_door (note_in rows.now k) }
 {
     note_answer(stored_row::note_of(rows, k))
@@ -209,8 +204,7 @@ fn note_deviation_answer(found: NoteDeviation) -> NoteDeviationAnswer
 }
 
 // The deviation of x, y, z or clock (0 to 3) in the note of the k-th stored row.
-#[unsafe(no_mangle)]
-pub extern "C" fn sp3_note_deviation_of(rows: &[i64], k: usize, which: usize) -> NoteDeviationAnswer
+pub fn sp3_note_deviation_of(rows: &[i64], k: usize, which: usize) -> NoteDeviationAnswer
     ensures result { result ≡ note_deviation_door (note_deviation_in rows.now k which) }
 {
     note_deviation_answer(stored_row::note_deviation_of(rows, k, which))
@@ -246,12 +240,7 @@ fn note_correlation_answer(found: NoteCorrelation) -> NoteCorrelationAnswer
 }
 
 // The correlation xy, xz, xc, yz, yc or zc (0 to 5) in the note of the k-th stored row.
-#[unsafe(no_mangle)]
-pub extern "C" fn sp3_note_correlation_of(
-    rows: &[i64],
-    k: usize,
-    which: usize,
-) -> NoteCorrelationAnswer
+pub fn sp3_note_correlation_of(rows: &[i64], k: usize, which: usize) -> NoteCorrelationAnswer
     ensures result { result ≡ note_correlation_door (note_correlation_in rows.now k which) }
 {
     note_correlation_answer(stored_row::note_correlation_of(rows, k, which))

@@ -14,24 +14,21 @@ use header::{Header, Version};
 use reader::Reading;
 
 // One whole file judged, with no room lent.
-#[unsafe(no_mangle)]
-pub extern "C" fn sp3_judge(file: &[u8]) -> Reading
+pub fn sp3_judge(file: &[u8]) -> Reading
     ensures result { result ≡ judged (rules_in file.now) file.now (file_of (rules_in file.now) file.now) }
 {
     reader::judge(file)
 }
 
 // The file at the front of a stretch judged.
-#[unsafe(no_mangle)]
-pub extern "C" fn sp3_judge_front(stretch: &[u8]) -> Reading
+pub fn sp3_judge_front(stretch: &[u8]) -> Reading
     ensures result { result ≡ judged (rules_in stretch.now) stretch.now (front_of (rules_in stretch.now) stretch.now) }
 {
     reader::judge_front(stretch)
 }
 
 // One whole file read into lent lists.
-#[unsafe(no_mangle)]
-pub extern "C" fn sp3_read(
+pub fn sp3_read(
     file: &[u8],
     identifiers: &mut [u64],
     exponents: &mut [u64],
@@ -48,8 +45,7 @@ pub extern "C" fn sp3_read(
 }
 
 // The file at the front of a stretch read into lent lists.
-#[unsafe(no_mangle)]
-pub extern "C" fn sp3_read_front(
+pub fn sp3_read_front(
     stretch: &[u8],
     identifiers: &mut [u64],
     exponents: &mut [u64],
@@ -66,8 +62,7 @@ pub extern "C" fn sp3_read_front(
 }
 
 // The canonical form of a table in SP3-d written into lent output.
-#[unsafe(no_mangle)]
-pub extern "C" fn sp3_write(
+pub fn sp3_write(
     header: Header,
     identifiers: &[u64],
     exponents: &[u64],
@@ -90,8 +85,7 @@ pub extern "C" fn sp3_write(
 }
 
 // How long that form is.
-#[unsafe(no_mangle)]
-pub extern "C" fn sp3_form_length(
+pub fn sp3_form_length(
     header: Header,
     identifiers: &[u64],
     exponents: &[u64],
@@ -104,8 +98,7 @@ pub extern "C" fn sp3_form_length(
 }
 
 // The same in SP3-c: 17 for a table outside its bounds.
-#[unsafe(no_mangle)]
-pub extern "C" fn sp3_write_c(
+pub fn sp3_write_c(
     header: Header,
     identifiers: &[u64],
     exponents: &[u64],
@@ -128,8 +121,7 @@ pub extern "C" fn sp3_write_c(
 }
 
 // How long that form is.
-#[unsafe(no_mangle)]
-pub extern "C" fn sp3_form_length_c(
+pub fn sp3_form_length_c(
     header: Header,
     identifiers: &[u64],
     exponents: &[u64],
@@ -142,8 +134,7 @@ pub extern "C" fn sp3_form_length_c(
 }
 
 // A stretch divided into the accepted files at its front.
-#[unsafe(no_mangle)]
-pub extern "C" fn sp3_divide(stretch: &[u8], lengths: &mut [u64]) -> Division
+pub fn sp3_divide(stretch: &[u8], lengths: &mut [u64]) -> Division
     ensures result { result ≡ divide_of stretch.now (length lengths.old) }
     ensures lent { lengths.new ≡ lengths_after stretch.now lengths.old }
 {

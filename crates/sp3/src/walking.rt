@@ -18,8 +18,7 @@ use reader::Reading;
 use row_walk::{RowStep, RowWalk};
 
 // Before the first line of a file.
-#[unsafe(no_mangle)]
-pub extern "C" fn sp3_first_spot() -> Spot
+pub fn sp3_first_spot() -> Spot
     ensures result { result ≡ first_spot }
 {
     line_walk::first_spot()
@@ -51,8 +50,7 @@ fn line_answer(found: LineRead, spot: Spot) -> LineAnswer
 }
 
 // The plain line reader: what the line at a spot does. A `+ ` line leaves its identifiers in `identifiers`; 12 where they are more than fit.
-#[unsafe(no_mangle)]
-pub extern "C" fn sp3_read_line(bytes: &[u8], spot: Spot, identifiers: &mut [u64]) -> LineAnswer
+pub fn sp3_read_line(bytes: &[u8], spot: Spot, identifiers: &mut [u64]) -> LineAnswer
     ensures result { result ≡ line_door spot (line_read (rules_in bytes.now) bytes.now spot.at spot.state identifiers.old) }
     ensures lent { identifiers.new ≡ line_identifiers (rules_in bytes.now) bytes.now spot.at spot.state identifiers.old }
 {
@@ -63,12 +61,7 @@ pub extern "C" fn sp3_read_line(bytes: &[u8], spot: Spot, identifiers: &mut [u64
 }
 
 // The same where the identifiers of the header are known.
-#[unsafe(no_mangle)]
-pub extern "C" fn sp3_next_line<'a>(
-    file: &'a [u8],
-    identifiers: &'a [u64],
-    spot: Spot,
-) -> LineAnswer
+pub fn sp3_next_line<'a>(file: &'a [u8], identifiers: &'a [u64], spot: Spot) -> LineAnswer
     ensures result { result ≡ line_door spot (line_known (rules_in file.now) file.now spot.at spot.state identifiers.now) }
 {
     let found = row_walk::read_known(file, identifiers, spot);
@@ -76,8 +69,7 @@ pub extern "C" fn sp3_next_line<'a>(
 }
 
 // What must stand at a spot, where the identifiers are those of the lines before it.
-#[unsafe(no_mangle)]
-pub extern "C" fn sp3_due<'a>(file: &'a [u8], identifiers: &'a [u64], spot: Spot) -> Due
+pub fn sp3_due<'a>(file: &'a [u8], identifiers: &'a [u64], spot: Spot) -> Due
     ensures result { result ≡ due_at (rules_in file.now) file.now spot.at spot.state identifiers.now }
 {
     let state = spot.state;
@@ -85,13 +77,7 @@ pub extern "C" fn sp3_due<'a>(file: &'a [u8], identifiers: &'a [u64], spot: Spot
 }
 
 // A walk: the spot so many lines further. A `+ ` line leaves its identifiers in `identifiers`.
-#[unsafe(no_mangle)]
-pub extern "C" fn sp3_after_lines(
-    file: &[u8],
-    identifiers: &mut [u64],
-    spot: Spot,
-    lines: usize,
-) -> Spot
+pub fn sp3_after_lines(file: &[u8], identifiers: &mut [u64], spot: Spot, lines: usize) -> Spot
     ensures result { result ≡ spots_after (rules_in file.now) file.now identifiers.old spot lines }
     ensures lent { identifiers.new ≡ identifiers_past (rules_in file.now) file.now identifiers.old spot lines }
 {
@@ -99,8 +85,7 @@ pub extern "C" fn sp3_after_lines(
 }
 
 // Before a walk over rows: the file judged, the identifiers of its header left in `identifiers`.
-#[unsafe(no_mangle)]
-pub extern "C" fn sp3_begin(file: &[u8], identifiers: &mut [u64]) -> Reading
+pub fn sp3_begin(file: &[u8], identifiers: &mut [u64]) -> Reading
     ensures result { result ≡ begun_as (judged (rules_in file.now) file.now (file_of (rules_in file.now) file.now)) (length identifiers.old) }
     ensures lent { identifiers.new ≡ identifiers_begun (rules_in file.now) (judged (rules_in file.now) file.now (file_of (rules_in file.now) file.now)) file.now identifiers.old }
 {
@@ -108,8 +93,7 @@ pub extern "C" fn sp3_begin(file: &[u8], identifiers: &mut [u64]) -> Reading
 }
 
 // Before the first row.
-#[unsafe(no_mangle)]
-pub extern "C" fn sp3_first_row() -> RowWalk
+pub fn sp3_first_row() -> RowWalk
     ensures result { result ≡ first_walk }
 {
     row_walk::first()
@@ -182,12 +166,7 @@ fn row_answer(found: RowStep, from: RowWalk) -> RowStepAnswer
 }
 
 // The next row of a file in order.
-#[unsafe(no_mangle)]
-pub extern "C" fn sp3_next_row<'a>(
-    file: &'a [u8],
-    identifiers: &'a [u64],
-    from: RowWalk,
-) -> RowStepAnswer
+pub fn sp3_next_row<'a>(file: &'a [u8], identifiers: &'a [u64], from: RowWalk) -> RowStepAnswer
     ensures result { result ≡ row_door from (row_step (rules_in file.now) file.now identifiers.now from) }
 {
     row_answer(row_walk::next_row(file, identifiers, from), from)

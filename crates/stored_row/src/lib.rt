@@ -1,5 +1,6 @@
 // A row in lent memory, asked for by name.
 #![tactic(auto)]
+
 mod notes;
 mod rows;
 mod types;

@@ -13,4 +13,4 @@ pub use Rattle.machine.proofs.Determined.{read-line-determined, due-at-determine
 pub use Rattle.line_walk.proofs.Determined.{new-determined, next-determined, moved-determined, after-lines-determined}
 pub use Rattle.row_walk.proofs.Determined.{begin-determined, next-row-determined}
 pub use Rattle.sp3.proofs.Determined.{sp3-judge-determined, sp3-judge-front-determined, sp3-read-determined, sp3-read-front-determined, sp3-write-determined, sp3-form-length-determined, sp3-divide-determined, sp3-comment-determined, sp3-identifier-determined, sp3-satellite-of-determined, sp3-row-determined, sp3-date-determined, sp3-moment-determined, sp3-header-determined, sp3-place-of-determined, sp3-clock-of-determined, sp3-exponent-of-determined, sp3-flag-of-determined, sp3-note-of-determined, sp3-note-deviation-of-determined, sp3-note-correlation-of-determined, sp3-first-spot-determined, sp3-read-line-determined, sp3-next-line-determined, sp3-due-determined, sp3-after-lines-determined, sp3-begin-determined, sp3-first-row-determined, sp3-next-row-determined}
-pub use Rattle.sp3.proofs.Marks.{place-unmarked, place-marked, clock-unmarked, clock-marked, deviation-unmarked, deviation-marked-unknown, deviation-marked-large, deviation-marked-unrecorded, correlation-unmarked, correlation-marked-unknown, correlation-marked-unrecorded, no_field, no_row, refused-row}
+pub use Rattle.sp3.proofs.Marks.{place-unmarked, place-marked, clock-unmarked, clock-marked, deviation-unmarked, deviation-marked-unknown, deviation-marked-large, deviation-marked-unrecorded, correlation-unmarked, correlation-marked-unknown, correlation-marked-unrecorded, no_field, no-row, refused-row}

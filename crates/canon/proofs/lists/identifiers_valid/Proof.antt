@@ -3,7 +3,6 @@
 use mathlib.Core.Bool.{not}
 use mathlib.Core.Path.{sym, ◌∙◌, ap}
 use borrow.Author.Rules.{rules}
-use borrow.Author.Tests.{not-true, not-false}
 use Rattle.canon.specs.Valid.{identifiers_valid}
 use Rattle.canon.proofs.Tests.{both}
 use Rattle.canon.proofs.lists.identifiers_valid.Statement.{statement}

@@ -57,16 +57,16 @@ loop-again c =
     let inv = ended.loop-rules.invariant in
     let found = told.if-end-bytes.false in
     elim c.if-kind_in-eq-COMMENT_KIND.branch [
-    | then-kind_in-eq-COMMENT_KIND+else-left-out w ↦
-        rw (w.out-is, w.stored-is, w.left-is)
-    (comments-more inv.1 ended.line_end-end.result ended.line_end-end.ensures found
-    (eq-eqb _ 8 (sym told.kind_in.ensures ∙ w.if-kind_in-eq-COMMENT_KIND.true)) inv.0 w.lay_comment.ensures w.if-left-out.false)
-    | else-kind_in-eq-COMMENT_KIND w ↦
-    rw (w.out-is, w.stored-is, w.left-is) (
-      inv.0,
-      filling-other inv.1 ended.line_end-end.result ended.line_end-end.ensures found
-          (ne_eqb _ 8 (λ e. w.if-kind_in-eq-COMMENT_KIND.false (told.kind_in.ensures ∙ e))),
-    )
+      | then-kind_in-eq-COMMENT_KIND+else-left-out w ↦
+          rw (w.out-is, w.stored-is, w.left-is)
+          (comments-more inv.1 ended.line_end-end.result ended.line_end-end.ensures found
+          (eq-eqb _ 8 (sym told.kind_in.ensures ∙ w.if-kind_in-eq-COMMENT_KIND.true)) inv.0 w.lay_comment.ensures w.if-left-out.false)
+      | else-kind_in-eq-COMMENT_KIND w ↦
+          rw (w.out-is, w.stored-is, w.left-is) (
+            inv.0,
+            filling-other inv.1 ended.line_end-end.result ended.line_end-end.ensures found
+                (ne_eqb _ 8 (λ e. w.if-kind_in-eq-COMMENT_KIND.false (told.kind_in.ensures ∙ e))),
+          )
     ]
 
 pub fill_comments_spec : {M : Type 1} → statement M

@@ -59,15 +59,15 @@ loop-again c =
     let found = told.if-end-bytes.false in
     let line = take (ended.line_end-end.result - at-loop.loop-rules.at) (drop at-loop.loop-rules.at a.bytes.now) in
     elim c.if-kind.branch [
-    | then-kind+else-out-stored-lt-ROW_WIDTH w ↦
-    rw (w.out-is, w.stored-is)
-    (rows_more a.rules a.bytes.now a.out.now at-loop.loop-rules.out at-loop.loop-rules.at at-loop.loop-rules.stored at-loop.loop-rules.invariant
-    ended.line_end-end.result ended.line_end-end.ensures found (sym (ap is_row_kind told.kind_in-kind.ensures) ∙ w.if-kind.true) w.if-out-stored-lt-ROW_WIDTH.false
-    w.row_of.result (w.row_of.ensures ∙ ap (λ (kind : ℕ). row_of (eqb kind 11) line) told.kind_in-kind.ensures) (w.store_noted.ensures a.rules))
-    | else-kind w ↦
-    rw (w.out-is, w.stored-is)
-    (rows-passed a.rules a.bytes.now a.out.now at-loop.loop-rules.out at-loop.loop-rules.at at-loop.loop-rules.stored at-loop.loop-rules.invariant
-    ended.line_end-end.result ended.line_end-end.ensures found (sym (ap is_row_kind told.kind_in-kind.ensures) ∙ w.if-kind.false))
+      | then-kind+else-out-stored-lt-ROW_WIDTH w ↦
+          rw (w.out-is, w.stored-is)
+          (rows_more a.rules a.bytes.now a.out.now at-loop.loop-rules.out at-loop.loop-rules.at at-loop.loop-rules.stored at-loop.loop-rules.invariant
+          ended.line_end-end.result ended.line_end-end.ensures found (sym (ap is_row_kind told.kind_in-kind.ensures) ∙ w.if-kind.true) w.if-out-stored-lt-ROW_WIDTH.false
+          w.row_of.result (w.row_of.ensures ∙ ap (λ (kind : ℕ). row_of (eqb kind 11) line) told.kind_in-kind.ensures) (w.store_noted.ensures a.rules))
+      | else-kind w ↦
+          rw (w.out-is, w.stored-is)
+          (rows-passed a.rules a.bytes.now a.out.now at-loop.loop-rules.out at-loop.loop-rules.at at-loop.loop-rules.stored at-loop.loop-rules.invariant
+          ended.line_end-end.result ended.line_end-end.ensures found (sym (ap is_row_kind told.kind_in-kind.ensures) ∙ w.if-kind.false))
     ]
 
 pub fill_rows_spec : {M : Type 1} → statement M

@@ -28,8 +28,8 @@ loop-holds c =
     let a = c.args in
     slots-first a.rules a.accuracies c.if-accuracies.kind a.n a.bytes.now a.out.now
     (elim c.if-accuracies.branch [
-    | then-accuracies w ↦ w.kind-is ∙ sym (ap slot_line_kind w.if-accuracies.true)
-    | else-accuracies w ↦ w.kind-is ∙ sym (ap slot_line_kind w.if-accuracies.false)
+      | then-accuracies w ↦ w.kind-is ∙ sym (ap slot_line_kind w.if-accuracies.true)
+      | else-accuracies w ↦ w.kind-is ∙ sym (ap slot_line_kind w.if-accuracies.false)
     ])
 
 returns : tie.Need-returns-then-end-bytes invariant-loop decreases-loop
@@ -64,14 +64,14 @@ loop-again c =
     let inv = ended.loop-rules.invariant in
     let found = told.if-end-bytes.false in
     elim c.if-kind_in-kind.branch [
-    | then-kind_in-kind+else-left-out w ↦
-    rw (w.out-is, w.stored-is, w.left-is)
-    (slots-more a.accuracies inv ended.line_end-end.result ended.line_end-end.ensures found
-    (eq-eqb _ joined.if-accuracies.kind (sym told.kind_in.ensures ∙ w.if-kind_in-kind.true)) w.lay_slots.ensures w.if-left-out.false)
-    | else-kind_in-kind w ↦
-    rw (w.out-is, w.stored-is, w.left-is)
-    (filling-other inv ended.line_end-end.result ended.line_end-end.ensures found
-    (ne_eqb _ joined.if-accuracies.kind (λ e. w.if-kind_in-kind.false (told.kind_in.ensures ∙ e))))
+      | then-kind_in-kind+else-left-out w ↦
+          rw (w.out-is, w.stored-is, w.left-is)
+          (slots-more a.accuracies inv ended.line_end-end.result ended.line_end-end.ensures found
+          (eq-eqb _ joined.if-accuracies.kind (sym told.kind_in.ensures ∙ w.if-kind_in-kind.true)) w.lay_slots.ensures w.if-left-out.false)
+      | else-kind_in-kind w ↦
+          rw (w.out-is, w.stored-is, w.left-is)
+          (filling-other inv ended.line_end-end.result ended.line_end-end.ensures found
+          (ne_eqb _ joined.if-accuracies.kind (λ e. w.if-kind_in-kind.false (told.kind_in.ensures ∙ e))))
     ]
 
 pub fill_slots_spec : {M : Type 1} → statement M

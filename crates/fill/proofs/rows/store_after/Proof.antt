@@ -34,7 +34,7 @@ returns-2 c rules =
       | then-begins_note+else-end-bytes w ↦
           after-cut rules a.bytes.now a.at begun.begins_note.ensures a.out.now w.line_end-end.result w.line_end-end.ensures w.if-end-bytes.false
       | else-begins_note w ↦ after_none rules a.bytes.now a.at begun.begins_note.ensures a.out.now w.if-begins_note.false
-      ]
+    ]
 
 pub store_after_spec : {M : Type 1} → statement M
 store_after_spec =

@@ -6,7 +6,6 @@ use Rattle.reader.proofs.Delivering.{file-delivered, left_alone, lists-delivered
 use Rattle.reader.proofs.Found.{file-accounted, file-within}
 use Rattle.reader.specs.Reading.{enough, exponents_of, identifiers_of, lines_in}
 use borrow.Author.Rules.{rules}
-use borrow.Author.Tests.{not-false, not-true}
 use lib.IntN.{ℤ}
 use lib.ListN.{length}
 use mathlib.Core.Path.{◌∙◌, refl}

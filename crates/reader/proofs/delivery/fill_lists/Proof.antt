@@ -3,7 +3,6 @@
 use Rattle.lines.specs.Lines.{lines_of}
 use Rattle.reader.proofs.Delivering.{lists-left, lists_filled}
 use borrow.Author.Rules.{rules}
-use borrow.Author.Tests.{not-false, not-true}
 use Rattle.reader.proofs.delivery.fill_lists.Statement.{statement}
 use Rattle.reader.proofs.delivery.fill_lists.Tie as tie
 

@@ -18,12 +18,12 @@ returns c =
     let a = joined.args in
     let bytes = cut a.first a.last a.line.now in
     elim joined.if-clock.branch [
-    | then-clock w ↦
-        rw w.if-clock.true
-        (amount-judged a.lowest a.first largest joined.if-clock.answer (clock_of bytes 6) (ap told_amount w.answer-is ∙ w.clock-answer.ensures) c.amount_fault.ensures)
-    | else-clock w ↦
-        rw w.if-clock.false
-        (amount-judged a.lowest a.first largest joined.if-clock.answer (decimal_of bytes 6 true) (ap told_amount w.answer-is ∙ w.decimal-answer.ensures) c.amount_fault.ensures)
+      | then-clock w ↦
+          rw w.if-clock.true
+          (amount-judged a.lowest a.first largest joined.if-clock.answer (clock_of bytes 6) (ap told_amount w.answer-is ∙ w.clock-answer.ensures) c.amount_fault.ensures)
+      | else-clock w ↦
+          rw w.if-clock.false
+          (amount-judged a.lowest a.first largest joined.if-clock.answer (decimal_of bytes 6 true) (ap told_amount w.answer-is ∙ w.decimal-answer.ensures) c.amount_fault.ensures)
     ]
 
 pub amount_in_spec : {M : Type 1} → statement M

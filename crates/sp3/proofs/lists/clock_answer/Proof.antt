@@ -1,6 +1,7 @@
 -- `sp3::lists::clock_answer` meets its contract.
 -- Assumes nothing.
 use mathlib.Core.Path.{sym, ap, ◌∙◌}
+use native.Mathlib.Omega.{arith}
 use borrow.Author.Rules.{rules}
 use mir.Syntax.{w64}
 use mir.ValLaws.{to_z-of_z}
@@ -10,7 +11,7 @@ use Rattle.sp3.proofs.lists.clock_answer.Tie as tie
 
 returns : tie.Need-returns-in-At
 unfolding clock_door
-returns c = rw (to_z-of_z w64 c.in-At.found (record { sfits = c.known-told.given.0.1 })) (sym (ap clock_door c.in-At.is))
+returns c = rw (to_z-of_z w64 c.in-At.clock (record { sfits = omega arith })) (sym (ap clock_door c.in-At.is))
 
 returns-2 : tie.Need-returns-in-Absent
 unfolding clock_door

@@ -1,6 +1,7 @@
 -- `sp3::lists::note_correlation_answer` meets its contract.
 -- Assumes nothing.
 use mathlib.Core.Path.{sym, ap, ◌∙◌}
+use native.Mathlib.Omega.{arith}
 use borrow.Author.Rules.{rules}
 use mir.Syntax.{w64}
 use mir.ValLaws.{to_z-of_z}
@@ -10,7 +11,7 @@ use Rattle.sp3.proofs.lists.note_correlation_answer.Tie as tie
 
 returns : tie.Need-returns-in-Value
 unfolding note_correlation_door
-returns c = rw (to_z-of_z w64 c.in-Value.found (record { sfits = c.known-told.given.0.1 })) (sym (ap note_correlation_door c.in-Value.is))
+returns c = rw (to_z-of_z w64 c.in-Value.value (record { sfits = omega arith })) (sym (ap note_correlation_door c.in-Value.is))
 
 returns-2 : tie.Need-returns-in-Unknown
 unfolding note_correlation_door

@@ -1,6 +1,7 @@
 -- `sp3::lists::place_answer` meets its contract.
 -- Assumes nothing.
 use mathlib.Core.Path.{sym, ap, ◌∙◌}
+use native.Mathlib.Omega.{arith}
 use borrow.Author.Rules.{rules}
 use mir.Syntax.{w64}
 use mir.ValLaws.{to_z-of_z}
@@ -12,9 +13,9 @@ returns : tie.Need-returns-in-At
 unfolding place_door
 returns c =
     rw (
-      to_z-of_z w64 c.in-At.found (record { sfits = c.known-told.given.0.1 }),
-      to_z-of_z w64 c.found.given.0.1.0 (record { sfits = c.known-told.given.1.0.1 }),
-      to_z-of_z w64 c.found.given.0.1.1.0 (record { sfits = c.known-told.given.1.1.0.1 }),
+      to_z-of_z w64 c.in-At.x (record { sfits = omega arith }),
+      to_z-of_z w64 c.in-At.y (record { sfits = omega arith }),
+      to_z-of_z w64 c.in-At.z (record { sfits = omega arith }),
     ) (sym (ap place_door c.in-At.is))
 
 returns-2 : tie.Need-returns-in-Absent

@@ -16,11 +16,11 @@ returns-2 c = c.line_parts-in-Fault.ensures ∙ sym (ap (line_door c.args.spot) 
 
 returns-3 : tie.Need-returns-in-Next
 unfolding line_door
-returns-3 c = c.line_parts-in-Next.ensures ∙ sym (ap (line_door c.args.spot) c.found-in-Next-1.given.1)
+returns-3 c = c.line_parts-in-Next.ensures ∙ sym (ap (line_door c.args.spot) c.in-Next.is)
 
 returns-4 : tie.Need-returns-in-Finished
 unfolding line_door
-returns-4 c = c.line_parts-in-Finished.ensures ∙ sym (ap (line_door c.args.spot) c.found-in-Finished-1.given.1)
+returns-4 c = c.line_parts-in-Finished.ensures ∙ sym (ap (line_door c.args.spot) c.in-Finished.is)
 
 pub line_answer_spec : {M : Type 1} → statement M
 line_answer_spec =

@@ -12,7 +12,7 @@ returns c = c.row_found.ensures ∙ sym (ap (row_door c.args.from) c.in-At.is)
 
 returns-2 : tie.Need-returns-in-Absent
 unfolding row_door
-returns-2 c = c.row_found-in-Absent.ensures ∙ sym (ap (row_door c.args.from) c.found-in-Absent-1.given.1)
+returns-2 c = c.row_found-in-Absent.ensures ∙ sym (ap (row_door c.args.from) c.in-Absent.is)
 
 returns-3 : tie.Need-returns-in-End
 unfolding row_door
@@ -20,7 +20,7 @@ returns-3 c = c.no_row.ensures ∙ sym (ap (row_door c.args.from) c.in-End.is)
 
 returns-4 : tie.Need-returns-in-Refused
 unfolding row_door
-returns-4 c = c.no_row-in-Refused.ensures ∙ sym (ap (row_door c.args.from) c.found-in-Refused-1.given.1)
+returns-4 c = c.no_row-in-Refused.ensures ∙ sym (ap (row_door c.args.from) c.in-Refused.is)
 
 pub row_answer_spec : {M : Type 1} → statement M
 row_answer_spec =

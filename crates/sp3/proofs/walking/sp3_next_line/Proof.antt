@@ -8,7 +8,7 @@ use Rattle.sp3.proofs.walking.sp3_next_line.Statement.{statement}
 use Rattle.sp3.proofs.walking.sp3_next_line.Tie as tie
 
 returns : tie.Need-returns
-returns c = c.line_answer.ensures ∙ ap (line_door _) (told_read-one _ _ c.read_Known.ensures)
+returns c = c.line_answer.ensures ∙ ap (line_door _) (told_read-one _ _ c.read_known-found.ensures)
 
 pub sp3_next_line_spec : {M : Type 1} → statement M
 sp3_next_line_spec =
