@@ -132,6 +132,9 @@ fn measure_within(
     }
 }
 
+// What a table that no version holds is answered.
+const INVALID: usize = 13;
+
 // The same in a version: 17 where the table is valid, but not within the bounds of the version; those of SP3-d are the widest.
 fn measure_in(
     version: Version,
@@ -151,7 +154,7 @@ fn measure_in(
         return answer;
     }
     let widest = measure_within(Rules::d(), h, identifiers, exponents, comments, rows, most);
-    if widest.refusal == 13 {
+    if widest.refusal == INVALID {
         return answer;
     }
     refuse(17)

@@ -100,7 +100,8 @@ pub(crate) fn all_nines(unit: u64) -> u64
 pub fn clock_held(negative: bool, magnitude: u64, places: usize) -> u64
     ensures result { result ≡ clock_held places negative magnitude }
 {
-    if negative {
+    let minus = negative;
+    if minus {
         return magnitude;
     }
     if places > MOST_PLACES {

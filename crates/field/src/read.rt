@@ -48,13 +48,16 @@ fn digits_from(high: u64, s: &[u8]) -> Whole
     Whole::Value(value)
 }
 
+// How many digits are no number.
+const NO_DIGITS: usize = 0;
+
 // At least one digit.
 fn number(s: &[u8]) -> Whole
     requires { length s.now ≤ widest }
     ensures { result ≡ number_of s.now }
 {
     let digits = s.len();
-    if digits == 0 {
+    if digits == NO_DIGITS {
         return Whole::Malformed;
     }
     digits_from(0, s)

@@ -14,7 +14,8 @@ pub const LARGEST_CLOCK: u64 = 999_998_999_999;
 pub fn number(negative: bool, magnitude: u64) -> Number
     ensures result { told_number result ≡ number_answer negative magnitude }
 {
-    if magnitude > LARGEST {
+    let largest = LARGEST;
+    if magnitude > largest {
         return Number::OutOfBounds;
     }
     if negative {

@@ -110,7 +110,8 @@ pub fn fill_rows(rules: Rules, bytes: &[u8], out: &mut [i64])
         let line = &bytes[at..end];
         let kind = file::kind_in(rules, line);
         if (kind == POSITION_KIND) | (kind == VELOCITY_KIND) {
-            if out.len() - stored < ROW_WIDTH {
+            let width = ROW_WIDTH;
+            if out.len() - stored < width {
                 return;
             }
             rows::store_noted(

@@ -50,11 +50,14 @@ pub fn is_time_system(a: u8, b: u8, c: u8) -> bool
     gps | glo | gal | bdt | tai | utc | irn | qzs
 }
 
+// The most satellites that five `+ ` lines hold.
+const IN_FIVE_LINES: u64 = 85;
+
 // The `+ ` lines of n satellites, five at least: 5 for 85, 6 for 86.
 pub fn slot_lines(n: u64) -> u64
     ensures result { result ≡ slot_lines n }
 {
-    if n <= 85 {
+    if n <= IN_FIVE_LINES {
         return 5;
     }
     (n - 1) / 17 + 1

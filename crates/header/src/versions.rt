@@ -52,9 +52,9 @@ impl Rules {
         ensures result { result ≡ rules_in bytes.now }
     {
         if begins_c(bytes) {
-            return Rules::c();
+            return Rules::of(Version::C);
         }
-        Rules::d()
+        Rules::of(Version::D)
     }
 }
 

@@ -69,13 +69,16 @@ pub fn pad(line: &[u8]) -> [u8; 80]
     out
 }
 
+// The byte that fills a line up to 80 columns.
+const BLANK: u8 = b' ';
+
 // How many columns a line has without its trailing blanks.
 pub fn trimmed_length(line: &[u8]) -> usize
     ensures result { result ≡ length (trimmed line.now) }
 {
     let mut n = line.len();
     while 0 < n {
-        if line[n - 1] != b' ' {
+        if line[n - 1] != BLANK {
             return n;
         }
         n -= 1;

@@ -38,13 +38,16 @@ fn is_full_line(bytes: &[u8], at: usize) -> bool
     !lf_in(bytes, at + 16, 64)
 }
 
+// The byte that ends a line: LF.
+const LINE_END: u8 = 10;
+
 // The end of the line at `at`, byte by byte.
 fn line_end_by_bytes(bytes: &[u8], at: usize) -> usize
     ensures { result ≡ at + line_length (drop at bytes.now) }
 {
     let mut end = at;
     while end < bytes.len() {
-        if bytes[end] == 10 {
+        if bytes[end] == LINE_END {
             return end;
         }
         end += 1;

@@ -68,6 +68,9 @@ pub fn note_deviation_of(rows: &[i64], k: usize, which: usize) -> NoteDeviation
     NoteDeviation::Value(n)
 }
 
+// The size of a correlation that is unknown.
+const UNKNOWN_CORRELATION: u64 = UNNOTED;
+
 // The correlation xy, xz, xc, yz, yc or zc (0 to 5) in the note of the k-th row.
 pub fn note_correlation_of(rows: &[i64], k: usize, which: usize) -> NoteCorrelation
     ensures result { told_note_correlation result ≡ told_note_correlation (note_correlation_in rows.now k which) }
@@ -79,7 +82,7 @@ pub fn note_correlation_of(rows: &[i64], k: usize, which: usize) -> NoteCorrelat
         return NoteCorrelation::NoRecord;
     }
     let v = rows[k * ROW_WIDTH + (17 + which)];
-    if field::sign::magnitude_of(v) == UNNOTED {
+    if field::sign::magnitude_of(v) == UNKNOWN_CORRELATION {
         return NoteCorrelation::Unknown;
     }
     NoteCorrelation::Value(v)

@@ -78,6 +78,9 @@ pub fn exponent_of(rows: &[i64], k: usize, which: usize) -> ExponentRead
     ExponentRead::Value(n)
 }
 
+// The number of a flag that is not set.
+const NOT_SET: u64 = 0;
+
 // The flag of column 75, 76, 79 or 80 (0 to 3) of the k-th row: clock event, clock predicted, maneuver, orbit predicted.
 pub fn flag_of(rows: &[i64], k: usize, which: usize) -> Flag
     ensures result { told_flag result ≡ told_flag (flag_in rows.now k which) }
@@ -86,7 +89,7 @@ pub fn flag_of(rows: &[i64], k: usize, which: usize) -> Flag
         return Flag::NotThere;
     }
     let n = field::sign::magnitude_of(rows[k * ROW_WIDTH + (8 + which)]);
-    if n == 0 {
+    if n == NOT_SET {
         return Flag::NotSet;
     }
     Flag::Set

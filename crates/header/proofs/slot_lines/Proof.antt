@@ -6,7 +6,7 @@ use Rattle.header.specs.Rules.{slot_lines}
 use Rattle.header.proofs.slot_lines.Statement.{statement}
 use Rattle.header.proofs.slot_lines.Tie as tie
 
-returns : tie.Need-returns-then-n-le85
+returns : tie.Need-returns-then-n-le-IN_FIVE_LINES
 unfolding slot_lines
 returns c = omega arith
 

@@ -20,19 +20,19 @@ decreases-loop s n₀ n = n
 loop-holds : tie.Need-loop-n-init invariant-loop decreases-loop
 loop-holds c = (search rules, ap trimmed (sym (take-length c.args.line.now)))
 
-returns : tie.Need-returns-then-line-n-ne32 invariant-loop decreases-loop
+returns : tie.Need-returns-then-line-n-ne-BLANK invariant-loop decreases-loop
 returns c =
     let at-loop = c.before.before.before in
     let n = at-loop.loop-n.n in
     let one : n ≡ suc (n - 1) = omega arith in
-    sym (ap length at-loop.loop-n.invariant.1 ∙ trim-stop at-loop.args.line.now n (n - 1) one (omega arith) c.if-line-n-ne32.true)
+    sym (ap length at-loop.loop-n.invariant.1 ∙ trim-stop at-loop.args.line.now n (n - 1) one (omega arith) c.if-line-n-ne-BLANK.true)
 
 loop-again : tie.Need-loop-n-preserved invariant-loop decreases-loop
 loop-again c =
     let at-loop = c.before.before.before in
     let n = at-loop.loop-n.n in
     let one : n ≡ suc (n - 1) = omega arith in
-    (search rules, at-loop.loop-n.invariant.1 ∙ trim-on at-loop.args.line.now n (n - 1) one (omega arith) c.if-line-n-ne32.false)
+    (search rules, at-loop.loop-n.invariant.1 ∙ trim-on at-loop.args.line.now n (n - 1) one (omega arith) c.if-line-n-ne-BLANK.false)
 
 returns-2 : tie.Need-returns invariant-loop decreases-loop
 returns-2 c =

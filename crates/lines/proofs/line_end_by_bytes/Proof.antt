@@ -23,11 +23,11 @@ loop-holds c = refl
 shared-slice-read-if1 : tie.Need-bounds-bytes-end invariant-loop decreases-loop
 shared-slice-read-if1 c = search rules
 
-returns : tie.Need-returns-then-bytes-end-eq10 invariant-loop decreases-loop
+returns : tie.Need-returns-then-bytes-end-eq-LINE_END invariant-loop decreases-loop
 returns c =
     let at-loop = c.before.before.before in
     let bytes = at-loop.args.bytes.now in
-    sym (line-at-lf bytes at-loop.loop-end.end c.loop-end-test.true (eq-eqb (get_or bytes at-loop.loop-end.end 0) 10 c.if-bytes-end-eq10.true))
+    sym (line-at-lf bytes at-loop.loop-end.end c.loop-end-test.true (eq-eqb (get_or bytes at-loop.loop-end.end 0) 10 c.if-bytes-end-eq-LINE_END.true))
     ∙ at-loop.loop-end.invariant
 
 add-end : tie.Need-overflow_add-end invariant-loop decreases-loop
@@ -40,7 +40,7 @@ loop-again : tie.Need-loop-end-preserved invariant-loop decreases-loop
 loop-again c =
     let at-loop = c.before.before.before in
     let bytes = at-loop.args.bytes.now in
-    sym (line-more bytes at-loop.loop-end.end c.loop-end-test.true (ne_eqb (get_or bytes at-loop.loop-end.end 0) 10 c.if-bytes-end-eq10.false))
+    sym (line-more bytes at-loop.loop-end.end c.loop-end-test.true (ne_eqb (get_or bytes at-loop.loop-end.end 0) 10 c.if-bytes-end-eq-LINE_END.false))
     ∙ at-loop.loop-end.invariant
 
 returns-2 : tie.Need-returns invariant-loop decreases-loop

@@ -52,13 +52,13 @@ returns c =
     let start = begun read in
     first c.before.before.before ∙ version-stays start.args.version (table start) start.args.most (tested c.before.before.before true c.if-answer-rules.true)
 
-returns-2 : tie.Need-returns-then-widest-eq13
+returns-2 : tie.Need-returns-then-widest-eq-INVALID
 returns-2 c =
     let read = c.before.before.before.before.before.before.before in
     let start = begun read in
     first read
     ∙ invalid (rules_of start.args.version) (table start) start.args.most
-    (thirteen-invalid d (table start) start.args.most (sym (ap (λ (m : Measured). m.refusal) (second c.before.before)) ∙ c.if-widest-eq13.true))
+    (thirteen-invalid d (table start) start.args.most (sym (ap (λ (m : Measured). m.refusal) (second c.before.before)) ∙ c.if-widest-eq-INVALID.true))
 
 returns-3 : tie.Need-returns
 returns-3 c =
@@ -66,7 +66,7 @@ returns-3 c =
     let start = begun read in
     c.refuse.ensures
     ∙ outside (rules_of start.args.version) (table start) start.args.most
-    (other-valid d (table start) start.args.most (λ e. c.if-widest-eq13.false (ap (λ (m : Measured). m.refusal) (second c.before.before.before) ∙ e)))
+    (other-valid d (table start) start.args.most (λ e. c.if-widest-eq-INVALID.false (ap (λ (m : Measured). m.refusal) (second c.before.before.before) ∙ e)))
     (version-goes start.args.version (table start) start.args.most (tested read false c.if-answer-rules.false))
 
 pub measure_in_spec : {M : Type 1} → statement M

@@ -12,13 +12,13 @@ use Rattle.field.proofs.Clocks.{held-minus, held-wide, held-inside, held-outside
 use Rattle.field.proofs.known.clock_held.Statement.{statement}
 use Rattle.field.proofs.known.clock_held.Tie as tie
 
-returns : tie.Need-returns-then-negative
-returns c = rw c.if-negative.true (held-minus c.args.places c.args.magnitude)
+returns : tie.Need-returns-then-minus
+returns c = rw c.if-minus.true (held-minus c.args.places c.args.magnitude)
 
 returns-2 : tie.Need-returns-then-places-gt-MOST_PLACES
 returns-2 c =
     let a = c in
-    rw c.if-negative.false (held-wide a.args.places a.args.magnitude a.ranges.magnitude.fits c.if-places-gt-MOST_PLACES.true)
+    rw c.if-minus.false (held-wide a.args.places a.args.magnitude a.ranges.magnitude.fits c.if-places-gt-MOST_PLACES.true)
 
 -- the unit is the power of ten of its places, and all nines are made of it
 unit : (c : tie.After-ten_to-unit) → c.ten_to-unit.result ≡ 10 ^ c.args.places
@@ -45,13 +45,13 @@ returns-3 : tie.Need-returns-then-nines-unit
 returns-3 c =
     let n = c in
     let a = n.args in
-    rw n.if-negative.false (nines c.before ∙ held-inside a.places a.magnitude (sym (range c.before) ∙ c.if-nines-unit.true))
+    rw n.if-minus.false (nines c.before ∙ held-inside a.places a.magnitude (sym (range c.before) ∙ c.if-nines-unit.true))
 
 returns-4 : tie.Need-returns
 returns-4 c =
     let n = c in
     let a = n.args in
-    rw n.if-negative.false (held-outside a.places a.magnitude (sym (range c.before) ∙ c.if-nines-unit.false))
+    rw n.if-minus.false (held-outside a.places a.magnitude (sym (range c.before) ∙ c.if-nines-unit.false))
 
 pub clock_held_spec : {M : Type 1} → statement M
 clock_held_spec =

@@ -11,7 +11,7 @@ use Rattle.record.specs.Rows.{row_of}
 use Rattle.fill.proofs.FillingRows.{RowsFilling, rows-first, rows_end, rows-full, rows-passed, rows_more}
 use Rattle.fill.proofs.fill.fill_rows.Statement.{statement}
 use Rattle.fill.proofs.fill.fill_rows.Tie as tie
-use Rattle.fill.proofs.fill.fill_rows.Lts.{then-kind+else-out-stored-lt-ROW_WIDTH, else-kind}
+use Rattle.fill.proofs.fill.fill_rows.Lts.{then-kind+else-out-stored, else-kind}
 
 abbrev invariant-loop : tie.invariant-loop-rules
 invariant-loop rules bytes out₀ at₀ stored₀ out at stored = RowsFilling rules bytes out₀ out at stored
@@ -34,21 +34,21 @@ returns c =
     rows_end a.rules a.bytes.now a.out.now at-loop.loop-rules.out at-loop.loop-rules.at at-loop.loop-rules.stored at-loop.loop-rules.invariant
     ended.line_end-end.result ended.line_end-end.ensures c.if-end-bytes.true
 
-returns-2 : tie.Need-returns-then-out-stored-lt-ROW_WIDTH invariant-loop decreases-loop
+returns-2 : tie.Need-returns-then-out-stored invariant-loop decreases-loop
 returns-2 c =
     let told = c in
     let ended = c in
     let at-loop = ended.before in
     let a = at-loop.args in
     rows-full a.rules a.bytes.now a.out.now at-loop.loop-rules.out at-loop.loop-rules.at at-loop.loop-rules.stored at-loop.loop-rules.invariant
-    ended.line_end-end.result ended.line_end-end.ensures c.if-out-stored-lt-ROW_WIDTH.true
+    ended.line_end-end.result ended.line_end-end.ensures c.if-out-stored.true
 
 -- a row has room, so its end is within 64 bits
 add-stored : tie.Need-overflow_add-stored invariant-loop decreases-loop
 add-stored c =
     let room = c in
     let at-loop = room.before.before.before.before.before.before in
-    omega (arith, at-loop.well_formed, at-loop.loop-rules.invariant.has.kept, room.if-out-stored-lt-ROW_WIDTH.false)
+    omega (arith, at-loop.well_formed, at-loop.loop-rules.invariant.has.kept, room.if-out-stored.false)
 
 loop-again : tie.Need-loop-rules-preserved invariant-loop decreases-loop
 loop-again c =
@@ -59,10 +59,10 @@ loop-again c =
     let found = told.if-end-bytes.false in
     let line = take (ended.line_end-end.result - at-loop.loop-rules.at) (drop at-loop.loop-rules.at a.bytes.now) in
     elim c.if-kind.branch [
-      | then-kind+else-out-stored-lt-ROW_WIDTH w ↦
+      | then-kind+else-out-stored w ↦
           rw (w.out-is, w.stored-is)
           (rows_more a.rules a.bytes.now a.out.now at-loop.loop-rules.out at-loop.loop-rules.at at-loop.loop-rules.stored at-loop.loop-rules.invariant
-          ended.line_end-end.result ended.line_end-end.ensures found (sym (ap is_row_kind told.kind_in-kind.ensures) ∙ w.if-kind.true) w.if-out-stored-lt-ROW_WIDTH.false
+          ended.line_end-end.result ended.line_end-end.ensures found (sym (ap is_row_kind told.kind_in-kind.ensures) ∙ w.if-kind.true) w.if-out-stored.false
           w.row_of.result (w.row_of.ensures ∙ ap (λ (kind : ℕ). row_of (eqb kind 11) line) told.kind_in-kind.ensures) (w.store_noted.ensures a.rules))
       | else-kind w ↦
           rw (w.out-is, w.stored-is)

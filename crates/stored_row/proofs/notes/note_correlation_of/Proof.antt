@@ -50,7 +50,7 @@ returns-2 c =
     (correlation-unrecorded start.args.rows.now start.args.k start.args.which (asked c.before.before) noted.has_note.ensures
     (c.if-not-has_note.true))
 
-returns-3 : tie.Need-returns-then-magnitude_of-eq-UNNOTED
+returns-3 : tie.Need-returns-then-magnitude_of-eq-UNKNOWN_CORRELATION
 returns-3 c =
     let sized = c in
     let read = c in
@@ -59,7 +59,7 @@ returns-3 c =
     ap told_note_correlation
     (correlation-told start.args.rows.now start.args.k start.args.which (asked c.before.before.before.before.before) noted.has_note.ensures
     (read.if-not-has_note.false) true read.v-1.given sized.magnitude_of.ensures
-    (eq-eqb sized.magnitude_of.result unnoted c.if-magnitude_of-eq-UNNOTED.true))
+    (eq-eqb sized.magnitude_of.result unnoted c.if-magnitude_of-eq-UNKNOWN_CORRELATION.true))
 
 returns-4 : tie.Need-returns
 returns-4 c =
@@ -70,7 +70,7 @@ returns-4 c =
     ap told_note_correlation
     (correlation-told start.args.rows.now start.args.k start.args.which (asked c.before.before.before.before.before) noted.has_note.ensures
     (read.if-not-has_note.false) false read.v-1.given sized.magnitude_of.ensures
-    (ne_eqb sized.magnitude_of.result unnoted c.if-magnitude_of-eq-UNNOTED.false))
+    (ne_eqb sized.magnitude_of.result unnoted c.if-magnitude_of-eq-UNKNOWN_CORRELATION.false))
 
 pub note_correlation_of_spec : {M : Type 1} → statement M
 note_correlation_of_spec =

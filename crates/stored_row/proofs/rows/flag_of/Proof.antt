@@ -37,13 +37,13 @@ returns c =
     (no_flag start.args.rows.now start.args.k start.args.which
     (ap (λ (t : Bool). t && leb start.args.which 3) (sym c.is_there.ensures) ∙ c.if-not-is_there-which.true))
 
-returns-2 : tie.Need-returns-then-n-eq0
+returns-2 : tie.Need-returns-then-n-eq-NOT_SET
 returns-2 c =
     let read = c in
     let start = c in
     ap told_flag
     (flag_is start.args.rows.now start.args.k start.args.which (asked c.before.before.before) read.magnitude_of-arg-1.given
-    c.magnitude_of-n.ensures true (eq-eqb c.magnitude_of-n.result 0 c.if-n-eq0.true))
+    c.magnitude_of-n.ensures true (eq-eqb c.magnitude_of-n.result 0 c.if-n-eq-NOT_SET.true))
 
 returns-3 : tie.Need-returns
 returns-3 c =
@@ -51,7 +51,7 @@ returns-3 c =
     let start = c in
     ap told_flag
     (flag_is start.args.rows.now start.args.k start.args.which (asked c.before.before.before) read.magnitude_of-arg-1.given
-    c.magnitude_of-n.ensures false (ne_eqb c.magnitude_of-n.result 0 c.if-n-eq0.false))
+    c.magnitude_of-n.ensures false (ne_eqb c.magnitude_of-n.result 0 c.if-n-eq-NOT_SET.false))
 
 pub flag_of_spec : {M : Type 1} → statement M
 flag_of_spec =
