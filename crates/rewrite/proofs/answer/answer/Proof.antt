@@ -16,7 +16,7 @@ returns c =
     let start = c in
     seen (printed-long start.args.file.now tested.if-file-gt-LONGEST.true) (omega (arith, start.requires)) said.put_bytes.ensures
 
-returns-2 : tie.Need-returns-then-file-gt-LONGEST
+returns-2 : tie.Need-returns
 returns-2 c =
     let said = c in
     let tested = c in
@@ -28,7 +28,6 @@ pub answer_spec : {M : Type 1} → statement M
 answer_spec =
     tie.close
     (tie.spec
-    (λ c. search rules)
     (λ c κs. search rules)
     (λ c. search rules)
     returns

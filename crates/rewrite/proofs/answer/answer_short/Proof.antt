@@ -16,15 +16,12 @@ use Rattle.rewrite.proofs.Answering.{few_words, Outcome, outcome-of, outcome-sai
 use Rattle.rewrite.proofs.answer.answer_short.Statement.{statement}
 use Rattle.rewrite.proofs.answer.answer_short.Tie as tie
 
-abbrev start : tie.After-read_and_write-done → tie.Start
-start c = c.before.before.before.before.before.before.before.before
-
 answered-so : (c : tie.After-read_and_write-done)
-    → Outcome (answered (start c).args.file.now (file_of (rules_in (start c).args.file.now) (start c).args.file.now)) (start c).args.out.now
-    c.read_and_write-done.result c.read_and_write-done.new.exponents.1.1.1.1.0
+    → Outcome (answered c.args.file.now (file_of (rules_in c.args.file.now) c.args.file.now)) c.args.out.now
+    c.read_and_write-done.result c.read_and_write-done.new.out
 answered-so c =
-    outcome-of (start c).args.file.now (replicate max_satellites 0) (replicate max_satellites 0) (replicate (most_comments * comment_width) 0) (replicate (most_rows * row_width) (pos 0)) (start c).args.out.now
-    (start c).requires.0 (start c).requires.1
+    outcome-of c.args.file.now (replicate max_satellites 0) (replicate max_satellites 0) (replicate (most_comments * comment_width) 0) (replicate (most_rows * row_width) (pos 0)) c.args.out.now
+    c.requires.0 c.requires.1
     (length-replicate {0} {A = ℕ} max_satellites 0)
     (length-replicate {0} {A = ℕ} max_satellites 0)
     (length-replicate {0} {A = ℕ} (most_comments * comment_width) 0)
