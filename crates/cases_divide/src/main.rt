@@ -10,8 +10,6 @@ mod lent;
 mod print;
 mod walked;
 
-use std::io;
-
-fn main(rt: HostRuntime) -> io::Result<()> {
-    input::all(&rt)
+fn main(rt: HostRuntime) {
+    input::all(&rt);
 }

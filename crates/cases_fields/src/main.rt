@@ -9,10 +9,8 @@ mod days;
 mod print;
 mod spellings;
 
-use std::io;
-
-fn main(rt: HostRuntime) -> io::Result<()> {
+fn main(rt: HostRuntime) {
     cases::all(&rt);
     days::all(&rt);
-    spellings::all(&rt)
+    spellings::all(&rt);
 }

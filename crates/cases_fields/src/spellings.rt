@@ -4,14 +4,12 @@ ghost use Rattle.std.specs.Prelude.{◌≤◌, length};
 
 use crate::print;
 use field::{Amount, Exponent, Whole};
-use std::io;
-use std::io::Read;
 
 // The most columns that are shown: two more than a field has.
 const MOST: usize = 20;
 
-// The most bytes of standard input that are read.
-const MOST_BYTES: u64 = 65_536;
+// The number of standard input.
+const STDIN: i32 = 0;
 
 // Where the next LF stands from `at` on, or the end.
 fn line_end(bytes: &[u8], at: usize) -> usize
@@ -182,9 +180,8 @@ fn lines(rt: &impl Print, input: &[u8]) {
     }
 }
 
-pub(crate) fn all(rt: &(impl Print + Input + AllocGlobal)) -> io::Result<()> {
-    let mut input = Vec::new(rt.alloc());
-    rt.reader().take(MOST_BYTES).read_to_end(&mut input)?;
-    lines(rt, &input);
-    Ok(())
+pub(crate) fn all(rt: &impl Print) {
+    let mut input = [0u8; 65536];
+    let n = io::read_full(STDIN, &mut input);
+    lines(rt, &input[..n]);
 }

@@ -4,8 +4,6 @@ ghost use Rattle.std.specs.Prelude.{◌+◌, ◌≤◌, length};
 use crate::shown::Wanted;
 use crate::words::at_most;
 use crate::{given, print, shown, words};
-use std::io;
-use std::io::Read;
 
 // The answers to one case.
 fn answer(rt: &impl Print, kind: u64, wanted: Wanted, bytes: &[u8]) {
@@ -43,18 +41,17 @@ fn batch(rt: &impl Print, input: &[u8]) {
     }
 }
 
-// The most bytes of standard input that are read.
-const MOST_BYTES: u64 = 1_000_000;
+// The number of standard input.
+const STDIN: i32 = 0;
 
 // Standard input read into `room`, and its cases.
-fn taken(rt: &(impl Print + Input), room: &mut Vec<u8>) -> io::Result<()> {
-    rt.reader().take(MOST_BYTES).read_to_end(room)?;
-    batch(rt, room);
-    Ok(())
+fn taken(rt: &impl Print, room: &mut [u8]) {
+    let n = io::read_full(STDIN, room);
+    batch(rt, &room[..n]);
 }
 
 // Standard input, of at most 1,000,000 bytes.
-pub(crate) fn all(rt: &(impl Print + Input + AllocGlobal)) -> io::Result<()> {
-    let mut room = Vec::new(rt.alloc());
-    taken(rt, &mut room)
+pub(crate) fn all(rt: &impl Print) {
+    let mut room = [0u8; 1_000_000];
+    taken(rt, &mut room);
 }

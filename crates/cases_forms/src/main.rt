@@ -10,8 +10,6 @@ mod print;
 mod shown;
 mod words;
 
-use std::io;
-
-fn main(rt: HostRuntime) -> io::Result<()> {
-    input::all(&rt)
+fn main(rt: HostRuntime) {
+    input::all(&rt);
 }

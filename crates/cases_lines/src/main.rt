@@ -10,8 +10,6 @@ mod print;
 mod words;
 mod written;
 
-use std::io;
-
-fn main(rt: HostRuntime) -> io::Result<()> {
-    input::all(&rt)
+fn main(rt: HostRuntime) {
+    input::all(&rt);
 }

@@ -7,13 +7,13 @@ mod rewriting;
 mod text;
 mod types;
 
-use std::io;
-use std::io::Read;
+// The number of standard input.
+const STDIN: i32 = 0;
 
-fn main(rt: HostRuntime) -> io::Result<()> {
-    let mut input = Vec::new(rt.alloc());
-    rt.reader().take(65_537).read_to_end(&mut input)?;
+fn main(rt: HostRuntime) {
+    let mut input = [0u8; 65_537];
     let mut out = [0u8; 65_536];
-    let length = answer::answer(&input, &mut out);
-    Print::write_all(&rt, &out[..length])
+    let n = io::read_full(STDIN, &mut input);
+    let length = answer::answer(&input[..n], &mut out);
+    let _ = rt.write_all(&out[..length]);
 }
