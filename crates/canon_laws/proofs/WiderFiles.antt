@@ -40,7 +40,7 @@ use Rattle.lines.specs.Lines.{lines_of}
 use Rattle.machine.specs.State.{start_state, no_identifiers}
 use Rattle.scan.specs.Run.{nothing_seen, counted, run, scan_of, whole_front}
 use Rattle.scan.specs.declared.Tally.{Tally}
-use Rattle.scan.specs.declared.Front.TheVariants as front
+use Rattle.scan.specs.Front as front
 use Rattle.scan_laws.proofs.Reaching.{counted_over}
 use Rattle.scan_laws.proofs.Accepts.{run-plain, plain-run}
 use Rattle.scan_laws.proofs.Local.{whole-ends}

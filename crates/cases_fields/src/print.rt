@@ -71,14 +71,14 @@ pub(crate) fn signed(rt: &impl Print, answer: Number) {
     }
 }
 
-pub(crate) fn date(rt: &impl Print, answer: Dated) {
+pub(crate) fn date(rt: &impl Print, answer: Option<Dated>) {
     match answer {
-        Dated::Day { mjd, week, seconds } => {
+        Some(d) => {
             number(rt, 0);
-            value(rt, mjd);
-            value(rt, week);
-            value(rt, seconds);
+            value(rt, d.mjd);
+            value(rt, d.week);
+            value(rt, d.seconds);
         }
-        Dated::OutOfBounds => number(rt, 7),
+        None => number(rt, 7),
     }
 }

@@ -16,7 +16,6 @@ ghost use Rattle.record.specs.Steps.{judged_by, judged_at, lettered_at};
 
 use crate::notes::LARGEST_CORRELATION;
 use crate::types::{Judged, Lettered};
-use calendar::Dated;
 use field::{Amount, Exponent, Whole};
 use header::Moment;
 
@@ -206,14 +205,9 @@ pub(crate) fn zero_decimal_in(
 pub(crate) fn dated(lowest: usize, m: Moment) -> usize
     ensures { result ≡ lower lowest (date_fault m) }
 {
-    let Dated::Day {
-        mjd: _,
-        week: _,
-        seconds: _,
-    } = calendar::date(m.year, m.month, m.day)
-    else {
+    if calendar::date(m.year, m.month, m.day).is_none() {
         return fault_at(lowest, 7, 4);
-    };
+    }
     lowest
 }
 

@@ -9,7 +9,7 @@ ghost use Rattle.questions.specs.Questions.{identifier_named, comment_answer, sa
 ghost use Rattle.sp3.specs.Doors.{date_door, moment_door};
 
 use crate::types::{DateAnswer, HeaderParts, MomentAnswer};
-use calendar::{Clock, Dated, Named};
+use calendar::{Civil, Clock, Dated};
 use header::{Header, HeaderAnswer, Moment};
 use questions::{CommentAnswer, RowAnswer, SatelliteAnswer};
 
@@ -42,17 +42,17 @@ pub fn sp3_row(file: &[u8], epoch: u64, satellite: u64) -> RowAnswer
 }
 
 // What a date names, for C.
-fn date_answer(found: Dated) -> DateAnswer
+fn date_answer(found: Option<Dated>) -> DateAnswer
     ensures { result ≡ date_door (told_date found) }
 {
     match found {
-        Dated::Day { mjd, week, seconds } => DateAnswer {
+        Some(date) => DateAnswer {
             refusal: 0,
-            mjd,
-            week,
-            seconds,
+            mjd: date.mjd,
+            week: date.week,
+            seconds: date.seconds,
         },
-        Dated::OutOfBounds => DateAnswer {
+        None => DateAnswer {
             refusal: 7,
             mjd: 0,
             week: 0,
@@ -69,11 +69,11 @@ pub fn sp3_date(year: u64, month: u64, day: u64) -> DateAnswer
 }
 
 // A date found and a time of day, for C.
-fn moment_answer(found: Named, clock: Clock) -> MomentAnswer
+fn moment_answer(found: Option<Civil>, clock: Clock) -> MomentAnswer
     ensures { result ≡ moment_door (told_named found) clock }
 {
     match found {
-        Named::Date(date) => MomentAnswer {
+        Some(date) => MomentAnswer {
             refusal: 0,
             moment: Moment {
                 year: date.year,
@@ -84,7 +84,7 @@ fn moment_answer(found: Named, clock: Clock) -> MomentAnswer
                 second8: clock.second8,
             },
         },
-        Named::OutOfBounds => MomentAnswer {
+        None => MomentAnswer {
             refusal: 7,
             moment: Moment {
                 year: 0,

@@ -40,8 +40,9 @@ use Rattle.file_laws.proofs.Counts.{satellites-bounds, comments-bounds}
 use Rattle.file_laws.proofs.Selected.{kind-comments}
 use Rattle.scan.specs.Run.{IsFile}
 use Rattle.scan.specs.declared.Tally.{Tally}
-use Rattle.scan.specs.declared.Front.{Front}
-use Rattle.scan.specs.declared.Front.TheVariants as front
+use Rattle.std.specs.Prelude.{Ok, Err}
+use Rattle.scan.specs.Front.{Front}
+use Rattle.scan.specs.Front as front
 use Rattle.reader.specs.Reading.{file_of, judged, room_for, delivered, lines_to, accepted_as, refused_with, read_answer, identifiers_after, exponents_after, comments_after, rows_after}
 use Rattle.reader.specs.declared.types.Reading.{Reading}
 use Rattle.canon.specs.Table.{Table, table_identifiers, exponents_of, comments_of, rows_of}
@@ -250,8 +251,8 @@ module _ (rules : Rules) (whole : Bool) (bytes : List ℕ) where
   refused-tells-none = go (found_in rules whole bytes)
     where
       go : (f : Front) → ((judged rules bytes f).refusal ≡ 0 → ⊥) → (judged rules bytes f).version ≡ 32
-      go (front.File t) some = absurd (some refl)
-      go (front.Refused number line column) some = refl
+      go (Ok t) some = absurd (some refl)
+      go (Err refusal) some = refl
 
   -- and so does reading, also where it has no room.
   pub unread-tells-none : (i x c r : ℕ) → ((answer rules whole bytes i x c r).refusal ≡ 0 → ⊥) → (answer rules whole bytes i x c r).version ≡ 32
@@ -264,8 +265,8 @@ module _ (rules : Rules) (whole : Bool) (bytes : List ℕ) where
       by-room false t some = refl
 
       go : (f : Front) → ((delivered rules bytes f i x c r).refusal ≡ 0 → ⊥) → (delivered rules bytes f i x c r).version ≡ 32
-      go (front.File t) some = by-room (room_for (count_of rules (lines_to t.end bytes)) t i x c r) t some
-      go (front.Refused number line column) some = refl
+      go (Ok t) some = by-room (room_for (count_of rules (lines_to t.end bytes)) t i x c r) t some
+      go (Err refusal) some = refl
 
 -- an accepted file's answer, by its length, its header and its version
 accepted-answer : (rules : Rules) (bytes : List ℕ) (t : Tally) (r : Reading) (n : ℕ) (h : Header) (letter : ℕ) → r ≡ accepted_as rules bytes t

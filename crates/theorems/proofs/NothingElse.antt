@@ -37,8 +37,8 @@ use Rattle.machine.specs.declared.types.Verdict.TheVariants as verdict
 use Rattle.lines.specs.Lines.{lines_of, nth}
 use Rattle.scan.specs.Run.{counted, on_verdict, run, nothing_seen, scan_of, whole_front}
 use Rattle.scan.specs.declared.Tally.{Tally}
-use Rattle.scan.specs.declared.Front.{Front}
-use Rattle.scan.specs.declared.Front.TheVariants as front
+use Rattle.scan.specs.Front.{Front}
+use Rattle.scan.specs.Front as front
 use Rattle.theorems.specs.Before.{with_most}
 use Rattle.theorems.proofs.Beside.{Beside, seven-beside, lower-beside, items-beside}
 

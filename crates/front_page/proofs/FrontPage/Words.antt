@@ -111,7 +111,7 @@ pub use Rattle.theorems.proofs.Exist as exist
 pub use Rattle.theorems.proofs.Cases as cases
 pub use Rattle.theorems.proofs.Cases.{Case}
 pub use Rattle.scan.specs.declared.Tally.{Tally}
-pub use Rattle.scan.specs.declared.Front.TheVariants as front
+pub use Rattle.scan.specs.Front as front
 pub use Rattle.divide.specs.declared.Division.{Division}
 pub use Rattle.line_walk.specs.declared.Walker.{Walker}
 pub use Rattle.row_walk.specs.declared.types.RowWalk.{RowWalk}
