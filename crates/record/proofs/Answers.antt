@@ -16,7 +16,7 @@ use Rattle.field.specs.declared.Exponent.{Exponent}
 use Rattle.calendar.specs.declared.types.Dated.{Dated}
 use Rattle.field.proofs.Told.{told_whole-one, told_amount-one, told_exponent-one}
 use Rattle.calendar.proofs.Days.{date-told, date-refused}
-use Rattle.std.specs.Prelude.{Option, Some, None, is_none}
+use Rattle.std.specs.Prelude.{Option, Some, None, is_some}
 
 pub whole-case : (bs : List ℕ) (r a : Whole) → told_whole r ≡ whole_answer bs → r ≡ a → whole_of bs ≡ a
 whole-case bs r a e h = sym (told_whole-one r (whole_of bs) e) ∙ h
@@ -36,14 +36,15 @@ pub exponent-case : (bs : List ℕ) (r a : Exponent) → told_exponent r ≡ exp
 exponent-case bs r a e h = sym (told_exponent-one r (exponent_of bs) e) ∙ h
 
 -- a date was told, or none
-pub dated-case : (y m d : ℕ) (r : Option Dated) → told_date r ≡ date_answer y m d → is_none r ≡ false → is_date y m d ≡ true
+pub dated-case : (y m d : ℕ) (r : Option Dated) → told_date r ≡ date_answer y m d → is_some r ≡ true → is_date y m d ≡ true
 unfolding told_date
 dated-case y m d (Some found) e h = (date-told y m d found.mjd found.week found.seconds (sym e)).is
-dated-case y m d None e h = absurd (let z : ◌≡◌ {A = ℕ} 1 0 = ap (λ (t : Bool). cond t 1 0) h in omega arith)
+dated-case y m d None e h = absurd (let z : ◌≡◌ {A = ℕ} 0 1 = ap (λ (t : Bool). cond t 1 0) h in omega arith)
 
-pub undated-case : (y m d : ℕ) (r : Option Dated) → told_date r ≡ date_answer y m d → r ≡ None → is_date y m d ≡ false
+pub undated-case : (y m d : ℕ) (r : Option Dated) → told_date r ≡ date_answer y m d → is_some r ≡ false → is_date y m d ≡ false
 unfolding told_date
-undated-case y m d r e h = date-refused y m d (rw (sym e, h))
+undated-case y m d (Some found) e h = absurd (let z : ◌≡◌ {A = ℕ} 1 0 = ap (λ (t : Bool). cond t 1 0) h in omega arith)
+undated-case y m d None e h = date-refused y m d (sym e)
 
 -- an exponent that is not malformed has no fault
 pub exponent-good : (column : ℕ) (e : Exponent) → (e ≡ exponents.Malformed → ⊥) → exponent_fault column e ≡ clean

@@ -42,22 +42,24 @@ pub fn sp3_row(file: &[u8], epoch: u64, satellite: u64) -> RowAnswer
 }
 
 // What a date names, for C.
-fn date_answer(found: Option<Dated>) -> DateAnswer
-    ensures { result ≡ date_door (told_date found) }
-{
-    match found {
-        Some(date) => DateAnswer {
-            refusal: 0,
-            mjd: date.mjd,
-            week: date.week,
-            seconds: date.seconds,
-        },
-        None => DateAnswer {
-            refusal: 7,
-            mjd: 0,
-            week: 0,
-            seconds: 0,
-        },
+impl From<Option<Dated>> for DateAnswer {
+    ghost from_gives = { λ found r. r ≡ date_door (told_date found) };
+
+    fn from(found: Option<Dated>) -> DateAnswer {
+        match found {
+            Some(date) => DateAnswer {
+                refusal: 0,
+                mjd: date.mjd,
+                week: date.week,
+                seconds: date.seconds,
+            },
+            None => DateAnswer {
+                refusal: 7,
+                mjd: 0,
+                week: 0,
+                seconds: 0,
+            },
+        }
     }
 }
 
@@ -65,7 +67,7 @@ fn date_answer(found: Option<Dated>) -> DateAnswer
 pub fn sp3_date(year: u64, month: u64, day: u64) -> DateAnswer
     ensures result { result ≡ date_door (date_answer year month day) }
 {
-    date_answer(calendar::date(year, month, day))
+    DateAnswer::from(calendar::date(year, month, day))
 }
 
 // A date found and a time of day, for C.
