@@ -16,7 +16,7 @@ ghost use Rattle.record.specs.Steps.{judged_by, judged_at, lettered_at};
 
 use crate::notes::LARGEST_CORRELATION;
 use crate::types::{Judged, Lettered};
-use field::{Amount, Exponent, Whole};
+use field::{Exponent, Signed};
 use header::Moment;
 
 // The lower of a fault and one of this number at this column.
@@ -121,7 +121,7 @@ pub(crate) fn whole_in(
 {
     let s = &line[..];
     let from = first - 1;
-    let Whole::Value(n) = field::read::whole(&s[from..last]) else {
+    let Some(n) = field::read::whole(&s[from..last]) else {
         return Judged {
             fault: fault_at(lowest, 6, blamed),
             value: 0,
@@ -149,10 +149,10 @@ pub(crate) fn decimal_in(
 {
     let s = &line[..];
     let from = first - 1;
-    let Amount::Value {
+    let Some(Signed {
         negative: _,
         magnitude,
-    } = field::read::decimal(&s[from..last], places, false)
+    }) = field::read::decimal(&s[from..last], places, false)
     else {
         return Judged {
             fault: fault_at(lowest, 6, first),
@@ -173,7 +173,7 @@ pub(crate) fn zero_whole_in(lowest: usize, line: &[u8; 80], first: usize, last: 
 {
     let s = &line[..];
     let from = first - 1;
-    let Whole::Value(n) = field::read::whole(&s[from..last]) else {
+    let Some(n) = field::read::whole(&s[from..last]) else {
         return fault_at(lowest, 5, first);
     };
     fault_unless(lowest, n == 0, 5, first)
@@ -191,10 +191,10 @@ pub(crate) fn zero_decimal_in(
 {
     let s = &line[..];
     let from = first - 1;
-    let Amount::Value {
+    let Some(Signed {
         negative: _,
         magnitude,
-    } = field::read::decimal(&s[from..last], places, false)
+    }) = field::read::decimal(&s[from..last], places, false)
     else {
         return fault_at(lowest, 5, first);
     };
@@ -353,14 +353,14 @@ pub(crate) fn identifier_of(bytes: &[u8]) -> u64
 }
 
 // A number that was read, of a magnitude up to so much.
-fn amount_fault(lowest: usize, answer: Amount, most: u64, at: usize) -> usize
+fn amount_fault(lowest: usize, answer: Option<Signed>, most: u64, at: usize) -> usize
     requires { at ≤ 80 }
     ensures { result ≡ lower lowest (amount_fault at 0 most answer) }
 {
-    let Amount::Value {
+    let Some(Signed {
         negative: _,
         magnitude,
-    } = answer
+    }) = answer
     else {
         return fault_at(lowest, 6, at);
     };

@@ -8,7 +8,6 @@ ghost use Rattle.record.specs.Notes.{correlation, correlation_symbol, deviation_
 
 use crate::types::{Note, Signed};
 use crate::{fields, rows};
-use field::Amount;
 
 // Stands for an unknown deviation or correlation: no field of eight columns has it.
 pub const UNNOTED: u64 = 100_000_000;
@@ -85,20 +84,13 @@ fn known_correlation(bytes: &[u8]) -> Signed
             magnitude: UNNOTED,
         };
     }
-    let Amount::Value {
-        negative,
-        magnitude,
-    } = field::read::signed_whole(bytes)
-    else {
+    let Some(read) = field::read::signed_whole(bytes) else {
         return Signed {
             negative: false,
             magnitude: 0,
         };
     };
-    Signed {
-        negative,
-        magnitude,
-    }
+    read
 }
 
 fn correlation_of(line: &[u8; 80], first: usize, last: usize) -> Signed

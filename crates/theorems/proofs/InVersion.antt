@@ -16,7 +16,6 @@ use Rattle.laws.specs.Texts.{every, is_printable}
 use Rattle.laws.proofs.Bools.{and_left, and_right, and_both, and-false}
 use Rattle.laws.proofs.Bounds.{within-true, true-within}
 use Rattle.field.specs.Read.{whole_of}
-use Rattle.field.specs.declared.Whole.TheVariants as wholes
 use Rattle.header.specs.Rules.{c, d, slot_lines}
 use Rattle.header.specs.Versions.{told_version, rules_of, rules_in}
 use Rattle.header.specs.declared.types.Header.{Header}
@@ -70,6 +69,7 @@ use Rattle.theorems.proofs.Most.{lines-of-each}
 use Rattle.theorems.proofs.Filled.{answer-is, length-told, version-told}
 use Rattle.theorems.proofs.Writing.{written-0, out-is}
 use Rattle.theorems.proofs.Rewritten.{written-accepted, room-reads, header-back, identifiers-back, exponents-back, comments-back, rows_back, lent-held}
+use Rattle.std.specs.Prelude.{Some}
 
 -- so many comments of 77 bytes, one after another
 abbrev text_at : List ℕ → ℕ → List ℕ
@@ -165,7 +165,7 @@ valid-c t = (forth, λ all. back all.0 all.1 all.2 all.3)
         )
 
 -- A NUMBER OF SATELLITES above the most of the version is 7 at column 4.
-pub more-satellites-7 : (rules : Rules) (line : List ℕ) (n : ℕ) → whole_of (part_of (count_item rules) line) ≡ wholes.Value n → rules.most_satellites < n
+pub more-satellites-7 : (rules : Rules) (line : List ℕ) (n : ℕ) → whole_of (part_of (count_item rules) line) ≡ Some n → rules.most_satellites < n
     → fault_at (count_item rules) line ≡ keyed 7 4
 more-satellites-7 rules line n is more = rw (is, lt-leb n rules.most_satellites more, and-false (leb 1 n))
 

@@ -27,7 +27,7 @@ use Rattle.field.specs.Sign.{is_negative}
 use Rattle.lines.specs.Lent.{laid}
 use Rattle.header.specs.declared.types.Header.{Header}
 use Rattle.record.specs.declared.types.Second.{Second}
-use Rattle.record.specs.declared.types.Signed.{Signed}
+use Rattle.field.specs.declared.Signed.{Signed}
 use Rattle.record.specs.declared.types.Row.{Row}
 use Rattle.record.specs.declared.types.Note.{Note}
 use Rattle.canon.specs.Valid.{is_instant, entry}

@@ -3,7 +3,7 @@
 use mathlib.Core.Path.{ap, ◌∙◌}
 use borrow.Author.Rules.{rules}
 use Rattle.field.specs.Clock.{clock_held}
-use Rattle.record.specs.declared.types.Signed.{Signed}
+use Rattle.field.specs.declared.Signed.{Signed}
 use Rattle.record.proofs.rows.clock_taken.Statement.{statement}
 use Rattle.record.proofs.rows.clock_taken.Tie as tie
 
