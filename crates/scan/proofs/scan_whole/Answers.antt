@@ -1,6 +1,7 @@
 -- `scan::scan_whole` meets its contract: at each way out the tests that led there say which case holds.
 -- Assumes nothing.
 use Rattle.std.proofs.Common.{◌≡◌, sym, ◌∙◌, ap, ◌<◌, ◌≤◌, ℕ, List, length, arith, Ok, Err}
+use Rattle.std.proofs.lemmas.Result.{err_from_is_err_and}
 use borrow.Author.Tests.{lt-ltb, le-ltb}
 use Rattle.scan.specs.Front.{Front}
 use Rattle.scan.specs.Run.{scan_of, whole_front}
@@ -21,9 +22,8 @@ overflow_add-tally c =
 pub returns-in_err-tally : goal.returns-in_err-tally
 unfolding whole_front
 returns-in_err-tally c =
-    let x = c.from_residual in
-    let y = c.in_err-tally in
-    ?
+    let handed = err_from_is_err_and c.from_residual.result c.from_residual.ensures.1 in
+    record { result = rw (handed.1, handed.2, found _ _ _ c.scan_front.ensures.result c.in_err-tally.was) }
 
 pub returns-then-tally-bytes : goal.returns-then-tally-bytes
 unfolding whole_front

@@ -8,7 +8,7 @@ use Rattle.sp3.proofs.lists.sp3_clock_of.Statement.{statement}
 use Rattle.sp3.proofs.lists.sp3_clock_of.Tie as tie
 
 returns : tie.Need-returns
-returns c = c.clock_answer.ensures ∙ ap clock_door (told_clock-one _ _ c.clock_of.ensures)
+returns c = c.from.ensures ∙ ap clock_door (told_clock-one _ _ c.clock_of.ensures)
 
 pub sp3_clock_of_spec : {M : Type 1} → statement M
 sp3_clock_of_spec =

@@ -8,7 +8,7 @@ use Rattle.sp3.proofs.lists.sp3_exponent_of.Statement.{statement}
 use Rattle.sp3.proofs.lists.sp3_exponent_of.Tie as tie
 
 returns : tie.Need-returns
-returns c = c.exponent_answer.ensures ∙ ap exponent_door (told_exponent_read-one _ _ c.exponent_of.ensures)
+returns c = c.from.ensures ∙ ap exponent_door (told_exponent_read-one _ _ c.exponent_of.ensures)
 
 pub sp3_exponent_of_spec : {M : Type 1} → statement M
 sp3_exponent_of_spec =

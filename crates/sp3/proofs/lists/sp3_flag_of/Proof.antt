@@ -8,7 +8,7 @@ use Rattle.sp3.proofs.lists.sp3_flag_of.Statement.{statement}
 use Rattle.sp3.proofs.lists.sp3_flag_of.Tie as tie
 
 returns : tie.Need-returns
-returns c = c.flag_answer.ensures ∙ ap flag_door (told_flag-one _ _ c.flag_of.ensures)
+returns c = c.from.ensures ∙ ap flag_door (told_flag-one _ _ c.flag_of.ensures)
 
 pub sp3_flag_of_spec : {M : Type 1} → statement M
 sp3_flag_of_spec =

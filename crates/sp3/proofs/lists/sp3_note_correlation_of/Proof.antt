@@ -8,7 +8,7 @@ use Rattle.sp3.proofs.lists.sp3_note_correlation_of.Statement.{statement}
 use Rattle.sp3.proofs.lists.sp3_note_correlation_of.Tie as tie
 
 returns : tie.Need-returns
-returns c = c.note_correlation_answer.ensures ∙ ap note_correlation_door (told_note_correlation-one _ _ c.note_correlation_of.ensures)
+returns c = c.from.ensures ∙ ap note_correlation_door (told_note_correlation-one _ _ c.note_correlation_of.ensures)
 
 pub sp3_note_correlation_of_spec : {M : Type 1} → statement M
 sp3_note_correlation_of_spec =

@@ -8,7 +8,7 @@ use Rattle.sp3.proofs.lists.sp3_place_of.Statement.{statement}
 use Rattle.sp3.proofs.lists.sp3_place_of.Tie as tie
 
 returns : tie.Need-returns
-returns c = c.place_answer.ensures ∙ ap place_door (told_place-one _ _ c.place_of.ensures)
+returns c = c.from.ensures ∙ ap place_door (told_place-one _ _ c.place_of.ensures)
 
 pub sp3_place_of_spec : {M : Type 1} → statement M
 sp3_place_of_spec =
