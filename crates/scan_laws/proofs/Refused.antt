@@ -20,6 +20,7 @@ use Rattle.file.specs.Plain.{Sound}
 use Rattle.scan.specs.declared.Tally.{Tally}
 use Rattle.scan.specs.Front.{Front}
 use Rattle.scan.specs.Front as front
+use Rattle.scan.proofs.Refusals.{same-number, same-line, same-column}
 use Rattle.scan.specs.Run.{nothing_seen, counted, on_verdict, run, scan_of, Going, stepped, stepped_over, at_first}
 use Rattle.scan_laws.proofs.Stepping.{next-line, go-first, go-later, go-more, stepped-on, place-behind, stands-behind}
 use Rattle.scan_laws.specs.Lines.{judged, GoesOn, behind, GoOn}
@@ -147,15 +148,15 @@ module _ (rules : Rules) (bytes : List ℕ) (number line column : ℕ) where
       at : (k : ℕ) → GoOn rules at_first (lines_of bytes) k → Stop rules at_first (lines_of bytes) k → RefusedAt rules bytes number line column
       at k goes (ran_out n) =
           let same : front.Refused 1 (0 + k + 1) 0 ≡ front.Refused number line column = sym (run_out rules k (lines_of bytes) at_first nothing_seen goes n) ∙ e in
-          let l : 0 + k + 1 ≡ line = cc in
-          let m : 1 ≡ number = cc in
-          let c : 0 ≡ column = cc in
+          let l : 0 + k + 1 ≡ line = same-line _ _ _ _ _ _ same in
+          let m : 1 ≡ number = same-number _ _ _ _ _ _ same in
+          let c : 0 ≡ column = same-column _ _ _ _ _ _ same in
           record { k = k; line-is = omega arith; goes = goes; why = inl (n, sym m, sym c) }
       at k goes (faulty m' c' h v) =
           let same : front.Refused m' (0 + k + 1) c' ≡ front.Refused number line column =
           sym (run-fault rules k (lines_of bytes) at_first nothing_seen goes h m' c' v) ∙ e in
-          let l : 0 + k + 1 ≡ line = cc in
-          let fault : verdict.Fault m' c' ≡ verdict.Fault number column = cc in
+          let l : 0 + k + 1 ≡ line = same-line _ _ _ _ _ _ same in
+          let fault : verdict.Fault m' c' ≡ verdict.Fault number column = rw (same-number _ _ _ _ _ _ same, same-column _ _ _ _ _ _ same) in
           record { k = k; line-is = omega arith; goes = goes; why = inr (h, v ∙ fault) }
       at k goes (finished h v) =
           let both : front.File (tallied rules nothing_seen (lines_of bytes) k) ≡ front.Refused number line column =

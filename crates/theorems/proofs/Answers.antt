@@ -109,7 +109,7 @@ module _ {rules : Rules} (proper : Proper rules) where
           let number_is : refusal.number ≡ number = ap (λ (r : Reading). r.refusal) is in
           let line-is : refusal.line ≡ line = ap (λ (r : Reading). r.line) is in
           let column-is : refusal.column ≡ column = ap (λ (r : Reading). r.column) is in
-          let same : front.Refused refusal.number refusal.line refusal.column ≡ front.Refused number line column = cc in
+          let same : front.Refused refusal.number refusal.line refusal.column ≡ front.Refused number line column = rw (number_is, line-is, column-is) in
           refused-first proper bytes number line column (at_front whole (e ∙ same))
 
       back : (w : Bool) → front_of rules bytes ≡ front.Refused number line column → (0 < number) × (judged rules bytes (found_in rules w bytes) ≡ refused_with number line column)

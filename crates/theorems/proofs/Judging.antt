@@ -33,6 +33,7 @@ use Rattle.scan.specs.declared.Tally.{Tally}
 use Rattle.std.specs.Prelude.{Ok, Err}
 use Rattle.scan.specs.Front.{Front}
 use Rattle.scan.specs.Front as front
+use Rattle.scan.proofs.Refusals.{same-number, same-line, same-column}
 use Rattle.theorems.specs.Faults.{after, AllGoOn, Earned, Decided, Passes, FirstFault}
 use Rattle.canon_laws.specs.Held.{Proper}
 
@@ -131,9 +132,9 @@ module _ {rules : Rules} (proper : Proper rules) where
               ⊎ Followed rules bytes number line column
           by true less =
               let same : front.Refused 11 (t.lines + 1) 0 ≡ front.Refused number line column = rw (is, less) at e in
-              let m : 11 ≡ number = cc in
-              let l : t.lines + 1 ≡ line = cc in
-              let c : 0 ≡ column = cc in
+              let m : 11 ≡ number = same-number _ _ _ _ _ _ same in
+              let l : t.lines + 1 ≡ line = same-line _ _ _ _ _ _ same in
+              let c : 0 ≡ column = same-column _ _ _ _ _ _ same in
               inr (t, is, ltb-true t.end (length bytes) less, sym m, sym l, sym c)
           by false all =
               let both : front.File t ≡ front.Refused number line column = rw (is, all) at e in

@@ -34,27 +34,27 @@ seen c =
     let left = take (length bytes - at-loop.loop-rest.rest) (drop at-loop.loop-rest.rest bytes) in
     c.scan_front.ensures ∙ ap (λ (rules : Rules). told_front (scan_of rules left)) c.told_by.ensures
 
-returns : tie.Need-returns-in-Refused invariant-loop decreases-loop
+returns : tie.Need-returns-in-Err invariant-loop decreases-loop
 returns c =
-    let known = c.in-Refused in
+    let known = c.in-Err in
     let ran = c in
     let turn = c in
     let at-loop = turn.before in
     let a = at-loop.args in
     c.answer.ensures
     ∙ counted-refused a.stretch.now a.room at-loop.loop-rest.count at-loop.loop-rest.rest at-loop.loop-rest.invariant
-    ran.scan_front.result (seen c.before.before) known.number known.line known.column turn.loop-rest-test.true known.is
+    ran.scan_front.result (seen c.before.before) known.refusal.number known.refusal.line known.refusal.column turn.loop-rest-test.true known.is
 
 -- where the rest begins with a file
-file-there : (c : tie.In-File invariant-loop decreases-loop)
+file-there : (c : tie.In-Ok invariant-loop decreases-loop)
     → Cut c.args.stretch.now
-    c.loop-rest.rest c.in-File.tally.end
+    c.loop-rest.rest c.in-Ok.tally.end
 file-there c =
     let ran = c in
     let at-loop = ran.before.before.before.before in
     let a = at-loop.args in
     file-here a.stretch.now a.room at-loop.loop-rest.count at-loop.loop-rest.rest at-loop.loop-rest.invariant
-    ran.scan_front.result (seen c.before) c.in-File.tally c.in-File.is
+    ran.scan_front.result (seen c.before) c.in-Ok.tally c.in-Ok.is
 
 returns-2 : tie.Need-returns-then-count-room invariant-loop decreases-loop
 returns-2 c =
@@ -64,7 +64,7 @@ returns-2 c =
     let a = at-loop.args in
     c.answer-then-count-room.ensures
     ∙ counted-over a.stretch.now a.room at-loop.loop-rest.count at-loop.loop-rest.rest at-loop.loop-rest.invariant
-    ran.scan_front.result (seen c.before.before.before) known.in-File.tally known.in-File.is (omega (arith, c.if-count-room.true))
+    ran.scan_front.result (seen c.before.before.before) known.in-Ok.tally known.in-Ok.is (omega (arith, c.if-count-room.true))
 
 add-rest : tie.Need-overflow_add-rest invariant-loop decreases-loop
 add-rest c = omega (arith, (file-there c.before.before).within)
@@ -79,7 +79,7 @@ loop-again c =
     let at-loop = ran.before.before.before.before in
     let a = at-loop.args in
     counts-file a.stretch.now a.room at-loop.loop-rest.count at-loop.loop-rest.rest at-loop.loop-rest.invariant
-    ran.scan_front.result (seen c.before.before.before) known.in-File.tally known.in-File.is (omega (arith, c.if-count-room.false))
+    ran.scan_front.result (seen c.before.before.before) known.in-Ok.tally known.in-Ok.is (omega (arith, c.if-count-room.false))
 
 returns-3 : tie.Need-returns invariant-loop decreases-loop
 returns-3 c =

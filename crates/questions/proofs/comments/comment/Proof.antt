@@ -18,18 +18,18 @@ use Rattle.questions.proofs.comments.comment.Statement.{statement}
 use Rattle.questions.proofs.comments.comment.Tie as tie
 
 -- what was found in the file
-found-file : (c : tie.In-File) → file_of (rules_in c.args.file.now) c.args.file.now ≡ front.File c.in-File.tally
+found-file : (c : tie.In-Ok) → file_of (rules_in c.args.file.now) c.args.file.now ≡ front.File c.in-Ok.tally
 found-file c =
-    found_as c.told_by-rules.result c.args.file.now c.scan_whole.result (front.File c.in-File.tally)
-    c.told_by-rules.ensures (told_front-one _ _ c.scan_whole.ensures) c.in-File.is
+    found_as c.told_by-rules.result c.args.file.now c.scan_whole.result (front.File c.in-Ok.tally)
+    c.told_by-rules.ensures (told_front-one _ _ c.scan_whole.ensures) c.in-Ok.is
 
 part-line-of-end : tie.Need-slice_bounds-line_of-end
 part-line-of-end c =
-    omega (arith, file-within (rules_in c.args.file.now) c.args.file.now c.in-File.tally (found-file c.before.before))
+    omega (arith, file-within (rules_in c.args.file.now) c.args.file.now c.in-Ok.tally (found-file c.before.before))
 
 returns : tie.Need-returns-then-k-tally
 returns c =
-    let t = c.in-File.tally in (
+    let t = c.in-Ok.tally in (
       words-as (rules_in c.args.file.now) c.args.file.now (front.File t) (found-file c.before.before.before.before.before) c.args.k c.text_of.result.now
           (words-there c.told_by-rules.result c.told_by-rules.ensures c.args.file.now t c.args.k c.text_of.result.now
           c.line_of.result.now c.if-k-tally.true c.text_of.ensures.0 c.line_of.ensures.0),
@@ -42,24 +42,24 @@ returns c =
 first_byte : (bytes : List ℕ) → min 0 (length bytes) ≡ 0
 first_byte bytes = omega arith
 
-returns-2 : tie.Need-returns-in-Refused
+returns-2 : tie.Need-returns-in-Err
 unfolding comment_answer comment_words
 returns-2 c = (
   words-as (rules_in c.args.file.now) c.args.file.now _
-      (found_as c.told_by-rules.result c.args.file.now c.scan_whole.result _ c.told_by-rules.ensures (told_front-one _ _ c.scan_whole.ensures) c.in-Refused.is)
+      (found_as c.told_by-rules.result c.args.file.now c.scan_whole.result _ c.told_by-rules.ensures (told_front-one _ _ c.scan_whole.ensures) c.in-Err.is)
       c.args.k c.nothing_at.result.now c.nothing_at.ensures.0,
   c.nothing_at.ensures.1 ∙ ap (byte_of c.args.file) (first_byte c.args.file.now) ∙ ap (λ (a : CommentAnswer). byte_of c.args.file a.at)
       (comment-as (rules_in c.args.file.now) c.args.file.now _
-      (found_as c.told_by-rules.result c.args.file.now c.scan_whole.result _ c.told_by-rules.ensures (told_front-one _ _ c.scan_whole.ensures) c.in-Refused.is)
+      (found_as c.told_by-rules.result c.args.file.now c.scan_whole.result _ c.told_by-rules.ensures (told_front-one _ _ c.scan_whole.ensures) c.in-Err.is)
       c.args.k (no_comment _ _ _) refl),
 )
 
 returns-3 : tie.Need-returns-else-k-tally
 returns-3 c =
-    let t = c.in-File.tally in (
-      words-as (rules_in c.args.file.now) c.args.file.now (front.File t) (found-file c.before.before.before) c.args.k c.nothing_at-in-File.result.now
-          (c.nothing_at-in-File.ensures.0 ∙ no-words-there (rules_in c.args.file.now) c.args.file.now t c.args.k c.if-k-tally.false),
-      c.nothing_at-in-File.ensures.1 ∙ ap (byte_of c.args.file) (first_byte c.args.file.now) ∙ ap (λ (a : CommentAnswer). byte_of c.args.file a.at)
+    let t = c.in-Ok.tally in (
+      words-as (rules_in c.args.file.now) c.args.file.now (front.File t) (found-file c.before.before.before) c.args.k c.nothing_at-in-Ok.result.now
+          (c.nothing_at-in-Ok.ensures.0 ∙ no-words-there (rules_in c.args.file.now) c.args.file.now t c.args.k c.if-k-tally.false),
+      c.nothing_at-in-Ok.ensures.1 ∙ ap (byte_of c.args.file) (first_byte c.args.file.now) ∙ ap (λ (a : CommentAnswer). byte_of c.args.file a.at)
           (comment-as (rules_in c.args.file.now) c.args.file.now (front.File t) (found-file c.before.before.before) c.args.k (no_comment 13 0 0)
           (no-comment-there (rules_in c.args.file.now) c.args.file.now t c.args.k (no_comment 13 0 0) c.if-k-tally.false refl)),
     )

@@ -13,34 +13,34 @@ use Rattle.questions.proofs.comments.comment_answer.Statement.{statement}
 use Rattle.questions.proofs.comments.comment_answer.Tie as tie
 
 -- what was found in the file
-found-file : (c : tie.In-File) → file_of (rules_in c.args.file.now) c.args.file.now ≡ front.File c.in-File.tally
+found-file : (c : tie.In-Ok) → file_of (rules_in c.args.file.now) c.args.file.now ≡ front.File c.in-Ok.tally
 found-file c =
-    found_as c.told_by-rules.result c.args.file.now c.scan_whole.result (front.File c.in-File.tally)
-    c.told_by-rules.ensures (told_front-one _ _ c.scan_whole.ensures) c.in-File.is
+    found_as c.told_by-rules.result c.args.file.now c.scan_whole.result (front.File c.in-Ok.tally)
+    c.told_by-rules.ensures (told_front-one _ _ c.scan_whole.ensures) c.in-Ok.is
 
 part-comment-at-end : tie.Need-slice_bounds-comment_at-end
 part-comment-at-end c =
-    omega (arith, file-within (rules_in c.args.file.now) c.args.file.now c.in-File.tally (found-file c.before.before))
+    omega (arith, file-within (rules_in c.args.file.now) c.args.file.now c.in-Ok.tally (found-file c.before.before))
 
 returns : tie.Need-returns-then-k-tally
 returns c =
-    let t = c.in-File.tally in
+    let t = c.in-Ok.tally in
     comment-as (rules_in c.args.file.now) c.args.file.now (front.File t) (found-file c.before.before.before.before) c.args.k c.comment_at.result
     (comment-there c.told_by-rules.result c.told_by-rules.ensures c.args.file.now t c.args.k c.comment_at.result
     c.if-k-tally.true c.comment_at.ensures)
 
-returns-2 : tie.Need-returns-in-Refused
+returns-2 : tie.Need-returns-in-Err
 unfolding comment_answer
 returns-2 c =
     comment-as (rules_in c.args.file.now) c.args.file.now _
-    (found_as c.told_by-rules.result c.args.file.now c.scan_whole.result _ c.told_by-rules.ensures (told_front-one _ _ c.scan_whole.ensures) c.in-Refused.is)
+    (found_as c.told_by-rules.result c.args.file.now c.scan_whole.result _ c.told_by-rules.ensures (told_front-one _ _ c.scan_whole.ensures) c.in-Err.is)
     c.args.k c.no_comment.result c.no_comment.ensures
 
 returns-3 : tie.Need-returns-else-k-tally
 returns-3 c =
-    let t = c.in-File.tally in
-    comment-as (rules_in c.args.file.now) c.args.file.now (front.File t) (found-file c.before.before.before) c.args.k c.no_comment-in-File.result
-    (no-comment-there (rules_in c.args.file.now) c.args.file.now t c.args.k c.no_comment-in-File.result c.if-k-tally.false c.no_comment-in-File.ensures)
+    let t = c.in-Ok.tally in
+    comment-as (rules_in c.args.file.now) c.args.file.now (front.File t) (found-file c.before.before.before) c.args.k c.no_comment-in-Ok.result
+    (no-comment-there (rules_in c.args.file.now) c.args.file.now t c.args.k c.no_comment-in-Ok.result c.if-k-tally.false c.no_comment-in-Ok.ensures)
 
 pub comment_answer_spec : {M : Type 1} → statement M
 comment_answer_spec =

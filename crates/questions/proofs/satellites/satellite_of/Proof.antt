@@ -14,29 +14,29 @@ use Rattle.questions.proofs.satellites.satellite_of.Statement.{statement}
 use Rattle.questions.proofs.satellites.satellite_of.Tie as tie
 
 -- what was found in the file
-found-file : (c : tie.In-File) → file_of (rules_in c.args.file.now) c.args.file.now ≡ front.File c.in-File.tally
+found-file : (c : tie.In-Ok) → file_of (rules_in c.args.file.now) c.args.file.now ≡ front.File c.in-Ok.tally
 found-file c =
-    found_as c.told_by-rules.result c.args.file.now c.scan_whole.result (front.File c.in-File.tally)
-    c.told_by-rules.ensures (told_front-one _ _ c.scan_whole.ensures) c.in-File.is
+    found_as c.told_by-rules.result c.args.file.now c.scan_whole.result (front.File c.in-Ok.tally)
+    c.told_by-rules.ensures (told_front-one _ _ c.scan_whole.ensures) c.in-Ok.is
 
 part-satellite-among-end : tie.Need-slice_bounds-satellite_among-end
 part-satellite-among-end c =
-    omega (arith, file-within (rules_in c.args.file.now) c.args.file.now c.in-File.tally (found-file c))
+    omega (arith, file-within (rules_in c.args.file.now) c.args.file.now c.in-Ok.tally (found-file c))
 
 satellite-among-requires : tie.Need-satellite_among-requires
 satellite-among-requires c κs =
-    counted-as c.told_by-rules.result c.told_by-rules.ensures c.args.file.now c.in-File.tally (told-sound _) (found-file c.before)
+    counted-as c.told_by-rules.result c.told_by-rules.ensures c.args.file.now c.in-Ok.tally (told-sound _) (found-file c.before)
 
-returns : tie.Need-returns-in-Refused
+returns : tie.Need-returns-in-Err
 unfolding satellite_answer
 returns c =
     satellite-as (rules_in c.args.file.now) c.args.file.now _
-    (found_as c.told_by-rules.result c.args.file.now c.scan_whole.result _ c.told_by-rules.ensures (told_front-one _ _ c.scan_whole.ensures) c.in-Refused.is)
+    (found_as c.told_by-rules.result c.args.file.now c.scan_whole.result _ c.told_by-rules.ensures (told_front-one _ _ c.scan_whole.ensures) c.in-Err.is)
     c.args.identifier c.no_satellite.result c.no_satellite.ensures
 
-returns-2 : tie.Need-returns-in-File
+returns-2 : tie.Need-returns-in-Ok
 returns-2 c =
-    let t = c.in-File.tally in
+    let t = c.in-Ok.tally in
     satellite-as (rules_in c.args.file.now) c.args.file.now (front.File t) (found-file c.before.before) c.args.identifier c.satellite_among.result
     (satellite-found c.told_by-rules.result c.told_by-rules.ensures c.args.file.now t c.args.identifier c.satellite_among.result c.satellite_among.ensures)
 
