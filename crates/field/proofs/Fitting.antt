@@ -13,7 +13,7 @@ use Rattle.field.specs.Digits.{point_of}
 use Rattle.field.specs.declared.Exponent.{Exponent}
 use Rattle.field.specs.declared.Exponent.TheVariants as exponent
 use Rattle.laws.proofs.Bools.{and_left, and_right, same_truth}
-use Rattle.field.proofs.Powers.{ten-pos}
+use Rattle.field.proofs.Powers.{ten_pos}
 
 module _ (w : ℕ) (negative : Bool) (v : ℕ) where
   pub fits-wide : 18 < w → false ≡ fits_integer w negative v
@@ -40,7 +40,7 @@ exponent-wide w exponent.Malformed h = refl
 pub whole-part-test : (m n places : ℕ) → ltb m (10 ^ (n + places)) ≡ ltb (m / 10 ^ places) (10 ^ n)
 whole-part-test m n places =
     let bound : 10 ^ (n + places) ≡ 10 ^ n * 10 ^ places = pow-add 10 n places in
-    let iff = div-lt_iff_lt-mul {k = 10 ^ places} {x = m} {y = 10 ^ n} (ten-pos places) in
+    let iff = div-lt_iff_lt-mul {k = 10 ^ places} {x = m} {y = 10 ^ n} (ten_pos places) in
     ap (ltb m) bound
     ∙ same_truth (ltb m (10 ^ n * 10 ^ places)) (ltb (m / 10 ^ places) (10 ^ n))
     (λ t. lt-ltb (m / 10 ^ places) (10 ^ n) (iff.1 (ltb-true m (10 ^ n * 10 ^ places) t)))

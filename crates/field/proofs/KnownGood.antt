@@ -18,7 +18,7 @@ use Rattle.std.specs.Prelude.{Some}
 use Rattle.laws.proofs.Bools.{and_left, and_right}
 use Rattle.laws.proofs.Lists.{rest-step, rest-none}
 use Rattle.field.proofs.Powers.{ten-more, ten-mono}
-use Rattle.field.proofs.Texts.{first-digit}
+use Rattle.field.proofs.Texts.{trim-blank, first-digit}
 use Rattle.field.proofs.Accepted.{digits-taken, number-taken, whole-taken, signed-taken, decimal-taken}
 
 -- any byte counts for 207 at most, which is 9 * 23, so i columns of any bytes make 23 * 10 ^ i - 23 at most
@@ -67,8 +67,8 @@ blanks-count-nothing [] = (refl, refl)
 blanks-count-nothing (b ∷ s) = past (eqb b 32) refl (blanks-count-nothing s)
   where
     past : (t : Bool) → eqb b 32 ≡ t → (value_from 0 s ≡ value_from 0 (trim s)) × (has_minus s ≡ has_minus (trim s))
-        → (value_from 0 (b ∷ s) ≡ value_from 0 (drop (cond t (suc (blanks_of s)) 0) (b ∷ s))) × (has_minus (b ∷ s) ≡ has_minus (drop (cond t (suc (blanks_of s)) 0) (b ∷ s)))
-    past true e h = rw (eqb-true b 32 e) h
+        → (value_from 0 (b ∷ s) ≡ value_from 0 (drop (cond t (1 + blanks_of s) 0) (b ∷ s))) × (has_minus (b ∷ s) ≡ has_minus (drop (cond t (1 + blanks_of s) 0) (b ∷ s)))
+    past true e h = let blank = trim-blank s in rw (eqb-true b 32 e, blank) h
     past false e h = (refl, refl)
 
 digits-no-minus : (s : List ℕ) → all_digits s ≡ true → has_minus s ≡ false

@@ -2,7 +2,7 @@
 ghost use Rattle.std.specs.Prelude.{◌≡◌, ◌&&◌, ℕ, ◌+◌, ◌-◌, ◌*◌, ◌^◌, ◌≤◌, length, take, ltb};
 ghost use Rattle.field.specs.Digits.{value_from, point_of};
 ghost use Rattle.field.specs.Known.{known_widest, known_magnitude, has_minus};
-ghost use Rattle.field.specs.Clock.{six_nines, clock_held};
+ghost use Rattle.field.specs.Clock.{all_nines, clock_held};
 
 use crate::scale;
 
@@ -87,16 +87,18 @@ pub const SIX_NINES: u64 = 999_999;
 // The most places with which six nines are a number of 64 bits.
 const MOST_PLACES: usize = 13;
 
-// Six nines and nines in every place, where the last place is one of so many of a whole.
-pub(crate) fn all_nines(unit: u64) -> u64
-    requires { (1 ≤ unit) × (unit ≤ 10 ^ 13) }
-    ensures { result ≡ (six_nines + 1) * unit - 1 }
+// Six nines and nines in every place.
+#[tactic(auto, using(crate::proofs::Powers::ten_to_small, crate::proofs::Powers::ten_pos, crate::proofs::Powers::ten_13))]
+pub(crate) fn all_nines(places: usize) -> u64
+    requires { places ≤ 13 }
+    ensures { result ≡ all_nines places }
 {
-    (SIX_NINES + 1) * unit - 1
+    (SIX_NINES + 1) * scale::ten_to(places) - 1
 }
 
 // What is held of a clock field whose sign and magnitude are at hand: six nines before the point and no minus are absent, and are all nines. With six
 // places 999,999,000,000 is held as 999,999,999,999; 999,998,999,999 and -999,999,000,000 are held as they are.
+#[tactic(auto, using(crate::proofs::Clocks::held_minus, crate::proofs::Clocks::held_wide, crate::proofs::Clocks::held_inside, crate::proofs::Clocks::held_outside, crate::proofs::Powers::ten_to_small))]
 pub fn clock_held(negative: bool, magnitude: u64, places: usize) -> u64
     ensures result { result ≡ clock_held places negative magnitude }
 {
@@ -107,9 +109,8 @@ pub fn clock_held(negative: bool, magnitude: u64, places: usize) -> u64
     if places > MOST_PLACES {
         return magnitude;
     }
-    let unit = scale::ten_to(places);
-    let nines = all_nines(unit);
-    if (nines - unit < magnitude) & (magnitude <= nines) {
+    let nines = all_nines(places);
+    if (nines - scale::ten_to(places) < magnitude) & (magnitude <= nines) {
         return nines;
     }
     magnitude

@@ -14,7 +14,7 @@ use Rattle.field.specs.Digits.{point_of}
 use Rattle.field.specs.Show.{fits_decimal}
 use Rattle.laws.proofs.Lists.{rest_part}
 use Rattle.laws.proofs.Lent.{rest-dropped, rest-length}
-use Rattle.field.proofs.Powers.{ten-pos, ten-to-is}
+use Rattle.field.proofs.Powers.{ten_pos, ten-to-is}
 use Rattle.field.proofs.Fitting.{decimal-facts}
 use Rattle.field.proofs.Written.{decimal-text}
 use Rattle.field.proofs.write.put_decimal.Statement.{statement}
@@ -51,7 +51,7 @@ unit-is c =
     c.ten_to-unit.ensures ∙ ten-to-is _ (omega (arith, (decimal-facts _ _ _ _ (fits c.before)).0, room c.before))
 
 unit-some : (c : tie.After-ten_to-unit) → 0 < c.ten_to-unit.result
-unit-some c = rw (unit-is c) (ten-pos c.args.places)
+unit-some c = rw (unit-is c) (ten_pos c.args.places)
 
 put-point-requires : tie.Need-put_point-requires
 put-point-requires c κs =
