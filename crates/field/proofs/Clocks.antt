@@ -6,19 +6,18 @@ use mathlib.Core.Bool.{Bool, true, false, cond, not, ◌&&◌, ◌||◌}
 use Prim.Native.Nat.{ℕ, zero, suc, ◌+◌, ◌-◌, ◌*◌, ◌/◌, ◌^◌, ◌<◌, ◌≤◌}
 use native.Mathlib.Nat.{div-lt_iff_lt-mul}
 use native.Mathlib.Omega.{arith}
-use borrow.Author.Tests.{leb-true, leb-false, ltb-true, ltb-false, eqb-true, eqb-false, eq-eqb, ne_eqb, le-leb, lt-leb, lt-ltb, le-ltb, not-true}
+use borrow.Author.Tests.{leb-true, leb-false, ltb-true, ltb-false, eqb-true, eqb-false, eq-eqb, ne_eqb, le-leb, lt-ltb, not-true}
 use lib.Arith.{digits_div}
 use lib.Dec.{leb, ltb, eqb}
 use lib.ListN.{length, get_or, take, drop}
 use lib.Seq.{length-take-le}
 use Rattle.laws.specs.Texts.{every}
-use Rattle.field.specs.Digits.{blanks_of, trim, is_blank, all_digits, value_from, point_of}
+use Rattle.field.specs.Digits.{trim, is_blank, all_digits, value_from, point_of}
 use Rattle.field.specs.Read.{some_amount, number_of, whole_of, minus_first, with_sign, integer_of, settled, carried, decimal_of}
 use Rattle.field.specs.Show.{sign_width}
 use Rattle.field.specs.Clock.{Parted, six_nines, all_nines, is_six_nines, nines_before, has_point, clock_missing, clock_of, is_nines, clock_held, bare_nines, bare_clock}
 use Rattle.std.specs.Prelude.{Option, Some, None}
 use Rattle.laws.proofs.Bools.{and_left, and_right, and_both, and-true, and-false, same_truth}
-use Rattle.field.proofs.Blanks.{blanks_within, blank-all}
 use Rattle.field.proofs.Powers.{ten_pos, ten-mono}
 use Rattle.field.proofs.Texts.{carried_from, first-digit}
 use Rattle.field.proofs.Reading.{whole-read, minus-none, signed-plain, pointed, decimal-read}

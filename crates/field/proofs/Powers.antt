@@ -45,3 +45,6 @@ ten_13 n h = ten-mono h
 -- with few places the unit is the power
 pub ten_to_small : (n : ℕ) → n ≤ 13 → ten_to n ≡ 10 ^ n
 ten_to_small n h = ten-to-is n (omega arith)
+
+pub ten_to_narrow : (n : ℕ) → n ≤ 18 → ten_to n ≡ 10 ^ n
+ten_to_narrow n h = ten-to-is n h

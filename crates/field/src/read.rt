@@ -5,6 +5,7 @@ ghost use Rattle.field.specs.Digits.{widest, is_blank, blanks_of, trim};
 ghost use Rattle.field.specs.Read.{digits_from, number_of, minus_first, with_sign, signed_of, integer_of, settled, told_whole, whole_answer, told_exponent, exponent_answer, told_amount, signed_answer, decimal_answer};
 ghost use Rattle.field.specs.Clock.{has_point, Parted, bare_clock, clock_answer};
 
+use crate::sign::shown_negative;
 use crate::{Exponent, Signed, WIDEST, known};
 
 // How many blanks stand before anything else.
@@ -127,7 +128,7 @@ fn settle(negative: bool, magnitude: u64) -> Option<Signed>
     ensures { result ≡ settled negative magnitude }
 {
     Some(Signed {
-        negative: negative & (0 < magnitude),
+        negative: shown_negative(negative, magnitude),
         magnitude,
     })
 }
