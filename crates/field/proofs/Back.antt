@@ -3,21 +3,22 @@
 use mathlib.Core.Path.{◌≡◌, refl, sym, ◌∙◌, ap, ap₂}
 use mathlib.Core.List.{List, [], ◌∷◌, ◌++◌, append_assoc}
 use mathlib.Core.Bool.{Bool, true, false, ◌&&◌}
-use Prim.Native.Nat.{ℕ, zero, suc, ◌+◌, ◌-◌, ◌/◌, ◌^◌, ◌<◌, ◌≤◌}
+use Prim.Native.Nat.{ℕ, ◌+◌, ◌-◌, ◌/◌, ◌^◌, ◌<◌, ◌≤◌}
 use native.Mathlib.Omega.{arith}
 use borrow.Author.Tests.{leb-true}
 use lib.Dec.{ltb}
 use lib.ListN.{length, drop, length-append, length-replicate}
 use lib.Seq.{drop-length, take_at, drop_at, get_or_at}
 use Rattle.laws.specs.Texts.{blanks}
-use Rattle.field.specs.Digits.{blanks_of, trim, point_of}
+use Rattle.field.specs.Digits.{is_blank, blanks_of, trim, point_of}
 use Rattle.field.specs.Read.{some_amount, number_of, whole_of, as_exponent, exponent_of, minus_first, with_sign, signed_of, integer_of, settled, carried, signed_whole_of, decimal_of}
 use Rattle.field.specs.Show.{digits_in, fixed_digits, minus_text, sign_width, shown_negative, show_integer, fits_integer, show_whole, fits_whole, show_signed, fits_signed, show_exponent, fits_exponent, show_decimal, fits_decimal}
+use Rattle.std.proofs.lemmas.List.Folds.{prefix_len-replicate}
 use Rattle.std.specs.Prelude.{Some}
 use Rattle.field.specs.declared.Exponent.{Exponent}
 use Rattle.field.specs.declared.Exponent.TheVariants as exponent
 use Rattle.field.proofs.Digits.{digits-good}
-use Rattle.field.proofs.Reading.{number-some, exponent-blank, exponent-read, whole-read, signed-read, signed-minus, signed-plain, minus-none, decimal-read}
+use Rattle.field.proofs.Reading.{number-some, exponent-blank, exponent-read, whole-read, signed-read, signed-minus, signed-plain, minus-none, pointed, decimal-read}
 use Rattle.field.proofs.Bounds.{wider}
 use Rattle.field.proofs.Fitting.{fits-facts, decimal-facts}
 use Rattle.field.proofs.Texts.{digits-length, digits-all, digits-some, digits_value, fixed-length, fixed-all, fixed-carries, blanks-before, trim-none, digits-trim, first-digit}
@@ -78,11 +79,7 @@ value-back w v fits =
 
 unknown-back : (w : ℕ) → w ≤ 18 → exponent_of (blanks w) ≡ exponent.Unknown
 unknown-back w narrow =
-    sym (exponent-blank (blanks w) (omega (arith, length-replicate {A = ℕ} w 32)) (all w ∙ sym (length-replicate w 32)))
-  where
-    all : (w : ℕ) → blanks_of (blanks w) ≡ w
-    all zero = refl
-    all (suc w) = ap suc (all w)
+    sym (exponent-blank (blanks w) (omega (arith, length-replicate {A = ℕ} w 32)) (prefix_len-replicate is_blank w 32 refl ∙ sym (length-replicate w 32)))
 
 pub exponent-back : (w : ℕ) (e : Exponent) → fits_exponent w e ≡ true → exponent_of (show_exponent w e) ≡ e
 exponent-back w (exponent.Value v) fits = value-back w v fits
@@ -136,9 +133,9 @@ module _ (before after : List ℕ) (places : ℕ) (long : length after ≡ place
       ap₂ (λ (b a : List ℕ). carried (integer_of signed b) a)
       (sym (take_at before (46 ∷ after) (point_of places (length (before ++ (46 ∷ after)))) (sym point_at)))
       (sym tail_at)
-      ∙ decimal-read (before ++ (46 ∷ after)) places signed narrow
-      (omega (arith, length-append before (46 ∷ after)))
-      (get_or_at before 46 after 0 (point_of places (length (before ++ (46 ∷ after)))) (sym point_at))
+      ∙ decimal-read (before ++ (46 ∷ after)) places signed
+      (pointed (before ++ (46 ∷ after)) places narrow (omega (arith, length-append before (46 ∷ after)))
+      (get_or_at before 46 after 0 (point_of places (length (before ++ (46 ∷ after)))) (sym point_at)))
 
 -- the whole part and the places make the number again
 carried-back : (places : ℕ) (negative : Bool) (m : ℕ)

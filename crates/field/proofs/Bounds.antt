@@ -11,6 +11,7 @@ use lib.ListN.{length, take, drop, length-drop}
 use lib.Seq.{length-take-le}
 use Rattle.field.specs.Digits.{blanks_of, trim, is_digit, all_digits, value_from, point_of}
 use Rattle.field.specs.Read.{some_amount, digits_from, whole_of, exponent_of, integer_of, signed_whole_of, decimal_of}
+use Rattle.field.specs.Clock.{Parted}
 use Rattle.field.specs.Show.{sign_width}
 use Rattle.std.specs.Prelude.{Some}
 use Rattle.field.specs.declared.Exponent.TheVariants as exponent
@@ -74,6 +75,16 @@ module _ (s : List ℕ) (p : ℕ) (room : p < length s) where
   -- the places are the columns after the point
   pub places-after : length (drop (point_of p (length s) + 1) s) ≡ p
   places-after = omega (arith, length-drop (point_of p (length s) + 1) s)
+
+-- so the digits after the point find room behind the number before it
+pub high_room : (s : List ℕ) (p : ℕ) (before after : List ℕ) → Parted s p before after → (signed n : Bool) (high : ℕ) → integer_of signed before ≡ some_amount n high
+    → (length after ≤ 18) × (high < 10 ^ (18 - length after))
+high_room s p before after parts signed n high e =
+    let point = point_of p (length s) in
+    let wide : length before ≡ point = ap length parts.before_it ∙ length-take-le point s (omega (arith, parts.room)) in
+    let rest : length after ≡ p = ap length parts.after_it ∙ places-after s p parts.room in
+    let small = (integer-room signed before n high e).1 in
+    (omega (arith, rest, parts.narrow, parts.room), wider (omega (arith, wide, rest, parts.narrow, parts.room)) small)
 
 pub decimal-bound : (s : List ℕ) (p : ℕ) (signed n : Bool) (m : ℕ) → decimal_of s p signed ≡ some_amount n m → m < 10 ^ (length s - 1)
 decimal-bound s p signed n m e =

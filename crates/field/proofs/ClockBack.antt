@@ -19,13 +19,14 @@ use Rattle.std.specs.Prelude.{Option, Some, None}
 use Rattle.field.specs.declared.Signed.{Signed}
 use Rattle.laws.proofs.Bools.{and_left, and_right, and-false, tested}
 use Rattle.field.proofs.Accepted.{same-sign, same-magnitude, settled-sign, decimal-taken}
-use Rattle.field.proofs.Powers.{ten-pos}
+use Rattle.field.proofs.Powers.{ten_pos}
 use Rattle.field.proofs.Fitting.{decimal-test, decimal-facts}
 use Rattle.field.proofs.Bounds.{places-after}
 use Rattle.field.proofs.KnownGood.{known-folded, known-magnitude, known-negative, whole-known, blanks-carry}
 use Rattle.field.proofs.Back.{decimal-back}
 use Rattle.field.proofs.Again.{whole_again, decimal-again}
-use Rattle.field.proofs.Clocks.{nines-whole, nines-tell, clock-decimal, clock-bare, point-facts, nines-read}
+use Rattle.field.proofs.Reading.{parted-by}
+use Rattle.field.proofs.Clocks.{nines-whole, nines-tell, clock-decimal, clock-bare, nines-read}
 
 nines-kept : (places : ℕ) → clock_kept places false (all_nines places) ≡ true
 unfolding clock_kept
@@ -68,7 +69,7 @@ unfolding bare_nines
 bare-fits s places e =
     let p = point_of places (length s) in
     let front = and_left (has_point s places && nines_before s places) _ e in
-    let f = point-facts s places (and_left (has_point s places) (nines_before s places) front) in
+    let f = parted-by s places (and_left (has_point s places) (nines_before s places) front) in
     let nines = and_right (has_point s places) (nines_before s places) front in
     let wide : length (take p s) ≡ p = length-take-le p s (omega arith) in
     let fits : fits_whole p six_nines ≡ true = ap (λ (k : ℕ). fits_whole k six_nines) (sym wide) ∙ whole_again (take p s) six_nines (nines-read s places nines) in
@@ -158,7 +159,7 @@ clock-known s places n m narrow e = go (decimal_of s places true) refl
         let value = same-magnitude false n (all_nines places) m t.1 in
         let p = point_of places (length s) in
         let front = and_left (has_point s places && nines_before s places) _ t.0 in
-        let f = point-facts s places (and_left (has_point s places) (nines_before s places) front) in
+        let f = parted-by s places (and_left (has_point s places) (nines_before s places) front) in
         let known = whole-known (take p s) six_nines (nines-read s places (and_right (has_point s places) (nines_before s places) front)) in
         let after = drop (p + 1) s in
         let size : known_magnitude s places ≡ six_nines * 10 ^ places =
@@ -167,7 +168,7 @@ clock-known s places n m narrow e = go (decimal_of s places true) refl
         ∙ blanks-carry after six_nines (and_right (has_point s places && nines_before s places) _ t.0)
         ∙ ap (λ (k : ℕ). six_nines * 10 ^ k) (places-after s places f.room) in
         let sign : known_negative s places ≡ false = rw known.1 refl in
-        let pos : 0 < 10 ^ places = ten-pos places in
+        let pos : 0 < 10 ^ places = ten_pos places in
         let whole_is : six_nines * 10 ^ places / 10 ^ places ≡ six_nines =
         ap (λ (k : ℕ). k / 10 ^ places) (omega arith) ∙ digits_div six_nines {m = 10 ^ places} {r = 0} pos in
         (sign ∙ minus, rw (sign, size, eq-eqb (six_nines * 10 ^ places / 10 ^ places) six_nines whole_is) value)

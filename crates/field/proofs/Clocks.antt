@@ -6,22 +6,21 @@ use mathlib.Core.Bool.{Bool, true, false, cond, not, ◌&&◌, ◌||◌}
 use Prim.Native.Nat.{ℕ, zero, suc, ◌+◌, ◌-◌, ◌*◌, ◌/◌, ◌^◌, ◌<◌, ◌≤◌}
 use native.Mathlib.Nat.{div-lt_iff_lt-mul}
 use native.Mathlib.Omega.{arith}
-use borrow.Author.Tests.{leb-true, leb-false, ltb-true, ltb-false, eqb-true, eqb-false, eq-eqb, ne_eqb, le-leb, lt-leb, lt-ltb, le-ltb, not-true}
+use borrow.Author.Tests.{leb-true, leb-false, ltb-true, ltb-false, eqb-true, eqb-false, eq-eqb, ne_eqb, le-leb, lt-ltb, not-true}
 use lib.Arith.{digits_div}
 use lib.Dec.{leb, ltb, eqb}
 use lib.ListN.{length, get_or, take, drop}
 use lib.Seq.{length-take-le}
 use Rattle.laws.specs.Texts.{every}
-use Rattle.field.specs.Digits.{blanks_of, trim, is_blank, all_digits, value_from, point_of}
+use Rattle.field.specs.Digits.{trim, is_blank, all_digits, value_from, point_of}
 use Rattle.field.specs.Read.{some_amount, number_of, whole_of, minus_first, with_sign, integer_of, settled, carried, decimal_of}
 use Rattle.field.specs.Show.{sign_width}
-use Rattle.field.specs.Clock.{six_nines, all_nines, is_six_nines, nines_before, has_point, clock_missing, clock_of, is_nines, clock_held, bare_nines, bare_clock}
+use Rattle.field.specs.Clock.{Parted, six_nines, all_nines, is_six_nines, nines_before, has_point, clock_missing, clock_of, is_nines, clock_held, bare_nines, bare_clock}
 use Rattle.std.specs.Prelude.{Option, Some, None}
 use Rattle.laws.proofs.Bools.{and_left, and_right, and_both, and-true, and-false, same_truth}
-use Rattle.field.proofs.Blanks.{blanks-within, blank-all}
-use Rattle.field.proofs.Powers.{ten-pos, ten-mono}
+use Rattle.field.proofs.Powers.{ten_pos, ten-mono}
 use Rattle.field.proofs.Texts.{carried_from, first-digit}
-use Rattle.field.proofs.Reading.{whole-read, minus-none, signed-plain, decimal-read}
+use Rattle.field.proofs.Reading.{whole-read, minus-none, signed-plain, pointed, decimal-read}
 use Rattle.field.proofs.Accepted.{Taken, whole-taken, number-taken, digits-taken, signed-taken, decimal-taken}
 use Rattle.field.proofs.Bounds.{whole-bound, places-after}
 
@@ -60,7 +59,7 @@ integer-nines s n v narrow e = go n (signed-taken true (trim s) n v e)
 pub nines-whole : (places : ℕ) → all_nines places / 10 ^ places ≡ six_nines
 nines-whole places =
     let t = 10 ^ places in
-    let some : 1 ≤ t = ten-pos places in
+    let some : 1 ≤ t = ten_pos places in
     let below : t - 1 < t = omega arith in
     let parts : 1_000_000 * t - 1 ≡ 999_999 * t + (t - 1) = omega arith in
     ap (λ (n : ℕ). n / t) parts ∙ digits_div 999_999 below
@@ -70,9 +69,8 @@ module _ (s : List ℕ) (places : ℕ) (n : Bool) (m : ℕ) (e : decimal_of s pl
   taken : Taken s places true n m
   taken = decimal-taken s places true n m e
 
-  pointed : has_point s places ≡ true
-  unfolding has_point
-  pointed = rw (le-leb (length s) 18 taken.narrow, lt-ltb places (length s) taken.room, eq-eqb _ 46 taken.point)
+  point_stands : has_point s places ≡ true
+  point_stands = pointed s places taken.narrow taken.room taken.point
 
   high_is : m / 10 ^ places ≡ taken.parts.high
   high_is =
@@ -96,7 +94,7 @@ module _ (s : List ℕ) (places : ℕ) (n : Bool) (m : ℕ) (e : decimal_of s pl
       some q = go m (high_is ∙ q)
         where
           go : (k : ℕ) → k / 10 ^ places ≡ six_nines → 0 < k
-          go zero h = let none : 0 * 10 ^ places + 0 ≡ 0 = omega arith in absurd (omega (arith, ap (λ (k : ℕ). k / 10 ^ places) none, digits_div 0 {m = 10 ^ places} {r = 0} (ten-pos places)))
+          go zero h = let none : 0 * 10 ^ places + 0 ≡ 0 = omega arith in absurd (omega (arith, ap (λ (k : ℕ). k / 10 ^ places) none, digits_div 0 {m = 10 ^ places} {r = 0} (ten_pos places)))
           go (suc k) h = omega arith
 
       signs : (k : Bool) → (k && ltb 0 m) ≡ n → (t : Bool) → eqb taken.parts.high six_nines ≡ t → (not n && t) ≡ (not k && t)
@@ -106,27 +104,11 @@ module _ (s : List ℕ) (places : ℕ) (n : Bool) (m : ℕ) (e : decimal_of s pl
   -- A DECIMAL is a clock as it stands, but for six nines, which are all nines.
   pub clock-decimal : clock_of s places ≡ some_amount n (clock_held places n m)
   unfolding clock_of clock_missing clock_held
-  clock-decimal = rw (pointed, taken.parts.digits, nines-tell, and-true (is_nines places n m), e) (go (is_nines places n m) refl)
+  clock-decimal = rw (point_stands, taken.parts.digits, nines-tell, and-true (is_nines places n m), e) (go (is_nines places n m) refl)
     where
       go : (t : Bool) → is_nines places n m ≡ t → cond t (some_amount false (all_nines places)) (some_amount n m) ≡ some_amount n (cond t (all_nines places) m)
       go true q = rw (not-true n (and_left (not n) _ q))
       go false q = refl
-
--- what the test of the point says
-pub record Pointed (s : List ℕ) (places : ℕ) : Type 0 where
-  pub narrow : length s ≤ 18
-  pub room : places < length s
-  pub point : get_or s (point_of places (length s)) 0 ≡ 46
-
-pub point-facts : (s : List ℕ) (places : ℕ) → has_point s places ≡ true → Pointed s places
-unfolding has_point
-point-facts s places e =
-    let rest = and_right (leb (length s) 18) _ e in
-    record {
-      narrow = leb-true (length s) 18 (and_left (leb (length s) 18) _ e);
-      room = ltb-true places (length s) (and_left (ltb places (length s)) _ rest);
-      point = eqb-true (get_or s (point_of places (length s)) 0) 46 (and_right (ltb places (length s)) _ rest);
-    }
 
 -- six nines before the point are an integer
 pub nines-read : (s : List ℕ) (places : ℕ) → nines_before s places ≡ true → whole_of (take (point_of places (length s)) s) ≡ Some six_nines
@@ -145,11 +127,10 @@ module _ (s : List ℕ) (places : ℕ) (e : decimal_of s places true ≡ None) w
   no-digits : (t : Bool) → all_digits after ≡ t → has_point s places ≡ true → nines_before s places ≡ true → t ≡ false
   no-digits false q h nines = refl
   no-digits true q h nines =
-      let f = point-facts s places h in
       let before = take (point_of places (length s)) s in
       let read : carried (some_amount false six_nines) after ≡ None =
       ap (λ a. carried a after) (sym (whole-integer before six_nines (nines-read s places nines)))
-      ∙ decimal-read s places true f.narrow f.room f.point
+      ∙ decimal-read s places true h
       ∙ e in
       absurd (no_value (rw q at read))
 
@@ -162,69 +143,30 @@ module _ (s : List ℕ) (places : ℕ) (e : decimal_of s places true ≡ None) w
       go true false h nines = refl
       go false u h nines = refl
 
--- A clock whose fraction is blank: one law for each way that the code takes.
-module _ (s : List ℕ) (places : ℕ) where
-  pub bare-long : 18 < length s → None ≡ bare_clock s places
-  unfolding bare_nines has_point
-  bare-long h = rw (lt-leb (length s) 18 h)
+-- six nines take six columns, so few are left after the point
+pub few_places : (s : List ℕ) (places : ℕ) (before after : List ℕ) → Parted s places before after → whole_of before ≡ Some six_nines → places ≤ 13
+few_places s places before after p read = go (leb places 11) refl
+  where
+    wide : length before ≡ point_of places (length s)
+    wide = ap length p.before_it ∙ length-take-le (point_of places (length s)) s (omega (arith, p.room))
 
-  module _ (narrow : length s ≤ 18) where
-    pub bare-short : length s ≤ places → None ≡ bare_clock s places
-    unfolding bare_nines has_point
-    bare-short h = rw (le-leb (length s) 18 narrow, le-ltb places (length s) h)
+    go : (t : Bool) → leb places 11 ≡ t → places ≤ 13
+    go true h = omega (arith, leb-true places 11 h)
+    go false h =
+        let more = leb-false places 11 h in
+        absurd (omega (arith, whole-bound before six_nines read, ten-mono {i = length before} {j = 5} (omega (arith, wide, p.narrow, p.room))))
 
-    module _ (room : places < length s) where
-      pub bare-pointless : (get_or s (point_of places (length s)) 0 ≡ 46 → ⊥) → None ≡ bare_clock s places
-      unfolding bare_nines has_point
-      bare-pointless n = rw (le-leb (length s) 18 narrow, lt-ltb places (length s) room, ne_eqb _ 46 n)
-
-      module _ (point : get_or s (point_of places (length s)) 0 ≡ 46) where
-        -- where the point stands, the integer before it and the columns after it decide
-        bare-read : (a : Option ℕ) → whole_of (take (point_of places (length s)) s) ≡ a
-            → cond (is_six_nines a && every is_blank (drop (point_of places (length s) + 1) s)) (some_amount false (all_nines places)) None ≡ bare_clock s places
-        unfolding bare_nines has_point nines_before
-        bare-read a e = rw (le-leb (length s) 18 narrow, lt-ltb places (length s) room, eq-eqb _ 46 point, e)
-
-        pub bare-none : whole_of (take (point_of places (length s)) s) ≡ None → None ≡ bare_clock s places
-        bare-none e = bare-read None e
-
-        module _ (n : ℕ) (read : whole_of (take (point_of places (length s)) s) ≡ Some n) where
-          pub bare-other : (n ≡ six_nines → ⊥) → None ≡ bare_clock s places
-          bare-other apart = rw (ne_eqb n six_nines apart) at (bare-read (Some n) read)
-
-          pub bare-inked : blanks_of (drop (point_of places (length s) + 1) s) < places → None ≡ bare_clock s places
-          bare-inked few =
-              let after = drop (point_of places (length s) + 1) s in
-              let inked : every is_blank after ≡ false = sym (blank-all after) ∙ ne_eqb (blanks_of after) (length after) (λ q. omega (arith, places-after s places room)) in
-              rw (inked, and-false (eqb n six_nines)) at (bare-read (Some n) read)
-
-          pub bare-nines : n ≡ six_nines → places ≤ blanks_of (drop (point_of places (length s) + 1) s)
-              → some_amount false (all_nines places) ≡ bare_clock s places
-          bare-nines is all =
-              let after = drop (point_of places (length s) + 1) s in
-              let blank : every is_blank after ≡ true =
-              sym (blank-all after) ∙ eq-eqb (blanks_of after) (length after) (omega (arith, places-after s places room, blanks-within after)) in
-              rw (blank, eq-eqb n six_nines is) at (bare-read (Some n) read)
-
-          -- six nines take six columns, so few are left after the point
-          pub few-places : n ≡ six_nines → 10 ^ places ≤ 10 ^ 13
-          few-places is = ten-mono {i = places} {j = 13} (go (leb places 11) refl)
-            where
-              before : List ℕ
-              before = take (point_of places (length s)) s
-
-              go : (t : Bool) → leb places 11 ≡ t → places ≤ 13
-              go true h = omega (arith, leb-true places 11 h)
-              go false h =
-                  let wide : length before ≡ point_of places (length s) = length-take-le (point_of places (length s)) s (omega arith) in
-                  let more = leb-false places 11 h in
-                  absurd (omega (arith, whole-bound before n read, ten-mono {i = length before} {j = 5} (omega arith)))
+-- and with blanks after the point the clock is absent
+pub bare_absent : (s : List ℕ) (places : ℕ) (before after : List ℕ) → Parted s places before after → whole_of before ≡ Some six_nines → every is_blank after ≡ true
+    → some_amount false (all_nines places) ≡ bare_clock s places
+unfolding bare_nines nines_before
+bare_absent s places before after p read blank = rw (p.pointed, sym p.before_it, read, sym p.after_it, blank)
 
 -- what is held of a number below 2 ^ 64, whatever its places: one law for each way that the code takes
 module _ (places m : ℕ) where
-  pub held-minus : m ≡ clock_held places true m
+  pub held_minus : (negative : Bool) → negative ≡ true → m ≡ clock_held places negative m
   unfolding clock_held
-  held-minus = refl
+  held_minus negative e = rw e
 
   held-other : (m / 10 ^ places ≡ six_nines → ⊥) → m ≡ clock_held places false m
   unfolding clock_held
@@ -239,7 +181,7 @@ module _ (places m : ℕ) where
   nines-least e = go (ltb m (six_nines * 10 ^ places)) refl
     where
       go : (t : Bool) → ltb m (six_nines * 10 ^ places) ≡ t → six_nines * 10 ^ places ≤ m
-      go true h = absurd (omega (arith, e, (div-lt_iff_lt-mul {k = 10 ^ places} {x = m} {y = six_nines} (ten-pos places)).1 (ltb-true m (six_nines * 10 ^ places) h)))
+      go true h = absurd (omega (arith, e, (div-lt_iff_lt-mul {k = 10 ^ places} {x = m} {y = six_nines} (ten_pos places)).1 (ltb-true m (six_nines * 10 ^ places) h)))
       go false h = ltb-false m (six_nines * 10 ^ places) h
 
   -- so in 64 bits there are 13 places at most
@@ -251,8 +193,8 @@ module _ (places m : ℕ) where
       go false h = absurd (omega (arith, nines-least e, ten-mono {i = 14} {j = places} (leb-false places 13 h)))
 
   -- with more places there are no six nines
-  pub held-wide : m < 2 ^ 64 → 13 < places → m ≡ clock_held places false m
-  held-wide small more = held-other (λ e. omega (arith, nines-places small e, ten-mono {i = 14} {j = places} more))
+  pub held_wide : (negative : Bool) → negative ≡ false → m < 2 ^ 64 → 13 < places → m ≡ clock_held places negative m
+  held_wide negative plain small more = rw plain (held-other (λ e. omega (arith, nines-places small e, ten-mono {i = 14} {j = places} more)))
 
   -- six nines before the point: from the number before them to all nines
   nines-range : (ltb (all_nines places - 10 ^ places) m && leb m (all_nines places)) ≡ eqb (m / 10 ^ places) six_nines
@@ -264,20 +206,22 @@ module _ (places m : ℕ) where
       inside : all_nines places - 10 ^ places < m → m ≤ all_nines places → m / 10 ^ places ≡ six_nines
       inside low high =
           let t = 10 ^ places in
-          let some : 1 ≤ t = ten-pos places in
+          let some : 1 ≤ t = ten_pos places in
           let below : m - six_nines * t < t = omega arith in
           let parts : m ≡ six_nines * t + (m - six_nines * t) = omega arith in
           ap (λ (n : ℕ). n / t) parts ∙ digits_div six_nines below
 
       outside : m / 10 ^ places ≡ six_nines → (ltb (all_nines places - 10 ^ places) m && leb m (all_nines places)) ≡ true
       outside e =
-          let some : 1 ≤ 10 ^ places = ten-pos places in
+          let some : 1 ≤ 10 ^ places = ten_pos places in
           let low = nines-least e in
-          let high : m < (six_nines + 1) * 10 ^ places = (div-lt_iff_lt-mul {k = 10 ^ places} {x = m} {y = six_nines + 1} (ten-pos places)).0 (omega (arith, e)) in
+          let high : m < (six_nines + 1) * 10 ^ places = (div-lt_iff_lt-mul {k = 10 ^ places} {x = m} {y = six_nines + 1} (ten_pos places)).0 (omega (arith, e)) in
           and_both (ltb (all_nines places - 10 ^ places) m) _ (lt-ltb _ m (omega arith)) (le-leb m _ (omega arith))
 
-  pub held-inside : (ltb (all_nines places - 10 ^ places) m && leb m (all_nines places)) ≡ true → all_nines places ≡ clock_held places false m
-  held-inside t = held-nines (eqb-true (m / 10 ^ places) six_nines (sym nines-range ∙ t))
+  pub held_inside : (negative : Bool) → negative ≡ false → (ltb (all_nines places - 10 ^ places) m && leb m (all_nines places)) ≡ true
+      → all_nines places ≡ clock_held places negative m
+  held_inside negative e t = rw e (held-nines (eqb-true (m / 10 ^ places) six_nines (sym nines-range ∙ t)))
 
-  pub held-outside : (ltb (all_nines places - 10 ^ places) m && leb m (all_nines places)) ≡ false → m ≡ clock_held places false m
-  held-outside t = held-other (eqb-false (m / 10 ^ places) six_nines (sym nines-range ∙ t))
+  pub held_outside : (negative : Bool) → negative ≡ false → (ltb (all_nines places - 10 ^ places) m && leb m (all_nines places)) ≡ false
+      → m ≡ clock_held places negative m
+  held_outside negative e t = rw e (held-other (eqb-false (m / 10 ^ places) six_nines (sym nines-range ∙ t)))

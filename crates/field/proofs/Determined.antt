@@ -7,6 +7,7 @@ use Rattle.field.proofs.read.signed_whole.Reads as signed
 use Rattle.field.proofs.read.exponent.Reads as exponent
 use Rattle.field.proofs.read.decimal.Reads as decimal
 use Rattle.field.proofs.read.clock.Reads as clock
+use Rattle.field.proofs.known.figure.Reads as figure
 use Rattle.field.proofs.known.magnitude.Reads as known-magnitude
 use Rattle.field.proofs.known.is_negative.Reads as known-negative
 use Rattle.field.proofs.known.clock_held.Reads as clock-held
@@ -38,6 +39,9 @@ clock-determined κs a r r' s s' p q = told_amount-one r r' (p ∙ sym q)
 
 pub magnitude-determined : (κs : _) (a : _) (r r' : _) (s s' : _) → known-magnitude.Post κs a r s → known-magnitude.Post κs a r' s' → r ≡ r'
 magnitude-determined κs a r r' s s' p q = p ∙ sym q
+
+pub figure-determined : (κs : _) (a : _) (r r' : _) (s s' : _) → figure.Post κs a r s → figure.Post κs a r' s' → r ≡ r'
+figure-determined κs a r r' s s' p q = p ∙ sym q
 
 pub known-is-negative-determined : (κs : _) (a : _) (r r' : _) (s s' : _) → known-negative.Post κs a r s → known-negative.Post κs a r' s' → r ≡ r'
 known-is-negative-determined κs a r r' s s' p q = p ∙ sym q

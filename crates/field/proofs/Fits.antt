@@ -10,7 +10,7 @@ use lib.Dec.{leb, ltb}
 use Rattle.field.specs.Digits.{point_of}
 use Rattle.field.specs.Show.{digit_count, sign_width, shown_negative, fits_integer, fits_decimal}
 use Rattle.field.proofs.Bounds.{wider}
-use Rattle.field.proofs.Fitting.{fits-narrow, fits-test, fits-true, decimal-placeless, decimal-test, whole-part-test}
+use Rattle.field.proofs.Fitting.{fits-narrow, fits-test, fits-true, decimal_placeless, decimal-test, whole-part-test}
 use Rattle.field.proofs.Texts.{digits-length, digits-some, digits-longer}
 
 count-test : (n v : ℕ) → 0 < n → v < 10 ^ 20 → ltb v (10 ^ n) ≡ leb (digit_count v) n
@@ -64,7 +64,7 @@ decimal-fits w places negative m narrow h = test (ltb places w) refl
         ∙ ap (leb text) less
         ∙ leb-past (places + 1) text w (omega arith)
     test false e =
-        sym (decimal-placeless w places negative m narrow (ltb-false places w e))
+        sym (decimal_placeless w places negative m narrow (ltb-false places w e))
         ∙ sym (lt-leb _ w (omega (arith, ltb-false places w e)))
 
 pub sign-one : (n : Bool) → sign_width n ≤ 1

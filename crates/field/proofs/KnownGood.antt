@@ -8,7 +8,8 @@ use native.Mathlib.Nat.{mul_assoc, mul_comm}
 use native.Mathlib.Omega.{arith}
 use borrow.Author.Tests.{eqb-true, ne_eqb, le-leb, lt-leb}
 use lib.Dec.{eqb}
-use lib.ListN.{length, get_or, take, drop, length-drop}
+use lib.ListN.{length, take, drop, length-drop}
+use Rattle.std.specs.List.{fold}
 use Rattle.laws.specs.Texts.{every}
 use Rattle.field.specs.Digits.{is_blank, blanks_of, trim, is_digit, all_digits, value_from, point_of}
 use Rattle.field.specs.Read.{some_amount, whole_of, minus_first, integer_of, decimal_of}
@@ -16,9 +17,8 @@ use Rattle.field.specs.Known.{known_magnitude, has_minus, known_negative}
 use Rattle.field.specs.Show.{sign_width}
 use Rattle.std.specs.Prelude.{Some}
 use Rattle.laws.proofs.Bools.{and_left, and_right}
-use Rattle.laws.proofs.Lists.{rest-step, rest-none}
 use Rattle.field.proofs.Powers.{ten-more, ten-mono}
-use Rattle.field.proofs.Texts.{first-digit}
+use Rattle.field.proofs.Texts.{trim-blank, first-digit}
 use Rattle.field.proofs.Accepted.{digits-taken, number-taken, whole-taken, signed-taken, decimal-taken}
 
 -- any byte counts for 207 at most, which is 9 * 23, so i columns of any bytes make 23 * 10 ^ i - 23 at most
@@ -37,13 +37,13 @@ figures-room v s point here narrow h =
     let after : length (drop (point + 1) s) ≡ length s - (point + 1) = length-drop (point + 1) s in
     rw after (omega arith, figure-wider v {i = point} (omega arith) h)
 
--- a minus at the place, or among the rest
-module _ (s : List ℕ) (i : ℕ) (found : Bool) where
-  pub minus-more : i < length s → (found || eqb (get_or s i 0) 45 || has_minus (drop (i + 1) s)) ≡ (found || has_minus (drop i s))
-  minus-more h = rw (rest-step s i h) (or_assoc found (eqb (get_or s i 0) 45) (has_minus (drop (i + 1) s)))
-
-  pub minus-over : length s ≤ i → found ≡ (found || has_minus (drop i s))
-  minus-over h = rw (rest-none s i h) (sym (or-false found))
+-- a minus looked for without an early end
+pub minus_folded : (s : List ℕ) → fold (λ (found : Bool) (b : ℕ). found || eqb b 45) false s ≡ has_minus s
+minus_folded s = from false s
+  where
+    from : (t : Bool) (s : List ℕ) → fold (λ (found : Bool) (b : ℕ). found || eqb b 45) t s ≡ (t || has_minus s)
+    from t [] = sym (or-false t)
+    from t (b ∷ s) = from (t || eqb b 45) s ∙ or_assoc t (eqb b 45) (has_minus s)
 
 -- the three answers of the magnitude
 pub known-none : (s : List ℕ) (places : ℕ) → length s ≡ 0 → 0 ≡ known_magnitude s places
@@ -67,8 +67,8 @@ blanks-count-nothing [] = (refl, refl)
 blanks-count-nothing (b ∷ s) = past (eqb b 32) refl (blanks-count-nothing s)
   where
     past : (t : Bool) → eqb b 32 ≡ t → (value_from 0 s ≡ value_from 0 (trim s)) × (has_minus s ≡ has_minus (trim s))
-        → (value_from 0 (b ∷ s) ≡ value_from 0 (drop (cond t (suc (blanks_of s)) 0) (b ∷ s))) × (has_minus (b ∷ s) ≡ has_minus (drop (cond t (suc (blanks_of s)) 0) (b ∷ s)))
-    past true e h = rw (eqb-true b 32 e) h
+        → (value_from 0 (b ∷ s) ≡ value_from 0 (drop (cond t (1 + blanks_of s) 0) (b ∷ s))) × (has_minus (b ∷ s) ≡ has_minus (drop (cond t (1 + blanks_of s) 0) (b ∷ s)))
+    past true e h = let blank = trim-blank s in rw (eqb-true b 32 e, blank) h
     past false e h = (refl, refl)
 
 digits-no-minus : (s : List ℕ) → all_digits s ≡ true → has_minus s ≡ false

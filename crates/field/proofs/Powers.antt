@@ -14,8 +14,8 @@ ten-suc n = pow-suc 10 n
 pub ten-more : (n : ℕ) → 10 ^ (n + 1) ≡ 10 ^ n * 10
 ten-more n = rw add-one (pow-suc 10 n)
 
-pub ten-pos : (n : ℕ) → 0 < 10 ^ n
-ten-pos n = pow-le-pow_right {n = 10} (omega arith) {i = 0} (omega arith)
+pub ten_pos : (n : ℕ) → 0 < 10 ^ n
+ten_pos n = pow-le-pow_right {n = 10} (omega arith) {i = 0} (omega arith)
 
 pub ten-mono : {i j : ℕ} → i ≤ j → 10 ^ i ≤ 10 ^ j
 ten-mono h = pow-le-pow_right (omega arith) h
@@ -38,3 +38,13 @@ ten-to-is n h = rw (le-leb n 18 h)
 pub ten-to-above : (n : ℕ) → 18 < n → ten_to n ≡ 0
 unfolding ten_to
 ten-to-above n h = rw (lt-leb n 18 h)
+
+pub ten_13 : (n : ℕ) → n ≤ 13 → 10 ^ n ≤ 10 ^ 13
+ten_13 n h = ten-mono h
+
+-- with few places the unit is the power
+pub ten_to_small : (n : ℕ) → n ≤ 13 → ten_to n ≡ 10 ^ n
+ten_to_small n h = ten-to-is n (omega arith)
+
+pub ten_to_narrow : (n : ℕ) → n ≤ 18 → ten_to n ≡ 10 ^ n
+ten_to_narrow n h = ten-to-is n h

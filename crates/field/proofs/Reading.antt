@@ -1,16 +1,18 @@
 -- The answers of a field's reading, one law for each way that the code takes.
 -- Assumes nothing.
-use mathlib.Core.Path.{◌≡◌, ap, sym}
+use mathlib.Core.Path.{◌≡◌, refl, ap, sym, ◌∙◌}
 use mathlib.Core.List.{List, [], ◌∷◌}
 use mathlib.Core.Bool.{Bool, true, false}
 use Prim.Native.Nat.{ℕ, ◌+◌, ◌<◌, ◌≤◌}
 use native.Mathlib.Omega.{arith}
-use borrow.Author.Tests.{le-leb, lt-leb, lt-ltb, le-ltb, eq-eqb, ne_eqb}
-use lib.Dec.{eqb}
+use borrow.Author.Tests.{leb-true, ltb-true, eqb-true, le-leb, lt-leb, lt-ltb, eq-eqb, ne_eqb}
+use lib.Dec.{leb, ltb, eqb}
 use lib.ListN.{length, get_or, take, drop}
 use Rattle.field.specs.Digits.{blanks_of, trim, point_of}
 use Rattle.field.specs.Read.{some_amount, digits_from, number_of, whole_of, as_exponent, exponent_of, minus_first, with_sign, signed_of, integer_of, settled, carried, signed_whole_of, decimal_of}
-use Rattle.std.specs.Prelude.{None}
+use Rattle.field.specs.Clock.{has_point, Parted}
+use Rattle.field.specs.declared.Signed.{Signed}
+use Rattle.std.specs.Prelude.{Option, None}
 use Rattle.field.specs.declared.Exponent.TheVariants as exponent
 use Rattle.laws.proofs.Bools.{and_left, and_right, and-false, and-true}
 
@@ -88,21 +90,39 @@ module _ (negative : Bool) (m : ℕ) where
   pub settled-some : (m ≡ 0 → ⊥) → some_amount negative m ≡ settled negative m
   settled-some n = rw (lt-ltb 0 m (omega arith)) (ap (λ (n : Bool). some_amount n m) (sym (and-true negative)))
 
-module _ (s : List ℕ) (places : ℕ) (signed : Bool) where
-  pub decimal-long : 18 < length s → None ≡ decimal_of s places signed
-  unfolding decimal_of
-  decimal-long h = rw (lt-leb _ _ h)
+-- a field that is parted at its point
+module _ (s : List ℕ) (places : ℕ) where
+  pub pointed : length s ≤ 18 → places < length s → get_or s (point_of places (length s)) 0 ≡ 46 → has_point s places ≡ true
+  unfolding has_point
+  pointed narrow room point = rw (le-leb _ _ narrow, lt-ltb _ _ room, eq-eqb _ _ point)
 
-  module _ (narrow : length s ≤ 18) where
-    pub decimal-short : length s ≤ places → None ≡ decimal_of s places signed
-    unfolding decimal_of
-    decimal-short h = rw (le-leb _ _ narrow, le-ltb _ _ h)
+  pub parted-by : has_point s places ≡ true → Parted s places (take (point_of places (length s)) s) (drop (point_of places (length s) + 1) s)
+  unfolding has_point
+  parted-by e =
+      let rest = and_right (leb (length s) 18) _ e in
+      record {
+        pointed = e;
+        narrow = leb-true (length s) 18 (and_left (leb (length s) 18) _ e);
+        room = ltb-true places (length s) (and_left (ltb places (length s)) _ rest);
+        point = eqb-true (get_or s (point_of places (length s)) 0) 46 (and_right (ltb places (length s)) _ rest);
+        before_it = refl;
+        after_it = refl;
+      }
 
-    pub decimal-pointless : places < length s → (get_or s (point_of places (length s)) 0 ≡ 46 → ⊥) → None ≡ decimal_of s places signed
-    unfolding decimal_of
-    decimal-pointless h n = rw (le-leb _ _ narrow, lt-ltb _ _ h, ne_eqb _ _ n)
+  module _ (signed : Bool) where
+    pub decimal_unparted : has_point s places ≡ false → None ≡ decimal_of s places signed
+    unfolding decimal_of has_point
+    decimal_unparted e = rw e
 
-    pub decimal-read : places < length s → get_or s (point_of places (length s)) 0 ≡ 46
+    pub decimal_parted : (before after : List ℕ) → Parted s places before after → carried (integer_of signed before) after ≡ decimal_of s places signed
+    unfolding decimal_of has_point
+    decimal_parted before after p = rw (p.pointed, p.before_it, p.after_it)
+
+    -- whatever was read before the point
+    pub decimal_from : (before after : List ℕ) → Parted s places before after → (r : Option Signed) → r ≡ integer_of signed before
+        → carried r after ≡ decimal_of s places signed
+    decimal_from before after p r e = ap (λ q. carried q after) e ∙ decimal_parted before after p
+
+    pub decimal-read : has_point s places ≡ true
         → carried (integer_of signed (take (point_of places (length s)) s)) (drop (point_of places (length s) + 1) s) ≡ decimal_of s places signed
-    unfolding decimal_of
-    decimal-read h e = rw (le-leb _ _ narrow, lt-ltb _ _ h, eq-eqb _ _ e)
+    decimal-read e = decimal_parted _ _ (parted-by e)

@@ -8,14 +8,14 @@ use native.Mathlib.Nat.{div-lt_iff_lt-mul, div-add-mod', div-one, le-div_iff_mul
 use native.Mathlib.Omega.{arith}
 use borrow.Author.Tests.{ltb-false, ltb-true, ne_eqb}
 use lib.Dec.{ltb}
-use lib.ListN.{length, get_or}
+use lib.ListN.{length, get_or, drop}
 use Rattle.laws.specs.Texts.{is_printable, blanks}
-use Rattle.field.specs.Digits.{trim, is_digit, all_digits, value_from, value_of}
+use Rattle.field.specs.Digits.{blanks_of, trim, is_digit, all_digits, value_from, value_of}
 use Rattle.field.specs.Show.{last_digit, digits_in, fixed_digits}
 use Rattle.laws.proofs.Bools.{and_left, and_right}
 use Rattle.laws.proofs.Bounds.{within-true, true-within}
 use Rattle.laws.proofs.Lists.{snoc-length, every_append}
-use Rattle.field.proofs.Powers.{ten-suc, ten-pos, tenth-first, tenth-last}
+use Rattle.field.proofs.Powers.{ten-suc, ten_pos, tenth-first, tenth-last}
 use Rattle.field.proofs.Digits.{digit-is}
 
 -- a number of two digits or more leaves a column before its last
@@ -86,14 +86,14 @@ digits_value (suc k) v h = pick (ltb v 10) refl (digits_value k (v / 10) (tenth-
 
 -- a number of n digits or more has more than n
 pub digits-longer : (k n v : ℕ) → v < 10 ^ k → 10 ^ n ≤ v → n < length (digits_in k v)
-digits-longer zero n v h low = absurd (omega (arith, ten-pos n))
+digits-longer zero n v h low = absurd (omega (arith, ten_pos n))
 digits-longer (suc k) zero v h low = digits-some (suc k) v (omega arith)
 digits-longer (suc k) (suc n) v h low =
     pick (ltb v 10) refl (digits-longer k n (v / 10) (tenth-below k v h) ((le-div_iff_mul-le {k = 10} (omega arith)).1 (rw (ten-suc n) at low)))
   where
     pick : (t : Bool) → ltb v 10 ≡ t → n < length (digits_in k (v / 10))
         → suc n < length (cond t (last_digit v ∷ []) (digits_in k (v / 10) ++ (last_digit v ∷ [])))
-    pick true e more = omega (arith, ltb-true v 10 e, rw (ten-suc n) at low, ten-pos n)
+    pick true e more = omega (arith, ltb-true v 10 e, rw (ten-suc n) at low, ten_pos n)
     pick false e more = omega (arith, snoc-length (digits_in k (v / 10)) (last_digit v))
 
 -- so many lowest digits, zeros too
@@ -132,10 +132,16 @@ carried_from (b ∷ s) a e =
     last_off : b - 48 < 10 → (a * 10 + (b - 48)) / 10 ≡ a
     last_off h = omega arith
 
+-- a blank before a text
+pub trim-blank : (s : List ℕ) → trim (32 ∷ s) ≡ trim s
+trim-blank s =
+    let one : 1 + blanks_of s ≡ suc (blanks_of s) = omega arith in
+    ap (λ (k : ℕ). drop k (32 ∷ s)) one
+
 -- blanks before a text
 pub blanks-before : (n : ℕ) (s : List ℕ) → trim (blanks n ++ s) ≡ trim s
 blanks-before zero s = refl
-blanks-before (suc n) s = blanks-before n s
+blanks-before (suc n) s = trim-blank (blanks n ++ s) ∙ blanks-before n s
 
 pub trim-none : (b : ℕ) (s : List ℕ) → (b ≡ 32 → ⊥) → trim (b ∷ s) ≡ b ∷ s
 trim-none b s n = rw (ne_eqb b 32 n)

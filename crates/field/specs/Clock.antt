@@ -1,6 +1,6 @@
 -- The clock field. 02, Ask 3: "So a clock or rate without a minus whose whole part has the value 999999 is absent; after the point all six columns are
 -- digits or all six are blank. A blank fraction elsewhere stays 6." What is absent is held as nines in every place.
-use Rattle.std.specs.Prelude.{List, Bool, true, false, cond, not, ◌&&◌, ◌||◌, ℕ, ◌+◌, ◌-◌, ◌*◌, ◌/◌, ◌^◌, length, get_or, take, drop, leb, ltb, eqb, Option, Some, None}
+use Rattle.std.specs.Prelude.{◌≡◌, ◌<◌, ◌≤◌, List, Bool, true, false, cond, not, ◌&&◌, ◌||◌, ℕ, ◌+◌, ◌-◌, ◌*◌, ◌/◌, ◌^◌, length, get_or, take, drop, leb, ltb, eqb, Option, Some, None}
 use Rattle.laws.specs.Texts.{every}
 use Rattle.field.specs.Digits.{widest, is_blank, all_digits, point_of}
 use Rattle.field.specs.Read.{some_amount, whole_of, decimal_of, told_amount}
@@ -26,6 +26,15 @@ nines_before s places = is_six_nines (whole_of (take (point_of places (length s)
 -- the point (46) stands where the places leave it, in at most 18 columns
 unfoldable pub has_point : List ℕ → ℕ → Bool
 has_point s places = leb (length s) widest && (ltb places (length s) && eqb (get_or s (point_of places (length s)) 0) 46)
+
+-- such a field is parted at its point
+pub record Parted (s : List ℕ) (places : ℕ) (before after : List ℕ) : Type 0 where
+  pub pointed : has_point s places ≡ true
+  pub narrow : length s ≤ widest
+  pub room : places < length s
+  pub point : get_or s (point_of places (length s)) 0 ≡ 46
+  pub before_it : before ≡ take (point_of places (length s)) s
+  pub after_it : after ≡ drop (point_of places (length s) + 1) s
 
 -- a clock that is absent: six nines with no minus, the point, and after it digits in every place or blanks in every place
 unfoldable pub clock_missing : List ℕ → ℕ → Bool

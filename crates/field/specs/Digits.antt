@@ -1,6 +1,7 @@
 -- Blanks and digits: what a run of them is, and its value. Bytes are numbers: a blank is 32, the digits 0 to 9 are 48 to 57.
 -- 01, "Lines": "Each field is judged from its own columns".
-use Rattle.std.specs.Prelude.{List, [], ◌∷◌, Bool, cond, ℕ, suc, ◌+◌, ◌-◌, ◌*◌, drop, eqb}
+use Rattle.std.specs.Prelude.{List, [], ◌∷◌, Bool, ℕ, ◌+◌, ◌-◌, ◌*◌, drop, eqb}
+use Rattle.std.specs.List.{prefix_len}
 use Rattle.laws.specs.Tests.{within}
 use Rattle.laws.specs.Texts.{every}
 
@@ -14,8 +15,7 @@ is_blank b = eqb b 32
 
 -- how many blanks stand before anything else
 abbrev pub blanks_of : List ℕ → ℕ
-blanks_of [] = 0
-blanks_of (b ∷ s) = cond (eqb b 32) (suc (blanks_of s)) 0
+blanks_of s = prefix_len is_blank s
 
 -- what follows those blanks
 abbrev pub trim : List ℕ → List ℕ

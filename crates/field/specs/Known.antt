@@ -1,6 +1,7 @@
 -- A decimal field that is known to be good, read without a test: each byte counts for its digit, and what stands below the digits,
 -- a blank (32) or a minus (45), counts as 0. 01, "Lines": "Minus zero is zero."
-use Rattle.std.specs.Prelude.{List, [], ◌∷◌, Bool, false, cond, ◌&&◌, ◌||◌, ℕ, ◌+◌, length, take, drop, leb, ltb, eqb}
+use Rattle.std.specs.Prelude.{List, Bool, cond, ◌&&◌, ℕ, ◌+◌, length, take, drop, leb, ltb, eqb}
+use Rattle.std.specs.List.{list_any}
 use Rattle.field.specs.Digits.{value_from, point_of}
 
 -- the most columns, so that any bytes at all fold below 2 ^ 64
@@ -16,8 +17,7 @@ known_magnitude s places =
 
 -- a minus stands among the bytes
 abbrev pub has_minus : List ℕ → Bool
-has_minus [] = false
-has_minus (b ∷ s) = eqb b 45 || has_minus s
+has_minus s = list_any (λ (b : ℕ). eqb b 45) s
 
 -- a minus stands before the point; minus zero is zero
 unfoldable pub known_negative : List ℕ → ℕ → Bool

@@ -1,30 +1,28 @@
 // Reading a field: blanks, then the number, to the field's last column.
-ghost use Rattle.std.specs.Prelude.{◌≡◌, ◌-◌, ◌^◌, ◌≤◌, ◌<◌, length};
-ghost use Rattle.field.specs.Digits.{widest, blanks_of};
+ghost use Rattle.std.specs.Prelude.{◌≡◌, ◌-◌, ◌^◌, ◌≤◌, ◌<◌, length, true, false, MatchOption};
+ghost use Rattle.laws.specs.Texts.{every};
+ghost use Rattle.field.specs.Digits.{widest, is_blank, blanks_of, trim};
 ghost use Rattle.field.specs.Read.{digits_from, number_of, minus_first, with_sign, signed_of, integer_of, settled, told_whole, whole_answer, told_exponent, exponent_answer, told_amount, signed_answer, decimal_answer};
-ghost use Rattle.field.specs.Clock.{bare_clock, clock_answer};
+ghost use Rattle.field.specs.Clock.{has_point, Parted, bare_clock, clock_answer};
 
-use crate::{Exponent, Signed, WIDEST, known, scale};
+use crate::sign::shown_negative;
+use crate::{Exponent, Signed, WIDEST, known};
 
 // How many blanks stand before anything else.
+#[tactic(auto, using(crate::proofs::Blanks::counted))]
 fn blanks(s: &[u8]) -> usize
     ensures { result ≡ blanks_of s.now }
 {
-    let mut i = 0;
-    while i < s.len() {
-        if s[i] != b' ' {
-            return i;
-        }
-        i += 1;
-    }
-    i
+    s.iter().take_while(|b| **b == b' ').count()
 }
 
-// The byte as a number of 64 bits.
-fn wide(b: u8) -> u64
-    ensures { result ≡ b }
+// What stands past the blanks.
+#[tactic(auto, using(crate::proofs::Blanks::blanks_within))]
+fn past_blanks(s: &[u8]) -> &[u8]
+    ensures value { result.now ≡ trim s.now }
+    ensures within { length result.now ≤ length s.now }
 {
-    b as u64
+    &s[blanks(s)..]
 }
 
 // Digits read on from the value of those before them; 18 in all at most.
@@ -42,57 +40,54 @@ fn digits_from(high: u64, s: &[u8]) -> Option<u64>
     Some(value)
 }
 
-// How many digits are no number.
-const NO_DIGITS: usize = 0;
-
 // At least one digit.
+#[tactic(auto, using(crate::proofs::Powers::ten_pos), unfolding(crate::specs::Read::number_of))]
 fn number(s: &[u8]) -> Option<u64>
     requires { length s.now ≤ widest }
     ensures { result ≡ number_of s.now }
 {
-    let digits = s.len();
-    if digits == NO_DIGITS {
+    if s.is_empty() {
         return None;
     }
     digits_from(0, s)
 }
 
 // An integer field: blanks, then at least one digit, filling the field. ` 042` is 42; `4 2`, `+42`, `42 ` and blanks are malformed.
+#[tactic(auto, unfolding(crate::specs::Read::whole_of))]
 pub fn whole(s: &[u8]) -> Option<u64>
     ensures result { told_whole result ≡ whole_answer s.now }
 {
     if s.len() > WIDEST {
         return None;
     }
-    let start = blanks(s);
-    number(&s[start..])
+    number(past_blanks(s))
 }
 
 // An exponent field: an integer field, or blank, which is unknown and not 0. ` 7` is 7; `7 ` is malformed.
+#[tactic(auto, using(crate::proofs::Blanks::trimmed_blank, crate::proofs::Blanks::trimmed_inked), unfolding(crate::specs::Read::exponent_of, crate::specs::Read::whole_of))]
 pub fn exponent(s: &[u8]) -> Exponent
     ensures result { told_exponent result ≡ exponent_answer s.now }
 {
     if s.len() > WIDEST {
         return Exponent::Malformed;
     }
-    let start = blanks(s);
-    if start == s.len() {
+    let digits = past_blanks(s);
+    if digits.is_empty() {
         return Exponent::Unknown;
     }
-    match number(&s[start..]) {
+    match number(digits) {
         Some(value) => Exponent::Value(value),
         None => Exponent::Malformed,
     }
 }
 
 // Whether a minus stands first, where one is allowed.
+#[tactic(auto, unfolding(crate::specs::Read::minus_first))]
 fn minus_first(s: &[u8], signed: bool) -> bool
-    ensures { result ≡ minus_first signed s.now }
+    ensures value { result ≡ minus_first signed s.now }
+    ensures some { result ≡ true → 1 ≤ length s.now }
 {
-    if s.len() == 0 {
-        return false;
-    }
-    if signed { s[0] == b'-' } else { false }
+    signed && s.first() == Some(&b'-')
 }
 
 // The number that was read, with its sign.
@@ -107,6 +102,7 @@ fn with_sign(negative: bool, number: Option<u64>) -> Option<Signed>
 }
 
 // A minus where one is allowed, then at least one digit.
+#[tactic(auto, unfolding(crate::specs::Read::signed_of))]
 fn signed_number(s: &[u8], signed: bool) -> Option<Signed>
     requires { length s.now ≤ widest }
     ensures { result ≡ signed_of signed s.now }
@@ -119,12 +115,12 @@ fn signed_number(s: &[u8], signed: bool) -> Option<Signed>
 }
 
 // Blanks, a minus where one is allowed, at least one digit.
+#[tactic(auto, unfolding(crate::specs::Read::integer_of))]
 fn integer(s: &[u8], signed: bool) -> Option<Signed>
     requires { length s.now ≤ widest }
     ensures { result ≡ integer_of signed s.now }
 {
-    let start = blanks(s);
-    signed_number(&s[start..], signed)
+    signed_number(past_blanks(s), signed)
 }
 
 // The sign and magnitude of a number; minus zero is zero.
@@ -132,12 +128,13 @@ fn settle(negative: bool, magnitude: u64) -> Option<Signed>
     ensures { result ≡ settled negative magnitude }
 {
     Some(Signed {
-        negative: negative & (0 < magnitude),
+        negative: shown_negative(negative, magnitude),
         magnitude,
     })
 }
 
 // A signed integer field: an integer field that may have a minus before its first digit. ` -42` is -42, `-0` is 0; `- 42` is malformed.
+#[tactic(auto, unfolding(crate::specs::Read::signed_whole_of))]
 pub fn signed_whole(s: &[u8]) -> Option<Signed>
     ensures result { told_amount result ≡ signed_answer s.now }
 {
@@ -148,50 +145,55 @@ pub fn signed_whole(s: &[u8]) -> Option<Signed>
     settle(read.negative, read.magnitude)
 }
 
+// The columns before the point and those after it, if the point stands where the places leave it, in at most 18 columns.
+#[tactic(auto, unfolding(crate::specs::Clock::has_point))]
+fn parted(s: &[u8], places: usize) -> Option<(&[u8], &[u8])>
+    ensures { MatchOption result (has_point s.now places ≡ false) (λ parts. Parted s.now places parts.0.now parts.1.now) }
+{
+    if s.len() > WIDEST || places >= s.len() {
+        return None;
+    }
+    let point = s.len() - places - 1;
+    if s[point] != b'.' {
+        return None;
+    }
+    Some((&s[..point], &s[point + 1..]))
+}
+
 // A decimal field: blanks, a minus where one is allowed (`signed`), at least one digit, the point, and exactly so many digits. Its value
 // counts the last place: with six places ` -0.500000` is -500,000; ` .500000` and `-0.50000` are malformed.
+#[tactic(auto, using(crate::proofs::Reading::decimal_unparted, crate::proofs::Reading::decimal_parted))]
 pub fn decimal(s: &[u8], places: usize, signed: bool) -> Option<Signed>
     ensures result { told_amount result ≡ decimal_answer s.now places signed }
 {
-    if s.len() > WIDEST {
-        return None;
-    }
-    if places >= s.len() {
-        return None;
-    }
-    let point = s.len() - places - 1;
-    if s[point] != b'.' {
-        return None;
-    }
-    let before = integer(&s[..point], signed)?;
-    let magnitude = digits_from(before.magnitude, &s[point + 1..])?;
-    settle(before.negative, magnitude)
+    let (before, after) = parted(s, places)?;
+    let high = integer(before, signed)?;
+    let magnitude = digits_from(high.magnitude, after)?;
+    settle(high.negative, magnitude)
+}
+
+// Whether every column is blank.
+fn all_blank(s: &[u8]) -> bool
+    ensures { result ≡ every is_blank s.now }
+{
+    s.iter().all(|b| *b == b' ')
 }
 
 // Six nines, the point and blanks, which are an absent clock; anything else is malformed.
+#[tactic(auto, using(crate::proofs::Clocks::few_places, crate::proofs::Clocks::bare_absent), unfolding(crate::specs::Clock::bare_nines, crate::specs::Clock::nines_before))]
 fn bare_clock(s: &[u8], places: usize) -> Option<Signed>
     ensures { result ≡ bare_clock s.now places }
 {
-    if s.len() > WIDEST {
+    let (before, after) = parted(s, places)?;
+    if whole(before)? != known::SIX_NINES {
         return None;
     }
-    if places >= s.len() {
-        return None;
-    }
-    let point = s.len() - places - 1;
-    if s[point] != b'.' {
-        return None;
-    }
-    let high = whole(&s[..point])?;
-    if high != known::SIX_NINES {
-        return None;
-    }
-    if blanks(&s[point + 1..]) < places {
+    if !all_blank(after) {
         return None;
     }
     Some(Signed {
         negative: false,
-        magnitude: known::all_nines(scale::ten_to(places)),
+        magnitude: known::all_nines(places),
     })
 }
 

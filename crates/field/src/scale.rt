@@ -3,6 +3,7 @@ ghost use Rattle.std.specs.Prelude.{◌≡◌};
 ghost use Rattle.field.specs.Scale.{ten_to};
 
 // The power of ten, or 0 where n is above the widest field.
+#[tactic(auto, unfolding(crate::specs::Scale::ten_to))]
 pub(crate) fn ten_to(n: usize) -> u64
     ensures result { result ≡ ten_to n }
 {

@@ -1,5 +1,6 @@
 // A sign and a magnitude as one signed number of the table, and back.
 ghost use Rattle.std.specs.Prelude.{◌≡◌, nat_abs};
+ghost use Rattle.field.specs.Show.{shown_negative};
 ghost use Rattle.field.specs.Sign.{told_number, number_answer, is_negative};
 
 // The largest magnitude that a number of the table has.
@@ -12,8 +13,7 @@ pub const LARGEST_CLOCK: u64 = 999_998_999_999;
 pub fn number(negative: bool, magnitude: u64) -> Option<i64>
     ensures result { told_number result ≡ number_answer negative magnitude }
 {
-    let largest = LARGEST;
-    if magnitude > largest {
+    if magnitude > LARGEST {
         return None;
     }
     if negative {
@@ -21,6 +21,13 @@ pub fn number(negative: bool, magnitude: u64) -> Option<i64>
     } else {
         Some(magnitude as i64)
     }
+}
+
+// Whether a minus is shown: where the number is negative and not zero.
+pub(crate) fn shown_negative(negative: bool, magnitude: u64) -> bool
+    ensures { result ≡ shown_negative negative magnitude }
+{
+    negative & (0 < magnitude)
 }
 
 // Whether a signed number is below zero: -1 is, 0 is not.
@@ -34,9 +41,5 @@ pub fn is_negative(v: i64) -> bool
 pub fn magnitude_of(v: i64) -> u64
     ensures result { result ≡ nat_abs v }
 {
-    if v < 0 {
-        (-(v + 1)) as u64 + 1
-    } else {
-        v as u64
-    }
+    v.unsigned_abs()
 }

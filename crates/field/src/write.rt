@@ -1,8 +1,9 @@
 // Writing a field: the number at the right, in its canonical form, with blanks before it.
 ghost use Rattle.std.specs.Prelude.{◌≡◌, ◌++◌, true, ◌+◌, ◌-◌, ◌/◌, ◌^◌, ◌<◌, ◌≤◌, length, take, set};
-ghost use Rattle.field.specs.Show.{last_digit, digits_in, fixed_digits, sign_width, point_text, show_integer, shown_negative, fits_integer, fits_whole, put_whole, fits_signed, put_signed, fits_exponent, put_exponent, fits_decimal, put_decimal};
+ghost use Rattle.field.specs.Show.{last_digit, digits_in, fixed_digits, sign_width, point_text, show_integer, fits_integer, fits_whole, put_whole, fits_signed, put_signed, fits_exponent, put_exponent, fits_decimal, put_decimal};
 
 use crate::scale::ten_to;
+use crate::sign::shown_negative;
 use crate::{Exponent, WIDEST};
 
 // The byte of the last digit.
@@ -85,7 +86,7 @@ fn put_integer(out: &mut [u8], negative: bool, v: u64)
     requires { fits_integer (length out.old) negative v ≡ true }
     ensures { out.new ≡ show_integer (length out.old) negative v }
 {
-    laws::fill_blanks(out);
+    out.fill(b' ');
     let start = put_digits(out, v);
     if negative {
         out[start - 1] = b'-';
@@ -96,25 +97,16 @@ fn put_integer(out: &mut [u8], negative: bool, v: u64)
 fn sign_width(negative: bool) -> usize
     ensures { result ≡ sign_width negative }
 {
-    if negative { 1 } else { 0 }
-}
-
-// A minus is shown where the number is negative and not zero.
-fn shown_negative(negative: bool, magnitude: u64) -> bool
-    ensures { result ≡ shown_negative negative magnitude }
-{
-    if negative { 0 < magnitude } else { false }
+    usize::from(negative)
 }
 
 // Whether an integer has the columns that it needs.
+#[tactic(auto, using(crate::proofs::Powers::ten_to_narrow), unfolding(crate::specs::Show::fits_integer))]
 fn fits_integer(width: usize, negative: bool, v: u64) -> bool
     ensures { result ≡ fits_integer width negative v }
 {
-    if width > WIDEST {
-        return false;
-    }
     let sign = sign_width(negative);
-    if width <= sign {
+    if width > WIDEST || width <= sign {
         return false;
     }
     v < ten_to(width - sign)
@@ -135,20 +127,15 @@ pub fn fits_whole(width: usize, v: u64) -> bool
 }
 
 // The same of a decimal, which as a whole number without its point has one column less: -500,000 with six places nine.
+#[tactic(auto, using(crate::proofs::Fitting::decimal_wide, crate::proofs::Fitting::decimal_placeless, crate::proofs::Fitting::decimal_crowded, crate::proofs::Fitting::decimal_bounded))]
 pub fn fits_decimal(width: usize, places: usize, negative: bool, magnitude: u64) -> bool
     ensures result { result ≡ fits_decimal width places negative magnitude }
 {
-    if width > WIDEST {
-        return false;
-    }
-    if places >= width {
+    if width > WIDEST || places >= width {
         return false;
     }
     let sign = sign_width(shown_negative(negative, magnitude));
-    if width - places - 1 <= sign {
-        return false;
-    }
-    magnitude < ten_to(width - 1 - sign)
+    sign < width - places - 1 && magnitude < ten_to(width - 1 - sign)
 }
 
 // A signed integer field: -42 in four columns is ` -42`, minus zero `   0`. Where the number does not fit (-42 in two), false, and
@@ -175,6 +162,7 @@ pub fn put_whole(out: &mut [u8], v: u64) -> bool
 
 // An exponent field: 7 in two columns is ` 7`, unknown is blank. Where it does not fit (100 in two) or is malformed, false, and nothing
 // is written.
+#[tactic(auto, using(crate::proofs::Fitting::exponent_wide))]
 pub fn put_exponent(out: &mut [u8], exponent: Exponent) -> bool
     ensures result { result ≡ fits_exponent (length out.old) exponent }
     ensures lent { out.new ≡ put_exponent exponent out.old }
@@ -185,7 +173,7 @@ pub fn put_exponent(out: &mut [u8], exponent: Exponent) -> bool
     match exponent {
         Exponent::Value(value) => put_whole(out, value),
         Exponent::Unknown => {
-            laws::fill_blanks(out);
+            out.fill(b' ');
             true
         }
         Exponent::Malformed => false,
@@ -202,11 +190,11 @@ pub fn put_decimal(out: &mut [u8], places: usize, negative: bool, magnitude: u64
     if !fits_decimal(width, places, negative, magnitude) {
         return false;
     }
-    let point = width - places - 1;
     let unit = ten_to(places);
-    put_point(&mut out[point..], magnitude % unit);
+    let (before, after) = out.split_at_mut(width - places - 1);
+    put_point(after, magnitude % unit);
     put_integer(
-        &mut out[..point],
+        before,
         shown_negative(negative, magnitude),
         magnitude / unit,
     );
