@@ -170,6 +170,7 @@ pub fn kind_by(letter: u8, first: u8, second: u8, third: u8) -> LineKind
 }
 
 // The kind of a line of 80 columns in the version of these rules: `PG07` is a position, `#c` in version d is none.
+#[tactic(auto, unfolding(crate::specs::LineKinds::kind_of))]
 pub fn kind_of(rules: Rules, line: &[u8; 80]) -> LineKind
     ensures result { told_kind result ≡ told_kind (kind_of rules line.now) }
 {
