@@ -2,14 +2,11 @@
 -- 01, "Records in order", record 2: "With D = MJD of the start date and S = its time of day in 10^-8 s: week = (D − 44244) / 7 rounded down;
 -- seconds of week = 86,400 times the remainder, plus the time of day."
 -- Instants are counted in 10^-8 s since MJD 0. In an answer 0 says accepted and is followed by the values.
-use Rattle.std.specs.Prelude.{Bool, ◌&&◌, cond, List, [], ◌∷◌, ℕ, ◌+◌, ◌-◌, ◌*◌, ◌/◌, ◌%◌, ltb}
+use Rattle.std.specs.Prelude.{Option, Some, None, Bool, ◌&&◌, cond, List, [], ◌∷◌, ℕ, ◌+◌, ◌-◌, ◌*◌, ◌/◌, ◌%◌, ltb}
 use Rattle.laws.specs.Tests.{within}
 use Rattle.calendar.specs.Gregorian.{first_mjd, last_mjd, is_date, mjd_of}
-use Rattle.calendar.specs.declared.types.Instant.{Instant}
-use Rattle.calendar.specs.declared.types.Instant.TheVariants as I
 use Rattle.calendar.specs.declared.types.Clock.{Clock}
 use Rattle.calendar.specs.declared.types.Week.{Week}
-use Rattle.calendar.specs.declared.types.Week.TheVariants as W
 
 -- a second, a minute, an hour and a day in 10^-8 s
 abbrev pub second_units : ℕ
@@ -40,9 +37,9 @@ instant_answer year month day hour minute second8 =
     (7 ∷ [])
 
 -- the number and the value of an instant
-unfoldable pub told_instant : Instant → List ℕ
-told_instant (I.At instant) = 0 ∷ instant ∷ []
-told_instant I.OutOfBounds = 7 ∷ []
+unfoldable pub told_instant : Option ℕ → List ℕ
+told_instant (Some instant) = 0 ∷ instant ∷ []
+told_instant None = 7 ∷ []
 
 -- the MJD and the time of day of an instant
 unfoldable pub clock_of : ℕ → Clock
@@ -56,6 +53,6 @@ week_answer at =
     cond (within first_mjd last_mjd d) (0 ∷ (d - first_mjd) / 7 ∷ ((d - first_mjd) % 7 * day_units + at % day_units) ∷ []) (7 ∷ [])
 
 -- the number and the values of a week
-unfoldable pub told_week : Week → List ℕ
-told_week (W.Of week second8) = 0 ∷ week ∷ second8 ∷ []
-told_week W.OutOfBounds = 7 ∷ []
+unfoldable pub told_week : Option Week → List ℕ
+told_week (Some w) = 0 ∷ w.week ∷ w.second8 ∷ []
+told_week None = 7 ∷ []

@@ -1,10 +1,8 @@
 -- 01, "Records in order", record 2: "For the fraction F in 10^-13 day, 108·F and 125·S differ by less than 108", S being the time of day in 10^-8 s.
 -- 01, "The canonical form": "F as 125·S / 108 rounded to the nearest with halves upward".
 -- In an answer 0 says accepted and is followed by the value.
-use Rattle.std.specs.Prelude.{Bool, ◌&&◌, cond, List, [], ◌∷◌, ℕ, ◌+◌, ◌*◌, ◌/◌, ltb}
+use Rattle.std.specs.Prelude.{Option, Some, None, Bool, ◌&&◌, cond, List, [], ◌∷◌, ℕ, ◌+◌, ◌*◌, ◌/◌, ltb}
 use Rattle.calendar.specs.Clock.{day_units}
-use Rattle.calendar.specs.declared.types.Fraction.{Fraction}
-use Rattle.calendar.specs.declared.types.Fraction.TheVariants as F
 
 -- a and b differ by less than n
 abbrev pub near : ℕ → ℕ → ℕ → Bool
@@ -19,6 +17,6 @@ unfoldable pub fraction_answer : ℕ → List ℕ
 fraction_answer s = cond (ltb s day_units) (0 ∷ (125 * s + 54) / 108 ∷ []) (7 ∷ [])
 
 -- the number and the value of a fraction
-unfoldable pub told_fraction : Fraction → List ℕ
-told_fraction (F.Of f) = 0 ∷ f ∷ []
-told_fraction F.OutOfBounds = 7 ∷ []
+unfoldable pub told_fraction : Option ℕ → List ℕ
+told_fraction (Some f) = 0 ∷ f ∷ []
+told_fraction None = 7 ∷ []

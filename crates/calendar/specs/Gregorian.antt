@@ -2,13 +2,10 @@
 -- 01, "Records in order": "A date (year, month, day) gives MJD, week and seconds of week, or 7." And from record 2, with D the MJD of the
 -- date: "week = (D − 44244) / 7 rounded down; seconds of week = 86,400 times the remainder".
 -- Which days there are, their numbers, and the date of a number. In an answer 0 says accepted and is followed by the values.
-use Rattle.std.specs.Prelude.{Bool, not, ◌&&◌, ◌||◌, cond, List, [], ◌∷◌, ℕ, zero, suc, ◌+◌, ◌-◌, ◌*◌, ◌/◌, ◌%◌, leb, ltb, eqb, get_or}
+use Rattle.std.specs.Prelude.{Option, Some, None, Bool, not, ◌&&◌, ◌||◌, cond, List, [], ◌∷◌, ℕ, zero, suc, ◌+◌, ◌-◌, ◌*◌, ◌/◌, ◌%◌, leb, ltb, eqb, get_or}
 use Rattle.laws.specs.Tests.{within}
 use Rattle.calendar.specs.declared.types.Dated.{Dated}
-use Rattle.calendar.specs.declared.types.Dated.TheVariants as D
 use Rattle.calendar.specs.declared.types.Civil.{Civil}
-use Rattle.calendar.specs.declared.types.Named.{Named}
-use Rattle.calendar.specs.declared.types.Named.TheVariants as N
 
 -- the bounds: 1980-01-06, the first day of GPS week 0, and 2099-12-31
 abbrev pub first_mjd : ℕ
@@ -65,9 +62,9 @@ unfoldable pub date_answer : ℕ → ℕ → ℕ → List ℕ
 date_answer year month day = cond (is_date year month day) (day_answer (mjd_of year month day)) (7 ∷ [])
 
 -- the number and the values of what a date names
-unfoldable pub told_date : Dated → List ℕ
-told_date (D.Day mjd week seconds) = 0 ∷ mjd ∷ week ∷ seconds ∷ []
-told_date D.OutOfBounds = 7 ∷ []
+unfoldable pub told_date : Option Dated → List ℕ
+told_date (Some d) = 0 ∷ d.mjd ∷ d.week ∷ d.seconds ∷ []
+told_date None = 7 ∷ []
 
 -- a date by its year, month and day
 abbrev pub ymd : ℕ → ℕ → ℕ → Civil
@@ -94,6 +91,6 @@ civil_answer mjd =
     cond (within first_mjd last_mjd mjd) (0 ∷ (date_of mjd).year ∷ (date_of mjd).month ∷ (date_of mjd).day ∷ []) (7 ∷ [])
 
 -- the number and the values of what an MJD names
-unfoldable pub told_named : Named → List ℕ
-told_named (N.Date c) = 0 ∷ c.year ∷ c.month ∷ c.day ∷ []
-told_named N.OutOfBounds = 7 ∷ []
+unfoldable pub told_named : Option Civil → List ℕ
+told_named (Some c) = 0 ∷ c.year ∷ c.month ∷ c.day ∷ []
+told_named None = 7 ∷ []

@@ -1,7 +1,7 @@
 // The calendar: dates 1980-01-06 to 2099-12-31, plain calendar, days of 86,400 s, time in 10^-8 s.
 #![tactic(auto)]
 
-ghost use Rattle.std.specs.Prelude.{◌≡◌, ◌≤◌, ◌<◌};
+ghost use Rattle.std.specs.Prelude.{◌≡◌, ◌≤◌, ◌<◌, Some};
 ghost use Rattle.calendar.specs.Gregorian.{leap, year_length, month_length, days_before, mjd_of, is_day, day_answer, told_date, date_answer, told_named, civil_answer};
 ghost use Rattle.calendar.specs.Facts.{Valid, InMonth};
 ghost use Rattle.calendar.specs.Clock.{is_time, told_instant, instant_answer, clock_of, told_week, week_answer};
@@ -11,7 +11,7 @@ ghost use Rattle.calendar.specs.Fraction.{agrees, told_fraction, fraction_answer
 mod types;
 
 use laws::within;
-pub use types::{Civil, Clock, Dated, Fraction, Instant, Named, Week};
+pub use types::{Civil, Clock, Dated, Week};
 
 // The bounds: 1980-01-06 is MJD 44244, the first day of GPS week 0, and 2099-12-31 is MJD 88068.
 const FIRST_YEAR: u64 = 1980;
@@ -26,12 +26,12 @@ const LAST_MJD: u64 = 88_068;
 
 const SECONDS_OF_DAY: u64 = 86_400;
 
-// A minute, an hour and a day in 10^-8 s.
-const MINUTE: u64 = 6_000_000_000;
+// A day, an hour and a minute in 10^-8 s.
+pub const DAY: u64 = 8_640_000_000_000;
 
 const HOUR: u64 = 360_000_000_000;
 
-const DAY: u64 = 8_640_000_000_000;
+const MINUTE: u64 = 6_000_000_000;
 
 // Between 1980 and 2099 every fourth year is a leap year, 2000 too.
 fn is_leap(year: u64) -> bool
@@ -86,10 +86,10 @@ fn mjd_of(year: u64, month: u64, day: u64) -> u64
 // A day of the bounds with its week and its seconds of week.
 fn day_of(mjd: u64) -> Dated
     requires { 44244 ≤ mjd }
-    ensures result { told_date result ≡ day_answer mjd }
+    ensures result { told_date (Some result) ≡ day_answer mjd }
 {
     let since = mjd - FIRST_MJD;
-    Dated::Day {
+    Dated {
         mjd,
         week: since / 7,
         seconds: SECONDS_OF_DAY * (since % 7),
@@ -98,17 +98,17 @@ fn day_of(mjd: u64) -> Dated
 
 // What a year, a month and a day name: 2013-04-03 is MJD 56385, week 1734, 259,200 s. Any three numbers may be asked; 2001-02-29 and
 // 1980-01-05 are out of bounds (7).
-pub fn date(year: u64, month: u64, day: u64) -> Dated
+pub fn date(year: u64, month: u64, day: u64) -> Option<Dated>
     ensures result { told_date result ≡ date_answer year month day }
 {
     if !is_day(year, month, day) {
-        return Dated::OutOfBounds;
+        return None;
     }
     let mjd = mjd_of(year, month, day);
     if mjd < FIRST_MJD {
-        return Dated::OutOfBounds;
+        return None;
     }
-    day_of(mjd)
+    Some(day_of(mjd))
 }
 
 // The month of a day of the year, counted from 0.
@@ -127,18 +127,18 @@ fn month_at(leap_year: bool, year_day: u64) -> u64
 }
 
 // The date of an MJD: 56385 is 2013-04-03. Below 44244 and above 88068 it is out of bounds (7).
-pub fn civil(mjd: u64) -> Named
+pub fn civil(mjd: u64) -> Option<Civil>
     ensures result { told_named result ≡ civil_answer mjd }
 {
     if !within(FIRST_MJD, LAST_MJD, mjd) {
-        return Named::OutOfBounds;
+        return None;
     }
     let since = mjd - FIRST_OF_1980;
     let years = 4 * since / 1461;
     let year_day = since - (1461 * years + 3) / 4;
     let leap_year = years % 4 == 0;
     let month = month_at(leap_year, year_day);
-    Named::Date(Civil {
+    Some(Civil {
         year: FIRST_YEAR + years,
         month,
         day: year_day - days_before(leap_year, month) + 1,
@@ -159,20 +159,14 @@ fn is_time(hour: u64, minute: u64, second8: u64) -> bool
 }
 
 // The instant of a date and a time of day, the second in 10^-8 s. Hour 24, minute 60, second 60 and no date are out of bounds (7).
-pub fn instant(year: u64, month: u64, day: u64, hour: u64, minute: u64, second8: u64) -> Instant
+pub fn instant(year: u64, month: u64, day: u64, hour: u64, minute: u64, second8: u64) -> Option<u64>
     ensures result { told_instant result ≡ instant_answer year month day hour minute second8 }
 {
     if !is_time(hour, minute, second8) {
-        return Instant::OutOfBounds;
+        return None;
     }
-    match date(year, month, day) {
-        Dated::Day {
-            mjd,
-            week: _,
-            seconds: _,
-        } => Instant::At(mjd * DAY + hour * HOUR + minute * MINUTE + second8),
-        Dated::OutOfBounds => Instant::OutOfBounds,
-    }
+    let date = date(year, month, day)?;
+    Some(date.mjd * DAY + hour * HOUR + minute * MINUTE + second8)
 }
 
 // The day (MJD) and the time of day of an instant in 10^-8 s since MJD 0.
@@ -189,18 +183,18 @@ pub fn clock_of(at: u64) -> Clock
 
 // The GPS week and the seconds of week, in 10^-8 s, of an instant; out of bounds (7) where its day is before 1980-01-06 or after
 // 2099-12-31.
-pub fn week_of(at: u64) -> Week
+pub fn week_of(at: u64) -> Option<Week>
     ensures result { told_week result ≡ week_answer at }
 {
     let day = at / DAY;
     if !within(FIRST_MJD, LAST_MJD, day) {
-        return Week::OutOfBounds;
+        return None;
     }
     let since = day - FIRST_MJD;
-    Week::Of {
+    Some(Week {
         week: since / 7,
         second8: since % 7 * DAY + at % DAY,
-    }
+    })
 }
 
 // Whether 108 F and 125 S differ by less than 108, F in 10^-13 day and S in 10^-8 s: 115740741 agrees with one second, 115740742 does
@@ -222,11 +216,11 @@ pub fn fraction_agrees(f: u64, s: u64) -> bool
 
 // The fraction of day, in 10^-13 day, of a time of day in 10^-8 s, to the nearest, halves upward: one second is 115740741. A day or more
 // is out of bounds (7).
-pub fn fraction_of(s: u64) -> Fraction
+pub fn fraction_of(s: u64) -> Option<u64>
     ensures result { told_fraction result ≡ fraction_answer s }
 {
     if s < DAY {
-        return Fraction::Of((125 * s + 54) / 108);
+        return Some((125 * s + 54) / 108);
     }
-    Fraction::OutOfBounds
+    None
 }

@@ -24,7 +24,7 @@ use Rattle.record.specs.declared.types.Satellites.{Satellites}
 use Rattle.record.specs.declared.types.Slots.{Slots}
 use Rattle.record.specs.declared.types.Descriptor.{Descriptor}
 use Rattle.record.specs.declared.types.BaseLine.{BaseLine}
-use Rattle.record.specs.declared.types.Signed.{Signed}
+use Rattle.field.specs.declared.Signed.{Signed}
 use Rattle.record.specs.declared.types.Row.{Row}
 use Rattle.record.specs.declared.types.Note.{Note}
 use Rattle.canon.specs.Table.{Table, cell_width, table_identifiers, exponents_of, comments_of, rows_of}

@@ -28,8 +28,6 @@ use Rattle.record.specs.Notes.{largest_correlation, correlation, correlation_in,
 use Rattle.header.specs.declared.types.Rules.{Rules}
 use Rattle.field.specs.declared.Exponent.{Exponent}
 use Rattle.field.specs.declared.Exponent.TheVariants as exponents
-use Rattle.field.specs.declared.Amount.{Amount}
-use Rattle.field.specs.declared.Amount.TheVariants as amounts
 use Rattle.file.specs.Kinds.{kind_in, is_row, is_note}
 use Rattle.file.specs.Plain.{row_kind, note_kind, is_row_line, Plain}
 use Rattle.file.specs.Table.{mark_number, row_in, row_numbers, note_numbers, no_note, note_after, rows_in}
@@ -50,6 +48,9 @@ use Rattle.lines.proofs.Noted.{note-holds}
 use Rattle.file_laws.proofs.Exact.{row-bounded, clock-kept, field-clean, note-exact, none-exact}
 use Rattle.file.specs.Exact.{exact_signed, exact_numbers, exact_note, exact_none}
 use Rattle.file_laws.proofs.Stored.{note_at, place_line, motion_line, place-stored, place-stored-both, motion-stored}
+use Rattle.std.specs.Prelude.{Option, Some, None}
+use Rattle.field.specs.declared.Signed.{Signed}
+use Rattle.field.specs.Read.{some_amount}
 
 -- a sign and a magnitude within the bound
 amount-valid : (negative : Bool) (m : ℕ) → m ≤ largest → amount_valid (signed_int negative m) ≡ true
@@ -125,11 +126,11 @@ correlation-valid : (column : ℕ) (bytes : List ℕ) → fault_in correlation c
 unfolding signed_int
 correlation-valid column bytes f = go (every is_blank bytes) (signed_whole_of bytes) f
   where
-    go : (t : Bool) (a : Amount) → cond t clean (amount_fault column 0 largest_correlation a) ≡ clean
+    go : (t : Bool) (a : Option Signed) → cond t clean (amount_fault column 0 largest_correlation a) ≡ clean
         → correlation_valid (signed_int (negative_in (cond t (amount false unnoted) (held_amount a))) (magnitude_in (cond t (amount false unnoted) (held_amount a)))) ≡ true
     go true a h = refl
-    go false (amounts.Value n m) h = rw (magnitude-back n m, le-leb m largest_correlation (amount-bounds column 0 largest_correlation (amounts.Value n m) h).1)
-    go false amounts.Malformed h = refl
+    go false (Some held) h = rw (magnitude-back held.negative held.magnitude, le-leb held.magnitude largest_correlation (amount-bounds column 0 largest_correlation (some_amount held.negative held.magnitude) h).1)
+    go false None h = refl
 
 -- THE NOTE OF AN EP OR EV LINE IS VALID, and so is none.
 pub note-valid : (v : Bool) (l : List ℕ) → note_fault v (padded l) ≡ clean → note_valid (note_numbers (note_of l)) ≡ true

@@ -29,8 +29,6 @@ use Rattle.record.specs.Notes.{note_fault}
 use Rattle.record.specs.Agrees.{instant_in, second_agrees, type_agrees}
 use Rattle.header.specs.declared.types.Rules.{Rules}
 use Rattle.field.specs.Read.{whole_of}
-use Rattle.field.specs.declared.Whole.{Whole}
-use Rattle.field.specs.declared.Whole.TheVariants as wholes
 use Rattle.record.specs.declared.types.First.{First}
 use Rattle.record.specs.declared.types.LineKind.{LineKind}
 use Rattle.record.specs.declared.types.LineKind.TheVariants as kind
@@ -40,12 +38,13 @@ use Rattle.lines.specs.Lines.{lines_of}
 use Rattle.machine.specs.State.{start_state, no_identifiers}
 use Rattle.scan.specs.Run.{nothing_seen, counted, run, scan_of, whole_front}
 use Rattle.scan.specs.declared.Tally.{Tally}
-use Rattle.scan.specs.declared.Front.TheVariants as front
+use Rattle.scan.specs.Front as front
 use Rattle.scan_laws.proofs.Reaching.{counted_over}
 use Rattle.scan_laws.proofs.Accepts.{run-plain, plain-run}
 use Rattle.scan_laws.proofs.Local.{whole-ends}
 use Rattle.canon_laws.specs.Within.{Within}
 use Rattle.canon_laws.proofs.SameForm.{lettered}
+use Rattle.std.specs.Prelude.{Option, Some, None}
 
 -- every line that passes one test passes another
 every-line : (t u : List ℕ → Bool) → ((l : List ℕ) → t l ≡ true → u l ≡ true) → (ls : List (List ℕ)) → every_line t ls ≡ true → every_line u ls ≡ true
@@ -113,12 +112,12 @@ module _ (r s : Rules) (w : Within r s) (e : r.letter ≡ s.letter) where
       record-wider kind.First (first_of r (padded l)).fault (first_of s (padded l)).fault l (λ z. sym (ap (λ (f : First). f.fault) (first-letter (padded l))) ∙ z) v
 
   -- the number of satellites too: what is within the narrower bound is within the wider
-  number-wider : (x : Whole) → whole_fault 4 1 r.most_satellites x ≡ clean → whole_fault 4 1 s.most_satellites x ≡ clean
-  number-wider (wholes.Value n) z =
+  number-wider : (x : Option ℕ) → whole_fault 4 1 r.most_satellites x ≡ clean → whole_fault 4 1 s.most_satellites x ≡ clean
+  number-wider (Some n) z =
       let in-r = within-true 1 r.most_satellites n (passed (within 1 r.most_satellites n) z) in
       let in-s : within 1 s.most_satellites n ≡ true = true-within 1 s.most_satellites n in-r.0 (le_trans in-r.1 w.satellites) in
       rw in-s
-  number-wider wholes.Malformed z = absurd (omega arith)
+  number-wider None z = absurd (omega arith)
 
   count-clean : (line : List ℕ) → (satellites_of r line).fault ≡ 0 → (satellites_of s line).fault ≡ 0
   count-clean line z =

@@ -1,6 +1,5 @@
 // The paper's cases of dates, fields and fractions, and questions far out of bounds.
 use crate::print;
-use field::Amount;
 
 // A case of the paper that asks for a date.
 fn dated(rt: &impl Print, name: &[u8], year: u64, month: u64, day: u64) {
@@ -12,11 +11,8 @@ fn dated(rt: &impl Print, name: &[u8], year: u64, month: u64, day: u64) {
 // A number of six places as the table has it: malformed is 6, above the largest is 7.
 fn table_number(rt: &impl Print, field: &[u8]) {
     match field::read::decimal(field, 6, true) {
-        Amount::Value {
-            negative,
-            magnitude,
-        } => print::signed(rt, field::sign::number(negative, magnitude)),
-        Amount::Malformed => print::number(rt, 6),
+        Some(held) => print::signed(rt, field::sign::number(held.negative, held.magnitude)),
+        None => print::number(rt, 6),
     }
 }
 

@@ -2,7 +2,7 @@
 ghost use Rattle.std.specs.Prelude.{◌≤◌, ◌<◌};
 
 use crate::print;
-use calendar::{Dated, Fraction, Instant, Named, Week};
+use calendar::{Dated, Week};
 
 const PRIME: u64 = 1_000_000_007;
 
@@ -17,24 +17,24 @@ fn mixed(sum: u64, n: u64) -> u64 {
     (31 * (sum % PRIME) + n % PRIME) % PRIME
 }
 
-fn with_date(sum: u64, answer: Dated) -> u64 {
+fn with_date(sum: u64, answer: Option<Dated>) -> u64 {
     match answer {
-        Dated::Day { mjd, week, seconds } => mixed(mixed(mixed(mixed(sum, 0), mjd), week), seconds),
-        Dated::OutOfBounds => mixed(sum, 7),
+        Some(d) => mixed(mixed(mixed(mixed(sum, 0), d.mjd), d.week), d.seconds),
+        None => mixed(sum, 7),
     }
 }
 
-fn with_week(sum: u64, answer: Week) -> u64 {
+fn with_week(sum: u64, answer: Option<Week>) -> u64 {
     match answer {
-        Week::Of { week, second8 } => mixed(mixed(mixed(sum, 0), week), second8),
-        Week::OutOfBounds => mixed(sum, 7),
+        Some(w) => mixed(mixed(mixed(sum, 0), w.week), w.second8),
+        None => mixed(sum, 7),
     }
 }
 
-fn with_instant(sum: u64, answer: Instant) -> u64 {
+fn with_instant(sum: u64, answer: Option<u64>) -> u64 {
     match answer {
-        Instant::At(at) => with_week(mixed(mixed(sum, 0), at), calendar::week_of(at)),
-        Instant::OutOfBounds => mixed(sum, 7),
+        Some(at) => with_week(mixed(mixed(sum, 0), at), calendar::week_of(at)),
+        None => mixed(sum, 7),
     }
 }
 
@@ -80,7 +80,7 @@ fn years(rt: &impl Print) {
 // A day by its number: its date, that date asked again, and an instant of it.
 fn with_day(sum: u64, mjd: u64) -> u64 {
     match calendar::civil(mjd) {
-        Named::Date(c) => {
+        Some(c) => {
             let named = mixed(mixed(mixed(mixed(sum, 0), c.year), c.month), c.day);
             let asked = with_date(named, calendar::date(c.year, c.month, c.day));
             with_instant(
@@ -95,7 +95,7 @@ fn with_day(sum: u64, mjd: u64) -> u64 {
                 ),
             )
         }
-        Named::OutOfBounds => mixed(sum, 7),
+        None => mixed(sum, 7),
     }
 }
 
@@ -132,8 +132,8 @@ fn with_agreement(sum: u64, f: u64, s: u64) -> u64 {
 
 fn with_fraction(sum: u64, s: u64) -> u64 {
     match calendar::fraction_of(s) {
-        Fraction::Of(f) => with_agreement(mixed(mixed(sum, 0), f), f, s),
-        Fraction::OutOfBounds => mixed(sum, 7),
+        Some(f) => with_agreement(mixed(mixed(sum, 0), f), f, s),
+        None => mixed(sum, 7),
     }
 }
 

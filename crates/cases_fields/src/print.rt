@@ -1,6 +1,6 @@
 // Answers as text: the paper's number, then the values, a blank before each.
 use calendar::Dated;
-use field::{Amount, Exponent, Number, Whole};
+use field::{Exponent, Signed};
 
 pub(crate) fn text(rt: &impl Print, s: &[u8]) {
     let _ = rt.write_all(s);
@@ -24,13 +24,13 @@ fn sign(rt: &impl Print, negative: bool) {
     }
 }
 
-pub(crate) fn whole(rt: &impl Print, answer: Whole) {
+pub(crate) fn whole(rt: &impl Print, answer: Option<u64>) {
     match answer {
-        Whole::Value(v) => {
+        Some(v) => {
             number(rt, 0);
             value(rt, v);
         }
-        Whole::Malformed => number(rt, 6),
+        None => number(rt, 6),
     }
 }
 
@@ -45,40 +45,37 @@ pub(crate) fn exponent(rt: &impl Print, answer: Exponent) {
     }
 }
 
-pub(crate) fn amount(rt: &impl Print, answer: Amount) {
+pub(crate) fn amount(rt: &impl Print, answer: Option<Signed>) {
     match answer {
-        Amount::Value {
-            negative,
-            magnitude,
-        } => {
+        Some(held) => {
             number(rt, 0);
-            sign(rt, negative);
-            value(rt, magnitude);
+            sign(rt, held.negative);
+            value(rt, held.magnitude);
         }
-        Amount::Malformed => number(rt, 6),
+        None => number(rt, 6),
     }
 }
 
 // A number of the table by its sign and magnitude, taken off it again.
-pub(crate) fn signed(rt: &impl Print, answer: Number) {
+pub(crate) fn signed(rt: &impl Print, answer: Option<i64>) {
     match answer {
-        Number::Value(v) => {
+        Some(v) => {
             number(rt, 0);
             sign(rt, field::sign::is_negative(v));
             value(rt, field::sign::magnitude_of(v));
         }
-        Number::OutOfBounds => number(rt, 7),
+        None => number(rt, 7),
     }
 }
 
-pub(crate) fn date(rt: &impl Print, answer: Dated) {
+pub(crate) fn date(rt: &impl Print, answer: Option<Dated>) {
     match answer {
-        Dated::Day { mjd, week, seconds } => {
+        Some(d) => {
             number(rt, 0);
-            value(rt, mjd);
-            value(rt, week);
-            value(rt, seconds);
+            value(rt, d.mjd);
+            value(rt, d.week);
+            value(rt, d.seconds);
         }
-        Dated::OutOfBounds => number(rt, 7),
+        None => number(rt, 7),
     }
 }

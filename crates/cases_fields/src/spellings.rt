@@ -3,7 +3,7 @@
 ghost use Rattle.std.specs.Prelude.{◌≤◌, length};
 
 use crate::print;
-use field::{Amount, Exponent, Whole};
+use field::{Exponent, Signed};
 
 // The most columns that are shown: two more than a field has.
 const MOST: usize = 20;
@@ -89,27 +89,18 @@ fn narrower(width: usize) -> usize {
 fn whole(rt: &impl Print, s: &[u8]) {
     let answer = field::read::whole(s);
     print::whole(rt, answer);
-    match answer {
-        Whole::Value(v) => {
-            written_whole(rt, s.len(), v);
-            written_whole(rt, narrower(s.len()), v);
-        }
-        Whole::Malformed => {}
+    if let Some(v) = answer {
+        written_whole(rt, s.len(), v);
+        written_whole(rt, narrower(s.len()), v);
     }
 }
 
 fn signed_whole(rt: &impl Print, s: &[u8]) {
     let answer = field::read::signed_whole(s);
     print::amount(rt, answer);
-    match answer {
-        Amount::Value {
-            negative,
-            magnitude,
-        } => {
-            written_signed(rt, s.len(), negative, magnitude);
-            written_signed(rt, narrower(s.len()), negative, magnitude);
-        }
-        Amount::Malformed => {}
+    if let Some(held) = answer {
+        written_signed(rt, s.len(), held.negative, held.magnitude);
+        written_signed(rt, narrower(s.len()), held.negative, held.magnitude);
     }
 }
 
@@ -121,19 +112,13 @@ fn exponent(rt: &impl Print, s: &[u8]) {
 }
 
 // The answer of a decimal or a clock that stood in so many columns, its text written again, and its signed number.
-fn decimal_answer(rt: &impl Print, answer: Amount, width: usize, places: usize) {
+fn decimal_answer(rt: &impl Print, answer: Option<Signed>, width: usize, places: usize) {
     print::amount(rt, answer);
-    match answer {
-        Amount::Value {
-            negative,
-            magnitude,
-        } => {
-            written_decimal(rt, width, places, negative, magnitude);
-            written_decimal(rt, narrower(width), places, negative, magnitude);
-            print::text(rt, b" ");
-            print::signed(rt, field::sign::number(negative, magnitude));
-        }
-        Amount::Malformed => {}
+    if let Some(held) = answer {
+        written_decimal(rt, width, places, held.negative, held.magnitude);
+        written_decimal(rt, narrower(width), places, held.negative, held.magnitude);
+        print::text(rt, b" ");
+        print::signed(rt, field::sign::number(held.negative, held.magnitude));
     }
 }
 

@@ -17,8 +17,9 @@ use Rattle.header.specs.Versions.{rules_in}
 use Rattle.scan.specs.Run.{scan_of}
 use Rattle.scan.specs.Told.{told_front}
 use Rattle.scan.specs.declared.Tally.{Tally}
-use Rattle.scan.specs.declared.Front.{Front}
-use Rattle.scan.specs.declared.Front.TheVariants as front
+use Rattle.std.specs.Prelude.{Ok, Err}
+use Rattle.scan.specs.Front.{Front}
+use Rattle.scan.specs.Front as front
 use Rattle.scan.proofs.Told.{told_front-one}
 use Rattle.scan_laws.proofs.Refused.{accepted-steps}
 use Rattle.scan_laws.proofs.Used.{accepted-front}
@@ -51,8 +52,8 @@ one_more m n same [] h k = refl
 one_more m n same (b ∷ bs) h k = go (front_here (b ∷ bs)) refl
   where
     go : (f : Front) → front_here (b ∷ bs) ≡ f → cuts (suc m) (b ∷ bs) ≡ cuts (suc n) (b ∷ bs)
-    go (front.Refused number line column) e = rw e
-    go (front.File t) e =
+    go (Err refusal) e = rw e
+    go (Ok t) e =
         let less : length (drop t.end (b ∷ bs)) ≡ length (b ∷ bs) - t.end = length-drop t.end (b ∷ bs) in
         let byte : 1 ≤ t.end = takes-byte (b ∷ bs) t e in
         rw e (ap (after t.end) (same (drop t.end (b ∷ bs)) (omega arith) (omega arith)))
@@ -88,9 +89,9 @@ cut-here [] h = absurd (omega (arith, ap (λ (c : Cuts). length c.lengths) (cut-
 cut-here (b ∷ bs) h = go (front_here (b ∷ bs)) refl
   where
     go : (f : Front) → front_here (b ∷ bs) ≡ f → FileHere (b ∷ bs)
-    go (front.File t) e = (t, e)
-    go (front.Refused number line column) e =
-        absurd (omega (arith, ap (λ (c : Cuts). length c.lengths) (cut-refused (b ∷ bs) number line column (omega arith) e)))
+    go (Ok t) e = (t, e)
+    go (Err refusal) e =
+        absurd (omega (arith, ap (λ (c : Cuts). length c.lengths) (cut-refused (b ∷ bs) refusal.number refusal.line refusal.column (omega arith) e)))
 
 -- a file of so many bytes stands at `rest`
 pub record Cut (bytes : List ℕ) (rest end : ℕ) : Type 0 where

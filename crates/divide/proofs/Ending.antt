@@ -26,7 +26,7 @@ use Rattle.machine.specs.declared.types.Verdict.TheVariants as verdict
 use Rattle.file.specs.Kinds.{is_kind}
 use Rattle.scan.specs.Run.{nothing_seen, counted, run, scan_of}
 use Rattle.scan.specs.declared.Tally.{Tally}
-use Rattle.scan.specs.declared.Front.TheVariants as front
+use Rattle.scan.specs.Front as front
 use Rattle.scan_laws.proofs.Passing.{kind_here, good, after, some-line}
 
 -- a line's length, where its LF stands after it

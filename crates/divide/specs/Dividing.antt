@@ -8,8 +8,9 @@ use Rattle.lines.specs.Lent.{over}
 use Rattle.header.specs.Versions.{rules_in}
 use Rattle.scan.specs.Run.{scan_of}
 use Rattle.scan.specs.declared.Tally.{Tally}
-use Rattle.scan.specs.declared.Front.{Front}
-use Rattle.scan.specs.declared.Front.TheVariants as front
+use Rattle.std.specs.Prelude.{Ok, Err}
+use Rattle.scan.specs.Front.{Front}
+use Rattle.scan.specs.Front as front
 use Rattle.divide.specs.declared.Division.{Division}
 
 -- a stretch divides into files of some kind laid end to end, by their lengths; the accepted files of both versions are `AnyFile`
@@ -38,8 +39,8 @@ after end c = record { lengths = end ∷ c.lengths; refusal = c.refusal; line = 
 
 -- what stands at the front: a file, and then what follows it; or a refusal
 abbrev pub cut_front : Front → (ℕ → Cuts) → Cuts
-cut_front (front.File t) more = after t.end (more t.end)
-cut_front (front.Refused number line column) more = refused_cuts number line column
+cut_front (Ok t) more = after t.end (more t.end)
+cut_front (Err refusal) more = refused_cuts refusal.number refusal.line refusal.column
 
 abbrev pub unless_empty : List ℕ → Cuts → Cuts
 unless_empty [] c = no_cuts
@@ -83,5 +84,5 @@ abbrev pub FileHere : List ℕ → Type 0
 FileHere bytes = (t : Tally) × (scan_of (rules_in bytes) bytes ≡ front.File t)
 
 abbrev pub end_of : Front → ℕ
-end_of (front.File t) = t.end
-end_of (front.Refused number line column) = 0
+end_of (Ok t) = t.end
+end_of (Err refusal) = 0

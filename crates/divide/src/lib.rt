@@ -9,7 +9,6 @@ ghost use Rattle.divide.specs.Dividing.{FileHere, end_of, cuts_of, division, div
 
 use header::Rules;
 use record::kind::END_KIND;
-use scan::Front;
 
 // What a stretch divides into: the number of accepted files at its front, the byte where the rest begins, and the refusal, line and column
 // there, counted from that byte; all 0 where nothing is left.
@@ -45,14 +44,10 @@ fn count_files(stretch: &[u8], room: u64) -> Division
     while rest < stretch.len() {
         let left = &stretch[rest..];
         match scan::scan_front(Rules::told_by(left), left) {
-            Front::Refused {
-                number,
-                line,
-                column,
-            } => {
-                return answer(count, rest, number, line, column);
+            Err(refusal) => {
+                return answer(count, rest, refusal.number, refusal.line, refusal.column);
             }
-            Front::File(tally) => {
+            Ok(tally) => {
                 count += 1;
                 if count > room {
                     return answer(0, 0, 12, 0, 0);

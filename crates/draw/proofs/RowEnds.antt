@@ -12,7 +12,7 @@ use Rattle.field.specs.Show.{fits_whole, fits_decimal}
 use Rattle.layout.specs.Kind.{unknown, exponent, shown_in}
 use Rattle.layout.specs.Kind.Held.{one}
 use Rattle.layout.specs.Inking.{text_end, end_from, line_end}
-use Rattle.record.specs.declared.types.Signed.{Signed}
+use Rattle.field.specs.declared.Signed.{Signed}
 use Rattle.record.specs.declared.types.Row.{Row}
 use Rattle.record.specs.Rows.{body_items, body_values, flag_items, flag_values, row_items, row_values}
 use Rattle.field.proofs.Fitting.{fits-facts}

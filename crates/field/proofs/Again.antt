@@ -8,10 +8,9 @@ use native.Mathlib.Omega.{arith}
 use lib.Dec.{leb, ltb}
 use lib.ListN.{length, drop, length-drop}
 use Rattle.field.specs.Digits.{blanks_of, trim, value_from, point_of}
-use Rattle.field.specs.Read.{whole_of, exponent_of, settled, signed_whole_of, decimal_of}
+use Rattle.field.specs.Read.{some_amount, whole_of, exponent_of, settled, signed_whole_of, decimal_of}
 use Rattle.field.specs.Show.{sign_width, shown_negative, show_whole, fits_whole, show_signed, fits_signed, show_exponent, fits_exponent, show_decimal, fits_decimal}
-use Rattle.field.specs.declared.Whole.TheVariants as whole
-use Rattle.field.specs.declared.Amount.TheVariants as amount
+use Rattle.std.specs.Prelude.{Some}
 use Rattle.field.specs.declared.Exponent.{Exponent}
 use Rattle.field.specs.declared.Exponent.TheVariants as exponent
 use Rattle.laws.proofs.Bools.{and_left, tested}
@@ -23,13 +22,13 @@ use Rattle.field.proofs.Texts.{carried_from}
 use Rattle.field.proofs.Back.{whole_back, exponent-back, shown-again, signed_back, decimal-back}
 use Rattle.field.proofs.Fits.{sign-one}
 
-pub whole_again : (s : List ℕ) (v : ℕ) → whole_of s ≡ whole.Value v → fits_whole (length s) v ≡ true
+pub whole_again : (s : List ℕ) (v : ℕ) → whole_of s ≡ Some v → fits_whole (length s) v ≡ true
 whole_again s v e =
     let t = whole-taken s v e in
     let some = number-taken (trim s) v t.1 in
     fits-true (length s) false v t.0 (omega (arith, length-drop (blanks_of s) s)) (wider (omega arith) (whole-bound s v e))
 
-pub whole-canonical : (s : List ℕ) (v : ℕ) → whole_of s ≡ whole.Value v → whole_of (show_whole (length s) v) ≡ whole.Value v
+pub whole-canonical : (s : List ℕ) (v : ℕ) → whole_of s ≡ Some v → whole_of (show_whole (length s) v) ≡ Some v
 whole-canonical s v e = whole_back (length s) v (whole_again s v e)
 
 -- an unknown exponent stood in a field
@@ -68,10 +67,10 @@ module _ {signed : Bool} {before after : List ℕ} {n : Bool} {m : ℕ} (c : Car
       minus-allowed signed (trim before)
       (integer-minus signed before c.minus c.high c.integer ∙ and_left c.minus _ (c.sign ∙ q))
 
-  settled-again : settled n m ≡ amount.Value n m
-  settled-again = ap (λ (k : Bool). amount.Value k m) sign-again
+  settled-again : settled n m ≡ some_amount n m
+  settled-again = ap (λ (k : Bool). some_amount k m) sign-again
 
-module _ (s : List ℕ) (n : Bool) (m : ℕ) (e : signed_whole_of s ≡ amount.Value n m) where
+module _ (s : List ℕ) (n : Bool) (m : ℕ) (e : signed_whole_of s ≡ some_amount n m) where
   pub signed-again : fits_signed (length s) n m ≡ true
   signed-again =
       let t = signed-whole-taken s n m e in
@@ -80,10 +79,10 @@ module _ (s : List ℕ) (n : Bool) (m : ℕ) (e : signed_whole_of s ≡ amount.V
       rw (sign-again c)
       (fits-true (length s) n m t.0 (omega (arith, sign-less c)) (rw (sym c.value) (wider (omega (arith, sign-less c)) room.1)))
 
-  pub signed-canonical : signed_whole_of (show_signed (length s) n m) ≡ amount.Value n m
+  pub signed-canonical : signed_whole_of (show_signed (length s) n m) ≡ some_amount n m
   signed-canonical = signed_back (length s) n m signed-again ∙ settled-again (signed-whole-taken s n m e).1
 
-module _ (s : List ℕ) (places : ℕ) (signed n : Bool) (m : ℕ) (e : decimal_of s places signed ≡ amount.Value n m) where
+module _ (s : List ℕ) (places : ℕ) (signed n : Bool) (m : ℕ) (e : decimal_of s places signed ≡ some_amount n m) where
   pub decimal-again : fits_decimal (length s) places n m ≡ true
   decimal-again =
       let t = decimal-taken s places signed n m e in
@@ -98,7 +97,7 @@ module _ (s : List ℕ) (places : ℕ) (signed n : Bool) (m : ℕ) (e : decimal_
       ∙ rw (sign-again c, quotient)
       (fits-true (point_of places (length s)) n c.high (omega (arith, t.narrow)) (omega (arith, sign-less c, high.0)) (wider (omega (arith, sign-less c)) high.1))
 
-  pub decimal-canonical : decimal_of (show_decimal (length s) places n m) places signed ≡ amount.Value n m
+  pub decimal-canonical : decimal_of (show_decimal (length s) places n m) places signed ≡ some_amount n m
   decimal-canonical =
       let c = (decimal-taken s places signed n m e).parts in
       decimal-back (length s) places n m decimal-again signed (λ q. sign-allowed c (sym (sign-again c) ∙ q)) ∙ settled-again c

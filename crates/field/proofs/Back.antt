@@ -11,10 +11,9 @@ use lib.ListN.{length, drop, length-append, length-replicate}
 use lib.Seq.{drop-length, take_at, drop_at, get_or_at}
 use Rattle.laws.specs.Texts.{blanks}
 use Rattle.field.specs.Digits.{blanks_of, trim, point_of}
-use Rattle.field.specs.Read.{number_of, whole_of, as_exponent, exponent_of, minus_first, with_sign, signed_of, integer_of, settled, carried, signed_whole_of, decimal_of}
+use Rattle.field.specs.Read.{some_amount, number_of, whole_of, as_exponent, exponent_of, minus_first, with_sign, signed_of, integer_of, settled, carried, signed_whole_of, decimal_of}
 use Rattle.field.specs.Show.{digits_in, fixed_digits, minus_text, sign_width, shown_negative, show_integer, fits_integer, show_whole, fits_whole, show_signed, fits_signed, show_exponent, fits_exponent, show_decimal, fits_decimal}
-use Rattle.field.specs.declared.Whole.TheVariants as whole
-use Rattle.field.specs.declared.Amount.TheVariants as amount
+use Rattle.std.specs.Prelude.{Some}
 use Rattle.field.specs.declared.Exponent.{Exponent}
 use Rattle.field.specs.declared.Exponent.TheVariants as exponent
 use Rattle.field.proofs.Digits.{digits-good}
@@ -23,13 +22,13 @@ use Rattle.field.proofs.Bounds.{wider}
 use Rattle.field.proofs.Fitting.{fits-facts, decimal-facts}
 use Rattle.field.proofs.Texts.{digits-length, digits-all, digits-some, digits_value, fixed-length, fixed-all, fixed-carries, blanks-before, trim-none, digits-trim, first-digit}
 
-number-back : (w v : ℕ) → 0 < w → v < 10 ^ w → number_of (digits_in w v) ≡ whole.Value v
+number-back : (w v : ℕ) → 0 < w → v < 10 ^ w → number_of (digits_in w v) ≡ Some v
 number-back w v pos h =
     let text = digits_in w v in
-    sym (number-some text (λ e. omega (arith, digits-some w v pos))) ∙ sym (digits-good 0 text (digits-all w v)) ∙ ap whole.Value (digits_value w v h)
+    sym (number-some text (λ e. omega (arith, digits-some w v pos))) ∙ sym (digits-good 0 text (digits-all w v)) ∙ ap Some (digits_value w v h)
 
 module _ (w : ℕ) (negative : Bool) (v : ℕ) (fits : fits_integer w negative v ≡ true) where
-  digits-back : number_of (digits_in w v) ≡ whole.Value v
+  digits-back : number_of (digits_in w v) ≡ Some v
   digits-back =
       let facts = fits-facts w negative v fits in
       number-back w v (omega arith) (wider (omega arith) facts.2)
@@ -58,7 +57,7 @@ module _ (w : ℕ) (negative : Bool) (v : ℕ) (fits : fits_integer w negative v
       front true = trim-none 45 (digits_in w v) (λ e. omega arith)
       front false = digits-trim (digits_in w v) (digits-all w v)
 
-pub whole_back : (w v : ℕ) → fits_whole w v ≡ true → whole_of (show_whole w v) ≡ whole.Value v
+pub whole_back : (w v : ℕ) → fits_whole w v ≡ true → whole_of (show_whole w v) ≡ Some v
 whole_back w v fits =
     sym (whole-read (show_whole w v) (omega (arith, integer-length w false v fits, fits-facts w false v fits)))
     ∙ ap number_of (integer-trim w false v fits)
@@ -92,7 +91,7 @@ exponent-back w exponent.Malformed fits = cc
 
 -- a minus is read only where the field allows it
 pub integer-back : (signed negative : Bool) (w v : ℕ) → (negative ≡ true → signed ≡ true) → fits_integer w negative v ≡ true
-    → integer_of signed (show_integer w negative v) ≡ amount.Value negative v
+    → integer_of signed (show_integer w negative v) ≡ some_amount negative v
 unfolding integer_of minus_first
 integer-back signed negative w v may fits =
     ap (signed_of signed) (integer-trim w negative v fits) ∙ read signed negative may (digits-back w negative v fits)
@@ -100,7 +99,7 @@ integer-back signed negative w v may fits =
     some : 0 < length (digits_in w v)
     some = digits-some w v (omega (arith, fits-facts w negative v fits))
 
-    read : (s n : Bool) → (n ≡ true → s ≡ true) → number_of (digits_in w v) ≡ whole.Value v → signed_of s (minus_text n ++ digits_in w v) ≡ amount.Value n v
+    read : (s n : Bool) → (n ≡ true → s ≡ true) → number_of (digits_in w v) ≡ Some v → signed_of s (minus_text n ++ digits_in w v) ≡ some_amount n v
     read true true may back = sym (signed-minus true (45 ∷ digits_in w v) refl) ∙ ap (with_sign true) back
     read false true may back = let z : ◌≡◌ {A = ℕ} 0 1 = cc (may refl) in absurd (omega arith)
     read s false may back = sym (signed-plain s (digits_in w v) (minus-none s (digits_in w v) (λ e. omega (arith, first-digit (digits_in w v) (digits-all w v) some)))) ∙ ap (with_sign false) back
@@ -119,7 +118,7 @@ signed_back w negative m fits =
     let shown = shown_negative negative m in
     sym (signed-read (show_signed w negative m) (omega (arith, integer-length w shown m fits, fits-facts w shown m fits)))
     ∙ ap (λ r. carried r []) (integer-back true shown w m (λ e. refl) fits)
-    ∙ ap (λ (n : Bool). amount.Value n m) (shown-again negative m)
+    ∙ ap (λ (n : Bool). some_amount n m) (shown-again negative m)
 
 -- a text before the point and one of so many places after it
 module _ (before after : List ℕ) (places : ℕ) (long : length after ≡ places) (signed : Bool) (narrow : length (before ++ (46 ∷ after)) ≤ 18) where
@@ -143,9 +142,9 @@ module _ (before after : List ℕ) (places : ℕ) (long : length after ≡ place
 
 -- the whole part and the places make the number again
 carried-back : (places : ℕ) (negative : Bool) (m : ℕ)
-    → carried (amount.Value (shown_negative negative m) (m / 10 ^ places)) (fixed_digits places m) ≡ settled negative m
+    → carried (some_amount (shown_negative negative m) (m / 10 ^ places)) (fixed_digits places m) ≡ settled negative m
 carried-back places negative m =
-    rw (fixed-all places m, fixed-carries places m) (ap (λ (n : Bool). amount.Value n m) (shown-again negative m))
+    rw (fixed-all places m, fixed-carries places m) (ap (λ (n : Bool). some_amount n m) (shown-again negative m))
 
 module _ (w places : ℕ) (negative : Bool) (m : ℕ) (fits : fits_decimal w places negative m ≡ true) where
   pub decimal-length : length (show_decimal w places negative m) ≡ w

@@ -12,13 +12,13 @@ use lib.ListN.{length, get_or, take, drop}
 use lib.Seq.{length-take-le}
 use Rattle.field.specs.Digits.{value_from, point_of}
 use Rattle.field.specs.Known.{known_magnitude, known_negative}
-use Rattle.field.specs.Read.{decimal_of}
+use Rattle.field.specs.Read.{some_amount, decimal_of}
 use Rattle.field.specs.Show.{shown_negative, fits_integer, fits_whole, show_decimal, fits_decimal}
 use Rattle.field.specs.Clock.{six_nines, all_nines, nines_before, has_point, is_nines, clock_held, clock_kept, bare_nines, clock_of}
-use Rattle.field.specs.declared.Amount.{Amount}
-use Rattle.field.specs.declared.Amount.TheVariants as amount
+use Rattle.std.specs.Prelude.{Option, Some, None}
+use Rattle.field.specs.declared.Signed.{Signed}
 use Rattle.laws.proofs.Bools.{and_left, and_right, and-false, tested}
-use Rattle.field.proofs.Accepted.{settled-sign, decimal-taken}
+use Rattle.field.proofs.Accepted.{same-sign, same-magnitude, settled-sign, decimal-taken}
 use Rattle.field.proofs.Powers.{ten-pos}
 use Rattle.field.proofs.Fitting.{decimal-test, decimal-facts}
 use Rattle.field.proofs.Bounds.{places-after}
@@ -42,11 +42,11 @@ held_kept places negative m e = go (is_nines places negative m) e
 
 -- WHAT IS SHOWN IS READ BACK.
 pub clock-back : (w places : ℕ) (negative : Bool) (m : ℕ) → fits_decimal w places negative m ≡ true → shown_negative negative m ≡ negative
-    → clock_kept places negative m ≡ true → clock_of (show_decimal w places negative m) places ≡ amount.Value negative m
+    → clock_kept places negative m ≡ true → clock_of (show_decimal w places negative m) places ≡ some_amount negative m
 clock-back w places negative m fits sign kept =
     clock-decimal (show_decimal w places negative m) places negative m
-    (decimal-back w places negative m fits true (λ q. refl) ∙ ap (λ (n : Bool). amount.Value n m) sign)
-    ∙ ap (amount.Value negative) (held_kept places negative m kept)
+    (decimal-back w places negative m fits true (λ q. refl) ∙ ap (λ (n : Bool). some_amount n m) sign)
+    ∙ ap (some_amount negative) (held_kept places negative m kept)
 
 -- six nines fit exactly where all nines do
 nines-fit : (w places : ℕ) → w ≤ 18 → places < w → fits_integer (point_of places w) false six_nines ≡ true → fits_decimal w places false (all_nines places) ≡ true
@@ -81,7 +81,7 @@ bare-fits s places e =
     }
 
 -- a decimal
-read_fits : (s : List ℕ) (places : ℕ) (n : Bool) (m : ℕ) → decimal_of s places true ≡ amount.Value n m → Clocked s places n (clock_held places n m)
+read_fits : (s : List ℕ) (places : ℕ) (n : Bool) (m : ℕ) → decimal_of s places true ≡ some_amount n m → Clocked s places n (clock_held places n m)
 unfolding clock_held clock_kept
 read_fits s places n m e = go (is_nines places n m) refl
   where
@@ -114,46 +114,48 @@ read_fits s places n m e = go (is_nines places n m) refl
             ∙ q
         none false is = and-false (not n)
 
-no-amount : (n : Bool) (v : ℕ) → amount.Malformed ≡ amount.Value n v → ⊥
+no-amount : (n : Bool) (v : ℕ) → None ≡ some_amount n v → ⊥
 no-amount n v e = let z : ◌≡◌ {A = ℕ} 0 1 = cc in omega arith
 
 -- WHAT WAS READ CAN BE HELD, and tells the six nines.
-pub clock-again : (s : List ℕ) (places : ℕ) (n : Bool) (m : ℕ) → clock_of s places ≡ amount.Value n m → Clocked s places n m
+pub clock-again : (s : List ℕ) (places : ℕ) (n : Bool) (m : ℕ) → clock_of s places ≡ some_amount n m → Clocked s places n m
 clock-again s places n m e = go (decimal_of s places true) refl
   where
-    go : (a : Amount) → decimal_of s places true ≡ a → Clocked s places n m
-    go (amount.Value k v) q =
+    go : (a : Option Signed) → decimal_of s places true ≡ a → Clocked s places n m
+    go (Some a) q =
+        let k = a.negative in
+        let v = a.magnitude in
         let read = sym (clock-decimal s places k v q) ∙ e in
-        let minus : k ≡ n = cc in
-        let value : clock_held places k v ≡ m = cc in
+        let minus = same-sign k n _ m read in
+        let value = same-magnitude k n (clock_held places k v) m read in
         subst₂ (Clocked s places) minus value (read_fits s places k v q)
-    go amount.Malformed q =
-        let t = tested (bare_nines s places) (amount.Value false (all_nines places)) amount.Malformed (amount.Value n m) (no-amount n m) (sym (clock-bare s places q) ∙ e) in
-        let same = t.1 in
-        let minus : false ≡ n = cc in
-        let value : all_nines places ≡ m = cc in
+    go None q =
+        let t = tested (bare_nines s places) (some_amount false (all_nines places)) None (some_amount n m) (no-amount n m) (sym (clock-bare s places q) ∙ e) in
+        let minus = same-sign false n _ m t.1 in
+        let value = same-magnitude false n (all_nines places) m t.1 in
         subst₂ (Clocked s places) minus value (bare-fits s places t.0)
 
 -- READ WITHOUT A TEST, a clock field that was read is what was read.
-pub clock-known : (s : List ℕ) (places : ℕ) (n : Bool) (m : ℕ) → length s ≤ 17 → clock_of s places ≡ amount.Value n m
+pub clock-known : (s : List ℕ) (places : ℕ) (n : Bool) (m : ℕ) → length s ≤ 17 → clock_of s places ≡ some_amount n m
     → (known_negative s places ≡ n) × (clock_held places (known_negative s places) (known_magnitude s places) ≡ m)
 unfolding bare_nines known_negative clock_held
 clock-known s places n m narrow e = go (decimal_of s places true) refl
   where
-    go : (a : Amount) → decimal_of s places true ≡ a
+    go : (a : Option Signed) → decimal_of s places true ≡ a
         → (known_negative s places ≡ n) × (clock_held places (known_negative s places) (known_magnitude s places) ≡ m)
-    go (amount.Value k v) q =
+    go (Some a) q =
+        let k = a.negative in
+        let v = a.magnitude in
         let read = sym (clock-decimal s places k v q) ∙ e in
-        let minus : k ≡ n = cc in
-        let value : clock_held places k v ≡ m = cc in
+        let minus = same-sign k n _ m read in
+        let value = same-magnitude k n (clock_held places k v) m read in
         let sign = known-negative s places true k v narrow q in
         let size = known-magnitude s places true k v narrow q in
         (sign ∙ minus, rw (sign, size) value)
-    go amount.Malformed q =
-        let t = tested (bare_nines s places) (amount.Value false (all_nines places)) amount.Malformed (amount.Value n m) (no-amount n m) (sym (clock-bare s places q) ∙ e) in
-        let same = t.1 in
-        let minus : false ≡ n = cc in
-        let value : all_nines places ≡ m = cc in
+    go None q =
+        let t = tested (bare_nines s places) (some_amount false (all_nines places)) None (some_amount n m) (no-amount n m) (sym (clock-bare s places q) ∙ e) in
+        let minus = same-sign false n _ m t.1 in
+        let value = same-magnitude false n (all_nines places) m t.1 in
         let p = point_of places (length s) in
         let front = and_left (has_point s places && nines_before s places) _ t.0 in
         let f = point-facts s places (and_left (has_point s places) (nines_before s places) front) in

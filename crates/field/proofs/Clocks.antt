@@ -13,12 +13,10 @@ use lib.ListN.{length, get_or, take, drop}
 use lib.Seq.{length-take-le}
 use Rattle.laws.specs.Texts.{every}
 use Rattle.field.specs.Digits.{blanks_of, trim, is_blank, all_digits, value_from, point_of}
-use Rattle.field.specs.Read.{number_of, whole_of, minus_first, with_sign, integer_of, settled, carried, decimal_of}
+use Rattle.field.specs.Read.{some_amount, number_of, whole_of, minus_first, with_sign, integer_of, settled, carried, decimal_of}
 use Rattle.field.specs.Show.{sign_width}
 use Rattle.field.specs.Clock.{six_nines, all_nines, is_six_nines, nines_before, has_point, clock_missing, clock_of, is_nines, clock_held, bare_nines, bare_clock}
-use Rattle.field.specs.declared.Whole.{Whole}
-use Rattle.field.specs.declared.Whole.TheVariants as whole
-use Rattle.field.specs.declared.Amount.TheVariants as amount
+use Rattle.std.specs.Prelude.{Option, Some, None}
 use Rattle.laws.proofs.Bools.{and_left, and_right, and_both, and-true, and-false, same_truth}
 use Rattle.field.proofs.Blanks.{blanks-within, blank-all}
 use Rattle.field.proofs.Powers.{ten-pos, ten-mono}
@@ -28,33 +26,33 @@ use Rattle.field.proofs.Accepted.{Taken, whole-taken, number-taken, digits-taken
 use Rattle.field.proofs.Bounds.{whole-bound, places-after}
 
 -- six nines as an integer field
-says-nines : (a : Whole) → is_six_nines a ≡ true → a ≡ whole.Value six_nines
-says-nines (whole.Value n) e = ap whole.Value (eqb-true n six_nines e)
-says-nines whole.Malformed e = let z : ◌≡◌ {A = ℕ} 0 1 = ap (λ (t : Bool). cond t 1 0) e in absurd (omega arith)
+says-nines : (a : Option ℕ) → is_six_nines a ≡ true → a ≡ Some six_nines
+says-nines (Some n) e = ap Some (eqb-true n six_nines e)
+says-nines None e = let z : ◌≡◌ {A = ℕ} 0 1 = ap (λ (t : Bool). cond t 1 0) e in absurd (omega arith)
 
 -- the first byte of a number is no minus
-no_minus : (s : List ℕ) (v : ℕ) → number_of s ≡ whole.Value v → get_or s 0 0 ≡ 45 → ⊥
+no_minus : (s : List ℕ) (v : ℕ) → number_of s ≡ Some v → get_or s 0 0 ≡ 45 → ⊥
 no_minus s v e q =
     let some = number-taken s v e in
     omega (arith, first-digit s (digits-taken s v 0 some.1).0 some.0)
 
 -- an integer field is an integer that has no minus,
-whole-integer : (s : List ℕ) (v : ℕ) → whole_of s ≡ whole.Value v → integer_of true s ≡ amount.Value false v
+whole-integer : (s : List ℕ) (v : ℕ) → whole_of s ≡ Some v → integer_of true s ≡ some_amount false v
 unfolding integer_of
 whole-integer s v e =
     let number = (whole-taken s v e).1 in
     sym (signed-plain true (trim s) (minus-none true (trim s) (no_minus (trim s) v number))) ∙ ap (with_sign false) number
 
 -- and what may have a minus says six nines as an integer field where it has none.
-integer-nines : (s : List ℕ) (n : Bool) (v : ℕ) → length s ≤ 18 → integer_of true s ≡ amount.Value n v → is_six_nines (whole_of s) ≡ (not n && eqb v six_nines)
+integer-nines : (s : List ℕ) (n : Bool) (v : ℕ) → length s ≤ 18 → integer_of true s ≡ some_amount n v → is_six_nines (whole_of s) ≡ (not n && eqb v six_nines)
 unfolding integer_of minus_first
 integer-nines s n v narrow e = go n (signed-taken true (trim s) n v e)
   where
-    none : (a : Whole) → whole_of s ≡ a → get_or (trim s) 0 0 ≡ 45 → is_six_nines a ≡ false
-    none (whole.Value u) q minus = absurd (no_minus (trim s) u (whole-taken s u q).1 minus)
-    none whole.Malformed q minus = refl
+    none : (a : Option ℕ) → whole_of s ≡ a → get_or (trim s) 0 0 ≡ 45 → is_six_nines a ≡ false
+    none (Some u) q minus = absurd (no_minus (trim s) u (whole-taken s u q).1 minus)
+    none None q minus = refl
 
-    go : (t : Bool) → (minus_first true (trim s) ≡ t) × (number_of (drop (sign_width t) (trim s)) ≡ whole.Value v) → is_six_nines (whole_of s) ≡ (not t && eqb v six_nines)
+    go : (t : Bool) → (minus_first true (trim s) ≡ t) × (number_of (drop (sign_width t) (trim s)) ≡ Some v) → is_six_nines (whole_of s) ≡ (not t && eqb v six_nines)
     go true p = none (whole_of s) refl (eqb-true (get_or (trim s) 0 0) 45 p.0)
     go false p = ap is_six_nines (sym (whole-read s narrow) ∙ p.1)
 
@@ -68,7 +66,7 @@ nines-whole places =
     ap (λ (n : ℕ). n / t) parts ∙ digits_div 999_999 below
 
 -- A decimal that was read, with its point and its digits.
-module _ (s : List ℕ) (places : ℕ) (n : Bool) (m : ℕ) (e : decimal_of s places true ≡ amount.Value n m) where
+module _ (s : List ℕ) (places : ℕ) (n : Bool) (m : ℕ) (e : decimal_of s places true ≡ some_amount n m) where
   taken : Taken s places true n m
   taken = decimal-taken s places true n m e
 
@@ -106,11 +104,11 @@ module _ (s : List ℕ) (places : ℕ) (n : Bool) (m : ℕ) (e : decimal_of s pl
       signs k q false is = and-false (not n) ∙ sym (and-false (not k))
 
   -- A DECIMAL is a clock as it stands, but for six nines, which are all nines.
-  pub clock-decimal : clock_of s places ≡ amount.Value n (clock_held places n m)
+  pub clock-decimal : clock_of s places ≡ some_amount n (clock_held places n m)
   unfolding clock_of clock_missing clock_held
   clock-decimal = rw (pointed, taken.parts.digits, nines-tell, and-true (is_nines places n m), e) (go (is_nines places n m) refl)
     where
-      go : (t : Bool) → is_nines places n m ≡ t → cond t (amount.Value false (all_nines places)) (amount.Value n m) ≡ amount.Value n (cond t (all_nines places) m)
+      go : (t : Bool) → is_nines places n m ≡ t → cond t (some_amount false (all_nines places)) (some_amount n m) ≡ some_amount n (cond t (all_nines places) m)
       go true q = rw (not-true n (and_left (not n) _ q))
       go false q = refl
 
@@ -131,16 +129,16 @@ point-facts s places e =
     }
 
 -- six nines before the point are an integer
-pub nines-read : (s : List ℕ) (places : ℕ) → nines_before s places ≡ true → whole_of (take (point_of places (length s)) s) ≡ whole.Value six_nines
+pub nines-read : (s : List ℕ) (places : ℕ) → nines_before s places ≡ true → whole_of (take (point_of places (length s)) s) ≡ Some six_nines
 unfolding nines_before
 nines-read s places e = says-nines (whole_of (take (point_of places (length s)) s)) e
 
 -- WHAT IS NO DECIMAL is a clock only where blanks follow six nines and the point.
-module _ (s : List ℕ) (places : ℕ) (e : decimal_of s places true ≡ amount.Malformed) where
+module _ (s : List ℕ) (places : ℕ) (e : decimal_of s places true ≡ None) where
   abbrev after : List ℕ
   after = drop (point_of places (length s) + 1) s
 
-  no_value : settled false (value_from six_nines after) ≡ amount.Malformed → ⊥
+  no_value : settled false (value_from six_nines after) ≡ None → ⊥
   no_value r = let z : ◌≡◌ {A = ℕ} 0 1 = cc in omega arith
 
   -- digits after six nines and the point would be a decimal
@@ -149,7 +147,7 @@ module _ (s : List ℕ) (places : ℕ) (e : decimal_of s places true ≡ amount.
   no-digits true q h nines =
       let f = point-facts s places h in
       let before = take (point_of places (length s)) s in
-      let read : carried (amount.Value false six_nines) after ≡ amount.Malformed =
+      let read : carried (some_amount false six_nines) after ≡ None =
       ap (λ a. carried a after) (sym (whole-integer before six_nines (nines-read s places nines)))
       ∙ decimal-read s places true f.narrow f.room f.point
       ∙ e in
@@ -157,7 +155,7 @@ module _ (s : List ℕ) (places : ℕ) (e : decimal_of s places true ≡ amount.
 
   pub clock-bare : clock_of s places ≡ bare_clock s places
   unfolding clock_of clock_missing bare_nines
-  clock-bare = rw e (ap (λ (t : Bool). cond t (amount.Value false (all_nines places)) amount.Malformed) (go (has_point s places) (nines_before s places) refl refl))
+  clock-bare = rw e (ap (λ (t : Bool). cond t (some_amount false (all_nines places)) None) (go (has_point s places) (nines_before s places) refl refl))
     where
       go : (t u : Bool) → has_point s places ≡ t → nines_before s places ≡ u → ((t && u) && (all_digits after || every is_blank after)) ≡ ((t && u) && every is_blank after)
       go true true h nines = rw (no-digits (all_digits after) refl h nines)
@@ -166,47 +164,47 @@ module _ (s : List ℕ) (places : ℕ) (e : decimal_of s places true ≡ amount.
 
 -- A clock whose fraction is blank: one law for each way that the code takes.
 module _ (s : List ℕ) (places : ℕ) where
-  pub bare-long : 18 < length s → amount.Malformed ≡ bare_clock s places
+  pub bare-long : 18 < length s → None ≡ bare_clock s places
   unfolding bare_nines has_point
   bare-long h = rw (lt-leb (length s) 18 h)
 
   module _ (narrow : length s ≤ 18) where
-    pub bare-short : length s ≤ places → amount.Malformed ≡ bare_clock s places
+    pub bare-short : length s ≤ places → None ≡ bare_clock s places
     unfolding bare_nines has_point
     bare-short h = rw (le-leb (length s) 18 narrow, le-ltb places (length s) h)
 
     module _ (room : places < length s) where
-      pub bare-pointless : (get_or s (point_of places (length s)) 0 ≡ 46 → ⊥) → amount.Malformed ≡ bare_clock s places
+      pub bare-pointless : (get_or s (point_of places (length s)) 0 ≡ 46 → ⊥) → None ≡ bare_clock s places
       unfolding bare_nines has_point
       bare-pointless n = rw (le-leb (length s) 18 narrow, lt-ltb places (length s) room, ne_eqb _ 46 n)
 
       module _ (point : get_or s (point_of places (length s)) 0 ≡ 46) where
         -- where the point stands, the integer before it and the columns after it decide
-        bare-read : (a : Whole) → whole_of (take (point_of places (length s)) s) ≡ a
-            → cond (is_six_nines a && every is_blank (drop (point_of places (length s) + 1) s)) (amount.Value false (all_nines places)) amount.Malformed ≡ bare_clock s places
+        bare-read : (a : Option ℕ) → whole_of (take (point_of places (length s)) s) ≡ a
+            → cond (is_six_nines a && every is_blank (drop (point_of places (length s) + 1) s)) (some_amount false (all_nines places)) None ≡ bare_clock s places
         unfolding bare_nines has_point nines_before
         bare-read a e = rw (le-leb (length s) 18 narrow, lt-ltb places (length s) room, eq-eqb _ 46 point, e)
 
-        pub bare-none : whole_of (take (point_of places (length s)) s) ≡ whole.Malformed → amount.Malformed ≡ bare_clock s places
-        bare-none e = bare-read whole.Malformed e
+        pub bare-none : whole_of (take (point_of places (length s)) s) ≡ None → None ≡ bare_clock s places
+        bare-none e = bare-read None e
 
-        module _ (n : ℕ) (read : whole_of (take (point_of places (length s)) s) ≡ whole.Value n) where
-          pub bare-other : (n ≡ six_nines → ⊥) → amount.Malformed ≡ bare_clock s places
-          bare-other apart = rw (ne_eqb n six_nines apart) at (bare-read (whole.Value n) read)
+        module _ (n : ℕ) (read : whole_of (take (point_of places (length s)) s) ≡ Some n) where
+          pub bare-other : (n ≡ six_nines → ⊥) → None ≡ bare_clock s places
+          bare-other apart = rw (ne_eqb n six_nines apart) at (bare-read (Some n) read)
 
-          pub bare-inked : blanks_of (drop (point_of places (length s) + 1) s) < places → amount.Malformed ≡ bare_clock s places
+          pub bare-inked : blanks_of (drop (point_of places (length s) + 1) s) < places → None ≡ bare_clock s places
           bare-inked few =
               let after = drop (point_of places (length s) + 1) s in
               let inked : every is_blank after ≡ false = sym (blank-all after) ∙ ne_eqb (blanks_of after) (length after) (λ q. omega (arith, places-after s places room)) in
-              rw (inked, and-false (eqb n six_nines)) at (bare-read (whole.Value n) read)
+              rw (inked, and-false (eqb n six_nines)) at (bare-read (Some n) read)
 
           pub bare-nines : n ≡ six_nines → places ≤ blanks_of (drop (point_of places (length s) + 1) s)
-              → amount.Value false (all_nines places) ≡ bare_clock s places
+              → some_amount false (all_nines places) ≡ bare_clock s places
           bare-nines is all =
               let after = drop (point_of places (length s) + 1) s in
               let blank : every is_blank after ≡ true =
               sym (blank-all after) ∙ eq-eqb (blanks_of after) (length after) (omega (arith, places-after s places room, blanks-within after)) in
-              rw (blank, eq-eqb n six_nines is) at (bare-read (whole.Value n) read)
+              rw (blank, eq-eqb n six_nines is) at (bare-read (Some n) read)
 
           -- six nines take six columns, so few are left after the point
           pub few-places : n ≡ six_nines → 10 ^ places ≤ 10 ^ 13

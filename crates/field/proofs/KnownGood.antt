@@ -11,11 +11,10 @@ use lib.Dec.{eqb}
 use lib.ListN.{length, get_or, take, drop, length-drop}
 use Rattle.laws.specs.Texts.{every}
 use Rattle.field.specs.Digits.{is_blank, blanks_of, trim, is_digit, all_digits, value_from, point_of}
-use Rattle.field.specs.Read.{whole_of, minus_first, integer_of, decimal_of}
+use Rattle.field.specs.Read.{some_amount, whole_of, minus_first, integer_of, decimal_of}
 use Rattle.field.specs.Known.{known_magnitude, has_minus, known_negative}
 use Rattle.field.specs.Show.{sign_width}
-use Rattle.field.specs.declared.Whole.TheVariants as whole
-use Rattle.field.specs.declared.Amount.TheVariants as amount
+use Rattle.std.specs.Prelude.{Some}
 use Rattle.laws.proofs.Bools.{and_left, and_right}
 use Rattle.laws.proofs.Lists.{rest-step, rest-none}
 use Rattle.field.proofs.Powers.{ten-more, ten-mono}
@@ -86,7 +85,7 @@ minus-counts-nothing signed (b ∷ s) true e d = rw (eqb-true b 45 (and_right si
 minus-counts-nothing signed s false e d = (refl, digits-no-minus s d)
 
 -- so an integer that was read is its bytes folded, and its sign whether a minus stands among them
-integer-known : (signed : Bool) (s : List ℕ) (n : Bool) (v : ℕ) → integer_of signed s ≡ amount.Value n v → (value_from 0 s ≡ v) × (has_minus s ≡ n)
+integer-known : (signed : Bool) (s : List ℕ) (n : Bool) (v : ℕ) → integer_of signed s ≡ some_amount n v → (value_from 0 s ≡ v) × (has_minus s ≡ n)
 unfolding integer_of
 integer-known signed s n v e =
     let t = signed-taken signed (trim s) n v e in
@@ -96,7 +95,7 @@ integer-known signed s n v e =
     (b.0 ∙ p.0 ∙ d.1, b.1 ∙ p.1)
 
 -- an integer field that was read is its bytes folded, and no minus stands in it
-pub whole-known : (s : List ℕ) (v : ℕ) → whole_of s ≡ whole.Value v → (value_from 0 s ≡ v) × (has_minus s ≡ false)
+pub whole-known : (s : List ℕ) (v : ℕ) → whole_of s ≡ Some v → (value_from 0 s ≡ v) × (has_minus s ≡ false)
 whole-known s v e =
     let t = whole-taken s v e in
     let d = digits-taken (trim s) v 0 (number-taken (trim s) v t.1).1 in
@@ -117,7 +116,7 @@ blanks-carry (b ∷ s) a e =
     ∙ ap (λ (n : ℕ). a * n) (sym (ap (λ (k : ℕ). 10 ^ k) one ∙ ten-more (length s) ∙ mul_comm (10 ^ length s) 10))
 
 -- the magnitude of a decimal field that was read
-pub known-magnitude : (s : List ℕ) (places : ℕ) (signed n : Bool) (m : ℕ) → length s ≤ 17 → decimal_of s places signed ≡ amount.Value n m → known_magnitude s places ≡ m
+pub known-magnitude : (s : List ℕ) (places : ℕ) (signed n : Bool) (m : ℕ) → length s ≤ 17 → decimal_of s places signed ≡ some_amount n m → known_magnitude s places ≡ m
 known-magnitude s places signed n m narrow e =
     let c = (decimal-taken s places signed n m e).parts in
     let before = take (point_of places (length s)) s in
@@ -126,7 +125,7 @@ known-magnitude s places signed n m narrow e =
     ∙ c.value
 
 -- and its sign
-pub known-negative : (s : List ℕ) (places : ℕ) (signed n : Bool) (m : ℕ) → length s ≤ 17 → decimal_of s places signed ≡ amount.Value n m → known_negative s places ≡ n
+pub known-negative : (s : List ℕ) (places : ℕ) (signed n : Bool) (m : ℕ) → length s ≤ 17 → decimal_of s places signed ≡ some_amount n m → known_negative s places ≡ n
 unfolding known_negative
 known-negative s places signed n m narrow e =
     let c = (decimal-taken s places signed n m e).parts in

@@ -9,14 +9,13 @@ use borrow.Author.Tests.{le-leb, lt-leb, lt-ltb, le-ltb, eq-eqb, ne_eqb}
 use lib.Dec.{eqb}
 use lib.ListN.{length, get_or, take, drop}
 use Rattle.field.specs.Digits.{blanks_of, trim, point_of}
-use Rattle.field.specs.Read.{digits_from, number_of, whole_of, as_exponent, exponent_of, minus_first, with_sign, signed_of, integer_of, settled, carried, signed_whole_of, decimal_of}
-use Rattle.field.specs.declared.Whole.TheVariants as whole
-use Rattle.field.specs.declared.Amount.TheVariants as amount
+use Rattle.field.specs.Read.{some_amount, digits_from, number_of, whole_of, as_exponent, exponent_of, minus_first, with_sign, signed_of, integer_of, settled, carried, signed_whole_of, decimal_of}
+use Rattle.std.specs.Prelude.{None}
 use Rattle.field.specs.declared.Exponent.TheVariants as exponent
 use Rattle.laws.proofs.Bools.{and_left, and_right, and-false, and-true}
 
 module _ (s : List ℕ) where
-  pub number-none : length s ≡ 0 → whole.Malformed ≡ number_of s
+  pub number-none : length s ≡ 0 → None ≡ number_of s
   unfolding number_of
   number-none e = rw (eq-eqb _ _ e)
 
@@ -24,7 +23,7 @@ module _ (s : List ℕ) where
   unfolding number_of
   number-some n = rw (ne_eqb _ _ n)
 
-  pub whole_long : 18 < length s → whole.Malformed ≡ whole_of s
+  pub whole_long : 18 < length s → None ≡ whole_of s
   unfolding whole_of
   whole_long h = rw (lt-leb _ _ h)
 
@@ -44,7 +43,7 @@ module _ (s : List ℕ) where
   unfolding exponent_of
   exponent-read h n = rw (le-leb _ _ h, ne_eqb _ _ n)
 
-  pub signed-long : 18 < length s → amount.Malformed ≡ signed_whole_of s
+  pub signed-long : 18 < length s → None ≡ signed_whole_of s
   unfolding signed_whole_of
   signed-long h = rw (lt-leb _ _ h)
 
@@ -83,23 +82,23 @@ module _ (signed : Bool) where
 
 -- minus zero is zero
 module _ (negative : Bool) (m : ℕ) where
-  pub settled-zero : m ≡ 0 → amount.Value false m ≡ settled negative m
-  settled-zero z = rw z (ap (λ (n : Bool). amount.Value n 0) (sym (and-false negative)))
+  pub settled-zero : m ≡ 0 → some_amount false m ≡ settled negative m
+  settled-zero z = rw z (ap (λ (n : Bool). some_amount n 0) (sym (and-false negative)))
 
-  pub settled-some : (m ≡ 0 → ⊥) → amount.Value negative m ≡ settled negative m
-  settled-some n = rw (lt-ltb 0 m (omega arith)) (ap (λ (n : Bool). amount.Value n m) (sym (and-true negative)))
+  pub settled-some : (m ≡ 0 → ⊥) → some_amount negative m ≡ settled negative m
+  settled-some n = rw (lt-ltb 0 m (omega arith)) (ap (λ (n : Bool). some_amount n m) (sym (and-true negative)))
 
 module _ (s : List ℕ) (places : ℕ) (signed : Bool) where
-  pub decimal-long : 18 < length s → amount.Malformed ≡ decimal_of s places signed
+  pub decimal-long : 18 < length s → None ≡ decimal_of s places signed
   unfolding decimal_of
   decimal-long h = rw (lt-leb _ _ h)
 
   module _ (narrow : length s ≤ 18) where
-    pub decimal-short : length s ≤ places → amount.Malformed ≡ decimal_of s places signed
+    pub decimal-short : length s ≤ places → None ≡ decimal_of s places signed
     unfolding decimal_of
     decimal-short h = rw (le-leb _ _ narrow, le-ltb _ _ h)
 
-    pub decimal-pointless : places < length s → (get_or s (point_of places (length s)) 0 ≡ 46 → ⊥) → amount.Malformed ≡ decimal_of s places signed
+    pub decimal-pointless : places < length s → (get_or s (point_of places (length s)) 0 ≡ 46 → ⊥) → None ≡ decimal_of s places signed
     unfolding decimal_of
     decimal-pointless h n = rw (le-leb _ _ narrow, lt-ltb _ _ h, ne_eqb _ _ n)
 

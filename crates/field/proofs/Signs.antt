@@ -14,7 +14,7 @@ use mir.Val.{Fits, SFits, to_z, of_z}
 use mir.ValLaws.{to_z-of_z, to_z_pos}
 use Rattle.field.specs.Read.{sign_number}
 use Rattle.field.specs.Sign.{largest, signed_int, is_negative, told_number, number_answer}
-use Rattle.field.specs.declared.Number.TheVariants as number
+use Rattle.std.specs.Prelude.{Some}
 
 mag-turned : (n : ℕ) → mag (neg_ℤ (pos n)) ≤ n
 mag-turned zero = omega arith
@@ -95,10 +95,10 @@ module _ (negative : Bool) (m : ℕ) where
     minus-fits = rw (plain, +ℤ_idl (neg_ℤ (pos m))) (record { sfits = omega (arith, mag-turned m) })
 
     -- any number that is the signed one answers
-    pub number-told : (v : ℤ) → v ≡ signed_int negative m → told_number (number.Value v) ≡ number_answer negative m
+    pub number-told : (v : ℤ) → v ≡ signed_int negative m → told_number (Some v) ≡ number_answer negative m
     unfolding number_answer
     number-told v e =
-        ap (λ (z : ℤ). told_number (number.Value z)) e
+        ap (λ (z : ℤ). told_number (Some z)) e
         ∙ rw (le-leb m largest h)
         (ap₂ (λ (s : Bool) (k : ℕ). 0 ∷ sign_number s ∷ k ∷ []) sign-back magnitude-back)
 

@@ -1,13 +1,10 @@
 -- The clock field. 02, Ask 3: "So a clock or rate without a minus whose whole part has the value 999999 is absent; after the point all six columns are
 -- digits or all six are blank. A blank fraction elsewhere stays 6." What is absent is held as nines in every place.
-use Rattle.std.specs.Prelude.{List, Bool, true, false, cond, not, ◌&&◌, ◌||◌, ℕ, ◌+◌, ◌-◌, ◌*◌, ◌/◌, ◌^◌, length, get_or, take, drop, leb, ltb, eqb}
+use Rattle.std.specs.Prelude.{List, Bool, true, false, cond, not, ◌&&◌, ◌||◌, ℕ, ◌+◌, ◌-◌, ◌*◌, ◌/◌, ◌^◌, length, get_or, take, drop, leb, ltb, eqb, Option, Some, None}
 use Rattle.laws.specs.Texts.{every}
 use Rattle.field.specs.Digits.{widest, is_blank, all_digits, point_of}
-use Rattle.field.specs.Read.{whole_of, decimal_of, told_amount}
-use Rattle.field.specs.declared.Whole.{Whole}
-use Rattle.field.specs.declared.Whole.TheVariants as whole
-use Rattle.field.specs.declared.Amount.{Amount}
-use Rattle.field.specs.declared.Amount.TheVariants as amount
+use Rattle.field.specs.Read.{some_amount, whole_of, decimal_of, told_amount}
+use Rattle.field.specs.declared.Signed.{Signed}
 
 -- the whole part of a clock that is absent
 abbrev pub six_nines : ℕ
@@ -18,9 +15,9 @@ abbrev pub all_nines : ℕ → ℕ
 all_nines places = (six_nines + 1) * 10 ^ places - 1
 
 -- six nines as an integer field, which has no minus
-abbrev pub is_six_nines : Whole → Bool
-is_six_nines (whole.Value n) = eqb n six_nines
-is_six_nines whole.Malformed = false
+abbrev pub is_six_nines : Option ℕ → Bool
+is_six_nines (Some n) = eqb n six_nines
+is_six_nines None = false
 
 -- six nines stand before the point, whatever stands after it
 unfoldable pub nines_before : List ℕ → ℕ → Bool
@@ -37,8 +34,8 @@ clock_missing s places =
     && (all_digits (drop (point_of places (length s) + 1) s) || every is_blank (drop (point_of places (length s) + 1) s))
 
 -- a clock field: absent, or a decimal that may have a minus
-unfoldable pub clock_of : List ℕ → ℕ → Amount
-clock_of s places = cond (clock_missing s places) (amount.Value false (all_nines places)) (decimal_of s places true)
+unfoldable pub clock_of : List ℕ → ℕ → Option Signed
+clock_of s places = cond (clock_missing s places) (some_amount false (all_nines places)) (decimal_of s places true)
 
 -- the same as number, sign and magnitude
 abbrev pub clock_answer : List ℕ → ℕ → List ℕ
@@ -60,5 +57,5 @@ clock_kept places negative m = not (is_nines places negative m) || eqb m (all_ni
 unfoldable pub bare_nines : List ℕ → ℕ → Bool
 bare_nines s places = (has_point s places && nines_before s places) && every is_blank (drop (point_of places (length s) + 1) s)
 
-abbrev pub bare_clock : List ℕ → ℕ → Amount
-bare_clock s places = cond (bare_nines s places) (amount.Value false (all_nines places)) amount.Malformed
+abbrev pub bare_clock : List ℕ → ℕ → Option Signed
+bare_clock s places = cond (bare_nines s places) (some_amount false (all_nines places)) None

@@ -1,8 +1,6 @@
 -- A sign and a magnitude as one signed number of the table. 01: "Numbers are whole .. with magnitude at most 999,999,999,999."
-use Rattle.std.specs.Prelude.{List, [], ◌∷◌, Bool, true, false, cond, ◌&&◌, ℕ, leb, ltb, ℤ, pos, negsuc, neg_ℤ, nat_abs}
+use Rattle.std.specs.Prelude.{List, [], ◌∷◌, Bool, true, false, cond, ◌&&◌, ℕ, leb, ltb, ℤ, pos, negsuc, neg_ℤ, nat_abs, Option, Some, None}
 use Rattle.field.specs.Read.{sign_number}
-use Rattle.field.specs.declared.Number.{Number}
-use Rattle.field.specs.declared.Number.TheVariants as number
 
 -- the largest magnitude
 abbrev pub largest : ℕ
@@ -22,9 +20,9 @@ unfoldable pub signed_int : Bool → ℕ → ℤ
 signed_int negative m = cond negative (neg_ℤ (pos m)) (pos m)
 
 -- the paper's number of each answer, and the sign and magnitude beside it: 0 accepted, 7 out of bounds
-abbrev pub told_number : Number → List ℕ
-told_number (number.Value v) = 0 ∷ sign_number (is_negative v) ∷ nat_abs v ∷ []
-told_number number.OutOfBounds = 7 ∷ []
+abbrev pub told_number : Option ℤ → List ℕ
+told_number (Some v) = 0 ∷ sign_number (is_negative v) ∷ nat_abs v ∷ []
+told_number None = 7 ∷ []
 
 -- a sign and a magnitude: zero has no sign
 unfoldable pub number_answer : Bool → ℕ → List ℕ

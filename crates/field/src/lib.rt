@@ -10,18 +10,11 @@ pub mod write;
 // A field is at most this wide, so that its number fits 64 bits.
 pub const WIDEST: usize = 18;
 
-// An integer field: its value, or that it is malformed.
+// A signed integer or a decimal, in units of its last place: its sign and magnitude. Zero has no minus.
 #[derive(Clone, Copy)]
-pub enum Whole {
-    Value(u64),
-    Malformed,
-}
-
-// A signed integer or a decimal, in units of its last place: its sign and magnitude, or that it is malformed. Zero has no minus.
-#[derive(Clone, Copy)]
-pub enum Amount {
-    Value { negative: bool, magnitude: u64 },
-    Malformed,
+pub struct Signed {
+    pub negative: bool,
+    pub magnitude: u64,
 }
 
 // An exponent field: its value, that it is blank, or that it is neither.
@@ -30,11 +23,4 @@ pub enum Exponent {
     Value(u64),
     Unknown,
     Malformed,
-}
-
-// A number of the table, or that its magnitude is above the largest.
-#[derive(Clone, Copy)]
-pub enum Number {
-    Value(i64),
-    OutOfBounds,
 }

@@ -4,7 +4,7 @@ ghost use Rattle.field.specs.Digits.{widest, blanks_of};
 ghost use Rattle.field.specs.Read.{digits_from, number_of, minus_first, with_sign, signed_of, integer_of, settled, told_whole, whole_answer, told_exponent, exponent_answer, told_amount, signed_answer, decimal_answer};
 ghost use Rattle.field.specs.Clock.{bare_clock, clock_answer};
 
-use crate::{Amount, Exponent, WIDEST, Whole, known, scale};
+use crate::{Exponent, Signed, WIDEST, known, scale};
 
 // How many blanks stand before anything else.
 fn blanks(s: &[u8]) -> usize
@@ -28,47 +28,41 @@ fn wide(b: u8) -> u64
 }
 
 // Digits read on from the value of those before them; 18 in all at most.
-fn digits_from(high: u64, s: &[u8]) -> Whole
+fn digits_from(high: u64, s: &[u8]) -> Option<u64>
     requires { (length s.now ≤ widest) × (high < 10 ^ (widest - length s.now)) }
     ensures { result ≡ digits_from high s.now }
 {
     let mut value = high;
-    let mut i = 0;
-    while i < s.len() {
-        let byte = wide(s[i]);
-        if byte < 48 {
-            return Whole::Malformed;
+    for b in s {
+        if !b.is_ascii_digit() {
+            return None;
         }
-        if byte > 57 {
-            return Whole::Malformed;
-        }
-        value = value * 10 + (byte - 48);
-        i += 1;
+        value = value * 10 + u64::from(b - b'0');
     }
-    Whole::Value(value)
+    Some(value)
 }
 
 // How many digits are no number.
 const NO_DIGITS: usize = 0;
 
 // At least one digit.
-fn number(s: &[u8]) -> Whole
+fn number(s: &[u8]) -> Option<u64>
     requires { length s.now ≤ widest }
     ensures { result ≡ number_of s.now }
 {
     let digits = s.len();
     if digits == NO_DIGITS {
-        return Whole::Malformed;
+        return None;
     }
     digits_from(0, s)
 }
 
 // An integer field: blanks, then at least one digit, filling the field. ` 042` is 42; `4 2`, `+42`, `42 ` and blanks are malformed.
-pub fn whole(s: &[u8]) -> Whole
+pub fn whole(s: &[u8]) -> Option<u64>
     ensures result { told_whole result ≡ whole_answer s.now }
 {
     if s.len() > WIDEST {
-        return Whole::Malformed;
+        return None;
     }
     let start = blanks(s);
     number(&s[start..])
@@ -86,8 +80,8 @@ pub fn exponent(s: &[u8]) -> Exponent
         return Exponent::Unknown;
     }
     match number(&s[start..]) {
-        Whole::Value(value) => Exponent::Value(value),
-        Whole::Malformed => Exponent::Malformed,
+        Some(value) => Exponent::Value(value),
+        None => Exponent::Malformed,
     }
 }
 
@@ -102,20 +96,18 @@ fn minus_first(s: &[u8], signed: bool) -> bool
 }
 
 // The number that was read, with its sign.
-fn with_sign(negative: bool, number: Whole) -> Amount
+fn with_sign(negative: bool, number: Option<u64>) -> Option<Signed>
     ensures { result ≡ with_sign negative number }
 {
-    match number {
-        Whole::Value(value) => Amount::Value {
-            negative,
-            magnitude: value,
-        },
-        Whole::Malformed => Amount::Malformed,
-    }
+    let magnitude = number?;
+    Some(Signed {
+        negative,
+        magnitude,
+    })
 }
 
 // A minus where one is allowed, then at least one digit.
-fn signed_number(s: &[u8], signed: bool) -> Amount
+fn signed_number(s: &[u8], signed: bool) -> Option<Signed>
     requires { length s.now ≤ widest }
     ensures { result ≡ signed_of signed s.now }
 {
@@ -127,7 +119,7 @@ fn signed_number(s: &[u8], signed: bool) -> Amount
 }
 
 // Blanks, a minus where one is allowed, at least one digit.
-fn integer(s: &[u8], signed: bool) -> Amount
+fn integer(s: &[u8], signed: bool) -> Option<Signed>
     requires { length s.now ≤ widest }
     ensures { result ≡ integer_of signed s.now }
 {
@@ -136,108 +128,84 @@ fn integer(s: &[u8], signed: bool) -> Amount
 }
 
 // The sign and magnitude of a number; minus zero is zero.
-fn settle(negative: bool, magnitude: u64) -> Amount
+fn settle(negative: bool, magnitude: u64) -> Option<Signed>
     ensures { result ≡ settled negative magnitude }
 {
-    if magnitude == 0 {
-        return Amount::Value {
-            negative: false,
-            magnitude,
-        };
-    }
-    Amount::Value {
-        negative,
+    Some(Signed {
+        negative: negative & (0 < magnitude),
         magnitude,
-    }
+    })
 }
 
 // A signed integer field: an integer field that may have a minus before its first digit. ` -42` is -42, `-0` is 0; `- 42` is malformed.
-pub fn signed_whole(s: &[u8]) -> Amount
+pub fn signed_whole(s: &[u8]) -> Option<Signed>
     ensures result { told_amount result ≡ signed_answer s.now }
 {
     if s.len() > WIDEST {
-        return Amount::Malformed;
+        return None;
     }
-    match integer(s, true) {
-        Amount::Value {
-            negative,
-            magnitude,
-        } => settle(negative, magnitude),
-        Amount::Malformed => Amount::Malformed,
-    }
+    let read = integer(s, true)?;
+    settle(read.negative, read.magnitude)
 }
 
 // A decimal field: blanks, a minus where one is allowed (`signed`), at least one digit, the point, and exactly so many digits. Its value
 // counts the last place: with six places ` -0.500000` is -500,000; ` .500000` and `-0.50000` are malformed.
-pub fn decimal(s: &[u8], places: usize, signed: bool) -> Amount
+pub fn decimal(s: &[u8], places: usize, signed: bool) -> Option<Signed>
     ensures result { told_amount result ≡ decimal_answer s.now places signed }
 {
     if s.len() > WIDEST {
-        return Amount::Malformed;
+        return None;
     }
     if places >= s.len() {
-        return Amount::Malformed;
+        return None;
     }
     let point = s.len() - places - 1;
     if s[point] != b'.' {
-        return Amount::Malformed;
+        return None;
     }
-    let Amount::Value {
-        negative,
-        magnitude: high,
-    } = integer(&s[..point], signed)
-    else {
-        return Amount::Malformed;
-    };
-    let Whole::Value(magnitude) = digits_from(high, &s[point + 1..]) else {
-        return Amount::Malformed;
-    };
-    settle(negative, magnitude)
+    let before = integer(&s[..point], signed)?;
+    let magnitude = digits_from(before.magnitude, &s[point + 1..])?;
+    settle(before.negative, magnitude)
 }
 
 // Six nines, the point and blanks, which are an absent clock; anything else is malformed.
-fn bare_clock(s: &[u8], places: usize) -> Amount
+fn bare_clock(s: &[u8], places: usize) -> Option<Signed>
     ensures { result ≡ bare_clock s.now places }
 {
     if s.len() > WIDEST {
-        return Amount::Malformed;
+        return None;
     }
     if places >= s.len() {
-        return Amount::Malformed;
+        return None;
     }
     let point = s.len() - places - 1;
     if s[point] != b'.' {
-        return Amount::Malformed;
+        return None;
     }
-    let Whole::Value(high) = whole(&s[..point]) else {
-        return Amount::Malformed;
-    };
+    let high = whole(&s[..point])?;
     if high != known::SIX_NINES {
-        return Amount::Malformed;
+        return None;
     }
     if blanks(&s[point + 1..]) < places {
-        return Amount::Malformed;
+        return None;
     }
-    Amount::Value {
+    Some(Signed {
         negative: false,
         magnitude: known::all_nines(scale::ten_to(places)),
-    }
+    })
 }
 
 // A clock field: a decimal field that may have a minus, or absent, which is held as all nines. It is absent where six nines without a minus stand before
 // the point and digits or blanks in all places after it: with six places ` 999999.      `, ` 999999.000000` and `0999999.123456` are 999,999,999,999,
 // `-999999.000000` is -999,999,000,000; `-999999.      ` and ` 999999.00000 ` are malformed.
-pub fn clock(s: &[u8], places: usize) -> Amount
+pub fn clock(s: &[u8], places: usize) -> Option<Signed>
     ensures result { told_amount result ≡ clock_answer s.now places }
 {
     match decimal(s, places, true) {
-        Amount::Value {
-            negative,
-            magnitude,
-        } => Amount::Value {
-            negative,
-            magnitude: known::clock_held(negative, magnitude, places),
-        },
-        Amount::Malformed => bare_clock(s, places),
+        Some(read) => Some(Signed {
+            negative: read.negative,
+            magnitude: known::clock_held(read.negative, read.magnitude, places),
+        }),
+        None => bare_clock(s, places),
     }
 }

@@ -2,26 +2,24 @@
 ghost use Rattle.std.specs.Prelude.{◌≡◌, nat_abs};
 ghost use Rattle.field.specs.Sign.{told_number, number_answer, is_negative};
 
-use crate::Number;
-
 // The largest magnitude that a number of the table has.
 pub const LARGEST: u64 = 999_999_999_999;
 
 // The largest clock or rate that is not absent.
 pub const LARGEST_CLOCK: u64 = 999_998_999_999;
 
-// The number with its sign; out of bounds (7) where its magnitude is above the largest, as 1,000,000,000,000 is. Minus zero is zero.
-pub fn number(negative: bool, magnitude: u64) -> Number
+// The number with its sign; none (7, out of bounds) where its magnitude is above the largest, as 1,000,000,000,000 is. Minus zero is zero.
+pub fn number(negative: bool, magnitude: u64) -> Option<i64>
     ensures result { told_number result ≡ number_answer negative magnitude }
 {
     let largest = LARGEST;
     if magnitude > largest {
-        return Number::OutOfBounds;
+        return None;
     }
     if negative {
-        Number::Value(-(magnitude as i64))
+        Some(-(magnitude as i64))
     } else {
-        Number::Value(magnitude as i64)
+        Some(magnitude as i64)
     }
 }
 

@@ -1,7 +1,7 @@
 -- The numbers of a row and of its note as they are, without the bound that storing them tests; of an accepted file nothing is cut off (file_laws, Exact).
 use Rattle.std.specs.Prelude.{List, [], ◌∷◌, ℤ, pos, replicate}
 use Rattle.field.specs.Sign.{signed_int}
-use Rattle.record.specs.declared.types.Signed.{Signed}
+use Rattle.field.specs.declared.Signed.{Signed}
 use Rattle.layout.specs.Kind.{unnoted}
 use Rattle.record.specs.declared.types.Row.{Row}
 use Rattle.record.specs.declared.types.Note.{Note}

@@ -22,7 +22,7 @@ use Rattle.header.specs.declared.types.Header.{Header}
 use Rattle.record.specs.declared.types.First.{First}
 use Rattle.record.specs.declared.types.Descriptor.{Descriptor}
 use Rattle.record.specs.declared.types.BaseLine.{BaseLine}
-use Rattle.record.specs.declared.types.Signed.{Signed}
+use Rattle.field.specs.declared.Signed.{Signed}
 use Rattle.record.specs.declared.types.Row.{Row}
 use Rattle.record.specs.declared.types.Note.{Note}
 use Rattle.file.specs.Kinds.{is_kind, is_row, is_note, of_kind, first_of_kind}

@@ -14,15 +14,13 @@ use Rattle.layout.specs.Fault.{clean, lower}
 use Rattle.layout.specs.Kind.{bound_fault, whole_fault, amount_fault, whole_held, amount_held}
 use Rattle.layout.specs.Layout.{Item, fault_at, fault_from}
 use Rattle.header.specs.declared.types.Rules.{Rules}
-use Rattle.field.specs.declared.Whole.{Whole}
-use Rattle.field.specs.declared.Whole.TheVariants as wholes
-use Rattle.field.specs.declared.Amount.{Amount}
-use Rattle.field.specs.declared.Amount.TheVariants as amounts
 use Rattle.record.specs.declared.types.LineKind.{LineKind}
 use Rattle.file.specs.Plain.{is_line, is_record}
 use Rattle.laws.proofs.Bools.{and_right}
 use Rattle.laws.proofs.Bounds.{within-true}
 use Rattle.layout.proofs.Again.{passed, item-clean}
+use Rattle.std.specs.Prelude.{Option, Some, None}
+use Rattle.field.specs.declared.Signed.{Signed}
 
 -- a record's line has no fault
 pub record-clean : (rules : Rules) (kind : LineKind) (fault : ℕ) (l : List ℕ) → is_record rules kind fault l ≡ true → fault ≡ clean
@@ -39,10 +37,10 @@ item-at (item ∷ items) (suc i) none line lowest h e = item-at items i none lin
 bounded : (column low high n : ℕ) → bound_fault column low high n ≡ clean → (low ≤ n) × (n ≤ high)
 bounded column low high n e = within-true low high n (passed (within low high n) 7 column (omega arith) e)
 
-pub whole-bounds : (column low high : ℕ) (a : Whole) → whole_fault column low high a ≡ clean → (low ≤ whole_held a) × (whole_held a ≤ high)
-whole-bounds column low high (wholes.Value n) e = bounded column low high n e
-whole-bounds column low high wholes.Malformed e = absurd (omega arith)
+pub whole-bounds : (column low high : ℕ) (a : Option ℕ) → whole_fault column low high a ≡ clean → (low ≤ whole_held a) × (whole_held a ≤ high)
+whole-bounds column low high (Some n) e = bounded column low high n e
+whole-bounds column low high None e = absurd (omega arith)
 
-pub amount-bounds : (column low high : ℕ) (a : Amount) → amount_fault column low high a ≡ clean → (low ≤ amount_held a) × (amount_held a ≤ high)
-amount-bounds column low high (amounts.Value negative m) e = bounded column low high m e
-amount-bounds column low high amounts.Malformed e = absurd (omega arith)
+pub amount-bounds : (column low high : ℕ) (a : Option Signed) → amount_fault column low high a ≡ clean → (low ≤ amount_held a) × (amount_held a ≤ high)
+amount-bounds column low high (Some held) e = bounded column low high held.magnitude e
+amount-bounds column low high None e = absurd (omega arith)

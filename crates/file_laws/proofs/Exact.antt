@@ -28,8 +28,6 @@ use Rattle.record.specs.Notes.{correlation, largest_correlation, correlation_sym
 use Rattle.header.specs.declared.types.Rules.{Rules}
 use Rattle.field.specs.declared.Exponent.{Exponent}
 use Rattle.field.specs.declared.Exponent.TheVariants as exponents
-use Rattle.field.specs.declared.Amount.{Amount}
-use Rattle.field.specs.declared.Amount.TheVariants as amounts
 use Rattle.record.specs.declared.types.Row.{Row}
 use Rattle.record.specs.declared.types.Note.{Note}
 use Rattle.file.specs.Plain.{row_kind, is_row_line}
@@ -43,6 +41,9 @@ use Rattle.record.proofs.Taking.{ClockSays, row-clock-says, row-taken}
 use Rattle.file_laws.proofs.Sorting.{row-record, row-kind}
 use Rattle.file_laws.proofs.Clean.{record-clean, item-at, amount-bounds}
 use Rattle.file.specs.Exact.{exact_numbers, exact_note, exact_none}
+use Rattle.std.specs.Prelude.{Option, Some, None}
+use Rattle.field.specs.declared.Signed.{Signed}
+use Rattle.field.specs.Read.{some_amount}
 
 -- a count within the bound is stored as it is
 pub count-exact : (n : ℕ) → n ≤ largest → stored_count n ≡ pos n
@@ -182,10 +183,10 @@ module _ (column : ℕ) (bytes : List ℕ) (f : fault_in correlation column byte
   correlation-bounded : (correlation_in bytes).magnitude ≤ unnoted
   correlation-bounded = go (every is_blank bytes) (signed_whole_of bytes) f
     where
-      go : (t : Bool) (a : Amount) → cond t clean (amount_fault column 0 largest_correlation a) ≡ clean → magnitude_in (cond t (amount false unnoted) (held_amount a)) ≤ unnoted
+      go : (t : Bool) (a : Option Signed) → cond t clean (amount_fault column 0 largest_correlation a) ≡ clean → magnitude_in (cond t (amount false unnoted) (held_amount a)) ≤ unnoted
       go true a h = omega arith
-      go false (amounts.Value n m) h = omega (arith, (amount-bounds column 0 largest_correlation (amounts.Value n m) h).1)
-      go false amounts.Malformed h = omega arith
+      go false (Some held) h = omega (arith, (amount-bounds column 0 largest_correlation (some_amount held.negative held.magnitude) h).1)
+      go false None h = omega arith
 
 -- the six magnitudes of a note
 pub record Noticed (n : Note) : Type 0 where

@@ -16,13 +16,13 @@ use Rattle.layout.specs.Fault.{clean}
 use Rattle.layout.specs.Kind.{amount_fault, same_bytes, unless}
 use Rattle.layout.specs.Line.{padded}
 use Rattle.record.specs.Rows.{cut}
-use Rattle.field.specs.declared.Amount.{Amount}
-use Rattle.field.specs.declared.Amount.TheVariants as amounts
 use Rattle.field.proofs.Accepted.{decimal-taken}
 use Rattle.laws.proofs.Bools.{and_left, and_right}
 use Rattle.layout.proofs.Again.{passed}
 use Rattle.layout.proofs.Fields.{same-one}
 use Rattle.layout.proofs.Lines.{padded-length}
+use Rattle.std.specs.Prelude.{Option, Some, None}
+use Rattle.field.specs.declared.Signed.{Signed}
 
 -- past its end a line counts as blank
 pub blank-past : (l : List ℕ) (i : ℕ) → length l ≤ i → i < 80 → get_or (padded l) i 0 ≡ 32
@@ -50,17 +50,17 @@ every-at test (b ∷ s) zero e h = and_left (test b) (every test s) e
 every-at test (b ∷ s) (suc i) e h = every-at test s i (and_right (test b) (every test s) e) (le_of_suc-le-suc h)
 
 -- the last column of a decimal is a digit
-last-digit : (s : List ℕ) (places : ℕ) (signed : Bool) (column low high : ℕ) (a : Amount) → decimal_of s places signed ≡ a → amount_fault column low high a ≡ clean
+last-digit : (s : List ℕ) (places : ℕ) (signed : Bool) (column low high : ℕ) (a : Option Signed) → decimal_of s places signed ≡ a → amount_fault column low high a ≡ clean
     → 1 ≤ places → is_digit (get_or s (length s - 1) 0) ≡ true
-last-digit s places signed column low high (amounts.Value n m) e f some =
-    let t = decimal-taken s places signed n m e in
+last-digit s places signed column low high (Some held) e f some =
+    let t = decimal-taken s places signed held.negative held.magnitude e in
     let after = point_of places (length s) + 1 in
     let room = t.room in
     let place : after + (places - 1) ≡ length s - 1 = omega arith in
     ap (λ (k : ℕ). is_digit (get_or s k 0)) (sym place)
     ∙ ap is_digit (sym (get_or-drop after s (places - 1) 0))
     ∙ every-at is_digit (drop after s) (places - 1) t.parts.digits (omega (arith, length-drop after s))
-last-digit s places signed column low high amounts.Malformed e f some = absurd (omega arith)
+last-digit s places signed column low high None e f some = absurd (omega arith)
 
 -- so a line with a decimal in its columns up to `last` has that column
 module _ (l : List ℕ) (first last : ℕ) (starts : 1 ≤ first) (ends : first ≤ last) (narrow : last ≤ 80) where

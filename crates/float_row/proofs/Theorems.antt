@@ -5,7 +5,7 @@ use mathlib.Core.Bool.{false≢true}
 use lib.Ieee.{nan, of_int, binary64}
 use lib.Ieee.Back.{round_whole}
 use Rattle.field.specs.Sign.{largest, signed_int}
-use Rattle.record.specs.declared.types.Signed.{Signed}
+use Rattle.field.specs.declared.Signed.{Signed}
 use Rattle.record.specs.declared.types.Row.{Row}
 use Rattle.laws.proofs.Bools.{and_both}
 use Rattle.field.proofs.Signs.{magnitude-back}

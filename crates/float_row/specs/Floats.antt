@@ -8,7 +8,7 @@ use Rattle.std.specs.Float.Ieee.Exact.{HasValue}
 use Rattle.lines.specs.Lines.{lines_of, nth}
 use Rattle.record.specs.Absence.{place_absent, clock_absent}
 use Rattle.file.specs.Table.{stored_signed}
-use Rattle.record.specs.declared.types.Signed.{Signed}
+use Rattle.field.specs.declared.Signed.{Signed}
 use Rattle.record.specs.declared.types.Row.{Row}
 use Rattle.float_row.specs.declared.FloatRow.{FloatRow}
 

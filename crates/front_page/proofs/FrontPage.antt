@@ -11,6 +11,7 @@ use denote.Ref.{Bor}
 use Words.*
 pub use Once.*
 pub use Determined.*
+use Rattle.std.specs.Prelude.{Some}
 
 -- THE VERSIONS. The rules of SP3-c and those of SP3-d are proper, and so are those that some bytes tell by their first two, `#c` or any other.
 pub c-is-proper : Proper c
@@ -741,7 +742,7 @@ pub long-comment : (s : State) (identifiers line : List ℕ) → is_kind c comme
 long-comment s identifiers line is long = comment-faults.long-comment s identifiers line is long
 
 -- and more than 85 satellites are 7 with column 4.
-pub more-than-85 : (line : List ℕ) (n : ℕ) → whole_of (part_of (count_item c) line) ≡ wholes.Value n → 85 < n → fault_at (count_item c) line ≡ keyed 7 4
+pub more-than-85 : (line : List ℕ) (n : ℕ) → whole_of (part_of (count_item c) line) ≡ Some n → 85 < n → fault_at (count_item c) line ≡ keyed 7 4
 more-than-85 line n is more = in_version.more-satellites-7 c line n is more
 
 -- One comment more than the version has earns 4, in SP3-c the fifth: a `/*` line behind lines without fault that have as many comments among them;

@@ -5,7 +5,6 @@ ghost use Rattle.header.specs.Rules.{max_satellites, max_epochs, min_comments};
 ghost use Rattle.header.specs.Header.{max_interval, max_place_base, max_clock_base, texts_printable, letters_listed, numbers_bounded, header_made, no_header, refused, header_of};
 
 use crate::types::{Bases, Header, HeaderAnswer, Moment, Texts};
-use calendar::Instant;
 use laws::within;
 
 // Whether the four texts have bytes 32 to 126 alone: a tab in the agency is none.
@@ -30,7 +29,7 @@ fn letters_listed(mode: u8, texts: Texts, file_type: u8, time_system: [u8; 3]) -
 }
 
 // The instant of a start; 7 where it is no date or no time of day.
-fn instant_of(m: Moment) -> Instant
+fn instant_of(m: Moment) -> Option<u64>
     ensures result { told_instant result ≡ instant_answer m.year m.month m.day m.hour m.minute m.second8 }
 {
     calendar::instant(m.year, m.month, m.day, m.hour, m.minute, m.second8)
@@ -153,7 +152,7 @@ impl Header {
         if !letters_listed(mode, texts, file_type, time_system) {
             return refuse(6);
         }
-        let Instant::At(start8) = instant_of(start) else {
+        let Some(start8) = instant_of(start) else {
             return refuse(7);
         };
         if !numbers_bounded(epochs, interval8, satellites, comments, bases) {

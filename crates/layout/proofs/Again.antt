@@ -20,12 +20,8 @@ use Rattle.layout.specs.Kind.{Kind, silent, same_bytes, is_one_of, is_listed, is
 use Rattle.layout.specs.Kind.Kind.{unused, fixed, whole, decimal, signed, clock, flag, letter, listed, identifier, filler, zero_whole, zero_decimal, text, maybe, maybe_signed}
 use Rattle.layout.specs.Kind.Held.{nothing, amount}
 use Rattle.layout.specs.Layout.{has_own, own_of, others_of, Item, Values, width_of, part_of, fault_at, tiled_from, tiled, fault_from, fault_of, values_of, can_show, entered}
-use Rattle.field.specs.declared.Whole.{Whole}
-use Rattle.field.specs.declared.Whole.TheVariants as wholes
 use Rattle.field.specs.declared.Exponent.{Exponent}
 use Rattle.field.specs.declared.Exponent.TheVariants as exponents
-use Rattle.field.specs.declared.Amount.{Amount}
-use Rattle.field.specs.declared.Amount.TheVariants as amounts
 use Rattle.laws.proofs.Bools.{and_left, and_right, and_both}
 use Rattle.field.proofs.Accepted.{settled-sign, decimal-taken, integer-minus, signed-whole-taken}
 use Rattle.field.proofs.ClockBack.{clock-again}
@@ -33,6 +29,9 @@ use Rattle.field.proofs.Again.{whole_again, exponent-again, decimal-again, signe
 use Rattle.layout.proofs.Identifiers.{identifier-again}
 use Rattle.layout.proofs.Fields.{not-false-true, same-one}
 use Rattle.layout.proofs.Layouts.{stands, start-bound}
+use Rattle.std.specs.Prelude.{Option, Some, None}
+use Rattle.field.specs.declared.Signed.{Signed}
+use Rattle.field.specs.Read.{some_amount}
 
 -- a key has a number, so it is no fault's absence
 no_key : (number column : ℕ) → 0 < number → keyed number column ≡ clean → ⊥
@@ -46,56 +45,56 @@ passed false number column p e = absurd (no_key number column p e)
 bound-passed : (column low high n : ℕ) → bound_fault column low high n ≡ clean → within low high n ≡ true
 bound-passed column low high n e = passed (within low high n) 7 column (omega arith) e
 
-holds-whole : (low high column : ℕ) (bs : List ℕ) (a : Whole) → whole_of bs ≡ a → whole_fault column low high a ≡ clean
+holds-whole : (low high column : ℕ) (bs : List ℕ) (a : Option ℕ) → whole_of bs ≡ a → whole_fault column low high a ≡ clean
     → (within low high (whole_held a) && fits_whole (length bs) (whole_held a)) ≡ true
-holds-whole low high column bs (wholes.Value n) e f = and_both (within low high n) (fits_whole (length bs) n) (bound-passed column low high n f) (whole_again bs n e)
-holds-whole low high column bs wholes.Malformed e f = absurd (no_key 6 column (omega arith) f)
+holds-whole low high column bs (Some n) e f = and_both (within low high n) (fits_whole (length bs) n) (bound-passed column low high n f) (whole_again bs n e)
+holds-whole low high column bs None e f = absurd (no_key 6 column (omega arith) f)
 
 -- no minus is read where none is allowed
-plain-sign : (bs : List ℕ) (places : ℕ) (n : Bool) (m : ℕ) → decimal_of bs places false ≡ amounts.Value n m → n ≡ false
+plain-sign : (bs : List ℕ) (places : ℕ) (n : Bool) (m : ℕ) → decimal_of bs places false ≡ some_amount n m → n ≡ false
 unfolding minus_first
 plain-sign bs places n m e =
     let c = (decimal-taken bs places false n m e).parts in
     sym c.sign ∙ rw (sym (integer-minus false _ c.minus c.high c.integer))
 
-holds-decimal : (places low high column : ℕ) (bs : List ℕ) (a : Amount) → decimal_of bs places false ≡ a → amount_fault column low high a ≡ clean
+holds-decimal : (places low high column : ℕ) (bs : List ℕ) (a : Option Signed) → decimal_of bs places false ≡ a → amount_fault column low high a ≡ clean
     → (within low high (amount_held a) && fits_decimal (length bs) places false (amount_held a)) ≡ true
-holds-decimal places low high column bs (amounts.Value n m) e f =
-    and_both (within low high m) (fits_decimal (length bs) places false m) (bound-passed column low high m f)
-    (ap (λ (t : Bool). fits_decimal (length bs) places t m) (sym (plain-sign bs places n m e)) ∙ decimal-again bs places false n m e)
-holds-decimal places low high column bs amounts.Malformed e f = absurd (no_key 6 column (omega arith) f)
+holds-decimal places low high column bs (Some held) e f =
+    and_both (within low high held.magnitude) (fits_decimal (length bs) places false held.magnitude) (bound-passed column low high held.magnitude f)
+    (ap (λ (t : Bool). fits_decimal (length bs) places t held.magnitude) (sym (plain-sign bs places held.negative held.magnitude e)) ∙ decimal-again bs places false held.negative held.magnitude e)
+holds-decimal places low high column bs None e f = absurd (no_key 6 column (omega arith) f)
 
-holds-signed : (places column : ℕ) (bs : List ℕ) (a : Amount) → decimal_of bs places true ≡ a → amount_fault column 0 largest a ≡ clean
+holds-signed : (places column : ℕ) (bs : List ℕ) (a : Option Signed) → decimal_of bs places true ≡ a → amount_fault column 0 largest a ≡ clean
     → can_amount (length bs) places (sign_held a) (amount_held a) ≡ true
-holds-signed places column bs (amounts.Value n m) e f =
-    let c = (decimal-taken bs places true n m e).parts in
-    and_both (leb m largest) _ (and_right (leb 0 m) (leb m largest) (bound-passed column 0 largest m f))
-    (and_both (fits_decimal (length bs) places n m) _ (decimal-again bs places true n m e) (settled-sign c.minus n m c.sign))
-holds-signed places column bs amounts.Malformed e f = absurd (no_key 6 column (omega arith) f)
+holds-signed places column bs (Some held) e f =
+    let c = (decimal-taken bs places true held.negative held.magnitude e).parts in
+    and_both (leb held.magnitude largest) _ (and_right (leb 0 held.magnitude) (leb held.magnitude largest) (bound-passed column 0 largest held.magnitude f))
+    (and_both (fits_decimal (length bs) places held.negative held.magnitude) _ (decimal-again bs places true held.negative held.magnitude e) (settled-sign c.minus held.negative held.magnitude c.sign))
+holds-signed places column bs None e f = absurd (no_key 6 column (omega arith) f)
 
 -- a clock that was read, an absent one too
-holds-clock : (places column : ℕ) (bs : List ℕ) (a : Amount) → clock_of bs places ≡ a → amount_fault column 0 largest a ≡ clean
+holds-clock : (places column : ℕ) (bs : List ℕ) (a : Option Signed) → clock_of bs places ≡ a → amount_fault column 0 largest a ≡ clean
     → can_clock (length bs) places (sign_held a) (amount_held a) ≡ true
-holds-clock places column bs (amounts.Value n m) e f =
-    let c = clock-again bs places n m e in
-    and_both (can_amount (length bs) places n m) _
-    (and_both (leb m largest) _ (and_right (leb 0 m) (leb m largest) (bound-passed column 0 largest m f))
-    (and_both (fits_decimal (length bs) places n m) _ c.fits c.sign))
+holds-clock places column bs (Some held) e f =
+    let c = clock-again bs places held.negative held.magnitude e in
+    and_both (can_amount (length bs) places held.negative held.magnitude) _
+    (and_both (leb held.magnitude largest) _ (and_right (leb 0 held.magnitude) (leb held.magnitude largest) (bound-passed column 0 largest held.magnitude f))
+    (and_both (fits_decimal (length bs) places held.negative held.magnitude) _ c.fits c.sign))
     c.kept
-holds-clock places column bs amounts.Malformed e f = absurd (no_key 6 column (omega arith) f)
+holds-clock places column bs None e f = absurd (no_key 6 column (omega arith) f)
 
 -- a number that may be unknown, with a minus or none
-holds-noted : (none high column : ℕ) (bs : List ℕ) → high < none → (t : Bool) → every is_blank bs ≡ t → (a : Amount) → signed_whole_of bs ≡ a
+holds-noted : (none high column : ℕ) (bs : List ℕ) → high < none → (t : Bool) → every is_blank bs ≡ t → (a : Option Signed) → signed_whole_of bs ≡ a
     → cond t clean (amount_fault column 0 high a) ≡ clean → amount_with (can_signed (length bs) none high) (cond t (amount false none) (held_amount a)) ≡ true
 holds-noted none high column bs apart true q a e f = rw (eq-eqb none none refl)
-holds-noted none high column bs apart false q (amounts.Value n m) e f =
-    let c = (signed-whole-taken bs n m e).1 in
-    let bound = and_right (leb 0 m) (leb m high) (bound-passed column 0 high m f) in
-    let other = ne_eqb m none (λ same. omega (arith, leb-true m high bound)) in
+holds-noted none high column bs apart false q (Some held) e f =
+    let c = (signed-whole-taken bs held.negative held.magnitude e).1 in
+    let bound = and_right (leb 0 held.magnitude) (leb held.magnitude high) (bound-passed column 0 high held.magnitude f) in
+    let other = ne_eqb held.magnitude none (λ same. omega (arith, leb-true held.magnitude high bound)) in
     rw other
-    (and_both (leb m high) _ bound
-    (and_both (fits_signed (length bs) n m) _ (signed-again bs n m e) (settled-sign c.minus n m c.sign)))
-holds-noted none high column bs apart false q amounts.Malformed e f = absurd (no_key 6 column (omega arith) f)
+    (and_both (leb held.magnitude high) _ bound
+    (and_both (fits_signed (length bs) held.negative held.magnitude) _ (signed-again bs held.negative held.magnitude e) (settled-sign c.minus held.negative held.magnitude c.sign)))
+holds-noted none high column bs apart false q None e f = absurd (no_key 6 column (omega arith) f)
 
 holds-maybe : (none column : ℕ) (bs : List ℕ) (a : Exponent) → exponent_of bs ≡ a → exponent_fault column a ≡ clean
     → (eqb (maybe_held none a) none || fits_whole (length bs) (maybe_held none a)) ≡ true

@@ -19,8 +19,6 @@ use Rattle.layout.specs.Kind.{Kind, Held, number_in, negative_in, magnitude_in, 
 use Rattle.layout.specs.Kind.Kind.{unused, fixed, whole, decimal, signed, clock, flag, letter, listed, identifier, filler, zero_whole, zero_decimal, text, maybe, maybe_signed}
 use Rattle.layout.specs.Kind.Held.{nothing, one, amount, mark, words}
 use Rattle.field.specs.declared.Exponent.TheVariants as exponents
-use Rattle.field.specs.declared.Amount.{Amount}
-use Rattle.field.specs.declared.Amount.TheVariants as amounts
 use Rattle.laws.proofs.Bools.{and_left, and_right}
 use Rattle.field.proofs.Back.{whole_back, exponent-back, decimal-back, signed_back}
 use Rattle.field.proofs.ClockBack.{clock-back}
@@ -28,6 +26,9 @@ use Rattle.field.proofs.Shown.{integer-printable, decimal-printable}
 use Rattle.layout.proofs.Lines.{blanks-length}
 use Rattle.layout.proofs.Shown.{whole-put, whole_wide, places-put, places-wide, printable-byte, blanks-clean, blanks-printable, blanks-blank, text-wide, text-whole, signed-put, signed-wide, signed-inked}
 use Rattle.layout.proofs.Identifiers.{identifier-named, identifier-bounds, identifier-code, identifier-printable}
+use Rattle.std.specs.Prelude.{Option}
+use Rattle.field.specs.declared.Signed.{Signed}
+use Rattle.field.specs.Read.{some_amount}
 
 pub not-false-true : false ≡ true → ⊥
 not-false-true e = let z : ◌≡◌ {A = ℕ} 0 1 = ap (λ (t : Bool). cond t 1 0) e in omega arith
@@ -155,7 +156,7 @@ module _ (places w : ℕ) (negative : Bool) (m : ℕ) (h : can_amount w places n
   sign = sign-shown negative m (and_right (fits_decimal w places negative m) (not negative || ltb 0 m) rest-holds)
 
   -- what is shown is kept, whoever reads it back: a reader of decimals, a reader of clocks
-  keeps-by : (of : List ℕ → Amount) → of (show_decimal w places negative m) ≡ amounts.Value negative m
+  keeps-by : (of : List ℕ → Option Signed) → of (show_decimal w places negative m) ≡ some_amount negative m
       → ((column : ℕ) → amount_fault column 0 largest (of (put_decimal places negative m (blanks w))) ≡ clean)
       × (held_amount (of (put_decimal places negative m (blanks w))) ≡ amount negative m)
   keeps-by of read =
@@ -168,7 +169,7 @@ module _ (places w : ℕ) (negative : Bool) (m : ℕ) (h : can_amount w places n
 
   keeps-signed : Keeps (signed places) w (amount negative m)
   keeps-signed =
-      let kept = keeps-by (λ bs. decimal_of bs places true) (decimal-back w places negative m fits true (λ q. refl) ∙ ap (λ (n : Bool). amounts.Value n m) sign) in
+      let kept = keeps-by (λ bs. decimal_of bs places true) (decimal-back w places negative m fits true (λ q. refl) ∙ ap (λ (n : Bool). some_amount n m) sign) in
       record { plain = plain-shown; sound = kept.0; back = kept.1 }
 
   keeps-clock : clock_kept places negative m ≡ true → Keeps (clock places) w (amount negative m)

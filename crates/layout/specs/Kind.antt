@@ -13,12 +13,10 @@ use Rattle.field.specs.Clock.{clock_of, clock_kept}
 use Rattle.field.specs.Show.{fits_whole, put_whole, fits_signed, put_signed, fits_decimal, put_decimal}
 use Rattle.field.specs.Sign.{largest}
 use Rattle.layout.specs.Fault.{clean, keyed}
-use Rattle.field.specs.declared.Whole.{Whole}
-use Rattle.field.specs.declared.Whole.TheVariants as wholes
 use Rattle.field.specs.declared.Exponent.{Exponent}
 use Rattle.field.specs.declared.Exponent.TheVariants as exponents
-use Rattle.field.specs.declared.Amount.{Amount}
-use Rattle.field.specs.declared.Amount.TheVariants as amounts
+use Rattle.std.specs.Prelude.{Option, Some, None}
+use Rattle.field.specs.declared.Signed.{Signed}
 
 -- what a field's columns can be
 pub data Kind : Type 0 where
@@ -163,14 +161,14 @@ abbrev pub bound_fault : ℕ → ℕ → ℕ → ℕ → ℕ
 bound_fault column low high n = unless (within low high n) 7 column
 
 -- a whole number within its bounds
-abbrev pub whole_fault : ℕ → ℕ → ℕ → Whole → ℕ
-whole_fault column low high (wholes.Value n) = bound_fault column low high n
-whole_fault column low high wholes.Malformed = keyed 6 column
+abbrev pub whole_fault : ℕ → ℕ → ℕ → Option ℕ → ℕ
+whole_fault column low high (Some n) = bound_fault column low high n
+whole_fault column low high None = keyed 6 column
 
 -- a decimal within its bounds
-abbrev pub amount_fault : ℕ → ℕ → ℕ → Amount → ℕ
-amount_fault column low high (amounts.Value negative m) = bound_fault column low high m
-amount_fault column low high amounts.Malformed = keyed 6 column
+abbrev pub amount_fault : ℕ → ℕ → ℕ → Option Signed → ℕ
+amount_fault column low high (Some held) = bound_fault column low high held.magnitude
+amount_fault column low high None = keyed 6 column
 
 -- an exponent
 abbrev pub exponent_fault : ℕ → Exponent → ℕ
@@ -179,13 +177,13 @@ exponent_fault column exponents.Unknown = clean
 exponent_fault column exponents.Malformed = keyed 6 column
 
 -- a placeholder of zero
-abbrev pub is_zero : Whole → Bool
-is_zero (wholes.Value n) = eqb n 0
-is_zero wholes.Malformed = false
+abbrev pub is_zero : Option ℕ → Bool
+is_zero (Some n) = eqb n 0
+is_zero None = false
 
-abbrev pub is_zeros : Amount → Bool
-is_zeros (amounts.Value negative m) = eqb m 0
-is_zeros amounts.Malformed = false
+abbrev pub is_zeros : Option Signed → Bool
+is_zeros (Some held) = eqb held.magnitude 0
+is_zeros None = false
 
 -- an identifier's letter and digits
 abbrev pub named : List ℕ → Bool
@@ -224,17 +222,17 @@ fault_in text column bs = clean
 
 -- The values. What is malformed holds 0.
 
-abbrev pub whole_held : Whole → ℕ
-whole_held (wholes.Value n) = n
-whole_held wholes.Malformed = 0
+abbrev pub whole_held : Option ℕ → ℕ
+whole_held (Some n) = n
+whole_held None = 0
 
-abbrev pub amount_held : Amount → ℕ
-amount_held (amounts.Value negative m) = m
-amount_held amounts.Malformed = 0
+abbrev pub amount_held : Option Signed → ℕ
+amount_held (Some held) = held.magnitude
+amount_held None = 0
 
-abbrev pub sign_held : Amount → Bool
-sign_held (amounts.Value negative m) = negative
-sign_held amounts.Malformed = false
+abbrev pub sign_held : Option Signed → Bool
+sign_held (Some held) = held.negative
+sign_held None = false
 
 abbrev pub maybe_held : ℕ → Exponent → ℕ
 maybe_held none (exponents.Value n) = n
@@ -245,7 +243,7 @@ abbrev pub exponent_held : Exponent → ℕ
 exponent_held e = maybe_held unknown e
 
 -- a sign and a magnitude
-abbrev pub held_amount : Amount → Held
+abbrev pub held_amount : Option Signed → Held
 held_amount a = amount (sign_held a) (amount_held a)
 
 -- what a field's bytes hold

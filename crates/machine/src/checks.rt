@@ -4,12 +4,9 @@ ghost use Rattle.laws.specs.Texts.{every};
 ghost use Rattle.record.specs.Agrees.{instant_in, second_agrees, letter_of, type_agrees};
 ghost use Rattle.machine.specs.Faults.{first_unprintable};
 
-use calendar::{Instant, Week};
+use calendar::DAY;
 use header::Moment;
 use record::Second;
-
-// One day in 10^-8 s.
-const DAY: u64 = 8_640_000_000_000;
 
 // The column of the first byte outside 32 to 126, counted from 1, in a line that has one.
 pub(crate) fn first_unprintable(line: &[u8]) -> usize
@@ -29,24 +26,19 @@ pub(crate) fn first_unprintable(line: &[u8]) -> usize
 pub fn instant_in(m: Moment) -> u64
     ensures result { result ≡ instant_in m }
 {
-    let Instant::At(instant) = calendar::instant(
-        m.year, m.month, m.day, m.hour, m.minute, m.second8,
-    ) else {
-        return 0;
-    };
-    instant
+    calendar::instant(m.year, m.month, m.day, m.hour, m.minute, m.second8).unwrap_or(0)
 }
 
 // Whether week, seconds of week, MJD and fraction of line 2 are those of the start.
 pub(crate) fn second_agrees(start8: u64, second: Second) -> bool
     ensures { result ≡ second_agrees start8 second }
 {
-    let Week::Of { week, second8 } = calendar::week_of(start8) else {
+    let Some(start) = calendar::week_of(start8) else {
         return false;
     };
     let day = start8 / DAY == second.mjd;
     let fraction = calendar::fraction_agrees(second.fraction13, start8 % DAY);
-    ((week == second.week) & (second8 == second.seconds8)) & (day & fraction)
+    ((start.week == second.week) & (start.second8 == second.seconds8)) & (day & fraction)
 }
 
 // Whether every identifier begins with a letter.

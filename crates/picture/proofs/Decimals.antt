@@ -10,15 +10,15 @@ use Rattle.field.specs.Digits.{all_digits, value_from}
 use Rattle.field.specs.Read.{integer_of, decimal_of, settled}
 use Rattle.field.specs.Clock.{all_nines, is_nines, clock_held}
 use Rattle.field.specs.Sign.{largest}
-use Rattle.field.specs.declared.Amount.TheVariants as amount
 use Rattle.field.proofs.Bounds.{decimal-bound}
 use Rattle.field.proofs.Clocks.{clock-decimal}
 use Rattle.layout.specs.Fault.{clean}
 use Rattle.layout.specs.Kind.{amount_fault, fault_in}
 use Rattle.layout.specs.Kind.Kind.{signed, clock}
 use Rattle.picture.proofs.Integers.{led_from, integer-led}
+use Rattle.field.specs.Read.{some_amount}
 
-within-bounds : (column : ℕ) (n : Bool) (m : ℕ) → m < 1000000000000 → amount_fault column 0 largest (amount.Value n m) ≡ clean
+within-bounds : (column : ℕ) (n : Bool) (m : ℕ) → m < 1000000000000 → amount_fault column 0 largest (some_amount n m) ≡ clean
 within-bounds column n m h = rw (le-leb 0 m (omega arith), le-leb m 999999999999 (omega arith))
 
 -- what is held of a clock within the bounds is within them
@@ -41,7 +41,7 @@ module _ (b1 b2 b3 b4 b5 b6 c1 c2 c3 c4 c5 c6 : ℕ) where
   thirteen = b1 ∷ b2 ∷ b3 ∷ b4 ∷ b5 ∷ b6 ∷ 46 ∷ c1 ∷ c2 ∷ c3 ∷ c4 ∷ c5 ∷ c6 ∷ []
 
   -- the thirteen columns after the first are such a decimal already
-  read-thirteen : (n : Bool) (v : ℕ) → integer_of true before ≡ amount.Value n v → all_digits after ≡ true
+  read-thirteen : (n : Bool) (v : ℕ) → integer_of true before ≡ some_amount n v → all_digits after ≡ true
       → decimal_of thirteen 6 true ≡ settled n (value_from v after)
   unfolding decimal_of
   read-thirteen n v e d = rw (e, d)

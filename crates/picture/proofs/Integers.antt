@@ -9,9 +9,9 @@ use lib.Dec.{leb, eqb}
 use lib.ListN.{length}
 use Rattle.field.specs.Digits.{is_digit, all_digits, value_from}
 use Rattle.field.specs.Read.{digits_from, number_of, minus_first, signed_of, integer_of}
-use Rattle.field.specs.declared.Whole.TheVariants as whole
-use Rattle.field.specs.declared.Amount.TheVariants as amount
 use Rattle.laws.proofs.Bools.{and_left, and_right, and_both}
+use Rattle.std.specs.Prelude.{Some}
+use Rattle.field.specs.Read.{some_amount}
 
 -- whether b may stand after p: a digit after anything, a blank or a minus after a blank
 abbrev pub may_follow : ℕ → ℕ → Bool
@@ -43,7 +43,7 @@ after-digit p (b ∷ s) e h =
     and_both (is_digit b) (all_digits s) d (after-digit b s d (and_right (may_follow p b) (led_from b s) h))
 
 -- a digit and what may follow it is a number
-pub digits_number : (b : ℕ) (s : List ℕ) → is_digit b ≡ true → all_digits s ≡ true → number_of (b ∷ s) ≡ whole.Value (value_from 0 (b ∷ s))
+pub digits_number : (b : ℕ) (s : List ℕ) → is_digit b ≡ true → all_digits s ≡ true → number_of (b ∷ s) ≡ Some (value_from 0 (b ∷ s))
 unfolding number_of digits_from
 digits_number b s d h =
     let some : eqb (length (b ∷ s)) 0 ≡ false = ne_eqb (length (b ∷ s)) 0 (λ q. omega arith) in
@@ -51,9 +51,9 @@ digits_number b s d h =
 
 -- a number that is taken, whatever its sign and value
 abbrev pub Taken : List ℕ → Type 0
-Taken s = (n : Bool) × (v : ℕ) × (integer_of true s ≡ amount.Value n v)
+Taken s = (n : Bool) × (v : ℕ) × (integer_of true s ≡ some_amount n v)
 
-after_minus : (s : List ℕ) → led_from 45 s ≡ true → (v : ℕ) × (number_of s ≡ whole.Value v)
+after_minus : (s : List ℕ) → led_from 45 s ≡ true → (v : ℕ) × (number_of s ≡ Some v)
 after_minus [] h = absurd (not_digit h)
   where
     not_digit : false ≡ true → ⊥

@@ -29,8 +29,8 @@ use Rattle.questions.specs.Questions.{text_in, no_comment, comment_line, comment
 use Rattle.header.specs.declared.types.Rules.{Rules}
 use Rattle.record.specs.declared.types.First.{First}
 use Rattle.scan.specs.declared.Tally.{Tally}
-use Rattle.scan.specs.declared.Front.{Front}
-use Rattle.scan.specs.declared.Front.TheVariants as front
+use Rattle.scan.specs.Front.{Front}
+use Rattle.scan.specs.Front as front
 use Rattle.questions.specs.declared.types.CommentAnswer.{CommentAnswer}
 use Rattle.questions.specs.declared.types.RowBegins.{RowBegins}
 use Rattle.questions.specs.declared.types.SatelliteAnswer.{SatelliteAnswer}

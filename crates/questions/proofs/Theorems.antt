@@ -21,8 +21,9 @@ use Rattle.reader.specs.Reading.{file_of, identifiers_of}
 use Rattle.questions.specs.Questions.{text_in, comment_line, comment_begins, comment_answer, comment_words, epochs_of, row_index, row_begins}
 use Rattle.header.specs.declared.types.Rules.{Rules}
 use Rattle.scan.specs.declared.Tally.{Tally}
-use Rattle.scan.specs.declared.Front.{Front}
-use Rattle.scan.specs.declared.Front.TheVariants as front
+use Rattle.std.specs.Prelude.{Ok, Err}
+use Rattle.scan.specs.Front.{Front}
+use Rattle.scan.specs.Front as front
 use Rattle.laws.proofs.Lists.{rest-none}
 use Rattle.layout.proofs.Lines.{trimmed-front, trimmed-shorter}
 use Rattle.lines.proofs.Picking.{placed}
@@ -122,12 +123,12 @@ module _ {rules : Rules} (sound : Sound rules) where
   handed : (bytes : List ℕ) (k : ℕ) (f : Front) → file_of rules bytes ≡ f
       → take (comment_answer rules bytes (file_of rules bytes) k).length (drop (comment_answer rules bytes (file_of rules bytes) k).at bytes) ≡ comment_words rules bytes (file_of rules bytes) k
   unfolding comment_answer comment_words
-  handed bytes k (front.File t) e = go (dec_lt k t.comments)
+  handed bytes k (Ok t) e = go (dec_lt k t.comments)
     where
       go : Dec (k < t.comments) → take (comment_answer rules bytes (file_of rules bytes) k).length (drop (comment_answer rules bytes (file_of rules bytes) k).at bytes) ≡ comment_words rules bytes (file_of rules bytes) k
       go (yes h) = comment-stretch bytes t e k h
       go (no h) = rw (e, le-ltb k t.comments (omega arith))
-  handed bytes k (front.Refused number line column) e = rw e
+  handed bytes k (Err refusal) e = rw e
 
 -- what the contract of `comment` promises of a result r
 abbrev pub CommentPost : Out 1 kinds.ps kinds.r

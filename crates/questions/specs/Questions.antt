@@ -10,8 +10,9 @@ use Rattle.record.specs.Rows.{row_of}
 use Rattle.file.specs.Kinds.{is_kind, of_kind}
 use Rattle.file.specs.Table.{first_in, count_of}
 use Rattle.header.specs.declared.types.Rules.{Rules}
-use Rattle.scan.specs.declared.Front.{Front}
-use Rattle.scan.specs.declared.Front.TheVariants as front
+use Rattle.std.specs.Prelude.{Ok, Err}
+use Rattle.scan.specs.Front.{Front}
+use Rattle.scan.specs.Front as front
 use Rattle.reader.specs.Reading.{lines_to, identifiers_of}
 use Rattle.float_row.specs.Floats.{float_row, absent_row, line_from}
 use Rattle.questions.specs.declared.types.CommentAnswer.{CommentAnswer}
@@ -44,13 +45,13 @@ comment_at rules lines k = record {
 }
 
 unfoldable pub comment_answer : Rules → List ℕ → Front → ℕ → CommentAnswer
-comment_answer rules bytes (front.File t) k = cond (ltb k t.comments) (comment_at rules (lines_to t.end bytes) k) (no_comment 13 0 0)
-comment_answer rules bytes (front.Refused number line column) k = no_comment number line column
+comment_answer rules bytes (Ok t) k = cond (ltb k t.comments) (comment_at rules (lines_to t.end bytes) k) (no_comment 13 0 0)
+comment_answer rules bytes (Err refusal) k = no_comment refusal.number refusal.line refusal.column
 
 -- the text itself, empty on a refusal
 unfoldable pub comment_words : Rules → List ℕ → Front → ℕ → List ℕ
-comment_words rules bytes (front.File t) k = cond (ltb k t.comments) (text_in (comment_line rules (lines_to t.end bytes) k)) []
-comment_words rules bytes (front.Refused number line column) k = []
+comment_words rules bytes (Ok t) k = cond (ltb k t.comments) (text_in (comment_line rules (lines_to t.end bytes) k)) []
+comment_words rules bytes (Err refusal) k = []
 
 -- the identifier that a text names: a capital letter and 01 to 99, as one number (G07 is 7107); 0, which is no satellite, for any other text
 unfoldable pub identifier_named : List ℕ → ℕ
@@ -70,8 +71,8 @@ satellite_in identifier identifiers =
     cond (ltb (index_of identifier identifiers) (length identifiers)) (record { refusal = 0; line = 0; column = 0; number = index_of identifier identifiers }) (no_satellite 13 0 0)
 
 unfoldable pub satellite_answer : Rules → List ℕ → Front → ℕ → SatelliteAnswer
-satellite_answer rules bytes (front.File t) identifier = satellite_in identifier (identifiers_of rules (lines_to t.end bytes))
-satellite_answer rules bytes (front.Refused number line column) identifier = no_satellite number line column
+satellite_answer rules bytes (Ok t) identifier = satellite_in identifier (identifiers_of rules (lines_to t.end bytes))
+satellite_answer rules bytes (Err refusal) identifier = no_satellite refusal.number refusal.line refusal.column
 
 -- Where the P line of (epoch, satellite) lies in an accepted file: it is the (epoch times n plus satellite)-th P line.
 abbrev pub epochs_of : Rules → List (List ℕ) → ℕ
@@ -93,8 +94,8 @@ row_at rules lines epoch satellite =
     (no_row 13 0 0)
 
 unfoldable pub row_begins : Rules → List ℕ → Front → ℕ → ℕ → RowBegins
-row_begins rules bytes (front.File t) epoch satellite = row_at rules (lines_to t.end bytes) epoch satellite
-row_begins rules bytes (front.Refused number line column) epoch satellite = no_row number line column
+row_begins rules bytes (Ok t) epoch satellite = row_at rules (lines_to t.end bytes) epoch satellite
+row_begins rules bytes (Err refusal) epoch satellite = no_row refusal.number refusal.line refusal.column
 
 -- its row as floats, or the refusal with both absent
 unfoldable pub row_answer : List ℕ → RowBegins → RowAnswer

@@ -9,7 +9,6 @@ ghost use Rattle.questions.specs.Questions.{text_in, no_comment, comment_at, com
 use crate::types::CommentAnswer;
 use header::Rules;
 use record::kind::COMMENT_KIND;
-use scan::Front;
 
 // The text of a comment's line: from column 4 on, without trailing blanks. It lies at column 4, or at the line's end where the line is shorter.
 fn text_of(line: &[u8]) -> &[u8]
@@ -60,12 +59,8 @@ pub fn comment_answer(file: &[u8], k: u64) -> CommentAnswer
 {
     let rules = Rules::told_by(file);
     match scan::scan_whole(rules, file) {
-        Front::Refused {
-            number,
-            line,
-            column,
-        } => no_comment(number, line, column),
-        Front::File(tally) => {
+        Err(refusal) => no_comment(refusal.number, refusal.line, refusal.column),
+        Ok(tally) => {
             if k < tally.comments {
                 let end = tally.end;
                 return comment_at(rules, &file[0..end], k);
@@ -82,12 +77,8 @@ pub fn comment(file: &[u8], k: u64) -> &[u8]
 {
     let rules = Rules::told_by(file);
     match scan::scan_whole(rules, file) {
-        Front::Refused {
-            number: _,
-            line: _,
-            column: _,
-        } => file::nothing_at(file, 0),
-        Front::File(tally) => {
+        Err(_) => file::nothing_at(file, 0),
+        Ok(tally) => {
             if k < tally.comments {
                 let end = tally.end;
                 return text_of(file::line_of(rules, &file[0..end], COMMENT_KIND, k));

@@ -10,7 +10,6 @@ ghost use Rattle.questions.specs.Questions.{epochs_of, no_row, row_at, row_begin
 use crate::types::{RowAnswer, RowBegins};
 use header::Rules;
 use record::kind::POSITION_KIND;
-use scan::Front;
 
 // A refusal beside no row.
 fn no_row(number: usize, line: u64, column: usize) -> RowBegins
@@ -48,12 +47,8 @@ pub fn row_begins(file: &[u8], epoch: u64, satellite: u64) -> RowBegins
 {
     let rules = Rules::told_by(file);
     match scan::scan_whole(rules, file) {
-        Front::Refused {
-            number,
-            line,
-            column,
-        } => no_row(number, line, column),
-        Front::File(tally) => {
+        Err(refusal) => no_row(refusal.number, refusal.line, refusal.column),
+        Ok(tally) => {
             let end = tally.end;
             row_at(rules, &file[0..end], epoch, satellite)
         }

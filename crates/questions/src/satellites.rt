@@ -11,7 +11,6 @@ ghost use Rattle.questions.specs.Questions.{identifier_named, index_of, no_satel
 
 use crate::types::SatelliteAnswer;
 use header::{Header, Rules};
-use scan::Front;
 
 // The number of an identifier among others, or how many there are.
 fn index_of(identifier: u64, identifiers: &[u64]) -> usize
@@ -125,12 +124,8 @@ pub fn satellite_of(file: &[u8], identifier: u64) -> SatelliteAnswer
 {
     let rules = Rules::told_by(file);
     match scan::scan_whole(rules, file) {
-        Front::Refused {
-            number,
-            line,
-            column,
-        } => no_satellite(number, line, column),
-        Front::File(tally) => {
+        Err(refusal) => no_satellite(refusal.number, refusal.line, refusal.column),
+        Ok(tally) => {
             let end = tally.end;
             satellite_among(rules, &file[0..end], identifier)
         }

@@ -26,8 +26,8 @@ use Rattle.file.proofs.Wide.{rows-many}
 use Rattle.file_laws.proofs.Counts.{comment-wide}
 use Rattle.header.specs.declared.types.Rules.{Rules}
 use Rattle.scan.specs.declared.Tally.{Tally}
-use Rattle.scan.specs.declared.Front.{Front}
-use Rattle.scan.specs.declared.Front.TheVariants as front
+use Rattle.scan.specs.Front.{Front}
+use Rattle.scan.specs.Front as front
 use Rattle.reader.specs.Reading.{refused_with, lines_to, judged, Accounted, room_for, enough, delivered, lines_in, filled, identifiers_of, exponents_of}
 use Rattle.reader.specs.declared.types.Reading.{Reading}
 use Rattle.reader.proofs.Found.{front-part, file-accounted}

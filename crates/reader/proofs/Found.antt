@@ -14,19 +14,20 @@ use Rattle.scan_laws.proofs.Local.{whole-ends}
 use Rattle.header.specs.declared.types.Header.{Header}
 use Rattle.header.specs.declared.types.Rules.{Rules}
 use Rattle.scan.specs.declared.Tally.{Tally}
-use Rattle.scan.specs.declared.Front.{Front}
-use Rattle.scan.specs.declared.Front.TheVariants as front
+use Rattle.std.specs.Prelude.{Ok, Err}
+use Rattle.scan.specs.Front.{Front}
+use Rattle.scan.specs.Front as front
 use Rattle.reader.specs.Reading.{refused_with, lines_to, judged, front_of, file_of, Accounted}
 use Rattle.reader.specs.declared.types.Reading.{Reading}
 
 -- the counts of what a scan found are those of the lines
 accounted-front : (rules : Rules) (bytes : List ℕ) (f : Front) → scan_of rules bytes ≡ f → Accounted rules bytes f
-accounted-front rules bytes (front.File t) e = let a = accepted-front rules bytes t e in (a.within, a.comments, a.rows)
-accounted-front rules bytes (front.Refused number line column) e = tt
+accounted-front rules bytes (Ok t) e = let a = accepted-front rules bytes t e in (a.within, a.comments, a.rows)
+accounted-front rules bytes (Err refusal) e = tt
 
 accounted-whole : (rules : Rules) (bytes : List ℕ) (f : Front) → whole_front (length bytes) (scan_of rules bytes) ≡ f → Accounted rules bytes f
-accounted-whole rules bytes (front.File t) e = accounted-front rules bytes (front.File t) (whole-ends rules bytes t e).0
-accounted-whole rules bytes (front.Refused number line column) e = tt
+accounted-whole rules bytes (Ok t) e = accounted-front rules bytes (front.File t) (whole-ends rules bytes t e).0
+accounted-whole rules bytes (Err refusal) e = tt
 
 -- what is found: one whole file, or one at the front
 module _ (whole : Bool) (rules : Rules) (bytes : List ℕ) (f : Front) where

@@ -13,8 +13,9 @@ use Rattle.file.specs.Table.{count_of, header_in, slots_in, comments_in, row_lin
 use Rattle.scan.specs.Run.{scan_of, whole_front}
 use Rattle.header.specs.declared.types.Rules.{Rules}
 use Rattle.scan.specs.declared.Tally.{Tally}
-use Rattle.scan.specs.declared.Front.{Front}
-use Rattle.scan.specs.declared.Front.TheVariants as front
+use Rattle.std.specs.Prelude.{Ok, Err}
+use Rattle.scan.specs.Front.{Front}
+use Rattle.scan.specs.Front as front
 use Rattle.reader.specs.declared.types.Reading.{Reading}
 
 -- what stands for no version: a blank
@@ -35,8 +36,8 @@ accepted_as rules bytes t = record { refusal = 0; line = 0; column = 0; length =
 
 -- what was found at the front of some bytes, as an answer
 unfoldable pub judged : Rules → List ℕ → Front → Reading
-judged rules bytes (front.File t) = accepted_as rules bytes t
-judged rules bytes (front.Refused number line column) = refused_with number line column
+judged rules bytes (Ok t) = accepted_as rules bytes t
+judged rules bytes (Err refusal) = refused_with refusal.number refusal.line refusal.column
 
 -- one file at the front of some bytes, and one whole file
 abbrev pub front_of : Rules → List ℕ → Front
@@ -47,11 +48,11 @@ file_of rules bytes = whole_front (length bytes) (scan_of rules bytes)
 
 -- the counts of a file that was found are those of its lines
 abbrev pub Accounted : Rules → List ℕ → Front → Type 0
-Accounted rules bytes (front.File t) =
+Accounted rules bytes (Ok t) =
     (t.end ≤ length bytes)
     × (t.comments ≡ length (of_kind rules comment_kind (lines_to t.end bytes)))
     × (t.rows ≡ length (row_lines rules (lines_to t.end bytes)))
-Accounted rules bytes (front.Refused number line column) = Unit
+Accounted rules bytes (Err refusal) = Unit
 
 -- lent room: identifiers, exponents, bytes of comments, numbers of rows; whole comments and whole rows count
 unfoldable pub room_for : ℕ → Tally → ℕ → ℕ → ℕ → ℕ → Bool
@@ -59,19 +60,19 @@ room_for n t i x c r = (leb n i && leb n x) && (leb t.comments (c / comment_widt
 
 -- whether there is a file and room for its table
 unfoldable pub enough : Rules → List ℕ → Front → ℕ → ℕ → ℕ → ℕ → Bool
-enough rules bytes (front.File t) i x c r = room_for (count_of rules (lines_to t.end bytes)) t i x c r
-enough rules bytes (front.Refused number line column) i x c r = false
+enough rules bytes (Ok t) i x c r = room_for (count_of rules (lines_to t.end bytes)) t i x c r
+enough rules bytes (Err refusal) i x c r = false
 
 -- the answer where so much room is lent
 unfoldable pub delivered : Rules → List ℕ → Front → ℕ → ℕ → ℕ → ℕ → Reading
-delivered rules bytes (front.File t) i x c r =
+delivered rules bytes (Ok t) i x c r =
     cond (room_for (count_of rules (lines_to t.end bytes)) t i x c r) (accepted_as rules bytes t) (refused_with 12 0 0)
-delivered rules bytes (front.Refused number line column) i x c r = refused_with number line column
+delivered rules bytes (Err refusal) i x c r = refused_with refusal.number refusal.line refusal.column
 
 -- the lines of what was found: those of the file, or none
 abbrev pub lines_in : List ℕ → Front → List (List ℕ)
-lines_in bytes (front.File t) = lines_to t.end bytes
-lines_in bytes (front.Refused number line column) = []
+lines_in bytes (Ok t) = lines_to t.end bytes
+lines_in bytes (Err refusal) = []
 
 -- a lent list at the end: filled where there was room, else as it was
 abbrev pub filled : {A : Type 0} → Bool → List A → List A → List A

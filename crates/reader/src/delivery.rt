@@ -14,7 +14,7 @@ use crate::types::Reading;
 use header::Rules;
 use record::plain::COMMENT_WIDTH;
 use record::rows::ROW_WIDTH;
-use scan::{Front, Tally};
+use scan::{Refusal, Tally};
 
 // Whether so much room is enough: whole comments and whole rows count.
 fn has_room(n: u64, tally: Tally, i: usize, x: usize, c: usize, r: usize) -> bool
@@ -54,7 +54,7 @@ fn fill_lists(
 fn deliver(
     rules: Rules,
     bytes: &[u8],
-    found: Front,
+    found: Result<Tally, Refusal>,
     identifiers: &mut [u64],
     exponents: &mut [u64],
     comments: &mut [u8],
@@ -68,12 +68,8 @@ fn deliver(
     ensures rows_after { rows.new ≡ rows_after rules bytes.now found identifiers.old exponents.old comments.old rows.old }
 {
     match found {
-        Front::Refused {
-            number,
-            line,
-            column,
-        } => judging::refused(number, line, column),
-        Front::File(tally) => {
+        Err(refusal) => judging::refused(refusal.number, refusal.line, refusal.column),
+        Ok(tally) => {
             let end = tally.end;
             let used = &bytes[0..end];
             let n = file::count_of(rules, used);

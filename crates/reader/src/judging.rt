@@ -8,7 +8,7 @@ ghost use Rattle.reader.specs.Reading.{refused_with, judged, front_of, file_of, 
 use crate::types::Reading;
 use header::{Header, Rules};
 use record::kind::{CHARACTERS_KIND, FLOATS_KIND, SECOND_KIND};
-use scan::Front;
+use scan::{Refusal, Tally};
 
 // A refusal beside nothing.
 pub(crate) fn refused(number: usize, line: u64, column: usize) -> Reading
@@ -54,7 +54,7 @@ fn header_of(rules: Rules, bytes: &[u8], comments: u64) -> Header
 }
 
 // What is found in some bytes: one whole file, or one at their front.
-pub(crate) fn found_in(whole: bool, rules: Rules, bytes: &[u8]) -> Front
+pub(crate) fn found_in(whole: bool, rules: Rules, bytes: &[u8]) -> Result<Tally, Refusal>
     ensures value { result ≡ cond whole (file_of rules bytes.now) (front_of rules bytes.now) }
     ensures accounted { Accounted rules bytes.now result }
 {
@@ -65,17 +65,13 @@ pub(crate) fn found_in(whole: bool, rules: Rules, bytes: &[u8]) -> Front
 }
 
 // What was found at the front of some bytes, as an answer.
-pub(crate) fn answer(rules: Rules, bytes: &[u8], found: Front) -> Reading
+pub(crate) fn answer(rules: Rules, bytes: &[u8], found: Result<Tally, Refusal>) -> Reading
     requires { Accounted rules bytes.now found }
     ensures { result ≡ judged rules bytes.now found }
 {
     match found {
-        Front::Refused {
-            number,
-            line,
-            column,
-        } => refused(number, line, column),
-        Front::File(tally) => {
+        Err(refusal) => refused(refusal.number, refusal.line, refusal.column),
+        Ok(tally) => {
             let end = tally.end;
             Reading {
                 refusal: 0,

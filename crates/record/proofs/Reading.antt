@@ -1,13 +1,15 @@
 -- A whole line judged by its layout: the steps of the field readers, one after the other.
 -- Assumes nothing.
-use mathlib.Core.Path.{◌≡◌, refl, ap, ◌∙◌}
+use mathlib.Core.Path.{◌≡◌, refl, ap, ap₂, ◌∙◌}
 use mathlib.Core.List.{List, [], ◌∷◌, ◌++◌}
 use Prim.Native.Nat.{ℕ}
 use denote.Ref.{Bor}
-use Rattle.layout.specs.Fault.{clean}
+use Rattle.layout.specs.Fault.{clean, lower}
 use Rattle.layout.specs.Kind.Kind.{text}
 use Rattle.layout.specs.Layout.{Item, columns, fault_from, fault_of}
+use Rattle.record.specs.Times.{date_fault}
 use Rattle.record.specs.Steps.{after, after_all}
+use Rattle.header.specs.declared.types.Moment.{Moment}
 use Rattle.record.specs.declared.fields.Judge.{Judge}
 
 fault-after : (items : List Item) (judge : Judge) → (after_all items judge).fault ≡ fault_from judge.fault items judge.line.now
@@ -25,6 +27,14 @@ pub line_after : (item : Item) (judge : Judge) → (after item judge).line ≡ j
 unfolding after
 line_after item judge = refl
 
+lines-after : (items : List Item) (judge : Judge) → (after_all items judge).line ≡ judge.line
+lines-after [] judge = refl
+lines-after (item ∷ items) judge = lines-after items (after item judge) ∙ line_after item judge
+
+pub kept : (items : List Item) (judge : Judge) {line : Bor (List ℕ)} {start : Judge} → start ≡ record { line = line; fault = clean } → judge ≡ after_all items start
+    → judge.line ≡ line
+kept items judge {line} {start} s e = ap (λ (j : Judge). j.line) e ∙ lines-after items start ∙ ap (λ (j : Judge). j.line) s
+
 -- a text has no fault
 pub text_passed : (first last : ℕ) (judge : Judge) → after (columns first last text) judge ≡ judge
 unfolding after
@@ -34,3 +44,8 @@ text_passed first last judge = refl
 pub after-parts : (items more : List Item) (judge : Judge) → after_all (items ++ more) judge ≡ after_all more (after_all items judge)
 after-parts [] more judge = refl
 after-parts (item ∷ items) more judge = after-parts items more (after item judge)
+
+-- and the fault of its date, which is judged last
+pub dated : {judge last : Judge} {fault : ℕ} {m n : Moment} → last ≡ record judge { fault = lower judge.fault (date_fault m) } → judge.fault ≡ fault → m ≡ n
+    → last.fault ≡ lower fault (date_fault n)
+dated e f g = ap (λ (j : Judge). j.fault) e ∙ ap₂ (λ (k : ℕ) (t : Moment). lower k (date_fault t)) f g

@@ -17,12 +17,11 @@ use Rattle.layout.specs.Kind.Kind.{unused, fixed, signed, clock, identifier}
 use Rattle.layout.specs.Layout.{Item, columns, part_at, fault_at, fault_from, values_of}
 use Rattle.record.specs.Absence.{clock_absent}
 use Rattle.record.specs.Rows.{body_items, flag_items, row_items, row_from, row_fault, row_taken, signed_in, clock_field_in, cut}
-use Rattle.field.specs.declared.Amount.{Amount}
-use Rattle.field.specs.declared.Amount.TheVariants as amounts
-use Rattle.record.specs.declared.types.Signed.{Signed}
+use Rattle.field.specs.declared.Signed.{Signed}
 use Rattle.field.proofs.KnownGood.{known-magnitude, known-negative}
 use Rattle.field.proofs.ClockBack.{clock-again, clock-known}
 use Rattle.layout.proofs.Again.{item-clean}
+use Rattle.std.specs.Prelude.{Option, Some, None}
 
 -- the number that a field of 14 columns says
 abbrev held_signed : List ℕ → Signed
@@ -30,11 +29,11 @@ held_signed bs = record { negative = sign_held (decimal_of bs 6 true); magnitude
 
 -- a number without fault, read without a test, is the number that the field says
 module _ (bs : List ℕ) (narrow : length bs ≤ 17) (column : ℕ) where
-  taken-by : (a : Amount) → decimal_of bs 6 true ≡ a → amount_fault column 0 largest a ≡ clean
+  taken-by : (a : Option Signed) → decimal_of bs 6 true ≡ a → amount_fault column 0 largest a ≡ clean
       → signed_in bs ≡ record { negative = sign_held a; magnitude = amount_held a }
-  taken-by (amounts.Value n m) e f =
-      rw (known-magnitude bs 6 true n m narrow e, known-negative bs 6 true n m narrow e)
-  taken-by amounts.Malformed e f = absurd (omega arith)
+  taken-by (Some held) e f =
+      rw (known-magnitude bs 6 true held.negative held.magnitude narrow e, known-negative bs 6 true held.negative held.magnitude narrow e)
+  taken-by None e f = absurd (omega arith)
 
   pub signed-taken : amount_fault column 0 largest (decimal_of bs 6 true) ≡ clean
       → signed_in bs ≡ held_signed bs
@@ -48,11 +47,11 @@ held_clock bs = record { negative = sign_held (clock_of bs 6); magnitude = amoun
 clock-taken : (bs : List ℕ) → length bs ≤ 17 → (column : ℕ) → amount_fault column 0 largest (clock_of bs 6) ≡ clean → clock_field_in bs ≡ held_clock bs
 clock-taken bs narrow column f = go (clock_of bs 6) refl f
   where
-    go : (a : Amount) → clock_of bs 6 ≡ a → amount_fault column 0 largest a ≡ clean → clock_field_in bs ≡ record { negative = sign_held a; magnitude = amount_held a }
-    go (amounts.Value n m) e h =
-        let known = clock-known bs 6 n m narrow e in
+    go : (a : Option Signed) → clock_of bs 6 ≡ a → amount_fault column 0 largest a ≡ clean → clock_field_in bs ≡ record { negative = sign_held a; magnitude = amount_held a }
+    go (Some held) e h =
+        let known = clock-known bs 6 held.negative held.magnitude narrow e in
         λ i. record { negative = known.0 i; magnitude = known.1 i }
-    go amounts.Malformed e h = absurd (omega arith)
+    go None e h = absurd (omega arith)
 
 -- an identifier without fault is named
 identifier-taken : (bs : List ℕ) (column : ℕ) (t : Bool) → named bs ≡ t → cond t (bound_fault column 1 99 (identifier_number bs)) (keyed 6 column) ≡ clean
@@ -80,10 +79,10 @@ clock-says line wide f = go (clock_of bytes 6) refl f
     fourteen : length bytes ≡ 14
     fourteen = length-take-le 14 (drop 46 line) (omega (arith, length-drop 46 line))
 
-    go : (a : Amount) → clock_of bytes 6 ≡ a → amount_fault 47 0 largest a ≡ clean → ClockSays line
-    go (amounts.Value n m) e h =
-        let known = clock-known bytes 6 n m (omega (arith, fourteen)) e in
-        let c = clock-again bytes 6 n m e in
+    go : (a : Option Signed) → clock_of bytes 6 ≡ a → amount_fault 47 0 largest a ≡ clean → ClockSays line
+    go (Some held) e h =
+        let known = clock-known bytes 6 held.negative held.magnitude (omega (arith, fourteen)) e in
+        let c = clock-again bytes 6 held.negative held.magnitude e in
         let point_at : point_of 6 (length bytes) ≡ 7 = omega (arith, fourteen) in
         let front : take (point_of 6 (length bytes)) bytes ≡ cut 47 53 line = ap (λ (k : ℕ). take k bytes) point_at ∙ take-take 7 14 (drop 46 line) (omega arith) in
         record {
@@ -97,7 +96,7 @@ clock-says line wide f = go (clock_of bytes 6) refl f
               ∙ c.point;
           kept = subst₂ (λ (k : Bool) (v : ℕ). clock_kept 6 k v ≡ true) (sym known.0) (sym known.1) c.kept;
         }
-    go amounts.Malformed e h = absurd (omega arith)
+    go None e h = absurd (omega arith)
 
 -- columns 2 to 60 of a line without fault, whatever was judged before and after them
 record Sound (line : List ℕ) : Type 0 where

@@ -8,7 +8,7 @@ use Rattle.layout.specs.Kind.Held.{one, amount}
 use Rattle.layout.specs.Layout.{Item, Values, columns, column, part_at, number_at, values_of, fault_of, show_line}
 use Rattle.layout.specs.Line.{padded, ended}
 use Rattle.record.specs.Rows.{signed_at}
-use Rattle.record.specs.declared.types.Signed.{Signed}
+use Rattle.field.specs.declared.Signed.{Signed}
 use Rattle.record.specs.declared.types.Note.{Note}
 
 -- a deviation: a whole number, or blank for unknown

@@ -10,7 +10,7 @@ use Rattle.layout.specs.Kind.Kind.{unused, fixed, signed, clock, flag, identifie
 use Rattle.layout.specs.Kind.Held.{one, amount, mark}
 use Rattle.layout.specs.Layout.{Item, Values, columns, column, part_at, number_at, negative_at, magnitude_at, mark_at, fault_of, show_line}
 use Rattle.layout.specs.Line.{padded, ended}
-use Rattle.record.specs.declared.types.Signed.{Signed}
+use Rattle.field.specs.declared.Signed.{Signed}
 use Rattle.record.specs.declared.types.Row.{Row}
 
 -- x, y, z (false) and the clock (true): F14.6

@@ -7,7 +7,7 @@ ghost use Rattle.field.specs.Digits.{is_digit};
 ghost use Rattle.laws.specs.Tests.{within};
 ghost use Rattle.laws.specs.Texts.{every};
 ghost use Rattle.layout.specs.Fault.{clean, lower, keyed};
-ghost use Rattle.layout.specs.Kind.{unless, amount_fault, same_bytes, is_blank, identifier_code, exponent};
+ghost use Rattle.layout.specs.Kind.{unless, amount_fault, amount_held, number_in, fault_in, held_in, is_lettered, same_bytes, is_blank, identifier_code, exponent};
 ghost use Rattle.layout.specs.Kind.Kind.{unused, fixed, whole, decimal, flag, letter, listed, identifier, zero_whole, zero_decimal};
 ghost use Rattle.layout.specs.Layout.{columns, column, part_at};
 ghost use Rattle.header.specs.Letters.{modes, file_types, time_systems};
@@ -17,14 +17,14 @@ ghost use Rattle.record.specs.Notes.{correlation};
 ghost use Rattle.record.specs.Steps.{after, number_of};
 
 use crate::notes::LARGEST_CORRELATION;
-use calendar::Dated;
-use field::{Amount, Exponent, Whole};
+use field::{Exponent, Signed};
 use header::Moment;
 
 // The columns first to last of a line.
 pub(crate) fn cut(line: &[u8; 80], first: usize, last: usize) -> &[u8]
     requires { (1 ≤ first) × (first ≤ last) × (last ≤ 80) }
-    ensures { result.now ≡ cut first last line.now }
+    ensures bytes { result.now ≡ cut first last line.now }
+    ensures wide { length result.now ≡ last - (first - 1) }
 {
     let from = first - 1;
     let s = &line[..];
@@ -61,6 +61,14 @@ fn same_bytes(bytes: &[u8], these: &[u8]) -> bool
     ensures { result ≡ same_bytes bytes.now these.now }
 {
     bytes == these
+}
+
+// Whether columns 4 and 5 hold a file type: a letter and a blank.
+fn has_file_type(line: &[u8; 80]) -> bool
+    ensures { result ≡ is_lettered (cut 4 5 line.now) file_types }
+{
+    let s = &line[..];
+    header::is_file_type(s[3]) & (s[4] == b' ')
 }
 
 // Whether these are an identifier's letter and digits.
@@ -181,12 +189,26 @@ impl<'a> Judge<'a> {
         ensures judged { self.new ≡ after (part_at blamed first last (whole low high)) self.old }
         ensures value { result ≡ number_of (part_at blamed first last (whole low high)) self.old }
     {
-        let Whole::Value(n) = field::read::whole(cut(self.line, first, last)) else {
+        let Some(n) = field::read::whole(cut(self.line, first, last)) else {
             self.found(6, blamed);
             return 0;
         };
         self.check(laws::within(low, high, n), 7, blamed);
         n
+    }
+
+    // A number that was read, of a magnitude within its bounds.
+    fn amount_read(&mut self, read: Option<Signed>, low: u64, high: u64, at: usize) -> u64
+        requires { at ≤ 80 }
+        ensures judged { self.new ≡ record self.old { fault = lower self.old.fault (amount_fault at low high read) } }
+        ensures value { result ≡ amount_held read }
+    {
+        let Some(Signed { magnitude, .. }) = read else {
+            self.found(6, at);
+            return 0;
+        };
+        self.check(laws::within(low, high, magnitude), 7, at);
+        magnitude
     }
 
     // A decimal without a minus within its bounds.
@@ -202,16 +224,8 @@ impl<'a> Judge<'a> {
         ensures judged { self.new ≡ after (columns first last (decimal places low high)) self.old }
         ensures value { result ≡ number_of (columns first last (decimal places low high)) self.old }
     {
-        let Amount::Value {
-            negative: _,
-            magnitude,
-        } = field::read::decimal(cut(self.line, first, last), places, false)
-        else {
-            self.found(6, first);
-            return 0;
-        };
-        self.check(laws::within(low, high, magnitude), 7, first);
-        magnitude
+        let read = field::read::decimal(cut(self.line, first, last), places, false);
+        self.amount_read(read, low, high, first)
     }
 
     // A placeholder of zero: an integer field, a decimal field.
@@ -219,10 +233,7 @@ impl<'a> Judge<'a> {
         requires { (1 ≤ first) × (first ≤ last) × (last ≤ 80) }
         ensures { self.new ≡ after (columns first last zero_whole) self.old }
     {
-        let zero = match field::read::whole(cut(self.line, first, last)) {
-            Whole::Value(n) => n == 0,
-            Whole::Malformed => false,
-        };
+        let zero = matches!(field::read::whole(cut(self.line, first, last)), Some(0));
         self.check(zero, 5, first);
     }
 
@@ -230,26 +241,17 @@ impl<'a> Judge<'a> {
         requires { (1 ≤ first) × (first ≤ last) × (last ≤ 80) }
         ensures { self.new ≡ after (columns first last (zero_decimal places)) self.old }
     {
-        let zero = match field::read::decimal(cut(self.line, first, last), places, false) {
-            Amount::Value { negative: _, magnitude } => magnitude == 0,
-            Amount::Malformed => false,
-        };
-        self.check(zero, 5, first);
+        let read = field::read::decimal(cut(self.line, first, last), places, false);
+        self.check(matches!(read, Some(Signed { magnitude: 0, .. })), 5, first);
     }
 
     // A date that is none within the bounds, at column 4.
     pub(crate) fn date(&mut self, m: Moment)
         ensures { self.new ≡ record self.old { fault = lower self.old.fault (date_fault m) } }
     {
-        let Dated::Day {
-            mjd: _,
-            week: _,
-            seconds: _,
-        } = calendar::date(m.year, m.month, m.day)
-        else {
+        if calendar::date(m.year, m.month, m.day).is_none() {
             self.found(7, 4);
-            return;
-        };
+        }
     }
 
     // The mode in column 3: P or V.
@@ -267,10 +269,8 @@ impl<'a> Judge<'a> {
         ensures judged { self.new ≡ after (columns 4 5 (letter file_types)) self.old }
         ensures value { result ≡ number_of (columns 4 5 (letter file_types)) self.old }
     {
-        let letter = self.line[3];
-        let listed = header::is_file_type(letter) & (self.line[4] == b' ');
-        self.check(listed, 6, 4);
-        letter
+        self.check(has_file_type(self.line), 6, 4);
+        self.line[3]
     }
 
     // The time system in columns 10 to 12: one of the words listed.
@@ -282,35 +282,26 @@ impl<'a> Judge<'a> {
     }
 
     // An identifier as one number: `G 7` is malformed, `G00` out of bounds.
+    fn identifier_read(&mut self, bytes: &[u8], at: usize) -> u64
+        requires { (length bytes.now ≡ 3) × (at ≤ 80) }
+        ensures judged { self.new ≡ record self.old { fault = lower self.old.fault (fault_in identifier at bytes.now) } }
+        ensures value { result ≡ number_in (held_in identifier bytes.now) }
+    {
+        if !is_named(bytes[0], bytes[1], bytes[2]) {
+            self.found(6, at);
+            return 0;
+        }
+        let number = two_digits(bytes[1], bytes[2]);
+        self.check(laws::within(1, 99, number), 7, at);
+        identifier_code(bytes[0], number)
+    }
+
     pub(crate) fn identifier(&mut self, first: usize, last: usize) -> u64
         requires { (1 ≤ first) × (last ≤ 80) × (last ≡ first + 2) }
         ensures judged { self.new ≡ after (columns first last identifier) self.old }
         ensures value { result ≡ number_of (columns first last identifier) self.old }
     {
-        let bytes: [u8; 3] = text(self.line, first);
-        if !is_named(bytes[0], bytes[1], bytes[2]) {
-            self.found(6, first);
-            return 0;
-        }
-        let number = two_digits(bytes[1], bytes[2]);
-        self.check(laws::within(1, 99, number), 7, first);
-        identifier_code(bytes[0], number)
-    }
-
-    // A number that was read, of a magnitude up to so much.
-    fn amount_read(&mut self, answer: Amount, most: u64, at: usize)
-        requires { at ≤ 80 }
-        ensures { self.new ≡ record self.old { fault = lower self.old.fault (amount_fault at 0 most answer) } }
-    {
-        let Amount::Value {
-            negative: _,
-            magnitude,
-        } = answer
-        else {
-            self.found(6, at);
-            return;
-        };
-        self.check(laws::within(0, most, magnitude), 7, at);
+        self.identifier_read(cut(self.line, first, last), first)
     }
 
     // A coordinate or velocity of 14 columns, or where `clock` says so a clock or its rate, judged and not kept: rows are read when they have been judged.
@@ -324,7 +315,7 @@ impl<'a> Judge<'a> {
         } else {
             field::read::decimal(bytes, 6, true)
         };
-        self.amount_read(answer, field::sign::LARGEST, first);
+        self.amount_read(answer, 0, field::sign::LARGEST, first);
     }
 
     // An exponent: a whole number or blank.
@@ -344,7 +335,7 @@ impl<'a> Judge<'a> {
     {
         let bytes = cut(self.line, first, last);
         if !is_blank(bytes) {
-            self.amount_read(field::read::signed_whole(bytes), LARGEST_CORRELATION, first);
+            self.amount_read(field::read::signed_whole(bytes), 0, LARGEST_CORRELATION, first);
         }
     }
 

@@ -3,13 +3,12 @@ ghost use Rattle.std.specs.Prelude.{◌≡◌, [], ◌∷◌, ◌+◌, ◌≤◌
 ghost use Rattle.layout.specs.Kind.Kind.{unused};
 ghost use Rattle.layout.specs.Layout.{columns, column};
 ghost use Rattle.record.specs.Rows.{cut};
-ghost use Rattle.record.specs.Notes.{correlation, deviation_items, pair_items, correlation_in, note_fault, note_taken, note_of};
+ghost use Rattle.record.specs.Notes.{correlation, correlation_symbol, deviation_items, pair_items, correlation_in, note_fault, note_taken, note_of};
 ghost use Rattle.record.specs.Steps.{after_all};
 
 use crate::fields::Judge;
 use crate::types::{Note, Signed};
 use crate::{fields, rows};
-use field::Amount;
 
 // Stands for an unknown deviation or correlation: no field of eight columns has it.
 pub const UNNOTED: u64 = 100_000_000;
@@ -60,12 +59,19 @@ impl<'a> Judge<'a> {
     }
 }
 
+// The second column of the symbol: EP or EV.
+fn letter_of(velocity: bool) -> u8
+    ensures { 69 ∷ result ∷ [] ≡ correlation_symbol velocity }
+{
+    if velocity { b'V' } else { b'P' }
+}
+
 // The fault that decides an EP line, or an EV line where `velocity` says so: `EPx` is 5 at column 3, `55  ` in 5 to 8 is 6 at column 5.
 pub fn correlation_fault(line: &[u8; 80], velocity: bool) -> usize
     ensures result { result ≡ note_fault velocity line.now }
 {
     let mut judge = Judge::of(line);
-    judge.symbols(b'E', if velocity { b'V' } else { b'P' });
+    judge.symbols(b'E', letter_of(velocity));
     judge.deviations();
     judge.pairs();
     judge.fault
@@ -81,19 +87,10 @@ fn known_correlation(bytes: &[u8]) -> Signed
             magnitude: UNNOTED,
         };
     }
-    match field::read::signed_whole(bytes) {
-        Amount::Value {
-            negative,
-            magnitude,
-        } => Signed {
-            negative,
-            magnitude,
-        },
-        Amount::Malformed => Signed {
-            negative: false,
-            magnitude: 0,
-        },
-    }
+    field::read::signed_whole(bytes).unwrap_or(Signed {
+        negative: false,
+        magnitude: 0,
+    })
 }
 
 fn correlation_of(line: &[u8; 80], first: usize, last: usize) -> Signed

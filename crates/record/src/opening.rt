@@ -12,6 +12,7 @@ use header::{Header, Moment, Rules, Texts};
 
 impl<'a> Judge<'a> {
     // Columns 4 to 31: a date, which is judged by whoever reads the line, and a time.
+    #[tactic(auto, unfolding(crate::specs::Steps::after))]
     fn moment(&mut self) -> Moment
         ensures judged { self.new ≡ after_all time_items self.old }
         ensures value { result ≡ moment_at (values_of time_items self.old.line.now) 0 }

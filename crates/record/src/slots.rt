@@ -1,8 +1,8 @@
 // The lines of satellites: 17 slots of three columns from column 10 on.
-ghost use Rattle.std.specs.Prelude.{◌≡◌, ◌+◌, ◌≤◌};
+ghost use Rattle.std.specs.Prelude.{◌≡◌, [], ◌∷◌, ◌+◌, ◌≤◌};
 ghost use Rattle.layout.specs.Layout.{slot_at, values_of, numbers_of};
 ghost use Rattle.record.specs.Steps.{after, after_all, number_of};
-ghost use Rattle.record.specs.SlotLines.{slot_kind, slot_items, satellites_of, more_of};
+ghost use Rattle.record.specs.SlotLines.{slot_kind, slot_items, slot_symbol, satellites_of, more_of};
 
 use crate::fields::Judge;
 use crate::types::{Satellites, Slots};
@@ -60,12 +60,19 @@ pub fn read_satellites(rules: Rules, line: &[u8; 80]) -> Satellites
     }
 }
 
+// The second column of the symbol of a further line: `+ ` or `++`.
+fn symbol_end(accuracies: bool) -> u8
+    ensures { 43 ∷ result ∷ [] ≡ slot_symbol accuracies }
+{
+    if accuracies { b'+' } else { b' ' }
+}
+
 // A further `+ ` line, or a `++` line where `accuracies` says so, of which the first `left` slots are of satellites.
 pub fn read_slots(line: &[u8; 80], accuracies: bool, left: u64) -> Slots
     ensures result { result ≡ more_of accuracies left line.now }
 {
     let mut judge = Judge::of(line);
-    judge.symbols(b'+', if accuracies { b'+' } else { b' ' });
+    judge.symbols(b'+', symbol_end(accuracies));
     judge.unused(3, 9);
     let values = judge.slots(accuracies, left);
     judge.unused(61, 80);

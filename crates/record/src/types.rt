@@ -1,3 +1,4 @@
+pub use field::Signed;
 use header::{Bases, Moment, Texts};
 
 // The kinds of line, by columns 1 and 2; P and V by column 1, the end of the file by columns 1 to 3.
@@ -77,13 +78,6 @@ pub struct Descriptor {
 pub struct BaseLine {
     pub fault: usize,
     pub bases: Bases,
-}
-
-// A number with a sign, in units of its last place.
-#[derive(Clone, Copy)]
-pub struct Signed {
-    pub negative: bool,
-    pub magnitude: u64,
 }
 
 // A P or V line: x, y, z and clock in mm and ps, or 10^-4 mm/s and 10^-16 s/s; an exponent of 1000 is unknown.

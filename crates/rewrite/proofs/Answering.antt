@@ -30,8 +30,9 @@ use Rattle.theorems.proofs.Writing.{too-small-12, refusal-keeps-out}
 use Rattle.reader.specs.declared.types.Reading.{Reading}
 use Rattle.canon.specs.declared.types.Measured.{Measured}
 use Rattle.scan.specs.declared.Tally.{Tally}
-use Rattle.scan.specs.declared.Front.{Front}
-use Rattle.scan.specs.declared.Front.TheVariants as front
+use Rattle.std.specs.Prelude.{Ok, Err}
+use Rattle.scan.specs.Front.{Front}
+use Rattle.scan.specs.Front as front
 use Rattle.rewrite.specs.Printed.{most_bytes, most_comments, too_long, refused_word, line_word, column_word, number_text, said, refused_text, answered, printed}
 use Rattle.rewrite.specs.Rewriting.{as_written, reading, table_read, rewrite_answer, out_rewritten}
 use Rattle.rewrite.specs.declared.types.Rewritten.{Rewritten}
@@ -164,8 +165,8 @@ module _ (bytes identifiers exponents comments : List ℕ) (rows : List ℤ) (ou
   outcome = go (file_of rules bytes) refl
     where
       go : (f : Front) → file_of rules bytes ≡ f → Outcome (answered bytes f) out answer left
-      go (front.File t) e = filed t e
-      go (front.Refused number line column) e = refused number line column (found-numbered proper true bytes number line column e) (rw e)
+      go (Ok t) e = filed t e
+      go (Err refusal) e = refused refusal.number refusal.line refusal.column (found-numbered proper true bytes refusal.number refusal.line refusal.column e) (rw e)
 
   -- so it is of what the function answers and leaves
   pub outcome-of : {done : Rewritten} {now : List ℕ} → done ≡ answer → now ≡ left → Outcome (answered bytes (file_of rules bytes)) out done now
@@ -184,8 +185,8 @@ outcome-laid done (inr (apart, words, same)) none = absurd (apart none)
 -- the answer has room
 pub answer-fits : (bytes : List ℕ) (f : Front) → length (answered bytes f) ≤ most_bytes
 unfolding answered
-answer-fits bytes (front.Refused number line column) = omega (arith, few_words number line column)
-answer-fits bytes (front.File t) = go (leb (header (rules_in bytes) bytes).comments most_comments) (leb (length (rewritten (rules_in bytes) bytes)) most_bytes) refl
+answer-fits bytes (Err refusal) = omega (arith, few_words refusal.number refusal.line refusal.column)
+answer-fits bytes (Ok t) = go (leb (header (rules_in bytes) bytes).comments most_comments) (leb (length (rewritten (rules_in bytes) bytes)) most_bytes) refl
   where
     go : (few fits : Bool) → leb (length (rewritten (rules_in bytes) bytes)) most_bytes ≡ fits
         → length (cond (few && fits) (rewritten (rules_in bytes) bytes) (refused_text 12 0 0)) ≤ most_bytes

@@ -19,7 +19,7 @@ use Rattle.canon_laws.proofs.Rewriting as rewriting
 use Rattle.theorems.specs.Files.{header}
 use Rattle.header.specs.declared.types.Header.{Header}
 use Rattle.header.specs.declared.types.Rules.{Rules}
-use Rattle.scan.specs.declared.Front.TheVariants as front
+use Rattle.scan.specs.Front as front
 use Rattle.rewrite.specs.Printed.{most_bytes, most_comments, too_long, refused_text, form_of, answered, printed}
 use Rattle.rewrite.proofs.Answering.{printed-long, printed-short}
 

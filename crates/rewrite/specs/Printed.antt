@@ -8,8 +8,9 @@ use Rattle.lines.specs.Lines.{lines_of}
 use Rattle.file.specs.Table.{header_in}
 use Rattle.reader.specs.Reading.{file_of}
 use Rattle.canon_laws.specs.Held.{rewritten}
-use Rattle.scan.specs.declared.Front.{Front}
-use Rattle.scan.specs.declared.Front.TheVariants as front
+use Rattle.std.specs.Prelude.{Ok, Err}
+use Rattle.scan.specs.Front.{Front}
+use Rattle.scan.specs.Front as front
 pub use Rattle.theorems.specs.Room.{most_bytes, most_comments}
 
 -- `too long` and LF
@@ -45,9 +46,9 @@ form_of bytes = rewritten (rules_in bytes) bytes
 
 -- of a file that is accepted, the canonical form where there is room; the refusal of another
 unfoldable pub answered : List ℕ → Front → List ℕ
-answered bytes (front.File t) =
+answered bytes (Ok t) =
     cond (leb (header_in (rules_in bytes) (lines_of bytes)).comments most_comments && leb (length (form_of bytes)) most_bytes) (form_of bytes) (refused_text 12 0 0)
-answered bytes (front.Refused number line column) = refused_text number line column
+answered bytes (Err refusal) = refused_text refusal.number refusal.line refusal.column
 
 -- all that is printed
 unfoldable pub printed : List ℕ → List ℕ

@@ -25,7 +25,7 @@ use Rattle.machine.specs.declared.types.LineRead.{LineRead}
 use Rattle.machine.specs.declared.types.LineRead.TheVariants as found
 use Rattle.machine.proofs.Stepping.{brought-length}
 use Rattle.scan.specs.declared.Tally.{Tally}
-use Rattle.scan.specs.declared.Front.TheVariants as front
+use Rattle.scan.specs.Front as front
 use Rattle.scan.specs.Run.{nothing_seen, one_more, counted, on_verdict, run, scan_of}
 
 -- the kind of a P line by its first column

@@ -13,8 +13,9 @@ use Rattle.machine.specs.declared.types.State.{State}
 use Rattle.machine.specs.declared.types.Verdict.{Verdict}
 use Rattle.machine.specs.declared.types.Verdict.TheVariants as verdict
 use Rattle.scan.specs.declared.Tally.{Tally}
-use Rattle.scan.specs.declared.Front.{Front}
-use Rattle.scan.specs.declared.Front.TheVariants as front
+use Rattle.std.specs.Prelude.{Ok, Err}
+use Rattle.scan.specs.Front.{Front}
+use Rattle.scan.specs.Front as front
 
 -- before the first line
 abbrev pub nothing_seen : Tally
@@ -51,8 +52,8 @@ scan_of rules bytes = run rules start_state no_identifiers nothing_seen (lines_o
 
 -- the whole of so many bytes is one file: nothing stands after its last line
 unfoldable pub whole_front : ℕ → Front → Front
-whole_front size (front.File t) = cond (ltb t.end size) (front.Refused 11 (t.lines + 1) 0) (front.File t)
-whole_front size (front.Refused number line column) = front.Refused number line column
+whole_front size (Ok t) = cond (ltb t.end size) (front.Refused 11 (t.lines + 1) 0) (front.File t)
+whole_front size (Err refusal) = front.Refused refusal.number refusal.line refusal.column
 
 -- the bytes are one accepted file
 abbrev pub IsFile : Rules → List ℕ → Type 0

@@ -6,7 +6,7 @@ ghost use Rattle.record.specs.LineKinds.{satellites_kind};
 ghost use Rattle.marks.specs.Marks.{Covers};
 ghost use Rattle.machine.specs.State.{known_identifiers};
 ghost use Rattle.file.specs.Kinds.{kind_in};
-ghost use Rattle.scan.specs.declared.Front.TheVariants as front;
+ghost use Rattle.scan.specs.Front as front;
 ghost use Rattle.scan.specs.Told.{told_front};
 ghost use Rattle.scan.specs.Looking.{Enough};
 ghost use Rattle.scan.specs.Run.{nothing_seen, counted, scan_of, whole_front};
@@ -27,15 +27,12 @@ pub struct Tally {
     pub rows: u64,
 }
 
-// What stands at the front of some bytes: a file, or a refusal with its number, line and column (0 for none).
+// The refusal of a line, with its number, its line and its column (0 for none).
 #[derive(Clone, Copy)]
-pub enum Front {
-    File(Tally),
-    Refused {
-        number: usize,
-        line: u64,
-        column: usize,
-    },
+pub struct Refusal {
+    pub number: usize,
+    pub line: u64,
+    pub column: usize,
 }
 
 // Before the first line.
@@ -86,15 +83,15 @@ fn count_line(rules: Rules, tally: Tally, line: &[u8]) -> Tally
     }
 }
 
-// The refusal of a line.
-fn refused(number: usize, line: u64, column: usize) -> Front
+// The refusal of a line, where a file would stand.
+fn refused(number: usize, line: u64, column: usize) -> Result<Tally, Refusal>
     ensures { result ≡ front.Refused number line column }
 {
-    Front::Refused {
+    Err(Refusal {
         number,
         line,
         column,
-    }
+    })
 }
 
 // How many of the identifiers must be looked at to judge the line at a byte, where a `+ ` line is due and the known ones are marked: none where its own
@@ -128,7 +125,7 @@ fn looked_at(
 }
 
 // The file at the front of the bytes, judged line by line: no bytes are refused with 1 at line 1.
-pub fn scan_front(rules: Rules, bytes: &[u8]) -> Front
+pub fn scan_front(rules: Rules, bytes: &[u8]) -> Result<Tally, Refusal>
     ensures result { told_front result ≡ told_front (scan_of rules bytes.now) }
 {
     let mut identifiers = [0u64; Header::MAX_SATELLITES as usize];
@@ -153,7 +150,7 @@ pub fn scan_front(rules: Rules, bytes: &[u8]) -> Front
                 return refused(number, line, column);
             }
             LineRead::Finished { at: end } => {
-                return Front::File(count_line(rules, tally, &bytes[at..end - 1]));
+                return Ok(count_line(rules, tally, &bytes[at..end - 1]));
             }
             LineRead::Next {
                 at: end,
@@ -171,28 +168,12 @@ pub fn scan_front(rules: Rules, bytes: &[u8]) -> Front
 }
 
 // The file that the bytes are from first to last: bytes after its EOF line are refused with 11 at the line after it.
-pub fn scan_whole(rules: Rules, bytes: &[u8]) -> Front
+pub fn scan_whole(rules: Rules, bytes: &[u8]) -> Result<Tally, Refusal>
     ensures result { told_front result ≡ told_front (whole_front (length bytes.now) (scan_of rules bytes.now)) }
 {
-    match scan_front(rules, bytes) {
-        Front::Refused {
-            number,
-            line,
-            column,
-        } => Front::Refused {
-            number,
-            line,
-            column,
-        },
-        Front::File(tally) => {
-            if tally.end < bytes.len() {
-                return Front::Refused {
-                    number: 11,
-                    line: tally.lines + 1,
-                    column: 0,
-                };
-            }
-            Front::File(tally)
-        }
+    let tally = scan_front(rules, bytes)?;
+    if tally.end < bytes.len() {
+        return refused(11, tally.lines + 1, 0);
     }
+    Ok(tally)
 }

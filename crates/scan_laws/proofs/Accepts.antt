@@ -18,7 +18,7 @@ use Rattle.machine.specs.Next.{after_first, after_second, after_count}
 use Rattle.file.specs.Plain.{slot_identifiers, are_slots, is_first_line, is_second_line, is_count_line, Plain, Sound}
 use Rattle.scan.specs.Run.{run, counted}
 use Rattle.scan.specs.declared.Tally.{Tally}
-use Rattle.scan.specs.declared.Front.TheVariants as front
+use Rattle.scan.specs.Front as front
 use Rattle.scan_laws.proofs.Reaching.{counted_over, Ends, reach-end, Ending, ending-on}
 use Rattle.scan_laws.proofs.Count.{plus-reach, Plus, plus-read}
 use Rattle.scan_laws.proofs.Tail.{Tail, tail-ends, tail-read}

@@ -17,12 +17,8 @@ use Rattle.laws.proofs.Bounds.{within-true}
 use Rattle.field.specs.Read.{whole_of, exponent_of, signed_whole_of, decimal_of}
 use Rattle.field.specs.Clock.{clock_of}
 use Rattle.field.specs.Sign.{largest}
-use Rattle.field.specs.declared.Whole.{Whole}
-use Rattle.field.specs.declared.Whole.TheVariants as wholes
 use Rattle.field.specs.declared.Exponent.{Exponent}
 use Rattle.field.specs.declared.Exponent.TheVariants as exponents
-use Rattle.field.specs.declared.Amount.{Amount}
-use Rattle.field.specs.declared.Amount.TheVariants as amounts
 use Rattle.layout.specs.Fault.{clean, keyed, key_number, column_of}
 use Rattle.layout.specs.Kind.{Kind, is_unused, unused_fault, same_bytes, is_listed, is_lettered, unless, whole_fault, amount_fault, exponent_fault, is_zero, is_zeros, named, identifier_number, zero_slot, bound_fault, fault_in, is_blank}
 use Rattle.layout.specs.Kind.Kind.{unused, fixed, whole, decimal, signed, clock, flag, letter, listed, identifier, filler, zero_whole, zero_decimal, text, maybe, maybe_signed}
@@ -35,6 +31,8 @@ use Rattle.record.specs.declared.types.LineKind.TheVariants as kind
 use Rattle.machine.specs.State.{is_first}
 use Rattle.machine.specs.declared.types.State.{State}
 use Rattle.scan_laws.specs.Earned.{Among, items_at, byte_at, field_number, in_date, field_column}
+use Rattle.std.specs.Prelude.{Option, Some, None}
+use Rattle.field.specs.declared.Signed.{Signed}
 
 -- A FIELD'S FAULT has a number of its own, whatever column it names: what the document fixes its own number, a slot after the last satellite 8, a
 -- placeholder of zero 5, any other 6 or 7.
@@ -93,13 +91,13 @@ six passed = tells-unless 6 (omega arith) (omega arith) passed
 bound : (low high n : ℕ) → Tells true (λ column. bound_fault column low high n)
 bound low high n = tells-unless 7 (omega arith) (omega arith) (within low high n)
 
-tells-whole : (low high : ℕ) (a : Whole) → Tells true (λ column. whole_fault column low high a)
-tells-whole low high (wholes.Value n) = bound low high n
-tells-whole low high wholes.Malformed = six false
+tells-whole : (low high : ℕ) (a : Option ℕ) → Tells true (λ column. whole_fault column low high a)
+tells-whole low high (Some n) = bound low high n
+tells-whole low high None = six false
 
-tells-amount : (low high : ℕ) (a : Amount) → Tells true (λ column. amount_fault column low high a)
-tells-amount low high (amounts.Value negative m) = bound low high m
-tells-amount low high amounts.Malformed = six false
+tells-amount : (low high : ℕ) (a : Option Signed) → Tells true (λ column. amount_fault column low high a)
+tells-amount low high (Some held) = bound low high held.magnitude
+tells-amount low high None = six false
 
 tells-exponent : (a : Exponent) → Tells true (λ column. exponent_fault column a)
 tells-exponent (exponents.Value n) = no-fault (λ column. refl)
@@ -110,7 +108,7 @@ tells-identifier : (t : Bool) (n : ℕ) → Tells true (λ column. cond t (bound
 tells-identifier true n = bound 1 99 n
 tells-identifier false n = six false
 
-tells-maybe : (t : Bool) (high : ℕ) (a : Amount) → Tells true (λ column. cond t clean (amount_fault column 0 high a))
+tells-maybe : (t : Bool) (high : ℕ) (a : Option Signed) → Tells true (λ column. cond t clean (amount_fault column 0 high a))
 tells-maybe true high a = no-fault (λ column. refl)
 tells-maybe false high a = tells-amount 0 high a
 

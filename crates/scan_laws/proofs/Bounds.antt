@@ -8,8 +8,6 @@ use native.Mathlib.Omega.{arith}
 use Rattle.laws.specs.Tests.{within}
 use Rattle.laws.proofs.Bounds.{within-true}
 use Rattle.field.specs.Read.{whole_of}
-use Rattle.field.specs.declared.Whole.{Whole}
-use Rattle.field.specs.declared.Whole.TheVariants as wholes
 use Rattle.layout.specs.Fault.{clean, lower}
 use Rattle.layout.specs.Kind.Kind.{unused, fixed, whole, letter}
 use Rattle.layout.specs.Kind.{whole_fault, whole_held}
@@ -21,11 +19,12 @@ use Rattle.header.specs.declared.types.Rules.{Rules}
 use Rattle.record.specs.Times.{time_items, moment_at, date_fault}
 use Rattle.record.specs.Opening.{text_items, first_items, first_of}
 use Rattle.record.specs.SlotLines.{count_item, slot_items, count_in, satellites_of}
+use Rattle.std.specs.Prelude.{Option, Some, None}
 
 -- a whole number without fault is within its bounds
-whole-within : (column low high : ℕ) (a : Whole) → whole_fault column low high a ≡ 0 → (low ≤ whole_held a) × (whole_held a ≤ high)
-whole-within column low high (wholes.Value n) e = within-true low high n (passed (within low high n) 7 column (omega arith) e)
-whole-within column low high wholes.Malformed e = absurd (omega arith)
+whole-within : (column low high : ℕ) (a : Option ℕ) → whole_fault column low high a ≡ 0 → (low ≤ whole_held a) × (whole_held a ≤ high)
+whole-within column low high (Some n) e = within-true low high n (passed (within low high n) 7 column (omega arith) e)
+whole-within column low high None e = absurd (omega arith)
 
 -- no item of a line without fault has one
 clean_at : (before : List Item) (item : Item) (after : List Item) (line : List ℕ) (lowest : ℕ) → fault_from lowest (before ++ (item ∷ after)) line ≡ 0 → fault_at item line ≡ 0

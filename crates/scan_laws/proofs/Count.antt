@@ -26,7 +26,7 @@ use Rattle.machine.specs.declared.types.Verdict.TheVariants as verdict
 use Rattle.file.specs.Plain.{is_line, is_count_line, are_slots, slot_identifiers}
 use Rattle.scan.specs.Run.{run, counted}
 use Rattle.scan.specs.declared.Tally.{Tally}
-use Rattle.scan.specs.declared.Front.TheVariants as front
+use Rattle.scan.specs.Front as front
 use Rattle.scan_laws.proofs.Reaching.{counted_over, Reach, reach-append, reach-one, due-line}
 use Rattle.scan_laws.proofs.Slots.{fresh_in, first-fresh, fresh-length, all-identifiers, first-new, all_new}
 use Rattle.scan_laws.proofs.Identifiers.{identifiers_fault, identifiers-clean, clean-identifiers, identifiers_due, identifiers-reach, identifiers-read}

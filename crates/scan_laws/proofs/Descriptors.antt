@@ -22,7 +22,7 @@ use Rattle.machine.specs.declared.types.Verdict.TheVariants as verdict
 use Rattle.file.specs.Plain.{is_descriptor_line, is_characters_line, is_bases_line, is_floats_line, is_integers_line}
 use Rattle.scan.specs.Run.{run, counted}
 use Rattle.scan.specs.declared.Tally.{Tally}
-use Rattle.scan.specs.declared.Front.TheVariants as front
+use Rattle.scan.specs.Front as front
 use Rattle.scan_laws.proofs.Reaching.{counted_over, Reach}
 use Rattle.scan_laws.proofs.Singles.{agreeing, reach-cons, single-reach, single-read}
 

@@ -27,7 +27,7 @@ use Rattle.machine.specs.declared.types.Verdict.TheVariants as verdict
 use Rattle.file.specs.Plain.{is_line, is_record, is_epoch_line, is_last_line, Rows, Epochs}
 use Rattle.scan.specs.Run.{run, counted}
 use Rattle.scan.specs.declared.Tally.{Tally}
-use Rattle.scan.specs.declared.Front.TheVariants as front
+use Rattle.scan.specs.Front as front
 use Rattle.scan_laws.proofs.Passing.{pass}
 use Rattle.scan_laws.proofs.Reaching.{counted_over, counted-append, Reach, reach-none, reach-append, reach-one, identifiers-kept, due-line, split-on}
 use Rattle.scan_laws.proofs.Rows.{rows_left, rows-reach, rows-read}

@@ -26,8 +26,9 @@ use Rattle.machine.specs.declared.types.Verdict.TheVariants as verdict
 use Rattle.file.specs.Plain.{Plain, Accepted, Sound}
 use Rattle.scan.specs.Run.{nothing_seen, counted, run, scan_of, whole_front, IsFile}
 use Rattle.scan.specs.declared.Tally.{Tally}
-use Rattle.scan.specs.declared.Front.{Front}
-use Rattle.scan.specs.declared.Front.TheVariants as front
+use Rattle.std.specs.Prelude.{Ok, Err}
+use Rattle.scan.specs.Front.{Front}
+use Rattle.scan.specs.Front as front
 use Rattle.scan_laws.proofs.Passing.{not-refused, good}
 use Rattle.scan_laws.proofs.Reaching.{counted_over}
 use Rattle.scan_laws.proofs.Accepts.{run-plain, plain-run}
@@ -83,8 +84,8 @@ module _ (rules : Rules) where
 -- the whole of the bytes is the file at their front
 whole-ends : (size : ℕ) (f : Front) (t : Tally) → whole_front size f ≡ front.File t → (f ≡ front.File t) × (size ≤ t.end)
 unfolding whole_front
-whole-ends size (front.Refused n l c) t e = absurd (not-refused n l c t e)
-whole-ends size (front.File x) t e = go (ltb x.end size) refl
+whole-ends size (Err refusal) t e = absurd (not-refused refusal.number refusal.line refusal.column t e)
+whole-ends size (Ok x) t e = go (ltb x.end size) refl
   where
     go : (b : Bool) → ltb x.end size ≡ b → (front.File x ≡ front.File t) × (size ≤ t.end)
     go true is = absurd (not-refused 11 (x.lines + 1) 0 t (rw is at e))

@@ -27,7 +27,7 @@ use Rattle.machine.specs.declared.types.State.{State}
 use Rattle.file.specs.Plain.{is_line, is_first_line, is_second_line, is_count_line, slot_identifiers}
 use Rattle.scan.specs.Run.{run, counted}
 use Rattle.scan.specs.declared.Tally.{Tally}
-use Rattle.scan.specs.declared.Front.TheVariants as front
+use Rattle.scan.specs.Front as front
 use Rattle.scan_laws.proofs.Reaching.{Reach}
 use Rattle.scan_laws.proofs.Singles.{agreeing, single-reach, Single, single-read}
 use Rattle.scan_laws.proofs.Slots.{identifiers-length}

@@ -31,7 +31,7 @@ use Rattle.machine.specs.declared.types.Verdict.TheVariants as verdict
 use Rattle.file.specs.Plain.{is_line, is_record, are_slots, slot_identifiers}
 use Rattle.scan.specs.Run.{run, counted}
 use Rattle.scan.specs.declared.Tally.{Tally}
-use Rattle.scan.specs.declared.Front.TheVariants as front
+use Rattle.scan.specs.Front as front
 use Rattle.scan_laws.proofs.Reaching.{counted_over, Reach, reach-append, reach-one, due-line}
 use Rattle.scan_laws.proofs.Slots.{fresh_in, more-fresh, fresh-length, all-identifiers, one_line, first-new, all_new, none-new}
 

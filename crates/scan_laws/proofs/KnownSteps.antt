@@ -26,7 +26,7 @@ use Rattle.file.specs.Kinds.{is_kind}
 use Rattle.file.specs.Plain.{is_line, is_record, is_first_line, is_second_line, slot_identifiers, Plain, Sound}
 use Rattle.scan.specs.Run.{scan_of, Going, stepped, stepped_over, at_first}
 use Rattle.scan.specs.declared.Tally.{Tally}
-use Rattle.scan.specs.declared.Front.TheVariants as front
+use Rattle.scan.specs.Front as front
 use Rattle.scan_laws.proofs.Reaching.{identifiers-kept}
 use Rattle.scan_laws.proofs.Singles.{agreeing}
 use Rattle.scan_laws.proofs.Head.{opened, dated, counts, start8, fault_at_start, second-due, second-faults, identifiers-due, none_yet, identifiers-all, some-identifier}

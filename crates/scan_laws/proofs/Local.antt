@@ -14,8 +14,9 @@ use Rattle.lines.specs.Lines.{is_lf, lines_of, on_first}
 use Rattle.header.specs.declared.types.Rules.{Rules}
 use Rattle.machine.specs.State.{start_state, no_identifiers}
 use Rattle.scan.specs.declared.Tally.{Tally}
-use Rattle.scan.specs.declared.Front.{Front}
-use Rattle.scan.specs.declared.Front.TheVariants as front
+use Rattle.std.specs.Prelude.{Ok, Err}
+use Rattle.scan.specs.Front.{Front}
+use Rattle.scan.specs.Front as front
 use Rattle.scan.specs.Run.{nothing_seen, run, scan_of, whole_front, IsFile}
 use Rattle.scan_laws.proofs.Used.{front_lines, accepted-front}
 
@@ -59,11 +60,11 @@ module _ (rules : Rules) where
   whole-ends bytes t e = go (scan_of rules bytes) refl
     where
       go : (f : Front) → scan_of rules bytes ≡ f → (scan_of rules bytes ≡ front.File t) × (t.end ≡ length bytes)
-      go (front.Refused n l c) is =
-          let refused : front.Refused n l c ≡ front.File t = rw is at e in
+      go (Err refusal) is =
+          let refused : front.Refused refusal.number refusal.line refusal.column ≡ front.File t = rw is at e in
           let z : ◌≡◌ {A = ℕ} 0 1 = cc in
           absurd (omega arith)
-      go (front.File x) is = judge (ltb x.end (length bytes)) refl
+      go (Ok x) is = judge (ltb x.end (length bytes)) refl
         where
           judge : (b : Bool) → ltb x.end (length bytes) ≡ b → (scan_of rules bytes ≡ front.File t) × (t.end ≡ length bytes)
           judge true lt =

@@ -22,7 +22,7 @@ use Rattle.file.specs.Kinds.{is_kind}
 use Rattle.file.specs.Plain.{is_line, every_line, note_kind, is_note_line, are_notes}
 use Rattle.scan.specs.Run.{run}
 use Rattle.scan.specs.declared.Tally.{Tally}
-use Rattle.scan.specs.declared.Front.TheVariants as front
+use Rattle.scan.specs.Front as front
 use Rattle.scan_laws.proofs.Passing.{kind_here, taken, some-line}
 use Rattle.scan_laws.proofs.Forgetting.{forget}
 use Rattle.scan_laws.proofs.Reaching.{counted_over, Reach, reach-none, reach-also, identifiers-kept, Read}

@@ -27,8 +27,8 @@ use Rattle.machine.specs.declared.types.Verdict.TheVariants as verdict
 use Rattle.file.specs.Plain.{is_line}
 use Rattle.scan.specs.Run.{on_verdict, run, counted}
 use Rattle.scan.specs.declared.Tally.{Tally}
-use Rattle.scan.specs.declared.Front.{Front}
-use Rattle.scan.specs.declared.Front.TheVariants as front
+use Rattle.scan.specs.Front.{Front}
+use Rattle.scan.specs.Front as front
 
 -- a refusal is no file
 pub not-refused : (number line column : ℕ) (t : Tally) → front.Refused number line column ≡ front.File t → ⊥

@@ -17,7 +17,7 @@ use Rattle.machine.specs.declared.types.Verdict.TheVariants as verdict
 use Rattle.file.specs.Plain.{is_line}
 use Rattle.scan.specs.Run.{run, counted}
 use Rattle.scan.specs.declared.Tally.{Tally}
-use Rattle.scan.specs.declared.Front.TheVariants as front
+use Rattle.scan.specs.Front as front
 use Rattle.scan_laws.proofs.Passing.{after, pass, pass-also, taken, is-due, some-line}
 
 module _ (rules : Rules) where

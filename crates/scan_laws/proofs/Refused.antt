@@ -18,8 +18,8 @@ use Rattle.machine.specs.declared.types.LineRead.TheVariants as found
 use Rattle.scan_laws.proofs.Lowest.{step-numbered}
 use Rattle.file.specs.Plain.{Sound}
 use Rattle.scan.specs.declared.Tally.{Tally}
-use Rattle.scan.specs.declared.Front.{Front}
-use Rattle.scan.specs.declared.Front.TheVariants as front
+use Rattle.scan.specs.Front.{Front}
+use Rattle.scan.specs.Front as front
 use Rattle.scan.specs.Run.{nothing_seen, counted, on_verdict, run, scan_of, Going, stepped, stepped_over, at_first}
 use Rattle.scan_laws.proofs.Stepping.{next-line, go-first, go-later, go-more, stepped-on, place-behind, stands-behind}
 use Rattle.scan_laws.specs.Lines.{judged, GoesOn, behind, GoOn}

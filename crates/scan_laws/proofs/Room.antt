@@ -29,7 +29,7 @@ use Rattle.machine.specs.declared.types.Verdict.{Verdict}
 use Rattle.machine.specs.declared.types.Verdict.TheVariants as verdict
 use Rattle.file.specs.Plain.{Sound}
 use Rattle.scan.specs.Run.{Going, nothing_seen, on_verdict, stepped, at_first}
-use Rattle.scan.specs.declared.Front.TheVariants as front
+use Rattle.scan.specs.Front as front
 use Rattle.scan_laws.proofs.Bounds.{some-satellites}
 use Rattle.scan_laws.proofs.Passing.{kind_here, is-line, good, step-of}
 use Rattle.scan_laws.proofs.Slots.{fresh_in, first-fresh, more-fresh, fresh-length}

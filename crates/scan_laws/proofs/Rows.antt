@@ -28,7 +28,7 @@ use Rattle.machine.specs.declared.types.Verdict.TheVariants as verdict
 use Rattle.file.specs.Plain.{is_line, is_record, row_kind, is_row_line, note_kind, Noted, Satellite, Rows}
 use Rattle.scan.specs.Run.{run, counted}
 use Rattle.scan.specs.declared.Tally.{Tally}
-use Rattle.scan.specs.declared.Front.TheVariants as front
+use Rattle.scan.specs.Front as front
 use Rattle.scan_laws.proofs.Reaching.{counted_over, Reach, reach-none, reach-append, reach-one, identifiers-kept, due-line, Read, split-on, goes_on}
 use Rattle.scan_laws.proofs.Notes.{notes-reach, notes-read}
 

@@ -21,7 +21,7 @@ use Rattle.machine.specs.declared.types.Verdict.TheVariants as verdict
 use Rattle.file.specs.Plain.{is_line, is_record}
 use Rattle.scan.specs.Run.{run, counted}
 use Rattle.scan.specs.declared.Tally.{Tally}
-use Rattle.scan.specs.declared.Front.TheVariants as front
+use Rattle.scan.specs.Front as front
 use Rattle.scan_laws.proofs.Reaching.{Reach, reach-append, reach-one, identifiers-kept, due-line}
 
 -- no fault and a test passed, as one: the fault of both is none

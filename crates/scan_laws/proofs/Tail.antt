@@ -17,7 +17,7 @@ use Rattle.machine.specs.declared.types.State.{State}
 use Rattle.file.specs.Plain.{every_line, are_slots, is_descriptor_line, is_characters_line, is_bases_line, is_floats_line, is_integers_line, is_comment_line, Epochs, is_last_line}
 use Rattle.scan.specs.Run.{run}
 use Rattle.scan.specs.declared.Tally.{Tally}
-use Rattle.scan.specs.declared.Front.TheVariants as front
+use Rattle.scan.specs.Front as front
 use Rattle.scan_laws.proofs.Reaching.{counted_over, Reach, Ends, reach-end, Ending, ending-on}
 use Rattle.scan_laws.proofs.Epochs.{epoch_due, epochs-reach, last-run, Ended, epochs-read}
 use Rattle.scan_laws.proofs.Comments.{comments-reach, Commented, comments-read}

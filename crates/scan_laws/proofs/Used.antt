@@ -19,7 +19,7 @@ use Rattle.machine.specs.declared.types.State.{State}
 use Rattle.machine.specs.declared.types.Verdict.{Verdict}
 use Rattle.machine.specs.declared.types.Verdict.TheVariants as verdict
 use Rattle.scan.specs.declared.Tally.{Tally}
-use Rattle.scan.specs.declared.Front.TheVariants as front
+use Rattle.scan.specs.Front as front
 use Rattle.scan.specs.Run.{nothing_seen, one_more, counted, run, scan_of}
 
 -- a file took up the lines `used` of those that the run was given

@@ -9,7 +9,8 @@ use Rattle.machine.specs.Told.{told_read}
 use Rattle.stored_row.specs.Stored.{told_place, told_clock, told_exponent_read, told_flag, told_note, told_note_deviation, told_note_correlation}
 use Rattle.row_walk.specs.Told.{told_step}
 use Rattle.calendar.specs.declared.types.Dated.{Dated}
-use Rattle.calendar.specs.declared.types.Named.{Named}
+use Rattle.calendar.specs.declared.types.Civil.{Civil}
+use Rattle.std.specs.Prelude.{Option}
 use Rattle.calendar.specs.declared.types.Clock.{Clock}
 use Rattle.machine.specs.declared.types.LineRead.{LineRead}
 use Rattle.machine.specs.declared.types.LineRead.TheVariants as found
@@ -37,11 +38,11 @@ use Rattle.sp3.specs.Doors.{date_door, moment_door, place_door, clock_door, expo
 abbrev number_told : List ℕ → ℕ
 number_told told = get_or told 0 0
 
-pub date-door-number : (a : Dated) → (date_door (told_date a)).refusal ≡ number_told (told_date a)
+pub date-door-number : (a : Option Dated) → (date_door (told_date a)).refusal ≡ number_told (told_date a)
 unfolding date_door
 date-door-number a = refl
 
-pub moment-door-number : (a : Named) (c : Clock) → (moment_door (told_named a) c).refusal ≡ number_told (told_named a)
+pub moment-door-number : (a : Option Civil) (c : Clock) → (moment_door (told_named a) c).refusal ≡ number_told (told_named a)
 unfolding moment_door
 moment-door-number a c = refl
 

@@ -9,7 +9,7 @@ ghost use Rattle.questions.specs.Questions.{identifier_named, comment_answer, sa
 ghost use Rattle.sp3.specs.Doors.{date_door, moment_door};
 
 use crate::types::{DateAnswer, HeaderParts, MomentAnswer};
-use calendar::{Clock, Dated, Named};
+use calendar::{Civil, Clock, Dated};
 use header::{Header, HeaderAnswer, Moment};
 use questions::{CommentAnswer, RowAnswer, SatelliteAnswer};
 
@@ -42,22 +42,24 @@ pub fn sp3_row(file: &[u8], epoch: u64, satellite: u64) -> RowAnswer
 }
 
 // What a date names, for C.
-fn date_answer(found: Dated) -> DateAnswer
-    ensures { result ≡ date_door (told_date found) }
-{
-    match found {
-        Dated::Day { mjd, week, seconds } => DateAnswer {
-            refusal: 0,
-            mjd,
-            week,
-            seconds,
-        },
-        Dated::OutOfBounds => DateAnswer {
-            refusal: 7,
-            mjd: 0,
-            week: 0,
-            seconds: 0,
-        },
+impl From<Option<Dated>> for DateAnswer {
+    ghost from_gives = { λ found r. r ≡ date_door (told_date found) };
+
+    fn from(found: Option<Dated>) -> DateAnswer {
+        match found {
+            Some(date) => DateAnswer {
+                refusal: 0,
+                mjd: date.mjd,
+                week: date.week,
+                seconds: date.seconds,
+            },
+            None => DateAnswer {
+                refusal: 7,
+                mjd: 0,
+                week: 0,
+                seconds: 0,
+            },
+        }
     }
 }
 
@@ -65,15 +67,15 @@ fn date_answer(found: Dated) -> DateAnswer
 pub fn sp3_date(year: u64, month: u64, day: u64) -> DateAnswer
     ensures result { result ≡ date_door (date_answer year month day) }
 {
-    date_answer(calendar::date(year, month, day))
+    DateAnswer::from(calendar::date(year, month, day))
 }
 
 // A date found and a time of day, for C.
-fn moment_answer(found: Named, clock: Clock) -> MomentAnswer
+fn moment_answer(found: Option<Civil>, clock: Clock) -> MomentAnswer
     ensures { result ≡ moment_door (told_named found) clock }
 {
     match found {
-        Named::Date(date) => MomentAnswer {
+        Some(date) => MomentAnswer {
             refusal: 0,
             moment: Moment {
                 year: date.year,
@@ -84,7 +86,7 @@ fn moment_answer(found: Named, clock: Clock) -> MomentAnswer
                 second8: clock.second8,
             },
         },
-        Named::OutOfBounds => MomentAnswer {
+        None => MomentAnswer {
             refusal: 7,
             moment: Moment {
                 year: 0,

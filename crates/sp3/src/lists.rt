@@ -29,19 +29,21 @@ fn no_place(refusal: usize) -> StoredPlace
 }
 
 // A place, for C.
-fn place_answer(found: Place) -> StoredPlace
-    ensures { result ≡ place_door found }
-{
-    match found {
-        Place::At { x, y, z } => StoredPlace {
-            refusal: 0,
-            absent: false,
-            x,
-            y,
-            z,
-        },
-        Place::Absent => no_place(0),
-        Place::NotThere => no_place(13),
+impl From<Place> for StoredPlace {
+    ghost from_gives = { λ found r. r ≡ place_door found };
+
+    fn from(found: Place) -> StoredPlace {
+        match found {
+            Place::At { x, y, z } => StoredPlace {
+                refusal: 0,
+                absent: false,
+                x,
+                y,
+                z,
+            },
+            Place::Absent => no_place(0),
+            Place::NotThere => no_place(13),
+        }
     }
 }
 
@@ -49,7 +51,7 @@ fn place_answer(found: Place) -> StoredPlace
 pub fn sp3_place_of(rows: &[i64], k: usize) -> StoredPlace
     ensures result { result ≡ place_door (place_in rows.now k) }
 {
-    place_answer(stored_row::place_of(rows, k))
+    StoredPlace::from(stored_row::place_of(rows, k))
 }
 
 // No clock, absent or not there.
@@ -64,17 +66,19 @@ fn no_clock(refusal: usize) -> StoredClock
 }
 
 // A clock, for C.
-fn clock_answer(found: ClockRead) -> StoredClock
-    ensures { result ≡ clock_door found }
-{
-    match found {
-        ClockRead::At(clock) => StoredClock {
-            refusal: 0,
-            absent: false,
-            clock,
-        },
-        ClockRead::Absent => no_clock(0),
-        ClockRead::NotThere => no_clock(13),
+impl From<ClockRead> for StoredClock {
+    ghost from_gives = { λ found r. r ≡ clock_door found };
+
+    fn from(found: ClockRead) -> StoredClock {
+        match found {
+            ClockRead::At(clock) => StoredClock {
+                refusal: 0,
+                absent: false,
+                clock,
+            },
+            ClockRead::Absent => no_clock(0),
+            ClockRead::NotThere => no_clock(13),
+        }
     }
 }
 
@@ -82,7 +86,7 @@ fn clock_answer(found: ClockRead) -> StoredClock
 pub fn sp3_clock_of(rows: &[i64], k: usize) -> StoredClock
     ensures result { result ≡ clock_door (clock_in rows.now k) }
 {
-    clock_answer(stored_row::clock_of(rows, k))
+    StoredClock::from(stored_row::clock_of(rows, k))
 }
 
 // The parts of an exponent.
@@ -98,14 +102,16 @@ fn exponent(refusal: usize, unknown: bool, too_large: bool, value: u64) -> Store
 }
 
 // An exponent, for C.
-fn exponent_answer(found: ExponentRead) -> StoredExponent
-    ensures { result ≡ exponent_door found }
-{
-    match found {
-        ExponentRead::Value(value) => exponent(0, false, false, value),
-        ExponentRead::Unknown => exponent(0, true, false, 0),
-        ExponentRead::TooLarge => exponent(0, false, true, 0),
-        ExponentRead::NotThere => exponent(13, true, false, 0),
+impl From<ExponentRead> for StoredExponent {
+    ghost from_gives = { λ found r. r ≡ exponent_door found };
+
+    fn from(found: ExponentRead) -> StoredExponent {
+        match found {
+            ExponentRead::Value(value) => exponent(0, false, false, value),
+            ExponentRead::Unknown => exponent(0, true, false, 0),
+            ExponentRead::TooLarge => exponent(0, false, true, 0),
+            ExponentRead::NotThere => exponent(13, true, false, 0),
+        }
     }
 }
 
@@ -113,7 +119,7 @@ fn exponent_answer(found: ExponentRead) -> StoredExponent
 pub fn sp3_exponent_of(rows: &[i64], k: usize, which: usize) -> StoredExponent
     ensures result { result ≡ exponent_door (exponent_read_in rows.now k which) }
 {
-    exponent_answer(stored_row::exponent_of(rows, k, which))
+    StoredExponent::from(stored_row::exponent_of(rows, k, which))
 }
 
 // The parts of a flag.
@@ -124,13 +130,15 @@ fn flag(refusal: usize, set: bool) -> StoredFlag
 }
 
 // A flag, for C.
-fn flag_answer(found: Flag) -> StoredFlag
-    ensures { result ≡ flag_door found }
-{
-    match found {
-        Flag::Set => flag(0, true),
-        Flag::NotSet => flag(0, false),
-        Flag::NotThere => flag(13, false),
+impl From<Flag> for StoredFlag {
+    ghost from_gives = { λ found r. r ≡ flag_door found };
+
+    fn from(found: Flag) -> StoredFlag {
+        match found {
+            Flag::Set => flag(0, true),
+            Flag::NotSet => flag(0, false),
+            Flag::NotThere => flag(13, false),
+        }
     }
 }
 
@@ -138,7 +146,7 @@ fn flag_answer(found: Flag) -> StoredFlag
 pub fn sp3_flag_of(rows: &[i64], k: usize, which: usize) -> StoredFlag
     ensures result { result ≡ flag_door (flag_in rows.now k which) }
 {
-    flag_answer(stored_row::flag_of(rows, k, which))
+    StoredFlag::from(stored_row::flag_of(rows, k, which))
 }
 
 // The parts of a note's mark.
@@ -149,13 +157,15 @@ fn note(refusal: usize, stands: bool) -> StoredNote
 }
 
 // A note's mark, for C.
-fn note_answer(found: NoteMark) -> StoredNote
-    ensures { result ≡ note_door found }
-{
-    match found {
-        NoteMark::Stands => note(0, true),
-        NoteMark::NoRecord => note(0, false),
-        NoteMark::NotThere => note(13, false),
+impl From<NoteMark> for StoredNote {
+    ghost from_gives = { λ found r. r ≡ note_door found };
+
+    fn from(found: NoteMark) -> StoredNote {
+        match found {
+            NoteMark::Stands => note(0, true),
+            NoteMark::NoRecord => note(0, false),
+            NoteMark::NotThere => note(13, false),
+        }
     }
 }
 
@@ -163,7 +173,7 @@ fn note_answer(found: NoteMark) -> StoredNote
 pub fn sp3_note_of(rows: &[i64], k: usize) -> StoredNote
     ensures result { result ≡ note_door (note_in rows.now k) }
 {
-    note_answer(stored_row::note_of(rows, k))
+    StoredNote::from(stored_row::note_of(rows, k))
 }
 
 // No deviation: unknown, too large, not recorded or not there.
@@ -185,21 +195,23 @@ fn no_deviation(
 }
 
 // A deviation, for C.
-fn note_deviation_answer(found: NoteDeviation) -> NoteDeviationAnswer
-    ensures { result ≡ note_deviation_door found }
-{
-    match found {
-        NoteDeviation::Value(value) => NoteDeviationAnswer {
-            refusal: 0,
-            no_record: false,
-            unknown: false,
-            too_large: false,
-            value,
-        },
-        NoteDeviation::Unknown => no_deviation(0, false, true, false),
-        NoteDeviation::TooLarge => no_deviation(0, false, false, true),
-        NoteDeviation::NoRecord => no_deviation(0, true, false, false),
-        NoteDeviation::NotThere => no_deviation(13, true, false, false),
+impl From<NoteDeviation> for NoteDeviationAnswer {
+    ghost from_gives = { λ found r. r ≡ note_deviation_door found };
+
+    fn from(found: NoteDeviation) -> NoteDeviationAnswer {
+        match found {
+            NoteDeviation::Value(value) => NoteDeviationAnswer {
+                refusal: 0,
+                no_record: false,
+                unknown: false,
+                too_large: false,
+                value,
+            },
+            NoteDeviation::Unknown => no_deviation(0, false, true, false),
+            NoteDeviation::TooLarge => no_deviation(0, false, false, true),
+            NoteDeviation::NoRecord => no_deviation(0, true, false, false),
+            NoteDeviation::NotThere => no_deviation(13, true, false, false),
+        }
     }
 }
 
@@ -207,7 +219,7 @@ fn note_deviation_answer(found: NoteDeviation) -> NoteDeviationAnswer
 pub fn sp3_note_deviation_of(rows: &[i64], k: usize, which: usize) -> NoteDeviationAnswer
     ensures result { result ≡ note_deviation_door (note_deviation_in rows.now k which) }
 {
-    note_deviation_answer(stored_row::note_deviation_of(rows, k, which))
+    NoteDeviationAnswer::from(stored_row::note_deviation_of(rows, k, which))
 }
 
 // No correlation, unknown, not recorded or not there.
@@ -223,19 +235,21 @@ fn no_correlation(refusal: usize, no_record: bool, unknown: bool) -> NoteCorrela
 }
 
 // A correlation, for C.
-fn note_correlation_answer(found: NoteCorrelation) -> NoteCorrelationAnswer
-    ensures { result ≡ note_correlation_door found }
-{
-    match found {
-        NoteCorrelation::Value(value) => NoteCorrelationAnswer {
-            refusal: 0,
-            no_record: false,
-            unknown: false,
-            value,
-        },
-        NoteCorrelation::Unknown => no_correlation(0, false, true),
-        NoteCorrelation::NoRecord => no_correlation(0, true, false),
-        NoteCorrelation::NotThere => no_correlation(13, true, false),
+impl From<NoteCorrelation> for NoteCorrelationAnswer {
+    ghost from_gives = { λ found r. r ≡ note_correlation_door found };
+
+    fn from(found: NoteCorrelation) -> NoteCorrelationAnswer {
+        match found {
+            NoteCorrelation::Value(value) => NoteCorrelationAnswer {
+                refusal: 0,
+                no_record: false,
+                unknown: false,
+                value,
+            },
+            NoteCorrelation::Unknown => no_correlation(0, false, true),
+            NoteCorrelation::NoRecord => no_correlation(0, true, false),
+            NoteCorrelation::NotThere => no_correlation(13, true, false),
+        }
     }
 }
 
@@ -243,5 +257,5 @@ fn note_correlation_answer(found: NoteCorrelation) -> NoteCorrelationAnswer
 pub fn sp3_note_correlation_of(rows: &[i64], k: usize, which: usize) -> NoteCorrelationAnswer
     ensures result { result ≡ note_correlation_door (note_correlation_in rows.now k which) }
 {
-    note_correlation_answer(stored_row::note_correlation_of(rows, k, which))
+    NoteCorrelationAnswer::from(stored_row::note_correlation_of(rows, k, which))
 }

@@ -14,8 +14,6 @@ use mir.Syntax.{w64}
 use mir.Val.{SFits, hbits, to_z, of_z}
 use mir.ValLaws.{to_z-of_z}
 use Rattle.field.specs.Sign.{largest, signed_int, is_negative, told_number, number_answer}
-use Rattle.field.specs.declared.Number.{Number}
-use Rattle.field.specs.declared.Number.TheVariants as number
 use Rattle.field.proofs.Told.{number_is}
 use Rattle.record.specs.Absence.{place_absent, clock_absent, is_unknown, is_too_large}
 use Rattle.layout.specs.Kind.{unnoted}
@@ -30,30 +28,31 @@ use Rattle.stored_row.specs.declared.types.Flag.TheVariants as flag
 use Rattle.stored_row.specs.declared.types.NoteMark.TheVariants as note_mark
 use Rattle.stored_row.specs.declared.types.NoteDeviation.TheVariants as note_deviation
 use Rattle.stored_row.specs.declared.types.NoteCorrelation.TheVariants as note_correlation
+use Rattle.std.specs.Prelude.{Option, Some, None}
 
-module _ (negative : Bool) (m : ℕ) (r : Number) (e : told_number r ≡ number_answer negative m) where
+module _ (negative : Bool) (m : ℕ) (r : Option ℤ) (e : told_number r ≡ number_answer negative m) where
   -- the value that is answered
-  pub stored_is : (v : ℤ) → r ≡ number.Value v → v ≡ stored_int negative m
+  pub stored_is : (v : ℤ) → r ≡ Some v → v ≡ stored_int negative m
   unfolding stored_int number_answer
   stored_is v is = go (leb m largest) refl
     where
       go : (b : Bool) → leb m largest ≡ b → v ≡ stored_int negative m
       go true h =
-          let same : number.Value v ≡ number.Value (signed_int negative m) = sym is ∙ number_is negative m (leb-true m largest h) r e in
+          let same : Some v ≡ Some (signed_int negative m) = sym is ∙ number_is negative m (leb-true m largest h) r e in
           let value : v ≡ signed_int negative m = cc in
           rw h value
       go false h =
-          let told : told_number (number.Value v) ≡ 7 ∷ [] = ap told_number (sym is) ∙ rw h at e in
+          let told : told_number (Some v) ≡ 7 ∷ [] = ap told_number (sym is) ∙ rw h at e in
           let z : ◌≡◌ {A = ℕ} 0 1 = cc in absurd (omega arith)
 
   -- nothing is answered out of bounds
-  pub stored-none : r ≡ number.OutOfBounds → pos 0 ≡ stored_int negative m
+  pub stored-none : r ≡ None → pos 0 ≡ stored_int negative m
   unfolding stored_int number_answer
   stored-none is = go (leb m largest) refl
     where
       go : (b : Bool) → leb m largest ≡ b → pos 0 ≡ stored_int negative m
       go true h =
-          let same : number.OutOfBounds ≡ number.Value (signed_int negative m) = sym is ∙ number_is negative m (leb-true m largest h) r e in
+          let same : None ≡ Some (signed_int negative m) = sym is ∙ number_is negative m (leb-true m largest h) r e in
           let z : ◌≡◌ {A = ℕ} 0 1 = cc in absurd (omega arith)
       go false h = rw h refl
 

@@ -17,7 +17,7 @@ use Rattle.lines.specs.Lent.{over}
 use Rattle.record.specs.Absence.{place_absent, clock_absent}
 use Rattle.record.specs.Rows.{bare_width, note_width, row_width}
 use Rattle.record.specs.declared.types.Row.{Row}
-use Rattle.record.specs.declared.types.Signed.{Signed}
+use Rattle.field.specs.declared.Signed.{Signed}
 use Rattle.file.proofs.Exact.{stored_exact}
 use Rattle.file.specs.Table.{stored_int, stored_signed, stored_count, stored_mark, mark_number, row_numbers}
 use Rattle.stored_row.specs.Stored.{is_there, number_at, place_in, clock_in, exponent_read_of, exponent_read_in, flag_in}

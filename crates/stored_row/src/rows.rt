@@ -4,17 +4,13 @@ ghost use Rattle.file.specs.Table.{stored_int};
 ghost use Rattle.stored_row.specs.Stored.{is_there, place_in, clock_in, exponent_read_in, flag_in, told_place, told_clock, told_exponent_read, told_flag};
 
 use crate::types::{ClockRead, ExponentRead, Flag, Place};
-use field::Number;
 use record::rows::ROW_WIDTH;
 
 // A number as it is stored: 0 beyond the bounds, which no field holds.
 pub fn stored_number(negative: bool, magnitude: u64) -> i64
     ensures result { result ≡ stored_int negative magnitude }
 {
-    let Number::Value(v) = field::sign::number(negative, magnitude) else {
-        return 0;
-    };
-    v
+    field::sign::number(negative, magnitude).unwrap_or(0)
 }
 
 // Whether the lent numbers have a k-th row.

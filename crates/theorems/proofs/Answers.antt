@@ -48,8 +48,9 @@ use Rattle.stored_row.specs.declared.types.NoteMark.TheVariants as note_mark
 use Rattle.stored_row.specs.declared.types.NoteDeviation.TheVariants as note_deviation
 use Rattle.stored_row.specs.declared.types.NoteCorrelation.TheVariants as note_correlation
 use Rattle.scan.specs.declared.Tally.{Tally}
-use Rattle.scan.specs.declared.Front.{Front}
-use Rattle.scan.specs.declared.Front.TheVariants as front
+use Rattle.std.specs.Prelude.{Ok, Err}
+use Rattle.scan.specs.Front.{Front}
+use Rattle.scan.specs.Front as front
 use Rattle.record.specs.LineKinds.{comment_kind}
 use Rattle.canon_laws.specs.Held.{Proper}
 
@@ -75,14 +76,14 @@ module _ {rules : Rules} (proper : Proper rules) where
   judge-accepts bytes = go (file_of rules bytes) refl
     where
       go : (f : Front) → file_of rules bytes ≡ f → ((judged rules bytes f).refusal ≡ 0) ↔ IsFile rules bytes
-      go (front.File t) e = (λ z. (t, e), λ i. refl)
-      go (front.Refused number line column) e =
-          let some = found-numbers bytes number line column e in (
+      go (Ok t) e = (λ z. (t, e), λ i. refl)
+      go (Err refusal) e =
+          let some = found-numbers bytes refusal.number refusal.line refusal.column e in (
             λ z. absurd (omega (arith, some.0)),
             λ i. absurd (no_both (sym i.1 ∙ e)),
           )
         where
-          no_both : {t : Tally} → front.File t ≡ front.Refused number line column → ⊥
+          no_both : {t : Tally} → front.File t ≡ front.Refused refusal.number refusal.line refusal.column → ⊥
           no_both both = let z : ◌≡◌ {A = ℕ} 0 1 = cc in omega arith
 
   -- A file is answered by a refusal, but for 11, exactly when its line is the first that earns a fault, and of the faults that this line earns it has the
@@ -103,12 +104,12 @@ module _ {rules : Rules} (proper : Proper rules) where
           go (inr (t, f, h, n, l, c)) = absurd (apart n)
 
       there : (f : Front) → found_in rules whole bytes ≡ f → 0 < number → judged rules bytes f ≡ refused_with number line column → FirstFault rules bytes number line column
-      there (front.File t) e some is = let z : 0 ≡ number = ap (λ (r : Reading). r.refusal) is in absurd (omega arith)
-      there (front.Refused n l c) e some is =
-          let number_is : n ≡ number = ap (λ (r : Reading). r.refusal) is in
-          let line-is : l ≡ line = ap (λ (r : Reading). r.line) is in
-          let column-is : c ≡ column = ap (λ (r : Reading). r.column) is in
-          let same : front.Refused n l c ≡ front.Refused number line column = cc in
+      there (Ok t) e some is = let z : 0 ≡ number = ap (λ (r : Reading). r.refusal) is in absurd (omega arith)
+      there (Err refusal) e some is =
+          let number_is : refusal.number ≡ number = ap (λ (r : Reading). r.refusal) is in
+          let line-is : refusal.line ≡ line = ap (λ (r : Reading). r.line) is in
+          let column-is : refusal.column ≡ column = ap (λ (r : Reading). r.column) is in
+          let same : front.Refused refusal.number refusal.line refusal.column ≡ front.Refused number line column = cc in
           refused-first proper bytes number line column (at_front whole (e ∙ same))
 
       back : (w : Bool) → front_of rules bytes ≡ front.Refused number line column → (0 < number) × (judged rules bytes (found_in rules w bytes) ≡ refused_with number line column)
@@ -125,10 +126,10 @@ module _ {rules : Rules} (proper : Proper rules) where
       There' = (a : List ℕ) × (b : List ℕ) × (bytes ≡ a ++ b) × IsFile rules a × (0 < length b) × (line ≡ length (lines_of a) + 1)
 
       there : (f : Front) → file_of rules bytes ≡ f → judged rules bytes f ≡ refused_with 11 line 0 → There'
-      there (front.File t) e is = let z : ◌≡◌ {A = ℕ} 0 11 = ap (λ (r : Reading). r.refusal) is in absurd (omega arith)
-      there (front.Refused number l column) e is = by (whole-refused proper bytes number l column e)
+      there (Ok t) e is = let z : ◌≡◌ {A = ℕ} 0 11 = ap (λ (r : Reading). r.refusal) is in absurd (omega arith)
+      there (Err refusal) e is = by (whole-refused proper bytes refusal.number refusal.line refusal.column e)
         where
-          eleven : number ≡ 11
+          eleven : refusal.number ≡ 11
           eleven = ap (λ (r : Reading). r.refusal) is
 
           same : l ≡ line
@@ -168,7 +169,7 @@ module _ {rules : Rules} (proper : Proper rules) where
     where
       there : (f : Front) → found_in rules whole bytes ≡ f → (answer rules whole bytes i x c r).refusal ≡ 12
           → (t : Tally) × (found_in rules whole bytes ≡ front.File t) × Short (header_to rules bytes t) i x c r
-      there (front.File t) e twelve = by (room-or-short (header_to rules bytes t) i x c r)
+      there (Ok t) e twelve = by (room-or-short (header_to rules bytes t) i x c r)
         where
           by : Room (header_to rules bytes t) i x c r ⊎ Short (header_to rules bytes t) i x c r
               → (t : Tally) × (found_in rules whole bytes ≡ front.File t) × Short (header_to rules bytes t) i x c r
@@ -176,9 +177,9 @@ module _ {rules : Rules} (proper : Proper rules) where
               let z : ◌≡◌ {A = ℕ} 12 0 = sym twelve ∙ ap (λ (a : Reading). a.refusal) (room-accepted proper whole bytes t e i x c r room) in
               absurd (omega arith)
           by (inr short) = (t, e, short)
-      there (front.Refused number line column) e twelve =
-          let n : 12 ≡ number = sym twelve ∙ ap (λ (a : Reading). a.refusal) (refused-whatever-room whole bytes number line column e i x c r) in
-          absurd (omega (arith, found-few whole bytes number line column e))
+      there (Err refusal) e twelve =
+          let n : 12 ≡ number = sym twelve ∙ ap (λ (a : Reading). a.refusal) (refused-whatever-room whole bytes refusal.number refusal.line refusal.column e i x c r) in
+          absurd (omega (arith, found-few whole bytes refusal.number refusal.line refusal.column e))
 
       back : ((t : Tally) × (found_in rules whole bytes ≡ front.File t) × Short (header_to rules bytes t) i x c r) → (answer rules whole bytes i x c r).refusal ≡ 12
       back (t, e, short) = ap (λ (a : Reading). a.refusal) (short-refused proper whole bytes t e i x c r short)
@@ -188,7 +189,7 @@ module _ {rules : Rules} (proper : Proper rules) where
   reading-never-13 whole bytes i x c r = go (found_in rules whole bytes) refl
     where
       go : (f : Front) → found_in rules whole bytes ≡ f → (answer rules whole bytes i x c r).refusal ≡ 13 → ⊥
-      go (front.File t) e thirteen = by (room-or-short (header_to rules bytes t) i x c r)
+      go (Ok t) e thirteen = by (room-or-short (header_to rules bytes t) i x c r)
         where
           by : Room (header_to rules bytes t) i x c r ⊎ Short (header_to rules bytes t) i x c r → ⊥
           by (inl room) =
@@ -197,24 +198,24 @@ module _ {rules : Rules} (proper : Proper rules) where
           by (inr short) =
               let z : ◌≡◌ {A = ℕ} 13 12 = sym thirteen ∙ ap (λ (a : Reading). a.refusal) (short-refused proper whole bytes t e i x c r short) in
               omega arith
-      go (front.Refused number line column) e thirteen =
-          let n : 13 ≡ number = sym thirteen ∙ ap (λ (a : Reading). a.refusal) (refused-whatever-room whole bytes number line column e i x c r) in
-          omega (arith, found-few whole bytes number line column e)
+      go (Err refusal) e thirteen =
+          let n : 13 ≡ number = sym thirteen ∙ ap (λ (a : Reading). a.refusal) (refused-whatever-room whole bytes refusal.number refusal.line refusal.column e i x c r) in
+          omega (arith, found-few whole bytes refusal.number refusal.line refusal.column e)
 
   -- THE ROW QUESTION answers 13 exactly for an epoch or satellite that an accepted file does not have.
   pub row-thirteen : (bytes : List ℕ) (k j : ℕ) → ((asked rules bytes k j).refusal ≡ 13) ↔ (IsFile rules bytes × (There rules bytes k j → ⊥))
   row-thirteen bytes k j = (there (file_of rules bytes) refl, λ b. ap (λ (a : RowAnswer). a.refusal) (row-not-there proper bytes b.0 k j b.1))
     where
       there : (f : Front) → file_of rules bytes ≡ f → (asked rules bytes k j).refusal ≡ 13 → IsFile rules bytes × (There rules bytes k j → ⊥)
-      there (front.File t) e thirteen = (
+      there (Ok t) e thirteen = (
         (t, e),
         λ here.
             let z : ◌≡◌ {A = ℕ} 13 0 = sym thirteen ∙ ap (λ (a : RowAnswer). a.refusal) (row-asked proper bytes (t, e) k j here) in
             omega arith,
       )
-      there (front.Refused number line column) e thirteen =
-          let n : 13 ≡ number = sym thirteen ∙ ap (λ (a : RowAnswer). a.refusal) (row-refused proper bytes number line column e k j) in
-          absurd (omega (arith, (found-numbers bytes number line column e).1))
+      there (Err refusal) e thirteen =
+          let n : 13 ≡ number = sym thirteen ∙ ap (λ (a : RowAnswer). a.refusal) (row-refused proper bytes refusal.number refusal.line refusal.column e k j) in
+          absurd (omega (arith, (found-numbers bytes refusal.number refusal.line refusal.column e).1))
 
   -- THE COMMENT QUESTION: the file's own refusal first,
   pub comment-refused : (bytes : List ℕ) (number line column : ℕ) → file_of rules bytes ≡ front.Refused number line column
@@ -260,12 +261,12 @@ module _ {rules : Rules} (proper : Proper rules) where
   )
     where
       there : (f : Front) → file_of rules bytes ≡ f → (comment_answer rules bytes f k).refusal ≡ 13 → IsFile rules bytes × ((header rules bytes).comments ≤ k)
-      there (front.File t) e thirteen = ((t, e), by (ltb k t.comments) refl)
+      there (Ok t) e thirteen = ((t, e), by (ltb k t.comments) refl)
         where
           by : (b : Bool) → ltb k t.comments ≡ b → (header rules bytes).comments ≤ k
           by true h = let z : ◌≡◌ {A = ℕ} 0 13 = rw h at thirteen in absurd (omega arith)
           by false h = let few = ltb-false k t.comments h in omega (arith, comments-are bytes (t, e))
-      there (front.Refused number line column) e thirteen = absurd (omega (arith, (found-numbers bytes number line column e).1))
+      there (Err refusal) e thirteen = absurd (omega (arith, (found-numbers bytes refusal.number refusal.line refusal.column e).1))
 
   pub questions-never-12 : (bytes : List ℕ) (k j : ℕ)
       → ((asked rules bytes k j).refusal ≡ 12 → ⊥) × ((comment_answer rules bytes (file_of rules bytes) k).refusal ≡ 12 → ⊥)
@@ -274,7 +275,7 @@ module _ {rules : Rules} (proper : Proper rules) where
   questions-never-12 bytes k j = (row (file_of rules bytes) refl, comment (file_of rules bytes) refl, satellite (file_of rules bytes) refl)
     where
       row : (f : Front) → file_of rules bytes ≡ f → (asked rules bytes k j).refusal ≡ 12 → ⊥
-      row (front.File t) e twelve = by (dec_lt k (header rules bytes).epochs) (dec_lt j (header rules bytes).satellites)
+      row (Ok t) e twelve = by (dec_lt k (header rules bytes).epochs) (dec_lt j (header rules bytes).satellites)
         where
           none : (There rules bytes k j → ⊥) → ⊥
           none missing = let z : ◌≡◌ {A = ℕ} 12 13 = sym twelve ∙ ap (λ (a : RowAnswer). a.refusal) (row-not-there proper bytes (t, e) k j missing) in omega arith
@@ -285,20 +286,20 @@ module _ {rules : Rules} (proper : Proper rules) where
               omega arith
           by (no some) one = none (λ there. some there.epoch)
           by (yes some) (no one) = none (λ there. one there.satellite)
-      row (front.Refused number line column) e twelve =
-          let n : 12 ≡ number = sym twelve ∙ ap (λ (a : RowAnswer). a.refusal) (row-refused proper bytes number line column e k j) in
-          omega (arith, (found-numbers bytes number line column e).1)
+      row (Err refusal) e twelve =
+          let n : 12 ≡ number = sym twelve ∙ ap (λ (a : RowAnswer). a.refusal) (row-refused proper bytes refusal.number refusal.line refusal.column e k j) in
+          omega (arith, (found-numbers bytes refusal.number refusal.line refusal.column e).1)
 
       comment : (f : Front) → file_of rules bytes ≡ f → (comment_answer rules bytes f k).refusal ≡ 12 → ⊥
-      comment (front.File t) e twelve = by (ltb k t.comments) refl
+      comment (Ok t) e twelve = by (ltb k t.comments) refl
         where
           by : (b : Bool) → ltb k t.comments ≡ b → ⊥
           by true h = let z : ◌≡◌ {A = ℕ} 0 12 = rw h at twelve in omega arith
           by false h = let z : ◌≡◌ {A = ℕ} 13 12 = rw h at twelve in omega arith
-      comment (front.Refused number line column) e twelve = omega (arith, (found-numbers bytes number line column e).1)
+      comment (Err refusal) e twelve = omega (arith, (found-numbers bytes refusal.number refusal.line refusal.column e).1)
 
       satellite : (f : Front) → file_of rules bytes ≡ f → (satellite_answer rules bytes f k).refusal ≡ 12 → ⊥
-      satellite (front.File t) e twelve = by (ltb (index_of k list) (length list)) refl
+      satellite (Ok t) e twelve = by (ltb (index_of k list) (length list)) refl
         where
           list : List ℕ
           list = identifiers_of rules (lines_to t.end bytes)
@@ -306,7 +307,7 @@ module _ {rules : Rules} (proper : Proper rules) where
           by : (b : Bool) → ltb (index_of k (identifiers_of rules (lines_to t.end bytes))) (length (identifiers_of rules (lines_to t.end bytes))) ≡ b → ⊥
           by true h = let z : ◌≡◌ {A = ℕ} 0 12 = rw h at twelve in omega arith
           by false h = let z : ◌≡◌ {A = ℕ} 13 12 = rw h at twelve in omega arith
-      satellite (front.Refused number line column) e twelve = omega (arith, (found-numbers bytes number line column e).1)
+      satellite (Err refusal) e twelve = omega (arith, (found-numbers bytes refusal.number refusal.line refusal.column e).1)
 
   -- THE SATELLITE QUESTION: the file's own refusal first,
   pub satellite-refused : (bytes : List ℕ) (number line column : ℕ) → file_of rules bytes ≡ front.Refused number line column
@@ -378,16 +379,16 @@ module _ {rules : Rules} (proper : Proper rules) where
   begin-twelve bytes old = (there (file_of rules bytes) refl, λ b. ap (λ (a : Reading). a.refusal) (begin-short proper bytes b.0.0 b.0.1 old b.1).0)
     where
       there : (f : Front) → file_of rules bytes ≡ f → (begun rules bytes (length old)).refusal ≡ 12 → IsFile rules bytes × (length old < (header rules bytes).satellites)
-      there (front.File t) e twelve = ((t, e), by (dec_le (header rules bytes).satellites (length old)))
+      there (Ok t) e twelve = ((t, e), by (dec_le (header rules bytes).satellites (length old)))
         where
           by : Dec ((header rules bytes).satellites ≤ length old) → length old < (header rules bytes).satellites
           by (yes h) =
               let z : ◌≡◌ {A = ℕ} 12 0 = sym twelve ∙ ap (λ (a : Reading). a.refusal) (begin-accepts proper bytes t e old h) in
               absurd (omega arith)
           by (no h) = omega arith
-      there (front.Refused number line column) e twelve =
-          let n : 12 ≡ number = sym twelve ∙ ap (λ (a : Reading). a.refusal) (begin-refused proper bytes number line column e old).0 in
-          absurd (omega (arith, (found-numbers bytes number line column e).1))
+      there (Err refusal) e twelve =
+          let n : 12 ≡ number = sym twelve ∙ ap (λ (a : Reading). a.refusal) (begin-refused proper bytes refusal.number refusal.line refusal.column e old).0 in
+          absurd (omega (arith, (found-numbers bytes refusal.number refusal.line refusal.column e).1))
 
 -- what is answered under a test is not there exactly where the test fails
 not_there : {A : Type 0} (t : Bool) (found none : A) → (found ≡ none → ⊥) → (cond t found none ≡ none) ↔ (t ≡ false)

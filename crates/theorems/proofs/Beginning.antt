@@ -21,7 +21,7 @@ use Rattle.theorems.specs.Files.{header}
 use Rattle.theorems.proofs.Room.{found-numbered}
 use Rattle.theorems.specs.Walked.{Identified}
 use Rattle.scan.specs.declared.Tally.{Tally}
-use Rattle.scan.specs.declared.Front.TheVariants as front
+use Rattle.scan.specs.Front as front
 use Rattle.theorems.specs.Walked.{begun, begun_list}
 use Rattle.canon_laws.specs.Held.{Proper}
 

@@ -18,8 +18,6 @@ use Rattle.field.specs.Read.{whole_of, decimal_of, integer_of, carried}
 use Rattle.field.specs.Show.{show_integer, fits_integer, show_decimal, fits_decimal}
 use Rattle.field.specs.Clock.{is_six_nines, nines_before, has_point, clock_missing, clock_of}
 use Rattle.field.specs.Sign.{largest, largest_clock}
-use Rattle.field.specs.declared.Amount.{Amount}
-use Rattle.field.specs.declared.Amount.TheVariants as amounts
 use Rattle.layout.specs.Fault.{clean, keyed}
 use Rattle.layout.specs.Kind.{amount_fault}
 use Rattle.layout.specs.Kind.Kind.{signed, clock}
@@ -39,16 +37,18 @@ use Rattle.canon.proofs.Parts.{parts}
 use Rattle.stored_row.specs.Stored.{is_there, number_at}
 use Rattle.theorems.proofs.Writing.{thirteen-exactly}
 use Rattle.canon_laws.specs.Held.{Proper}
+use Rattle.std.specs.Prelude.{Option, Some, None}
+use Rattle.field.specs.declared.Signed.{Signed}
 
 -- A FRACTION THAT IS NOT ALL DIGITS makes a decimal malformed, whatever stands before the point.
-no_fraction : (s : List ℕ) (places : ℕ) (minus : Bool) → all_digits (drop (point_of places (length s) + 1) s) ≡ false → decimal_of s places minus ≡ amounts.Malformed
+no_fraction : (s : List ℕ) (places : ℕ) (minus : Bool) → all_digits (drop (point_of places (length s) + 1) s) ≡ false → decimal_of s places minus ≡ None
 unfolding decimal_of
 no_fraction s places minus e =
     go (leb (length s) 18 && (ltb places (length s) && eqb (get_or s (point_of places (length s)) 0) 46)) (integer_of minus (take (point_of places (length s)) s))
   where
-    go : (t : Bool) (a : Amount) → cond t (carried a (drop (point_of places (length s) + 1) s)) amounts.Malformed ≡ amounts.Malformed
-    go true (amounts.Value n m) = rw e
-    go true amounts.Malformed = refl
+    go : (t : Bool) (a : Option Signed) → cond t (carried a (drop (point_of places (length s) + 1) s)) None ≡ None
+    go true (Some held) = rw e
+    go true None = refl
     go false a = refl
 
 -- fourteen columns of a line, the last six of them

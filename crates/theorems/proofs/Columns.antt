@@ -21,7 +21,7 @@ use Rattle.record.specs.declared.types.LineKind.{LineKind}
 use Rattle.record.specs.declared.types.LineKind.TheVariants as kind
 use Rattle.reader.specs.Reading.{front_of}
 use Rattle.scan.specs.Run.{Going}
-use Rattle.scan.specs.declared.Front.TheVariants as front
+use Rattle.scan.specs.Front as front
 use Rattle.machine.specs.declared.types.State.{State}
 use Rattle.scan_laws.specs.Earned.{Among, items_at, kind_at, byte_at, field_number, field_column, Before}
 use Rattle.scan_laws.specs.Earned.Earns.{by_byte, by_length, by_kind, by-unused, by_field, by-check}

@@ -30,8 +30,8 @@ use Rattle.machine.specs.declared.types.Verdict.TheVariants as verdict
 use Rattle.file.specs.Kinds.{is_kind, of_kind}
 use Rattle.file.specs.Plain.{Sound}
 use Rattle.scan.specs.Run.{Going, nothing_seen, on_verdict, one_more, stepped, stepped_over, at_first, whole_front}
-use Rattle.scan.specs.declared.Front.{Front}
-use Rattle.scan.specs.declared.Front.TheVariants as front
+use Rattle.scan.specs.Front.{Front}
+use Rattle.scan.specs.Front as front
 use Rattle.scan_laws.specs.Earned.{kind_at, Earns}
 use Rattle.scan_laws.specs.Lines.{GoOn, behind}
 use Rattle.scan_laws.proofs.Passing.{is-line, good, step-of}

@@ -17,7 +17,7 @@ use Rattle.lines.specs.Lent.{over}
 use Rattle.scan.specs.Run.{IsFile, AnyFile}
 use Rattle.reader.specs.Reading.{front_of, file_of}
 use Rattle.scan.specs.declared.Tally.{Tally}
-use Rattle.scan.specs.declared.Front.TheVariants as front
+use Rattle.scan.specs.Front as front
 use Rattle.divide.specs.Dividing.{Divides, none, one, Cuts, cuts_of, sum, division, division_from, no_room, divide_of, lengths_after}
 use Rattle.divide.specs.declared.Division.{Division}
 use Rattle.theorems.proofs.EndToEnd.{files-first, divided, lengths-sum, lengths_some, file-numbered, parts}

@@ -12,8 +12,9 @@ use Rattle.header.specs.Versions.{rules_in}
 use Rattle.header.specs.declared.types.Rules.{Rules}
 use Rattle.scan.specs.Run.{scan_of, IsFile, AnyFile}
 use Rattle.scan.specs.declared.Tally.{Tally}
-use Rattle.scan.specs.declared.Front.{Front}
-use Rattle.scan.specs.declared.Front.TheVariants as front
+use Rattle.std.specs.Prelude.{Ok, Err}
+use Rattle.scan.specs.Front.{Front}
+use Rattle.scan.specs.Front as front
 use Rattle.scan_laws.proofs.Local.{scan-local, whole-ends, front-whole}
 use Rattle.scan_laws.proofs.Used.{accepted-front}
 use Rattle.scan_laws.proofs.Which.{told-again, told-after}
@@ -114,9 +115,9 @@ found-more most found [] h = nothing_left
 found-more most found (b ∷ bs) h = go (scan_of (rules_in (b ∷ bs)) (b ∷ bs)) refl
   where
     go : (f : Front) → scan_of (rules_in (b ∷ bs)) (b ∷ bs) ≡ f → Parts (b ∷ bs) (cuts (suc most) (b ∷ bs))
-    go (front.Refused number line column) is =
+    go (Err refusal) is =
         rw is (record { files = []; rest = b ∷ bs; bytes-are = refl; are-files = none; left = inr (omega arith, is) })
-    go (front.File t) is =
+    go (Ok t) is =
         let less : length (drop t.end (b ∷ bs)) ≡ length (b ∷ bs) - t.end = length-drop t.end (b ∷ bs) in
         rw is
         (more_parts (b ∷ bs) t (cuts most (drop t.end (b ∷ bs))) is

@@ -32,7 +32,7 @@ use Rattle.theorems.proofs.Reading.{the_row}
 use Rattle.theorems.specs.Files.{header, identifier, row_lines_of, row_at, There}
 use Rattle.record.specs.declared.types.Row.{Row}
 use Rattle.questions.specs.declared.types.RowAnswer.{RowAnswer}
-use Rattle.scan.specs.declared.Front.TheVariants as front
+use Rattle.scan.specs.Front as front
 use Rattle.theorems.specs.Asked.{asked, row_found, row_refused}
 use Rattle.theorems.specs.Files.{line_asked, held}
 use Rattle.record.specs.LineKinds.{position_kind}

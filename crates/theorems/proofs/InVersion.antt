@@ -16,7 +16,6 @@ use Rattle.laws.specs.Texts.{every, is_printable}
 use Rattle.laws.proofs.Bools.{and_left, and_right, and_both, and-false}
 use Rattle.laws.proofs.Bounds.{within-true, true-within}
 use Rattle.field.specs.Read.{whole_of}
-use Rattle.field.specs.declared.Whole.TheVariants as wholes
 use Rattle.header.specs.Rules.{c, d, slot_lines}
 use Rattle.header.specs.Versions.{told_version, rules_of, rules_in}
 use Rattle.header.specs.declared.types.Header.{Header}
@@ -40,8 +39,9 @@ use Rattle.file_laws.proofs.Counts.{satellites-bounds, comments-bounds}
 use Rattle.file_laws.proofs.Selected.{kind-comments}
 use Rattle.scan.specs.Run.{IsFile}
 use Rattle.scan.specs.declared.Tally.{Tally}
-use Rattle.scan.specs.declared.Front.{Front}
-use Rattle.scan.specs.declared.Front.TheVariants as front
+use Rattle.std.specs.Prelude.{Ok, Err}
+use Rattle.scan.specs.Front.{Front}
+use Rattle.scan.specs.Front as front
 use Rattle.reader.specs.Reading.{file_of, judged, room_for, delivered, lines_to, accepted_as, refused_with, read_answer, identifiers_after, exponents_after, comments_after, rows_after}
 use Rattle.reader.specs.declared.types.Reading.{Reading}
 use Rattle.canon.specs.Table.{Table, table_identifiers, exponents_of, comments_of, rows_of}
@@ -69,6 +69,7 @@ use Rattle.theorems.proofs.Most.{lines-of-each}
 use Rattle.theorems.proofs.Filled.{answer-is, length-told, version-told}
 use Rattle.theorems.proofs.Writing.{written-0, out-is}
 use Rattle.theorems.proofs.Rewritten.{written-accepted, room-reads, header-back, identifiers-back, exponents-back, comments-back, rows_back, lent-held}
+use Rattle.std.specs.Prelude.{Some}
 
 -- so many comments of 77 bytes, one after another
 abbrev text_at : List ℕ → ℕ → List ℕ
@@ -164,7 +165,7 @@ valid-c t = (forth, λ all. back all.0 all.1 all.2 all.3)
         )
 
 -- A NUMBER OF SATELLITES above the most of the version is 7 at column 4.
-pub more-satellites-7 : (rules : Rules) (line : List ℕ) (n : ℕ) → whole_of (part_of (count_item rules) line) ≡ wholes.Value n → rules.most_satellites < n
+pub more-satellites-7 : (rules : Rules) (line : List ℕ) (n : ℕ) → whole_of (part_of (count_item rules) line) ≡ Some n → rules.most_satellites < n
     → fault_at (count_item rules) line ≡ keyed 7 4
 more-satellites-7 rules line n is more = rw (is, lt-leb n rules.most_satellites more, and-false (leb 1 n))
 
@@ -250,8 +251,8 @@ module _ (rules : Rules) (whole : Bool) (bytes : List ℕ) where
   refused-tells-none = go (found_in rules whole bytes)
     where
       go : (f : Front) → ((judged rules bytes f).refusal ≡ 0 → ⊥) → (judged rules bytes f).version ≡ 32
-      go (front.File t) some = absurd (some refl)
-      go (front.Refused number line column) some = refl
+      go (Ok t) some = absurd (some refl)
+      go (Err refusal) some = refl
 
   -- and so does reading, also where it has no room.
   pub unread-tells-none : (i x c r : ℕ) → ((answer rules whole bytes i x c r).refusal ≡ 0 → ⊥) → (answer rules whole bytes i x c r).version ≡ 32
@@ -264,8 +265,8 @@ module _ (rules : Rules) (whole : Bool) (bytes : List ℕ) where
       by-room false t some = refl
 
       go : (f : Front) → ((delivered rules bytes f i x c r).refusal ≡ 0 → ⊥) → (delivered rules bytes f i x c r).version ≡ 32
-      go (front.File t) some = by-room (room_for (count_of rules (lines_to t.end bytes)) t i x c r) t some
-      go (front.Refused number line column) some = refl
+      go (Ok t) some = by-room (room_for (count_of rules (lines_to t.end bytes)) t i x c r) t some
+      go (Err refusal) some = refl
 
 -- an accepted file's answer, by its length, its header and its version
 accepted-answer : (rules : Rules) (bytes : List ℕ) (t : Tally) (r : Reading) (n : ℕ) (h : Header) (letter : ℕ) → r ≡ accepted_as rules bytes t

@@ -30,8 +30,9 @@ use Rattle.machine.specs.declared.types.Verdict.{Verdict}
 use Rattle.machine.specs.declared.types.Verdict.TheVariants as verdict
 use Rattle.machine.specs.declared.types.LineRead.TheVariants as found
 use Rattle.scan.specs.declared.Tally.{Tally}
-use Rattle.scan.specs.declared.Front.{Front}
-use Rattle.scan.specs.declared.Front.TheVariants as front
+use Rattle.std.specs.Prelude.{Ok, Err}
+use Rattle.scan.specs.Front.{Front}
+use Rattle.scan.specs.Front as front
 use Rattle.theorems.specs.Faults.{after, AllGoOn, Earned, Decided, Passes, FirstFault}
 use Rattle.canon_laws.specs.Held.{Proper}
 
@@ -122,8 +123,8 @@ module _ {rules : Rules} (proper : Proper rules) where
       go : (f : Front) → front_of rules bytes ≡ f
           → (front_of rules bytes ≡ front.Refused number line column)
           ⊎ Followed rules bytes number line column
-      go (front.Refused m l c) is = inl (is ∙ rw is at e)
-      go (front.File t) is = by (ltb t.end (length bytes)) refl
+      go (Err refusal) is = inl (is ∙ rw is at e)
+      go (Ok t) is = by (ltb t.end (length bytes)) refl
         where
           by : (b : Bool) → ltb t.end (length bytes) ≡ b
               → (front_of rules bytes ≡ front.Refused number line column)

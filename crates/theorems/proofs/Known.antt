@@ -13,7 +13,7 @@ use Rattle.file.specs.Plain.{Sound}
 use Rattle.file.specs.Table.{count_of, slots_in}
 use Rattle.scan.specs.Run.{scan_of, at_first}
 use Rattle.scan.specs.declared.Tally.{Tally}
-use Rattle.scan.specs.declared.Front.TheVariants as front
+use Rattle.scan.specs.Front as front
 use Rattle.file_laws.proofs.Counts.{count-is, identifiers-are}
 use Rattle.scan_laws.proofs.Used.{front_lines}
 use Rattle.scan_laws.specs.Lines.{behind}

@@ -38,8 +38,9 @@ use Rattle.canon_laws.proofs.Rewriting.{form-again}
 use Rattle.scan_laws.proofs.Files.{d-sound}
 use Rattle.scan_laws.proofs.Files as files
 use Rattle.scan_laws.proofs.Which.{either}
-use Rattle.scan.specs.declared.Front.{Front}
-use Rattle.scan.specs.declared.Front.TheVariants as front
+use Rattle.std.specs.Prelude.{Ok, Err}
+use Rattle.scan.specs.Front.{Front}
+use Rattle.scan.specs.Front as front
 use Rattle.divide.specs.Dividing.{Divides}
 use Rattle.divide.specs.Dividing.Divides.{none, one}
 use Rattle.theorems.specs.Faults.{refused_line}
@@ -163,8 +164,8 @@ division-stays (one a file more) = one a ((either a).1 (inr (accepted-stays a fi
 module _ (bytes : List ℕ) where
   same_answer : (f : Front) → judged d bytes f ≡ judged before bytes f
   unfolding judged header_in kind_of
-  same_answer (front.File t) = refl
-  same_answer (front.Refused number line column) = refl
+  same_answer (Ok t) = refl
+  same_answer (Err refusal) = refl
 
   found-either : (whole : Bool) → Found d satellites_before (omega arith) bytes (found_before whole bytes) (found_in d whole bytes)
   found-either true = file-either d satellites_before (omega arith) bytes

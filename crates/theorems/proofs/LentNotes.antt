@@ -22,7 +22,7 @@ use Rattle.lines.specs.Lines.{lines_of}
 use Rattle.record.specs.LineKinds.{told_kind}
 use Rattle.record.specs.Rows.{bare_width, row_width}
 use Rattle.record.specs.Notes.{largest_deviation, largest_correlation, correlation_items, note_from, note_taken, note_of, note_fault, deviation_at, correlation_at}
-use Rattle.record.specs.declared.types.Signed.{Signed}
+use Rattle.field.specs.declared.Signed.{Signed}
 use Rattle.field.proofs.Signs.{magnitude-back}
 use Rattle.file.specs.Exact.{exact_signed, exact_note}
 use Rattle.file.specs.Kinds.{kind_in, is_note}

@@ -16,8 +16,6 @@ use Rattle.laws.specs.Tests.{within}
 use Rattle.laws.proofs.Bools.{and_right}
 use Rattle.laws.proofs.Bounds.{true-within}
 use Rattle.field.specs.Read.{whole_of}
-use Rattle.field.specs.declared.Whole.{Whole}
-use Rattle.field.specs.declared.Whole.TheVariants as wholes
 use Rattle.field.proofs.Bounds.{wider, whole-bound}
 use Rattle.layout.specs.Fault.{keyed}
 use Rattle.layout.specs.Kind.{whole_held, whole_fault}
@@ -38,6 +36,7 @@ use Rattle.theorems.proofs.Accepting.{says-satellites}
 use Rattle.theorems.proofs.Writing.{in-d}
 use Rattle.canon_laws.specs.Held.{Proper}
 use Rattle.header.specs.declared.types.Rules.{Rules}
+use Rattle.std.specs.Prelude.{Option, Some, None}
 
 module _ {rules : Rules} (proper : Proper rules) where
   -- A FILE HAS SO MANY LINES OF EACH KIND as its number of satellites asks for, and 59 at the most.
@@ -84,7 +83,7 @@ module _ (line : List ℕ) where
   abbrev field : List ℕ
   field = part_of (count_item d) line
 
-  short : (n : ℕ) → whole_of field ≡ wholes.Value n → n ≤ max_satellites
+  short : (n : ℕ) → whole_of field ≡ Some n → n ≤ max_satellites
   short n is =
       let few : length field ≤ 3 = omega (arith, length-take 3 (drop 3 line)) in
       let small : n < 10 ^ 3 = wider few (whole-bound field n is) in
@@ -93,19 +92,19 @@ module _ (line : List ℕ) where
   pub never-too-many : (satellites_of d line).count ≤ max_satellites
   never-too-many = go (whole_of field) refl
     where
-      go : (x : Whole) → whole_of field ≡ x → whole_held x ≤ max_satellites
-      go (wholes.Value n) is = short n is
-      go wholes.Malformed is = omega arith
+      go : (x : Option ℕ) → whole_of field ≡ x → whole_held x ≤ max_satellites
+      go (Some n) is = short n is
+      go None is = omega arith
 
   -- so that its 7 says that there is none.
   pub seven-is-none : fault_at (count_item d) line ≡ keyed 7 4 → (satellites_of d line).count ≡ 0
   seven-is-none e = go (whole_of field) refl
     where
-      go : (x : Whole) → whole_of field ≡ x → whole_held (whole_of field) ≡ 0
-      go (wholes.Value zero) is = ap whole_held is
-      go (wholes.Value (suc n)) is =
+      go : (x : Option ℕ) → whole_of field ≡ x → whole_held (whole_of field) ≡ 0
+      go (Some zero) is = ap whole_held is
+      go (Some (suc n)) is =
           let bounded : within 1 max_satellites (suc n) ≡ true = true-within 1 max_satellites (suc n) (omega arith) (short (suc n) is) in
-          let none : whole_fault 4 1 max_satellites (wholes.Value (suc n)) ≡ 0 = rw bounded in
+          let none : whole_fault 4 1 max_satellites (Some (suc n)) ≡ 0 = rw bounded in
           let z : ◌≡◌ {A = ℕ} 0 (keyed 7 4) = sym (ap (whole_fault 4 1 max_satellites) is ∙ none) ∙ e in
           absurd (omega arith)
-      go wholes.Malformed is = ap whole_held is
+      go None is = ap whole_held is

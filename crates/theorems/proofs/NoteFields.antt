@@ -20,11 +20,7 @@ use Rattle.layout.specs.Kind.Held.{amount}
 use Rattle.layout.specs.Line.{padded}
 use Rattle.record.specs.Rows.{cut}
 use Rattle.record.specs.Notes.{largest_deviation, largest_correlation, correlation, correlation_in, note_taken, note_of, note_fault, deviation_at, correlation_at}
-use Rattle.field.specs.declared.Whole.{Whole}
-use Rattle.field.specs.declared.Whole.TheVariants as whole
 use Rattle.field.specs.declared.Exponent.TheVariants as exponents
-use Rattle.field.specs.declared.Amount.{Amount}
-use Rattle.field.specs.declared.Amount.TheVariants as amounts
 use Rattle.laws.proofs.Bools.{and_right}
 use Rattle.field.proofs.Blanks.{blank-all}
 use Rattle.field.proofs.Again.{exponent-again}
@@ -33,6 +29,9 @@ use Rattle.layout.proofs.Lines.{padded-length}
 use Rattle.file_laws.proofs.Clean.{amount-bounds}
 use Rattle.file_laws.proofs.Exact.{field-clean}
 use Rattle.theorems.specs.Files.{deviation_field, correlation_field}
+use Rattle.std.specs.Prelude.{Option, Some, None}
+use Rattle.field.specs.declared.Signed.{Signed}
+use Rattle.field.specs.Read.{some_amount}
 
 -- what a field holds: unknown where it is blank, else a number up to the most
 abbrev pub Known : ℕ → List ℕ → ℕ → Type 0
@@ -59,13 +58,13 @@ module _ (bs : List ℕ) (w : ℕ) (wide : length bs ≡ w) (some : 1 ≤ w) (fi
       value-good : (n : ℕ) → exponents.Value n ≡ exponents.Malformed → ⊥
       value-good n q = let z : ◌≡◌ {A = ℕ} 0 1 = cc in omega arith
 
-      number : (a : Whole) → exponent_of bs ≡ as_exponent a → maybe_held unnoted (as_exponent a) ≤ most
-      number (whole.Value n) q =
+      number : (a : Option ℕ) → exponent_of bs ≡ as_exponent a → maybe_held unnoted (as_exponent a) ≤ most
+      number (Some n) q =
           let good = exponent-again bs (exponents.Value n) (value-good n) q in
           let fewer : ltb n (10 ^ (length bs - 0)) ≡ true = and_right (ltb 0 (length bs)) _ (and_right (leb (length bs) 18) _ good) in
           let below : n < 10 ^ (w - 0) = subst (λ (m : ℕ). n < 10 ^ (m - 0)) wide (ltb-true n (10 ^ (length bs - 0)) fewer) in
           omega (arith, below, bound)
-      number whole.Malformed q = omega arith
+      number None q = omega arith
 
       go : (t : Bool) → every is_blank bs ≡ t → Known most bs (maybe_held unnoted (exponent_of bs))
       go true e = inl (ap (maybe_held unnoted) (sym (exponent-blank bs (omega arith) (eqb-true (blanks_of bs) (length bs) (blank-all bs ∙ e)))), e)
@@ -78,11 +77,11 @@ module _ (column : ℕ) (bs : List ℕ) (f : fault_in correlation column bs ≡ 
   signed-known : Known largest_correlation bs (correlation_in bs).magnitude
   signed-known = go (every is_blank bs) refl (signed_whole_of bs) f
     where
-      go : (t : Bool) → every is_blank bs ≡ t → (a : Amount) → cond t clean (amount_fault column 0 largest_correlation a) ≡ clean
+      go : (t : Bool) → every is_blank bs ≡ t → (a : Option Signed) → cond t clean (amount_fault column 0 largest_correlation a) ≡ clean
           → Known largest_correlation bs (magnitude_in (cond t (amount false unnoted) (held_amount a)))
       go true e a h = inl (refl, e)
-      go false e (amounts.Value n m) h = inr ((amount-bounds column 0 largest_correlation (amounts.Value n m) h).1, e)
-      go false e amounts.Malformed h = inr (omega arith, e)
+      go false e (Some held) h = inr ((amount-bounds column 0 largest_correlation (some_amount held.negative held.magnitude) h).1, e)
+      go false e None h = inr (omega arith, e)
 
 columns-wide : (first last : ℕ) (l : List ℕ) → 1 ≤ first → last ≤ 80 → length (cut first last (padded l)) ≡ last - (first - 1)
 columns-wide first last l starts ends =

@@ -20,8 +20,6 @@ use Rattle.layout.specs.Kind.Kind.{unused, fixed}
 use Rattle.layout.specs.Layout.{Item, columns, column, part_at, part_of, fault_at, fault_from}
 use Rattle.layout.specs.Line.{padded}
 use Rattle.field.specs.Read.{whole_of}
-use Rattle.field.specs.declared.Whole.{Whole}
-use Rattle.field.specs.declared.Whole.TheVariants as wholes
 use Rattle.record.specs.LineKinds.{kind_of, longest}
 use Rattle.record.specs.SlotLines.{slot_items, count_item, count_in, satellites_of, more_of}
 use Rattle.header.specs.declared.types.Rules.{Rules}
@@ -37,10 +35,11 @@ use Rattle.machine.specs.declared.types.Verdict.TheVariants as verdict
 use Rattle.lines.specs.Lines.{lines_of, nth}
 use Rattle.scan.specs.Run.{counted, on_verdict, run, nothing_seen, scan_of, whole_front}
 use Rattle.scan.specs.declared.Tally.{Tally}
-use Rattle.scan.specs.declared.Front.{Front}
-use Rattle.scan.specs.declared.Front.TheVariants as front
+use Rattle.scan.specs.Front.{Front}
+use Rattle.scan.specs.Front as front
 use Rattle.theorems.specs.Before.{with_most}
 use Rattle.theorems.proofs.Beside.{Beside, seven-beside, lower-beside, items-beside}
+use Rattle.std.specs.Prelude.{Option, Some, None}
 
 module _ (rules : Rules) (most : ℕ) (lower-most : most ≤ rules.most_satellites) where
   abbrev narrow : Rules
@@ -54,10 +53,10 @@ module _ (rules : Rules) (most : ℕ) (lower-most : most ≤ rules.most_satellit
   More line = (kind_of rules line ≡ kind.Satellites) × Many line
 
   -- the number of satellites has the same fault, or holds more and has 7 by the lower bound alone
-  number-either : (x : Whole) → (whole_fault 4 1 most x ≡ whole_fault 4 1 rules.most_satellites x)
+  number-either : (x : Option ℕ) → (whole_fault 4 1 most x ≡ whole_fault 4 1 rules.most_satellites x)
       ⊎ ((whole_fault 4 1 most x ≡ keyed 7 4) × (whole_fault 4 1 rules.most_satellites x ≡ clean) × (most < whole_held x))
-  number-either wholes.Malformed = inl refl
-  number-either (wholes.Value n) = by (dec_le n most) (dec_le n rules.most_satellites) (dec_le 1 n)
+  number-either None = inl refl
+  number-either (Some n) = by (dec_le n most) (dec_le n rules.most_satellites) (dec_le 1 n)
     where
       by : Dec (n ≤ most) → Dec (n ≤ rules.most_satellites) → Dec (1 ≤ n)
           → (unless (within 1 most n) 7 4 ≡ unless (within 1 rules.most_satellites n) 7 4)

@@ -22,8 +22,8 @@ use Rattle.reader.specs.Reading as reading
 use Rattle.scan_laws.proofs.Local.{whole-ends}
 use Rattle.theorems.proofs.Judging.{delivered-after, filled-after}
 use Rattle.scan.specs.declared.Tally.{Tally}
-use Rattle.scan.specs.declared.Front.{Front}
-use Rattle.scan.specs.declared.Front.TheVariants as front
+use Rattle.scan.specs.Front.{Front}
+use Rattle.scan.specs.Front as front
 use Rattle.scan_laws.proofs.Files.{file-plain, whole-taken}
 use Rattle.scan_laws.proofs.Files as files
 use Rattle.canon.specs.Table.{Table, table_of, cell_width, cells_in, table_identifiers, exponents_of, comments_of, rows_of}

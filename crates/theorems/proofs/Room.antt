@@ -29,8 +29,9 @@ use Rattle.theorems.proofs.Accepting.{says-satellites, says-epochs, says-velocit
 use Rattle.theorems.proofs.Judging.{refused-numbers, Followed, whole-refused}
 use Rattle.header.specs.declared.types.Header.{Header}
 use Rattle.scan.specs.declared.Tally.{Tally}
-use Rattle.scan.specs.declared.Front.{Front}
-use Rattle.scan.specs.declared.Front.TheVariants as front
+use Rattle.std.specs.Prelude.{Ok, Err}
+use Rattle.scan.specs.Front.{Front}
+use Rattle.scan.specs.Front as front
 use Rattle.theorems.specs.Room.{found_in, answer, fills, rows_needed, Room, Short}
 use Rattle.canon_laws.specs.Held.{Proper}
 
@@ -192,10 +193,10 @@ module _ {rules : Rules} (proper : Proper rules) where
     answer-decides i x c r = go (found_in rules whole bytes) refl
       where
         go : (f : Front) → found_in rules whole bytes ≡ f → ((delivered rules bytes f i x c r).refusal ≡ 0) ↔ (enough rules bytes f i x c r ≡ true)
-        go (front.Refused number line column) e =
-            let some = found-numbered whole bytes number line column e in
+        go (Err refusal) e =
+            let some = found-numbered whole bytes refusal.number refusal.line refusal.column e in
             (λ zero. absurd (omega arith), λ fills. absurd (false≢true fills))
-        go (front.File t) e = by (room_for (count_of rules (lines_to t.end bytes)) t i x c r)
+        go (Ok t) e = by (room_for (count_of rules (lines_to t.end bytes)) t i x c r)
           where
             by : (b : Bool) → ((cond b (accepted_as rules bytes t) (refused_with 12 0 0)).refusal ≡ 0) ↔ (b ≡ true)
             by true = (λ e. refl, λ e. refl)

@@ -51,7 +51,7 @@ use Rattle.machine.specs.declared.types.LineRead.TheVariants as line_found
 use Rattle.float_row.specs.declared.FloatRow.{FloatRow}
 use Rattle.questions.specs.declared.types.RowAnswer.{RowAnswer}
 use Rattle.scan.specs.declared.Tally.{Tally}
-use Rattle.scan.specs.declared.Front.TheVariants as front
+use Rattle.scan.specs.Front as front
 use Rattle.line_walk.specs.declared.Spot.{Spot}
 use Rattle.row_walk.specs.declared.types.RowWalk.{RowWalk}
 use Rattle.row_walk.specs.declared.types.RowStep.{RowStep}

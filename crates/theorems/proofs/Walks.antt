@@ -30,7 +30,7 @@ use Rattle.machine.specs.declared.types.State.{State}
 use Rattle.machine.specs.declared.types.Verdict.{Verdict}
 use Rattle.machine.specs.declared.types.Verdict.TheVariants as verdict
 use Rattle.scan.specs.declared.Tally.{Tally}
-use Rattle.scan.specs.declared.Front.TheVariants as front
+use Rattle.scan.specs.Front as front
 use Rattle.line_walk.specs.declared.Spot.{Spot}
 use Rattle.line_walk.specs.declared.Walker.{Walker}
 use Rattle.theorems.specs.Walked.{spot_of, going_at, read, on_from, past, over_lines, walked_from}

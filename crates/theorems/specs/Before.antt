@@ -3,7 +3,7 @@ use Rattle.std.specs.Prelude.{Bool, true, false, List, ℕ}
 use Rattle.header.specs.Rules.{d}
 use Rattle.reader.specs.Reading.{front_of, file_of}
 use Rattle.header.specs.declared.types.Rules.{Rules}
-use Rattle.scan.specs.declared.Front.{Front}
+use Rattle.scan.specs.Front.{Front}
 
 -- rules with another bound of satellites, all else as it is
 abbrev pub with_most : ℕ → Rules → Rules

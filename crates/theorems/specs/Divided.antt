@@ -5,7 +5,7 @@ use Rattle.header.specs.Versions.{rules_in}
 use Rattle.lines.specs.Lent.{over}
 use Rattle.scan.specs.Run.{scan_of, AnyFile}
 use Rattle.divide.specs.Dividing.{Divides, lengths_after}
-use Rattle.scan.specs.declared.Front.TheVariants as front
+use Rattle.scan.specs.Front as front
 use Rattle.divide.specs.declared.Division.{Division}
 
 -- what is left after the files: nothing, with refusal, line and column 0; or a rest that is refused by the rules that it tells

@@ -7,7 +7,7 @@ use Rattle.record.specs.Rows.{row_width}
 use Rattle.reader.specs.Reading.{front_of, file_of, delivered, enough}
 use Rattle.header.specs.declared.types.Header.{Header}
 use Rattle.reader.specs.declared.types.Reading.{Reading}
-use Rattle.scan.specs.declared.Front.{Front}
+use Rattle.scan.specs.Front.{Front}
 
 -- what is found in some bytes
 abbrev pub found_in : Rules → Bool → List ℕ → Front

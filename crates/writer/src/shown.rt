@@ -5,13 +5,10 @@ ghost use Rattle.record.specs.Rows.{note_width, row_width};
 ghost use Rattle.canon.specs.Valid.{is_instant, entry};
 ghost use Rattle.canon.specs.Canonical.{moment_of, first_shown, second_shown, seventeen, signed_shown, flag_shown, row_shown, note_shown};
 
-use calendar::{Fraction, Named, Week};
+use calendar::DAY;
 use field::sign::{is_negative, magnitude_of};
 use header::{Header, Moment};
 use record::{First, Note, Row, Second, Signed};
-
-// One day in 10^-8 s.
-const DAY: u64 = 8_640_000_000_000;
 
 // The date and time of an instant.
 pub(crate) fn moment_of(at8: u64) -> Moment
@@ -19,16 +16,7 @@ pub(crate) fn moment_of(at8: u64) -> Moment
     ensures { result ≡ moment_of at8 }
 {
     let clock = calendar::clock_of(at8);
-    let Named::Date(date) = calendar::civil(clock.day) else {
-        return Moment {
-            year: 0,
-            month: 0,
-            day: 0,
-            hour: 0,
-            minute: 0,
-            second8: 0,
-        };
-    };
+    let date = calendar::civil(clock.day).unwrap();
     Moment {
         year: date.year,
         month: date.month,
@@ -59,10 +47,7 @@ fn fraction_of(time: u64) -> u64
     requires { time < day_units }
     ensures { result ≡ (125 * time + 54) / 108 }
 {
-    let Fraction::Of(f) = calendar::fraction_of(time) else {
-        return 0;
-    };
-    f
+    calendar::fraction_of(time).unwrap()
 }
 
 // Line 2 of a table.
@@ -70,20 +55,11 @@ pub(crate) fn second_shown(h: Header) -> Second
     requires { is_instant h.start8 ≡ true }
     ensures { result ≡ second_shown h }
 {
-    let Week::Of { week, second8 } = calendar::week_of(h.start8) else {
-        return Second {
-            fault: 0,
-            week: 0,
-            seconds8: 0,
-            interval8: 0,
-            mjd: 0,
-            fraction13: 0,
-        };
-    };
+    let start = calendar::week_of(h.start8).unwrap();
     Second {
         fault: 0,
-        week,
-        seconds8: second8,
+        week: start.week,
+        seconds8: start.second8,
         interval8: h.interval8,
         mjd: h.start8 / DAY,
         fraction13: fraction_of(h.start8 % DAY),

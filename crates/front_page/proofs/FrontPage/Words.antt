@@ -111,7 +111,7 @@ pub use Rattle.theorems.proofs.Exist as exist
 pub use Rattle.theorems.proofs.Cases as cases
 pub use Rattle.theorems.proofs.Cases.{Case}
 pub use Rattle.scan.specs.declared.Tally.{Tally}
-pub use Rattle.scan.specs.declared.Front.TheVariants as front
+pub use Rattle.scan.specs.Front as front
 pub use Rattle.divide.specs.declared.Division.{Division}
 pub use Rattle.line_walk.specs.declared.Walker.{Walker}
 pub use Rattle.row_walk.specs.declared.types.RowWalk.{RowWalk}
@@ -125,7 +125,6 @@ pub use Rattle.layout.specs.Line.{padded, trimmed, ended}
 pub use Rattle.record.specs.Rows.{cut, row_items, row_values, row_from, six_nines_in, shortest_row, bare_width, row_width}
 pub use Rattle.field.specs.Digits.{all_digits}
 pub use Rattle.field.specs.Read.{whole_of}
-pub use Rattle.field.specs.declared.Whole.TheVariants as wholes
 pub use Rattle.field.specs.Clock.{is_six_nines}
 pub use Rattle.record.specs.Notes.{correlation_items, correlation_symbol, largest_deviation, largest_correlation, note_from, note_of, note_line, deviation_at, correlation_at}
 pub use Rattle.record.specs.Absence.{place_absent}

@@ -21,7 +21,7 @@ returns-2 c =
     let asked = c in
     let a = asked.args in
     rw fraction.fraction_agrees-fraction.ensures
-    (week-agreement a.start8 a.second _ _ (sym asked.week_of.ensures ∙ ap told_week told.in-Of.is))
+    (week-agreement a.start8 a.second _ _ (sym asked.week_of.ensures ∙ ap told_week told.in-Some.is))
 
 pub second_agrees_spec : {M : Type 1} → statement M
 second_agrees_spec =

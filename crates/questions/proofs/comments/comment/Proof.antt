@@ -12,7 +12,7 @@ use Rattle.reader.specs.Reading.{file_of}
 use Rattle.laws.specs.Places.{byte_of}
 use Rattle.questions.specs.Questions.{no_comment, comment_answer, comment_words}
 use Rattle.questions.specs.declared.types.CommentAnswer.{CommentAnswer}
-use Rattle.scan.specs.declared.Front.TheVariants as front
+use Rattle.scan.specs.Front as front
 use Rattle.questions.proofs.Asking.{found_as, comment-as, no-comment-there, words-as, words-there, no-words-there, at-comment, file-within}
 use Rattle.questions.proofs.comments.comment.Statement.{statement}
 use Rattle.questions.proofs.comments.comment.Tie as tie

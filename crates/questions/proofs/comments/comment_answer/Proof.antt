@@ -7,7 +7,7 @@ use Rattle.scan.proofs.Told.{told_front-one}
 use Rattle.header.specs.Versions.{rules_in}
 use Rattle.reader.specs.Reading.{file_of}
 use Rattle.questions.specs.Questions.{comment_answer}
-use Rattle.scan.specs.declared.Front.TheVariants as front
+use Rattle.scan.specs.Front as front
 use Rattle.questions.proofs.Asking.{found_as, comment-as, comment-there, no-comment-there, file-within}
 use Rattle.questions.proofs.comments.comment_answer.Statement.{statement}
 use Rattle.questions.proofs.comments.comment_answer.Tie as tie

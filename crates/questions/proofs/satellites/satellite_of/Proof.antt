@@ -8,7 +8,7 @@ use Rattle.header.specs.Versions.{rules_in}
 use Rattle.reader.specs.Reading.{file_of}
 use Rattle.scan_laws.proofs.Which.{told-sound}
 use Rattle.questions.specs.Questions.{satellite_answer}
-use Rattle.scan.specs.declared.Front.TheVariants as front
+use Rattle.scan.specs.Front as front
 use Rattle.questions.proofs.Asking.{found_as, satellite-as, satellite-found, counted-as, file-within}
 use Rattle.questions.proofs.satellites.satellite_of.Statement.{statement}
 use Rattle.questions.proofs.satellites.satellite_of.Tie as tie

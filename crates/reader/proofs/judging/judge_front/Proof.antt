@@ -2,7 +2,7 @@
 -- Assumes nothing.
 use Rattle.header.specs.declared.types.Rules.{Rules}
 use Rattle.reader.specs.Reading.{front_of, judged}
-use Rattle.scan.specs.declared.Front.{Front}
+use Rattle.scan.specs.Front.{Front}
 use borrow.Author.Rules.{rules}
 use mathlib.Core.Path.{◌∙◌, ap, ap₂}
 use Rattle.reader.proofs.judging.judge_front.Statement.{statement}

@@ -34,9 +34,9 @@ returns-2 c =
     (no_start _ _ _ _ _ _ _ _ _ _ (listed c.before.before.before) (sym asked.instant_of.ensures ∙ ap told_instant told.in_default.is))
 
 -- where the start has an instant, the calendar gave it
-given : (c : tie.In-At) → start_answer c.args.start ≡ 0 ∷ c.in-At.start8 ∷ []
+given : (c : tie.In-Some) → start_answer c.args.start ≡ 0 ∷ c.in-Some.start8 ∷ []
 unfolding told_instant
-given c = sym c.instant_of.ensures ∙ ap told_instant c.in-At.is
+given c = sym c.instant_of.ensures ∙ ap told_instant c.in-Some.is
 
 returns-3 : tie.Need-returns-then-not-numbers_bounded
 returns-3 c =

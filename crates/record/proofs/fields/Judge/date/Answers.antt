@@ -1,12 +1,13 @@
+use Rattle.std.proofs.Common.{ap, ◌∙◌, not}
 use Rattle.record.proofs.Answers.{dated-case, undated-case}
 use Rattle.record.proofs.fields.Judge.date.Goals as goal
 
-pub returns-in_default : goal.returns-in_default
-returns-in_default c =
+pub returns-then-is_none : goal.returns-then-is_none
+returns-then-is_none c =
     let m = c.args.m in
-    rw (undated-case m.year m.month m.day c.date.result c.date.ensures c.in_default.is) c.found.ensures
+    rw (undated-case m.year m.month m.day _ c.date.ensures.result (c.is_none.ensures ∙ ap not c.if-is_none.true)) c.found.ensures
 
-pub returns : goal.returns
-returns c =
+pub returns-else-is_none : goal.returns-else-is_none
+returns-else-is_none c =
     let m = c.args.m in
-    rw (dated-case m.year m.month m.day c.date.result _ _ _ c.date.ensures c.in-Day.is)
+    rw (dated-case m.year m.month m.day _ c.date.ensures.result (c.is_none.ensures ∙ ap not c.if-is_none.false))
