@@ -1,5 +1,4 @@
 pub mod Answers
-pub mod Letters
 pub mod Places
 pub mod Reading
 pub mod SlotKinds

@@ -78,9 +78,11 @@ pub fn correlation_fault(line: &[u8; 80], velocity: bool) -> usize
 }
 
 // A correlation: its number, or UNNOTED where it is blank.
-fn known_correlation(bytes: &[u8]) -> Signed
-    ensures { result ≡ correlation_in bytes.now }
+fn correlation_of(line: &[u8; 80], first: usize, last: usize) -> Signed
+    requires { (1 ≤ first) × (first ≤ last) × (last ≤ 80) }
+    ensures { result ≡ correlation_in (cut first last line.now) }
 {
+    let bytes = fields::cut(line, first, last);
     if fields::is_blank(bytes) {
         return Signed {
             negative: false,
@@ -91,13 +93,6 @@ fn known_correlation(bytes: &[u8]) -> Signed
         negative: false,
         magnitude: 0,
     })
-}
-
-fn correlation_of(line: &[u8; 80], first: usize, last: usize) -> Signed
-    requires { (1 ≤ first) × (first ≤ last) × (last ≤ 80) }
-    ensures { result ≡ correlation_in (cut first last line.now) }
-{
-    known_correlation(fields::cut(line, first, last))
 }
 
 // The note of a line of 80 columns.

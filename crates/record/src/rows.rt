@@ -117,21 +117,15 @@ fn clock_taken(line: &[u8; 80]) -> Signed
 }
 
 // A whole number that may be blank: what stands for unknown, then.
-fn known_or(bytes: &[u8], unknown: u64) -> u64
-    ensures { result ≡ maybe_held unknown (exponent_of bytes.now) }
-{
-    match field::read::exponent(bytes) {
-        Exponent::Value(n) => n,
-        Exponent::Unknown => unknown,
-        Exponent::Malformed => 0,
-    }
-}
-
 pub(crate) fn known_of(line: &[u8; 80], first: usize, last: usize, unknown: u64) -> u64
     requires { (1 ≤ first) × (first ≤ last) × (last ≤ 80) }
     ensures { result ≡ maybe_held unknown (exponent_of (cut first last line.now)) }
 {
-    known_or(fields::cut(line, first, last), unknown)
+    match field::read::exponent(fields::cut(line, first, last)) {
+        Exponent::Value(n) => n,
+        Exponent::Unknown => unknown,
+        Exponent::Malformed => 0,
+    }
 }
 
 // A flag of P: V has none.
