@@ -5,8 +5,7 @@ use mathlib.Core.List.{List, [], ◌∷◌, ◌++◌}
 use Prim.Native.Nat.{ℕ}
 use denote.Ref.{Bor}
 use Rattle.layout.specs.Fault.{clean, lower}
-use Rattle.layout.specs.Kind.Kind.{text}
-use Rattle.layout.specs.Layout.{Item, columns, fault_from, fault_of}
+use Rattle.layout.specs.Layout.{Item, fault_from, fault_of}
 use Rattle.record.specs.Times.{date_fault}
 use Rattle.record.specs.Steps.{after, after_all}
 use Rattle.header.specs.declared.types.Moment.{Moment}
@@ -34,11 +33,6 @@ lines-after (item ∷ items) judge = lines-after items (after item judge) ∙ li
 pub kept : (items : List Item) (judge : Judge) {line : Bor (List ℕ)} {start : Judge} → start ≡ record { line = line; fault = clean } → judge ≡ after_all items start
     → judge.line ≡ line
 kept items judge {line} {start} s e = ap (λ (j : Judge). j.line) e ∙ lines-after items start ∙ ap (λ (j : Judge). j.line) s
-
--- a text has no fault
-pub text_passed : (first last : ℕ) (judge : Judge) → after (columns first last text) judge ≡ judge
-unfolding after
-text_passed first last judge = refl
 
 -- a layout in two parts is judged part by part
 pub after-parts : (items more : List Item) (judge : Judge) → after_all (items ++ more) judge ≡ after_all more (after_all items judge)

@@ -2,7 +2,7 @@
 ghost use Rattle.std.specs.Prelude.{◌≡◌};
 ghost use Rattle.layout.specs.Layout.{values_of};
 ghost use Rattle.record.specs.Times.{time_items, moment_at};
-ghost use Rattle.record.specs.Opening.{texts_of, first_of, second_of, epoch_of};
+ghost use Rattle.record.specs.Opening.{text_items, texts_of, first_of, second_of, epoch_of};
 ghost use Rattle.record.specs.Steps.{after_all};
 
 use crate::fields;
@@ -37,17 +37,23 @@ impl<'a> Judge<'a> {
             second8,
         }
     }
-}
 
-// Columns 41 to 60: the four texts.
-fn texts_in(line: &[u8; 80]) -> Texts
-    ensures { result ≡ texts_of line.now }
-{
-    Texts {
-        data_used: fields::text(line, 41),
-        coordinates: fields::text(line, 47),
-        orbit: fields::text(line, 53),
-        agency: fields::text(line, 57),
+    // Columns 41 to 80: the four texts, and the unused columns after each.
+    #[tactic(auto, unfolding(crate::specs::Steps::after))]
+    fn texts(&mut self) -> Texts
+        ensures judged { self.new ≡ after_all text_items self.old }
+        ensures value { result ≡ texts_of self.old.line.now }
+    {
+        self.unused(46, 46);
+        self.unused(52, 52);
+        self.unused(56, 56);
+        self.unused(61, 80);
+        Texts {
+            data_used: fields::text(self.line, 41),
+            coordinates: fields::text(self.line, 47),
+            orbit: fields::text(self.line, 53),
+            agency: fields::text(self.line, 57),
+        }
     }
 }
 
@@ -62,17 +68,14 @@ pub fn read_first(rules: Rules, line: &[u8; 80]) -> First
     judge.unused(32, 32);
     let epochs = judge.whole(1, Header::MAX_EPOCHS, 33, 33, 39);
     judge.unused(40, 40);
-    judge.unused(46, 46);
-    judge.unused(52, 52);
-    judge.unused(56, 56);
-    judge.unused(61, 80);
+    let texts = judge.texts();
     judge.date(start);
     First {
         fault: judge.fault,
         mode,
         start,
         epochs,
-        texts: texts_in(line),
+        texts,
     }
 }
 
