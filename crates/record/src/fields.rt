@@ -335,7 +335,12 @@ impl<'a> Judge<'a> {
     {
         let bytes = cut(self.line, first, last);
         if !is_blank(bytes) {
-            self.amount_read(field::read::signed_whole(bytes), 0, LARGEST_CORRELATION, first);
+            self.amount_read(
+                field::read::signed_whole(bytes),
+                0,
+                LARGEST_CORRELATION,
+                first,
+            );
         }
     }
 
