@@ -1,6 +1,5 @@
 pub mod Answers
-pub mod Same
-pub mod Letters
+pub mod Places
 pub mod Reading
 pub mod SlotKinds
 pub mod Tiled

@@ -1,45 +1,45 @@
--- The steps of a reading by the contracts of the field readers: a number, a text, a date and time, and several fields at once.
+-- A whole line judged by its layout: the steps of the field readers, one after the other.
 -- Assumes nothing.
-use mathlib.Core.Path.{◌≡◌, sym, ap, ◌∙◌}
-use mathlib.Core.Bool.{false}
-use mathlib.Core.List.{List, ◌∷◌, ◌++◌}
+use mathlib.Core.Path.{◌≡◌, refl, ap, ap₂, ◌∙◌}
+use mathlib.Core.List.{List, [], ◌∷◌, ◌++◌}
 use Prim.Native.Nat.{ℕ}
+use denote.Ref.{Bor}
 use Rattle.layout.specs.Fault.{clean, lower}
-use Rattle.layout.specs.Kind.{Held, silent, number_in}
-use Rattle.layout.specs.Kind.Held.{one, words}
-use Rattle.layout.specs.Layout.{Item, Values, part_of, fault_at, held_at}
-use Rattle.record.specs.Steps.{judged_at, lettered_at}
-use Rattle.record.specs.Times.{time_items, moment_after, moment_values}
-use Rattle.record.specs.declared.types.Judged.{Judged}
-use Rattle.record.specs.declared.types.Lettered.{Lettered}
-use Rattle.record.specs.declared.types.Epoch.{Epoch}
-use Rattle.layout.proofs.Reading.{Reads, keep, several}
+use Rattle.layout.specs.Layout.{Item, fault_from, fault_of}
+use Rattle.record.specs.Times.{date_fault}
+use Rattle.record.specs.Steps.{after, after_all}
+use Rattle.header.specs.declared.types.Moment.{Moment}
+use Rattle.record.specs.declared.fields.Judge.{Judge}
 
--- a field of one number
-pub number : {item : Item} {items : List Item} {line : List ℕ} {lowest fault : ℕ} {r : Judged} {vs : Values}
-    → r ≡ judged_at item lowest line → one (number_in (held_at item line)) ≡ held_at item line → silent item.kind ≡ false
-    → Reads items line r.fault fault vs → Reads (item ∷ items) line lowest fault (one r.value ∷ vs)
-number e shape s rest = keep (ap (λ (j : Judged). j.fault) e) (ap {B = Held} (λ (j : Judged). one j.value) e ∙ shape) s rest
+fault-after : (items : List Item) (judge : Judge) → (after_all items judge).fault ≡ fault_from judge.fault items judge.line.now
+unfolding after
+fault-after [] judge = refl
+fault-after (item ∷ items) judge = fault-after items (after item judge)
 
--- a field of one letter
-pub lettered : {item : Item} {items : List Item} {line : List ℕ} {lowest fault : ℕ} {r : Lettered} {vs : Values}
-    → r ≡ lettered_at item lowest line → one (number_in (held_at item line)) ≡ held_at item line → silent item.kind ≡ false
-    → Reads items line r.fault fault vs → Reads (item ∷ items) line lowest fault (one r.letter ∷ vs)
-lettered e shape s rest = keep (ap (λ (j : Lettered). j.fault) e) (ap {B = Held} (λ (j : Lettered). one j.letter) e ∙ shape) s rest
+-- the fault of a line that was judged from its first column to its last
+pub judged : (items : List Item) (judge : Judge) {line : Bor (List ℕ)} {start : Judge} → start ≡ record { line = line; fault = clean } → judge ≡ after_all items start
+    → judge.fault ≡ fault_of items line.now
+judged items judge {line} {start} s e = rw (e, s) (fault-after items (record { line = line; fault = clean }))
 
--- a field of text, judged or not
-pub words-judged : {item : Item} {items : List Item} {line bytes : List ℕ} {lowest next fault : ℕ} {vs : Values}
-    → next ≡ lower lowest (fault_at item line) → bytes ≡ part_of item line → words (part_of item line) ≡ held_at item line → silent item.kind ≡ false
-    → Reads items line next fault vs → Reads (item ∷ items) line lowest fault (words bytes ∷ vs)
-words-judged e b shape s rest = keep e (ap {B = Held} words b ∙ shape) s rest
+-- the line stays as it is
+pub line_after : (item : Item) (judge : Judge) → (after item judge).line ≡ judge.line
+unfolding after
+line_after item judge = refl
 
-pub words-kept : {item : Item} {items : List Item} {line bytes : List ℕ} {lowest fault : ℕ} {vs : Values}
-    → bytes ≡ part_of item line → fault_at item line ≡ clean → words (part_of item line) ≡ held_at item line → silent item.kind ≡ false
-    → Reads items line lowest fault vs → Reads (item ∷ items) line lowest fault (words bytes ∷ vs)
-words-kept {item} {items} {line} {bytes} {lowest} b f shape s rest = words-judged (sym (ap (lower lowest) f)) b shape s rest
+lines-after : (items : List Item) (judge : Judge) → (after_all items judge).line ≡ judge.line
+lines-after [] judge = refl
+lines-after (item ∷ items) judge = lines-after items (after item judge) ∙ line_after item judge
 
--- columns 4 to 31
-pub moment : {more : List Item} {line : List ℕ} {lowest fault : ℕ} {r : Epoch} {ws : Values} → r ≡ moment_after lowest line
-    → Reads more line r.fault fault ws → Reads (time_items ++ more) line lowest fault (moment_values r.moment ++ ws)
-moment e rest =
-    several time_items (ap (λ (m : Epoch). m.fault) e) (ap {B = Values} (λ (m : Epoch). moment_values m.moment) e) rest
+pub kept : (items : List Item) (judge : Judge) {line : Bor (List ℕ)} {start : Judge} → start ≡ record { line = line; fault = clean } → judge ≡ after_all items start
+    → judge.line ≡ line
+kept items judge {line} {start} s e = ap (λ (j : Judge). j.line) e ∙ lines-after items start ∙ ap (λ (j : Judge). j.line) s
+
+-- a layout in two parts is judged part by part
+pub after-parts : (items more : List Item) (judge : Judge) → after_all (items ++ more) judge ≡ after_all more (after_all items judge)
+after-parts [] more judge = refl
+after-parts (item ∷ items) more judge = after-parts items more (after item judge)
+
+-- and the fault of its date, which is judged last
+pub dated : {judge last : Judge} {fault : ℕ} {m n : Moment} → last ≡ record judge { fault = lower judge.fault (date_fault m) } → judge.fault ≡ fault → m ≡ n
+    → last.fault ≡ lower fault (date_fault n)
+dated e f g = ap (λ (j : Judge). j.fault) e ∙ ap₂ (λ (k : ℕ) (t : Moment). lower k (date_fault t)) f g

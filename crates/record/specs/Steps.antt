@@ -1,22 +1,18 @@
--- A field read after others, as the readers do it: the lowest fault up to here, and the number that the field holds.
-use Rattle.std.specs.Prelude.{List, ℕ}
+-- A line judged field by field, as the readers do it: the lowest fault up to here, and the number that a field holds.
+use Rattle.std.specs.Prelude.{List, [], ◌∷◌, ℕ}
 use Rattle.layout.specs.Fault.{lower}
-use Rattle.layout.specs.Kind.{Kind, number_in, fault_in, held_in}
-use Rattle.layout.specs.Layout.{Item, part_of}
-use Rattle.record.specs.declared.types.Judged.{Judged}
-use Rattle.record.specs.declared.types.Lettered.{Lettered}
+use Rattle.layout.specs.Kind.{number_in}
+use Rattle.layout.specs.Layout.{Item, fault_at, held_at}
+use Rattle.record.specs.declared.fields.Judge.{Judge}
 
--- by its bytes and the column that it blames
-abbrev pub judged_by : Kind → ℕ → ℕ → List ℕ → Judged
-judged_by kind blamed lowest bs = record { fault = lower lowest (fault_in kind blamed bs); value = number_in (held_in kind bs) }
+-- what has been found after one more item, and after several in their order
+unfoldable pub after : Item → Judge → Judge
+after item judge = record judge { fault = lower judge.fault (fault_at item judge.line.now) }
 
--- by its item
-abbrev pub judged_at : Item → ℕ → List ℕ → Judged
-judged_at item lowest line = judged_by item.kind item.blamed lowest (part_of item line)
+abbrev pub after_all : List Item → Judge → Judge
+after_all [] judge = judge
+after_all (item ∷ items) judge = after_all items (after item judge)
 
--- and of a letter
-abbrev pub lettered_by : Kind → ℕ → ℕ → List ℕ → Lettered
-lettered_by kind blamed lowest bs = record { fault = lower lowest (fault_in kind blamed bs); letter = number_in (held_in kind bs) }
-
-abbrev pub lettered_at : Item → ℕ → List ℕ → Lettered
-lettered_at item lowest line = lettered_by item.kind item.blamed lowest (part_of item line)
+-- the number that an item's columns hold
+abbrev pub number_of : Item → Judge → ℕ
+number_of item judge = number_in (held_at item judge.line.now)

@@ -1,56 +1,81 @@
 // The `%c`, `%f` and `%i` lines.
 ghost use Rattle.std.specs.Prelude.{◌≡◌, [], ◌∷◌, ◌+◌, ◌-◌, ◌≤◌, ◌<◌};
-ghost use Rattle.layout.specs.Kind.Kind.{unused};
-ghost use Rattle.layout.specs.Layout.{column, columns, fault_from, fault_of};
+ghost use Rattle.layout.specs.Kind.Kind.{unused, zero_whole};
+ghost use Rattle.layout.specs.Layout.{column, columns, fault_of};
 ghost use Rattle.record.specs.Descriptors.{cs, later_characters, descriptor_of, character_items, later_floats, base_of, float_items, integer_items};
+ghost use Rattle.record.specs.Steps.{after_all};
 
 use crate::fields;
+use crate::fields::Judge;
 use crate::types::{BaseLine, Descriptor};
 use header::{Bases, Header};
 
-// A blank column and, after it, a placeholder of `c` up to `last`, of five columns at most.
-fn placeholder_in(lowest: usize, line: &[u8; 80], blank: usize, last: usize) -> usize
-    requires { (1 ≤ blank) × (blank < last) × (last ≤ blank + 5) × (last ≤ 80) }
-    ensures { result ≡ fault_from lowest (column blank unused ∷ columns (blank + 1) last (cs (last - blank)) ∷ []) line.now }
-{
-    let a = fields::unused_in(lowest, line, blank, blank);
-    let these = [b'c'; 5];
-    let first = blank + 1;
-    fields::fixed_in(a, line, 5, &these[..last - blank], first, first, last)
-}
+// Parts that several of these lines have.
+impl<'a> Judge<'a> {
+    // A blank column and, after it, a placeholder of `c` up to `last`, of five columns at most.
+    fn cs_after(&mut self, blank: usize, last: usize)
+        requires { (1 ≤ blank) × (blank < last) × (last ≤ blank + 5) × (last ≤ 80) }
+        ensures { self.new ≡ after_all (column blank unused ∷ columns (blank + 1) last (cs (last - blank)) ∷ []) self.old }
+    {
+        let cs = [b'c'; 5];
+        let first = blank + 1;
+        self.unused(blank, blank);
+        self.fixed(5, &cs[..last - blank], first, first, last);
+    }
 
-// Columns 13 to 80 of both `%c` lines: placeholders of `c`.
-fn later_characters_in(lowest: usize, line: &[u8; 80]) -> usize
-    ensures { result ≡ fault_from lowest later_characters line.now }
-{
-    let a = placeholder_in(lowest, line, 13, 16);
-    let b = placeholder_in(a, line, 17, 21);
-    let c = placeholder_in(b, line, 22, 26);
-    let d = placeholder_in(c, line, 27, 31);
-    let e = placeholder_in(d, line, 32, 36);
-    let f = placeholder_in(e, line, 37, 42);
-    let g = placeholder_in(f, line, 43, 48);
-    let h = placeholder_in(g, line, 49, 54);
-    let i = placeholder_in(h, line, 55, 60);
-    fields::unused_in(i, line, 61, 80)
+    // A blank column and, after it, a placeholder of zero up to `last`.
+    fn zero_after(&mut self, blank: usize, last: usize)
+        requires { (1 ≤ blank) × (blank < last) × (last ≤ 80) }
+        ensures { self.new ≡ after_all (column blank unused ∷ columns (blank + 1) last zero_whole ∷ []) self.old }
+    {
+        self.unused(blank, blank);
+        self.zero_whole(blank + 1, last);
+    }
+
+    // Columns 13 to 80 of both `%c` lines: placeholders of `c`.
+    fn later_characters(&mut self)
+        ensures { self.new ≡ after_all later_characters self.old }
+    {
+        self.cs_after(13, 16);
+        self.cs_after(17, 21);
+        self.cs_after(22, 26);
+        self.cs_after(27, 31);
+        self.cs_after(32, 36);
+        self.cs_after(37, 42);
+        self.cs_after(43, 48);
+        self.cs_after(49, 54);
+        self.cs_after(55, 60);
+        self.unused(61, 80);
+    }
+
+    // Columns 27 to 80 of both `%f` lines: placeholders of zero.
+    fn later_floats(&mut self)
+        ensures { self.new ≡ after_all later_floats self.old }
+    {
+        self.unused(27, 27);
+        self.zero_decimal(11, 28, 41);
+        self.unused(42, 42);
+        self.zero_decimal(15, 43, 60);
+        self.unused(61, 80);
+    }
 }
 
 // The first `%c` line: file type `Gx` is 6 at column 4, time system `gps` 6 at column 10.
 pub fn read_descriptor(line: &[u8; 80]) -> Descriptor
     ensures result { result ≡ descriptor_of line.now }
 {
-    let a = fields::symbols_in(line, b'%', b'c');
-    let b = fields::unused_in(a, line, 3, 3);
-    let file_type = fields::file_type_in(b, line);
-    let c = placeholder_in(file_type.fault, line, 6, 8);
-    let d = fields::unused_in(c, line, 9, 9);
-    let e = fields::time_system_in(d, line);
-    let f = later_characters_in(e, line);
-    let time_system = fields::text3(line, 10, 12);
+    let mut judge = Judge::of(line);
+    judge.symbols(b'%', b'c');
+    judge.unused(3, 3);
+    let file_type = judge.file_type();
+    judge.cs_after(6, 8);
+    judge.unused(9, 9);
+    judge.time_system();
+    judge.later_characters();
     Descriptor {
-        fault: f,
-        file_type: file_type.letter,
-        time_system,
+        fault: judge.fault,
+        file_type,
+        time_system: fields::text(line, 10),
     }
 }
 
@@ -58,40 +83,29 @@ pub fn read_descriptor(line: &[u8; 80]) -> Descriptor
 pub fn characters_fault(line: &[u8; 80]) -> usize
     ensures result { result ≡ fault_of character_items line.now }
 {
-    let a = fields::symbols_in(line, b'%', b'c');
-    let b = placeholder_in(a, line, 3, 5);
-    let c = placeholder_in(b, line, 6, 8);
-    let d = placeholder_in(c, line, 9, 12);
-    later_characters_in(d, line)
-}
-
-// Columns 27 to 80 of both `%f` lines: placeholders of zero.
-fn later_floats_in(lowest: usize, line: &[u8; 80]) -> usize
-    ensures { result ≡ fault_from lowest later_floats line.now }
-{
-    let a = fields::unused_in(lowest, line, 27, 27);
-    let b = fields::zero_decimal_in(a, line, 11, 28, 41);
-    let c = fields::unused_in(b, line, 42, 42);
-    let d = fields::zero_decimal_in(c, line, 15, 43, 60);
-    fields::unused_in(d, line, 61, 80)
+    let mut judge = Judge::of(line);
+    judge.symbols(b'%', b'c');
+    judge.cs_after(3, 5);
+    judge.cs_after(6, 8);
+    judge.cs_after(9, 12);
+    judge.later_characters();
+    judge.fault
 }
 
 // The first `%f` line: a blank base is 6 at its first column.
 pub fn read_bases(line: &[u8; 80]) -> BaseLine
     ensures result { result ≡ base_of line.now }
 {
-    let a = fields::symbols_in(line, b'%', b'f');
-    let b = fields::unused_in(a, line, 3, 3);
-    let place = fields::decimal_in(b, line, 7, 0, Header::MAX_PLACE_BASE, 4, 13);
-    let c = fields::unused_in(place.fault, line, 14, 14);
-    let clock = fields::decimal_in(c, line, 9, 0, Header::MAX_CLOCK_BASE, 15, 26);
-    let d = later_floats_in(clock.fault, line);
+    let mut judge = Judge::of(line);
+    judge.symbols(b'%', b'f');
+    judge.unused(3, 3);
+    let place = judge.decimal(7, 0, Header::MAX_PLACE_BASE, 4, 13);
+    judge.unused(14, 14);
+    let clock = judge.decimal(9, 0, Header::MAX_CLOCK_BASE, 15, 26);
+    judge.later_floats();
     BaseLine {
-        fault: d,
-        bases: Bases {
-            place: place.value,
-            clock: clock.value,
-        },
+        fault: judge.fault,
+        bases: Bases { place, clock },
     }
 }
 
@@ -99,36 +113,31 @@ pub fn read_bases(line: &[u8; 80]) -> BaseLine
 pub fn floats_fault(line: &[u8; 80]) -> usize
     ensures result { result ≡ fault_of float_items line.now }
 {
-    let a = fields::symbols_in(line, b'%', b'f');
-    let b = fields::unused_in(a, line, 3, 3);
-    let c = fields::zero_decimal_in(b, line, 7, 4, 13);
-    let d = fields::unused_in(c, line, 14, 14);
-    let e = fields::zero_decimal_in(d, line, 9, 15, 26);
-    later_floats_in(e, line)
+    let mut judge = Judge::of(line);
+    judge.symbols(b'%', b'f');
+    judge.unused(3, 3);
+    judge.zero_decimal(7, 4, 13);
+    judge.unused(14, 14);
+    judge.zero_decimal(9, 15, 26);
+    judge.later_floats();
+    judge.fault
 }
 
 // A `%i` line: placeholders alone.
 pub fn integers_fault(line: &[u8; 80]) -> usize
     ensures result { result ≡ fault_of integer_items line.now }
 {
-    let mut fault = fields::symbols_in(line, b'%', b'i');
-    fault = fields::unused_in(fault, line, 3, 3);
-    fault = fields::zero_whole_in(fault, line, 4, 7);
-    fault = fields::unused_in(fault, line, 8, 8);
-    fault = fields::zero_whole_in(fault, line, 9, 12);
-    fault = fields::unused_in(fault, line, 13, 13);
-    fault = fields::zero_whole_in(fault, line, 14, 17);
-    fault = fields::unused_in(fault, line, 18, 18);
-    fault = fields::zero_whole_in(fault, line, 19, 22);
-    fault = fields::unused_in(fault, line, 23, 23);
-    fault = fields::zero_whole_in(fault, line, 24, 29);
-    fault = fields::unused_in(fault, line, 30, 30);
-    fault = fields::zero_whole_in(fault, line, 31, 36);
-    fault = fields::unused_in(fault, line, 37, 37);
-    fault = fields::zero_whole_in(fault, line, 38, 43);
-    fault = fields::unused_in(fault, line, 44, 44);
-    fault = fields::zero_whole_in(fault, line, 45, 50);
-    fault = fields::unused_in(fault, line, 51, 51);
-    fault = fields::zero_whole_in(fault, line, 52, 60);
-    fields::unused_in(fault, line, 61, 80)
+    let mut judge = Judge::of(line);
+    judge.symbols(b'%', b'i');
+    judge.zero_after(3, 7);
+    judge.zero_after(8, 12);
+    judge.zero_after(13, 17);
+    judge.zero_after(18, 22);
+    judge.zero_after(23, 29);
+    judge.zero_after(30, 36);
+    judge.zero_after(37, 43);
+    judge.zero_after(44, 50);
+    judge.zero_after(51, 60);
+    judge.unused(61, 80);
+    judge.fault
 }

@@ -1,6 +1,6 @@
 // The kind of a line.
 ghost use Rattle.std.specs.Prelude.{◌≡◌, true};
-ghost use Rattle.record.specs.LineKinds.{no_kind, first_kind, second_kind, satellites_kind, accuracies_kind, characters_kind, floats_kind, integers_kind, comment_kind, epoch_kind, position_kind, velocity_kind, position_correlation_kind, velocity_correlation_kind, end_kind, told_kind, hash_kind, plus_kind, percent_kind, star_kind, slash_kind, e_kind, kind_by, kind_of};
+ghost use Rattle.record.specs.LineKinds.{no_kind, first_kind, second_kind, satellites_kind, accuracies_kind, characters_kind, floats_kind, integers_kind, comment_kind, epoch_kind, position_kind, velocity_kind, position_correlation_kind, velocity_correlation_kind, end_kind, told_kind, hash_kind, plus_kind, percent_kind, e_kind, kind_by, kind_of};
 
 use crate::LineKind;
 use header::Rules;
@@ -62,78 +62,42 @@ pub fn kinds_hold() -> bool
 fn hash_kind(letter: u8, second: u8) -> LineKind
     ensures { result ≡ hash_kind letter second }
 {
-    if second == b'#' {
-        return LineKind::Second;
-    }
-    if second == letter {
-        LineKind::First
-    } else {
-        LineKind::Other
+    match second {
+        b'#' => LineKind::Second,
+        _ if second == letter => LineKind::First,
+        _ => LineKind::Other,
     }
 }
 
 fn plus_kind(second: u8) -> LineKind
     ensures { result ≡ plus_kind second }
 {
-    if second == b' ' {
-        return LineKind::Satellites;
-    }
-    if second == b'+' {
-        LineKind::Accuracies
-    } else {
-        LineKind::Other
-    }
-}
-
-fn star_kind(second: u8) -> LineKind
-    ensures { result ≡ star_kind second }
-{
-    if second == b' ' {
-        LineKind::Epoch
-    } else {
-        LineKind::Other
-    }
-}
-
-fn slash_kind(second: u8) -> LineKind
-    ensures { result ≡ slash_kind second }
-{
-    if second == b'*' {
-        LineKind::Comment
-    } else {
-        LineKind::Other
+    match second {
+        b' ' => LineKind::Satellites,
+        b'+' => LineKind::Accuracies,
+        _ => LineKind::Other,
     }
 }
 
 fn percent_kind(second: u8) -> LineKind
     ensures { result ≡ percent_kind second }
 {
-    if second == b'c' {
-        return LineKind::Characters;
-    }
-    if second == b'f' {
-        return LineKind::Floats;
-    }
-    if second == b'i' {
-        LineKind::Integers
-    } else {
-        LineKind::Other
+    match second {
+        b'c' => LineKind::Characters,
+        b'f' => LineKind::Floats,
+        b'i' => LineKind::Integers,
+        _ => LineKind::Other,
     }
 }
 
 fn e_kind(second: u8, third: u8) -> LineKind
     ensures { result ≡ e_kind second third }
 {
-    if second == b'P' {
-        return LineKind::PositionCorrelation;
-    }
-    if second == b'V' {
-        return LineKind::VelocityCorrelation;
-    }
-    if (second == b'O') & (third == b'F') {
-        LineKind::EndOfFile
-    } else {
-        LineKind::Other
+    match (second, third) {
+        (b'P', _) => LineKind::PositionCorrelation,
+        (b'V', _) => LineKind::VelocityCorrelation,
+        (b'O', b'F') => LineKind::EndOfFile,
+        _ => LineKind::Other,
     }
 }
 
@@ -141,35 +105,21 @@ fn e_kind(second: u8, third: u8) -> LineKind
 pub fn kind_by(letter: u8, first: u8, second: u8, third: u8) -> LineKind
     ensures result { told_kind result ≡ told_kind (kind_by letter first second third) }
 {
-    if first == b'P' {
-        return LineKind::Position;
-    }
-    if first == b'V' {
-        return LineKind::Velocity;
-    }
-    if first == b'*' {
-        return star_kind(second);
-    }
-    if first == b'E' {
-        return e_kind(second, third);
-    }
-    if first == b'+' {
-        return plus_kind(second);
-    }
-    if first == b'/' {
-        return slash_kind(second);
-    }
-    if first == b'%' {
-        return percent_kind(second);
-    }
-    if first == b'#' {
-        hash_kind(letter, second)
-    } else {
-        LineKind::Other
+    match (first, second) {
+        (b'P', _) => LineKind::Position,
+        (b'V', _) => LineKind::Velocity,
+        (b'*', b' ') => LineKind::Epoch,
+        (b'E', _) => e_kind(second, third),
+        (b'+', _) => plus_kind(second),
+        (b'/', b'*') => LineKind::Comment,
+        (b'%', _) => percent_kind(second),
+        (b'#', _) => hash_kind(letter, second),
+        _ => LineKind::Other,
     }
 }
 
 // The kind of a line of 80 columns in the version of these rules: `PG07` is a position, `#c` in version d is none.
+#[tactic(auto, unfolding(crate::specs::LineKinds::kind_of))]
 pub fn kind_of(rules: Rules, line: &[u8; 80]) -> LineKind
     ensures result { told_kind result ≡ told_kind (kind_of rules line.now) }
 {

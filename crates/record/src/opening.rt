@@ -1,53 +1,59 @@
 // Lines 1 and 2, and the epoch lines.
 ghost use Rattle.std.specs.Prelude.{◌≡◌};
-ghost use Rattle.record.specs.Times.{moment_after};
-ghost use Rattle.record.specs.Opening.{texts_of, first_of, second_of, epoch_of};
+ghost use Rattle.layout.specs.Layout.{values_of};
+ghost use Rattle.record.specs.Times.{time_items, moment_at};
+ghost use Rattle.record.specs.Opening.{text_items, texts_of, first_of, second_of, epoch_of};
+ghost use Rattle.record.specs.Steps.{after_all};
 
 use crate::fields;
+use crate::fields::Judge;
 use crate::types::{Epoch, First, Second};
 use header::{Header, Moment, Rules, Texts};
 
-// Columns 4 to 31: a date, which is judged by whoever reads the line, and a time.
-fn moment_in(lowest: usize, line: &[u8; 80]) -> Epoch
-    ensures { result ≡ moment_after lowest line.now }
-{
-    let year = fields::whole_in(lowest, line, 0, 9999, 4, 4, 7);
-    let a = fields::unused_in(year.fault, line, 8, 8);
-    let month = fields::whole_in(a, line, 0, 99, 4, 9, 10);
-    let b = fields::unused_in(month.fault, line, 11, 11);
-    let day = fields::whole_in(b, line, 0, 99, 4, 12, 13);
-    let c = fields::unused_in(day.fault, line, 14, 14);
-    let hour = fields::whole_in(c, line, 0, 23, 15, 15, 16);
-    let d = fields::unused_in(hour.fault, line, 17, 17);
-    let minute = fields::whole_in(d, line, 0, 59, 18, 18, 19);
-    let e = fields::unused_in(minute.fault, line, 20, 20);
-    let second = fields::decimal_in(e, line, 8, 0, 5_999_999_999, 21, 31);
-    Epoch {
-        fault: second.fault,
-        moment: Moment {
-            year: year.value,
-            month: month.value,
-            day: day.value,
-            hour: hour.value,
-            minute: minute.value,
-            second8: second.value,
-        },
+impl<'a> Judge<'a> {
+    // Columns 4 to 31: a date, which is judged by whoever reads the line, and a time.
+    #[tactic(auto, unfolding(crate::specs::Steps::after))]
+    fn moment(&mut self) -> Moment
+        ensures judged { self.new ≡ after_all time_items self.old }
+        ensures value { result ≡ moment_at (values_of time_items self.old.line.now) 0 }
+    {
+        let year = self.whole(0, 9999, 4, 4, 7);
+        self.unused(8, 8);
+        let month = self.whole(0, 99, 4, 9, 10);
+        self.unused(11, 11);
+        let day = self.whole(0, 99, 4, 12, 13);
+        self.unused(14, 14);
+        let hour = self.whole(0, 23, 15, 15, 16);
+        self.unused(17, 17);
+        let minute = self.whole(0, 59, 18, 18, 19);
+        self.unused(20, 20);
+        let second8 = self.decimal(8, 0, 5_999_999_999, 21, 31);
+        Moment {
+            year,
+            month,
+            day,
+            hour,
+            minute,
+            second8,
+        }
     }
-}
 
-// Columns 41 to 60: the four texts.
-fn texts_in(line: &[u8; 80]) -> Texts
-    ensures { result ≡ texts_of line.now }
-{
-    let data_used = fields::text5(line, 41, 45);
-    let coordinates = fields::text5(line, 47, 51);
-    let orbit = fields::text3(line, 53, 55);
-    let agency = fields::text4(line, 57, 60);
-    Texts {
-        data_used,
-        coordinates,
-        orbit,
-        agency,
+    // Columns 41 to 80: the four texts, and the unused columns after each.
+    #[tactic(auto, unfolding(crate::specs::Steps::after))]
+    fn texts(&mut self) -> Texts
+        ensures judged { self.new ≡ after_all text_items self.old }
+        ensures value { result ≡ texts_of self.old.line.now }
+    {
+        self.unused(46, 46);
+        self.unused(52, 52);
+        self.unused(56, 56);
+        self.unused(61, 80);
+        Texts {
+            data_used: fields::text(self.line, 41),
+            coordinates: fields::text(self.line, 47),
+            orbit: fields::text(self.line, 53),
+            agency: fields::text(self.line, 57),
+        }
     }
 }
 
@@ -55,23 +61,20 @@ fn texts_in(line: &[u8; 80]) -> Texts
 pub fn read_first(rules: Rules, line: &[u8; 80]) -> First
     ensures result { result ≡ first_of rules line.now }
 {
-    let a = fields::symbols_in(line, b'#', rules.letter);
-    let mode = fields::mode_in(a, line);
-    let start = moment_in(mode.fault, line);
-    let moment = start.moment;
-    let b = fields::unused_in(start.fault, line, 32, 32);
-    let epochs = fields::whole_in(b, line, 1, Header::MAX_EPOCHS, 33, 33, 39);
-    let c = fields::unused_in(epochs.fault, line, 40, 40);
-    let d = fields::unused_in(c, line, 46, 46);
-    let e = fields::unused_in(d, line, 52, 52);
-    let f = fields::unused_in(e, line, 56, 56);
-    let g = fields::unused_in(f, line, 61, 80);
-    let texts = texts_in(line);
+    let mut judge = Judge::of(line);
+    judge.symbols(b'#', rules.letter);
+    let mode = judge.mode();
+    let start = judge.moment();
+    judge.unused(32, 32);
+    let epochs = judge.whole(1, Header::MAX_EPOCHS, 33, 33, 39);
+    judge.unused(40, 40);
+    let texts = judge.texts();
+    judge.date(start);
     First {
-        fault: fields::dated(g, moment),
-        mode: mode.letter,
-        start: moment,
-        epochs: epochs.value,
+        fault: judge.fault,
+        mode,
+        start,
+        epochs,
         texts,
     }
 }
@@ -80,25 +83,26 @@ pub fn read_first(rules: Rules, line: &[u8; 80]) -> First
 pub fn read_second(line: &[u8; 80]) -> Second
     ensures result { result ≡ second_of line.now }
 {
-    let a = fields::symbols_in(line, b'#', b'#');
-    let b = fields::unused_in(a, line, 3, 3);
-    let week = fields::whole_in(b, line, 0, 9999, 4, 4, 7);
-    let c = fields::unused_in(week.fault, line, 8, 8);
-    let seconds = fields::decimal_in(c, line, 8, 0, 60_479_999_999_999, 9, 23);
-    let d = fields::unused_in(seconds.fault, line, 24, 24);
-    let interval = fields::decimal_in(d, line, 8, 1, 9_999_999_999_999, 25, 38);
-    let e = fields::unused_in(interval.fault, line, 39, 39);
-    let mjd = fields::whole_in(e, line, 0, 99_999, 40, 40, 44);
-    let f = fields::unused_in(mjd.fault, line, 45, 45);
-    let fraction = fields::decimal_in(f, line, 13, 0, 9_999_999_999_999, 46, 60);
-    let g = fields::unused_in(fraction.fault, line, 61, 80);
+    let mut judge = Judge::of(line);
+    judge.symbols(b'#', b'#');
+    judge.unused(3, 3);
+    let week = judge.whole(0, 9999, 4, 4, 7);
+    judge.unused(8, 8);
+    let seconds8 = judge.decimal(8, 0, 60_479_999_999_999, 9, 23);
+    judge.unused(24, 24);
+    let interval8 = judge.decimal(8, 1, 9_999_999_999_999, 25, 38);
+    judge.unused(39, 39);
+    let mjd = judge.whole(0, 99_999, 40, 40, 44);
+    judge.unused(45, 45);
+    let fraction13 = judge.decimal(13, 0, 9_999_999_999_999, 46, 60);
+    judge.unused(61, 80);
     Second {
-        fault: g,
-        week: week.value,
-        seconds8: seconds.value,
-        interval8: interval.value,
-        mjd: mjd.value,
-        fraction13: fraction.value,
+        fault: judge.fault,
+        week,
+        seconds8,
+        interval8,
+        mjd,
+        fraction13,
     }
 }
 
@@ -106,13 +110,14 @@ pub fn read_second(line: &[u8; 80]) -> Second
 pub fn read_epoch(line: &[u8; 80]) -> Epoch
     ensures result { result ≡ epoch_of line.now }
 {
-    let a = fields::symbols_in(line, b'*', b' ');
-    let b = fields::unused_in(a, line, 3, 3);
-    let at = moment_in(b, line);
-    let moment = at.moment;
-    let c = fields::unused_in(at.fault, line, 32, 80);
+    let mut judge = Judge::of(line);
+    judge.symbols(b'*', b' ');
+    judge.unused(3, 3);
+    let moment = judge.moment();
+    judge.unused(32, 80);
+    judge.date(moment);
     Epoch {
-        fault: fields::dated(c, moment),
+        fault: judge.fault,
         moment,
     }
 }

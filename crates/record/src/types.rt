@@ -21,20 +21,6 @@ pub enum LineKind {
     EndOfFile,
 }
 
-// A field's fault, after those before it, and its number.
-#[derive(Clone, Copy)]
-pub struct Judged {
-    pub fault: usize,
-    pub value: u64,
-}
-
-// A letter's fault, after those before it, and the letter.
-#[derive(Clone, Copy)]
-pub struct Lettered {
-    pub fault: usize,
-    pub letter: u8,
-}
-
 // Line 1, its mode a letter. A fault is a key: the paper's number times 128, and a column; 0 for none.
 #[derive(Clone, Copy)]
 pub struct First {
