@@ -38,26 +38,15 @@ pub fn column_of(key: usize) -> usize
 pub fn is_printable(s: &[u8]) -> bool
     ensures result { result ≡ every is_printable s.now }
 {
-    let mut plain = true;
-    let mut i = 0;
-    while i < s.len() {
-        let b = s[i];
-        plain = plain & ((32 <= b) & (b <= 126));
-        i += 1;
-    }
-    plain
+    s.iter().all(|b| (32..=126).contains(b))
 }
 
 // The bytes laid over the front of `out`, as many as it has room for.
 pub fn copy_front(out: &mut [u8], bytes: &[u8])
     ensures lent { out.new ≡ take (length out.old) bytes.now ++ drop (length bytes.now) out.old }
 {
-    let n = laws::fewer(out.len(), bytes.len());
-    let mut i = 0;
-    while i < n {
-        out[i] = bytes[i];
-        i += 1;
-    }
+    let n = out.len().min(bytes.len());
+    out[..n].copy_from_slice(&bytes[..n]);
 }
 
 // A short line padded with blanks to 80 columns.
