@@ -19,13 +19,11 @@ fn fits(
     ensures { result ≡ every_below 32 (fits_at low.now high.now also.now sign.now line.now at) }
 {
     let mut ok = true;
-    let mut i: usize = 0;
-    while i < 32 {
-        let p = line[at + i];
-        let q = line[at + i + 1];
-        ok = (((low[i] <= q) & (q <= high[i])) | ((p == 32) & ((q == also[i]) | (q == sign[i]))))
-            & ok;
-        i += 1;
+    for i in 0..32 {
+        let (p, q) = (line[at + i], line[at + i + 1]);
+        let usual = (low[i] <= q) & (q <= high[i]);
+        let after_blank = (p == b' ') & ((q == also[i]) | (q == sign[i]));
+        ok = (usual | after_blank) & ok;
     }
     ok
 }
@@ -59,7 +57,6 @@ pub fn is_usual(line: &[u8; 80]) -> bool
         b"    0.000000                    ",
         b"----0.000000              E   M ",
     );
-    let s = &line[..];
-    let zero = (s[2] == 48) & (s[3] == 48);
-    (s.len() == 80) & ((s[0] == 80) & (!zero & (front & (middle & last))))
+    let zero = (line[2] == b'0') & (line[3] == b'0');
+    (line[0] == b'P') & (!zero & (front & (middle & last)))
 }
