@@ -11,8 +11,6 @@ use Rattle.laws.proofs.Bools.{and_both}
 use Rattle.laws.proofs.Bounds.{within-true, true-within}
 use Rattle.field.specs.Digits.{is_digit}
 use Rattle.field.specs.Read.{whole_of, exponent_of}
-use Rattle.field.specs.declared.Whole.TheVariants as whole
-use Rattle.field.specs.declared.Exponent.TheVariants as exponents
 use Rattle.layout.specs.Fault.{clean}
 use Rattle.layout.specs.Kind.{fault_in, exponent}
 use Rattle.layout.specs.Kind.Kind.{flag, identifier}
