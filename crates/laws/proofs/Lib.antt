@@ -5,3 +5,4 @@ pub mod Answers
 pub mod Lists
 pub mod Lent
 pub mod Determined
+pub mod Flags

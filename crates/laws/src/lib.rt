@@ -9,26 +9,19 @@ ghost use Rattle.laws.specs.Texts.{blanks};
 pub fn within(low: u64, high: u64, n: u64) -> bool
     ensures result { result ≡ Tests.within low high n }
 {
-    if n < low {
-        return false;
-    }
-    n <= high
+    (low..=high).contains(&n)
 }
 
 // The smaller of two counts.
 pub fn fewer(a: usize, b: usize) -> usize
     ensures result { result ≡ min a b }
 {
-    if a < b { a } else { b }
+    a.min(b)
 }
 
 // Blanks in every place that is lent.
 pub fn fill_blanks(out: &mut [u8])
     ensures lent { out.new ≡ blanks (length out.old) }
 {
-    let mut i = 0;
-    while i < out.len() {
-        out[i] = b' ';
-        i += 1;
-    }
+    out.fill(b' ');
 }

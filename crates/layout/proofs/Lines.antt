@@ -3,7 +3,7 @@
 use mathlib.Core.Path.{◌≡◌, refl, sym, ap, ◌∙◌}
 use mathlib.Core.Bool.{Bool, true, false, cond, ◌&&◌}
 use mathlib.Core.List.{List, [], ◌∷◌, ◌++◌, append-nil, append_assoc}
-use Prim.Native.Nat.{ℕ, zero, suc, ◌+◌, ◌-◌, ◌<◌, ◌≤◌, min}
+use Prim.Native.Nat.{ℕ, zero, suc, ◌+◌, ◌-◌, ◌<◌, ◌≤◌}
 use native.Mathlib.Nat.{le_of_suc-le-suc, not-suc-le-zero}
 use native.Mathlib.Numerals.{add-one}
 use native.Mathlib.Omega.{arith}
@@ -11,7 +11,7 @@ use native.Mathlib.Decide.{dec_le}
 use borrow.Author.Tests.{eqb-true, ne_eqb, le-leb, lt-leb, leb-true}
 use lib.Dec.{leb, eqb}
 use lib.ListN.{length, get_or, take, drop, set, length-append, length-replicate, replicate-append-replicate, drop_of_length-le, length-drop}
-use lib.Seq.{take-suc, take_at, drop_at, take-append-le, take_all, length-take-le, drop-drop}
+use lib.Seq.{take_at, drop_at, take-append-le, take_all, length-take-le, drop-drop}
 use Rattle.laws.specs.Texts.{every, is_printable, blanks}
 use Rattle.layout.specs.Kind.{printable}
 use Rattle.layout.specs.Inking.{overlaid}
@@ -22,27 +22,8 @@ use Rattle.laws.proofs.Lists.{rest-step, rest-none}
 pub blanks-length : (w : ℕ) → length (blanks w) ≡ w
 blanks-length w = length-replicate w 32
 
--- one more byte of a copy to the front
-pub copy_more : (s d : List ℕ) (i : ℕ) → i < length s → i < length d → set (take i s ++ drop i d) i (get_or s i 0) ≡ take (suc i) s ++ drop (suc i) d
-copy_more [] d i p q = absurd (not-suc-le-zero p)
-copy_more (b ∷ s) [] i p q = absurd (not-suc-le-zero q)
-copy_more (b ∷ s) (x ∷ d) zero p q = refl
-copy_more (b ∷ s) (x ∷ d) (suc i) p q = ap {B = List ℕ} (λ t. b ∷ t) (copy_more s d i (le_of_suc-le-suc p) (le_of_suc-le-suc q))
-
 -- a copy of as many as there is room for
 module _ (bytes out : List ℕ) where
-  all-copied : Dec (length bytes ≤ length out)
-      → take (min (length out) (length bytes)) bytes ++ drop (min (length out) (length bytes)) out ≡ take (length out) bytes ++ drop (length bytes) out
-  all-copied (yes p) =
-      let fewer : min (length out) (length bytes) ≡ length bytes = omega arith in
-      rw (fewer, take_all (length bytes) bytes (omega arith), take_all (length out) bytes p)
-  all-copied (no p) =
-      let fewer : min (length out) (length bytes) ≡ length out = omega arith in
-      rw (fewer, drop_of_length-le out {i = length out} (omega arith), drop_of_length-le out {i = length bytes} (omega arith))
-
-  pub copied : take (min (length out) (length bytes)) bytes ++ drop (min (length out) (length bytes)) out ≡ take (length out) bytes ++ drop (length bytes) out
-  copied = all-copied (dec_le (length bytes) (length out))
-
   -- what has room is copied whole
   pub copied-whole : length bytes ≤ length out → take (length out) bytes ++ drop (length bytes) out ≡ bytes ++ drop (length bytes) out
   copied-whole p = rw (take_all (length out) bytes p)
@@ -57,26 +38,26 @@ copy_ended s [] v q = absurd (not-suc-le-zero q)
 copy_ended [] (x ∷ d) v q = refl
 copy_ended (b ∷ s) (x ∷ d) v q = ap {B = List ℕ} (λ t. b ∷ t) (copy_ended s d v (le_of_suc-le-suc q))
 
--- a trailing blank is cut, and another byte keeps all before it
-cut-blank : (l : List ℕ) → trimmed (l ++ (32 ∷ [])) ≡ trimmed l
-cut-blank [] = refl
-cut-blank (b ∷ l) = rw (cut-blank l)
+-- a byte before a cut line, of which it is the last where nothing else is left
+cut-all : (b : ℕ) (t : List ℕ) → b ≡ 32 → 0 ≡ length t → 0 ≡ length (cons_trimmed b t)
+cut-all b [] h e = rw h refl
+cut-all b (c ∷ cs) h e = absurd (omega arith)
 
-keep-rest : (b : ℕ) (l : List ℕ) (c : ℕ) → cons_trimmed b (l ++ (c ∷ [])) ≡ b ∷ (l ++ (c ∷ []))
-keep-rest b [] c = refl
-keep-rest b (d ∷ l) c = refl
+cut-more : (b : ℕ) (t : List ℕ) (m : ℕ) → m ≡ length t → (m ≡ 0 → b ≡ 32 → ⊥) → suc m ≡ length (cons_trimmed b t)
+cut-more b [] m e h = rw (ne_eqb b 32 (h e)) (omega arith)
+cut-more b (c ∷ cs) m e h = omega arith
 
-kept_byte : (l : List ℕ) (b : ℕ) → (b ≡ 32 → ⊥) → trimmed (l ++ (b ∷ [])) ≡ l ++ (b ∷ [])
-kept_byte [] b h = rw (ne_eqb b 32 h)
-kept_byte (a ∷ l) b h = rw (kept_byte l b h) (keep-rest a l b)
-
-pub trim-on : (s : List ℕ) (n m : ℕ) → n ≡ suc m → m < length s → get_or s m 0 ≡ 32 → trimmed (take n s) ≡ trimmed (take m s)
-trim-on s n m e p h = ap (λ (k : ℕ). trimmed (take k s)) e ∙ rw (take-suc s m 0 p, h, cut-blank (take m s))
-
-pub trim-stop : (s : List ℕ) (n m : ℕ) → n ≡ suc m → m < length s → (get_or s m 0 ≡ 32 → ⊥) → length (trimmed (take n s)) ≡ n
-trim-stop s n m e p h =
-    ap (λ (k : ℕ). length (trimmed (take k s))) e
-    ∙ rw (take-suc s m 0 p, kept_byte (take m s) (get_or s m 0) h) (length-append (take m s) (get_or s m 0 ∷ []) ∙ omega (arith, length-take-le m s (omega arith)))
+-- a line of which the first n columns are kept: blanks stand from there on, and none just before
+pub trimmed_by : (line : List ℕ) (n : ℕ) → n ≤ length line → ((k : ℕ) → n ≤ k → k < length line → get_or line k 0 ≡ 32)
+    → ((k : ℕ) → n ≡ k + 1 → get_or line k 0 ≡ 32 → ⊥) → n ≡ length (trimmed line)
+trimmed_by [] n h blank last = omega arith
+trimmed_by (b ∷ bs) zero h blank last =
+    cut-all b (trimmed bs) (blank 0 (omega arith) (omega arith))
+    (trimmed_by bs 0 (omega arith) (λ k p q. blank (suc k) (omega arith) (omega arith)) (λ k e. absurd (omega arith)))
+trimmed_by (b ∷ bs) (suc m) h blank last =
+    cut-more b (trimmed bs) m
+    (trimmed_by bs m (omega arith) (λ k p q. blank (suc k) (omega arith) (omega arith)) (λ k e. last (suc k) (omega arith)))
+    (λ e. last 0 (omega arith))
 
 -- what was cut were blanks
 refilled : (l : List ℕ) → (k : ℕ) × (trimmed l ++ blanks k ≡ l)
@@ -146,15 +127,20 @@ pub padded-length : (l : List ℕ) → length (padded l) ≡ 80
 unfolding padded
 padded-length l = length-take-le 80 (l ++ blanks 80) (omega (arith, length-append l (blanks 80), blanks-length 80))
 
+-- a line copied over 80 blanks
+pub padded_copy : (t out : List ℕ) → out ≡ blanks 80 → take 80 t ++ drop (length t) out ≡ padded t
+unfolding padded
+padded_copy t out e = rw e (filled_copy t 80)
+
 -- a line, cut and ended, laid at the front of the output, where there is room
 pub ended-length : (line : List ℕ) → length (ended line) ≡ length (trimmed line) + 1
 ended-length line = length-append (trimmed line) (10 ∷ [])
 
 pub laid : (line out part : List ℕ) (n : ℕ) → n ≡ length (trimmed line) → n < length out → part ≡ take n line
-    → set (take (length out) part ++ drop (length part) out) n 10 ≡ laid_in (ended line) out
+    → set (part ++ drop n out) n 10 ≡ laid_in (ended line) out
 laid line out part n e h same =
     let front : part ≡ trimmed line = same ∙ ap (λ (k : ℕ). take k line) e ∙ trimmed-front line in
-    rw (front, e, copied-whole (trimmed line) out (omega arith), copy_ended (trimmed line) out 10 (omega arith), ended-length line, ← add-one (length (trimmed line)), le-leb (length (trimmed line) + 1) (length out) (omega arith))
+    rw (front, e, copy_ended (trimmed line) out 10 (omega arith), ended-length line, ← add-one (length (trimmed line)), le-leb (length (trimmed line) + 1) (length out) (omega arith))
 
 pub not-laid : (line out : List ℕ) (n : ℕ) → n ≡ length (trimmed line) → length out ≤ n → out ≡ laid_in (ended line) out
 not-laid line out n e h = rw (ended-length line, lt-leb (length (trimmed line) + 1) (length out) (omega arith))
@@ -233,3 +219,6 @@ overlaid-length bytes line first last p q r e =
       length-drop (last - (first - 1)) (drop (first - 1) line),
       length-drop (first - 1) line,
     )
+
+-- what a line writer's check needs
+pub ruleset laying = (trimmed-shorter, told, not-laid, laid)

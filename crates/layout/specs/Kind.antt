@@ -4,6 +4,8 @@
 -- letter, file type (two columns) or time system isn't listed"; 7 "a number or date is outside its bounds, 00 in an identifier too";
 -- 8 "a slot after n isn't `  0`".
 use Rattle.std.specs.Prelude.{Bool, true, false, cond, not, ◌&&◌, ◌||◌, List, [], ◌∷◌, ◌++◌, ℕ, suc, ◌+◌, ◌-◌, ◌*◌, ◌/◌, ◌%◌, ◌^◌, length, get_or, take, drop, leb, ltb, eqb}
+use Rattle.std.specs.List.{list_any}
+use lib.Pointwise.{pointwise}
 use Rattle.laws.specs.Tests.{within}
 use Rattle.laws.specs.Texts.{every, is_printable, blanks}
 use Rattle.field.specs.Digits.{is_digit}
@@ -133,20 +135,15 @@ unused_fault at (b ∷ bs) = cond (eqb b 32) (unused_fault (suc at) bs) (keyed 5
 
 -- the same bytes, as many
 abbrev pub same_bytes : List ℕ → List ℕ → Bool
-same_bytes [] [] = true
-same_bytes [] (b ∷ bs) = false
-same_bytes (a ∷ rest) [] = false
-same_bytes (a ∷ rest) (b ∷ bs) = eqb a b && same_bytes rest bs
+same_bytes bs these = pointwise eqb bs these
 
 -- one of these letters
 abbrev pub is_one_of : ℕ → List ℕ → Bool
-is_one_of b [] = false
-is_one_of b (c ∷ cs) = eqb b c || is_one_of b cs
+is_one_of b these = list_any (eqb b) these
 
 -- one of these words
 abbrev pub is_listed : List ℕ → List (List ℕ) → Bool
-is_listed bs [] = false
-is_listed bs (word ∷ these) = same_bytes bs word || is_listed bs these
+is_listed bs these = list_any (same_bytes bs) these
 
 -- one of these letters, and blanks after it
 abbrev pub is_lettered : List ℕ → List ℕ → Bool

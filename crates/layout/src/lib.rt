@@ -8,16 +8,15 @@ ghost use Rattle.layout.specs.Fault;
 ghost use Rattle.layout.specs.Line.{padded, trimmed, ended, Lays};
 
 // The lower of two faults as keys, of which either may be none (0): 6 at column 5 (773) before 7 at column 4 (900).
+#[tactic(auto, unfolding(crate::specs::Fault::lower_of))]
 pub fn lower(a: usize, b: usize) -> usize
     ensures result { result ≡ Fault.lower a b }
 {
-    if b == 0 {
-        return a;
+    match (a, b) {
+        (_, 0) => a,
+        (0, _) => b,
+        _ => a.min(b),
     }
-    if a == 0 {
-        return b;
-    }
-    if a < b { a } else { b }
 }
 
 // The paper's number in a fault's key: 6 of 773.
@@ -38,29 +37,19 @@ pub fn column_of(key: usize) -> usize
 pub fn is_printable(s: &[u8]) -> bool
     ensures result { result ≡ every is_printable s.now }
 {
-    let mut plain = true;
-    let mut i = 0;
-    while i < s.len() {
-        let b = s[i];
-        plain = plain & ((32 <= b) & (b <= 126));
-        i += 1;
-    }
-    plain
+    s.iter().fold(true, |plain, b| plain & (32..=126).contains(b))
 }
 
 // The bytes laid over the front of `out`, as many as it has room for.
 pub fn copy_front(out: &mut [u8], bytes: &[u8])
     ensures lent { out.new ≡ take (length out.old) bytes.now ++ drop (length bytes.now) out.old }
 {
-    let n = laws::fewer(out.len(), bytes.len());
-    let mut i = 0;
-    while i < n {
-        out[i] = bytes[i];
-        i += 1;
-    }
+    let n = out.len().min(bytes.len());
+    out[..n].copy_from_slice(&bytes[..n]);
 }
 
 // A short line padded with blanks to 80 columns.
+#[tactic(auto, using(crate::proofs::Lines::padded_copy))]
 pub fn pad(line: &[u8]) -> [u8; 80]
     ensures result { result ≡ padded line.now }
 {
@@ -76,26 +65,22 @@ const BLANK: u8 = b' ';
 pub fn trimmed_length(line: &[u8]) -> usize
     ensures result { result ≡ length (trimmed line.now) }
 {
-    let mut n = line.len();
-    while 0 < n {
-        if line[n - 1] != BLANK {
-            return n;
-        }
-        n -= 1;
+    match line.iter().rposition(|b| *b != BLANK) {
+        Some(last) => last + 1,
+        None => 0,
     }
-    0
 }
 
 // Lays a line, cut and with its LF, at the front of `out`, where there is room, and tells its length in any case.
+#[tactic(auto, using(crate::proofs::Lines::laying))]
 pub fn lay_line(line: &[u8; 80], out: &mut [u8]) -> usize
     ensures lays { Lays (ended line.now) out.old result out.new }
 {
-    let s = &line[..];
-    let n = trimmed_length(s);
+    let n = trimmed_length(line);
     if n >= out.len() {
         return n + 1;
     }
-    copy_front(out, &s[0..n]);
+    out[..n].copy_from_slice(&line[..n]);
     out[n] = b'\n';
     n + 1
 }

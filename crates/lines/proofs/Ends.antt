@@ -1,18 +1,22 @@
 -- Where a line ends: at the end of the bytes, at an LF, past a byte that is none, and past a block that has none.
 -- Assumes nothing.
 use mathlib.Core.Path.{◌≡◌, refl, sym, ap, ◌∙◌}
-use mathlib.Core.Bool.{Bool, true, false, not, ◌||◌, or-false, true≢false}
-use mathlib.Core.List.{List, [], ◌∷◌, ◌++◌}
-use Prim.Native.Nat.{ℕ, zero, suc, ◌+◌, ◌-◌, ◌≤◌, ◌<◌}
-use native.Mathlib.Nat.{add-zero, zero-add, add-suc, suc-add, not-suc-le-zero, le_of_suc-le-suc}
-use native.Mathlib.Numerals.{add-one}
+use mathlib.Core.Bool.{Bool, true, false, cond, not, ◌||◌, true≢false}
+use mathlib.Core.List.{List, [], ◌∷◌}
+use Prim.Native.Nat.{ℕ, zero, suc, ◌+◌, ◌-◌, ◌≤◌, ◌<◌, zero-le}
+use native.Mathlib.Nat.{zero-add, suc-add, not-suc-le-zero, le_of_suc-le-suc}
+use native.Mathlib.Numerals.{one-add}
 use native.Mathlib.Omega.{arith}
-use borrow.Author.Tests.{ltb-true, lt-ltb, le-ltb}
+use borrow.Author.Tests.{ltb-true, ltb-false, lt-ltb}
 use lib.Dec.{ltb}
 use lib.ListN.{length, get_or, take, drop, length-drop}
-use lib.Seq.{drop-drop, take-add, take-suc, get_or-drop}
+use lib.Seq.{drop-drop, take-add}
 use Rattle.laws.proofs.Bools.{and_left, and_right}
 use Rattle.laws.proofs.Lists.{rest-step, rest-none}
+use Rattle.std.proofs.Common.{Some, None, unwrap_or}
+use Rattle.std.specs.List.{list_any, position, position_or_len}
+use Rattle.std.proofs.lemmas.List.Folds.{list_any-append}
+use Rattle.std.proofs.lemmas.List.Recursion.{is_position_or_len}
 use Rattle.lines.specs.Lines.{is_lf, line_length, has_lf, is_full_line, on_first, lines_of}
 
 -- both halves of a test of either that fails
@@ -20,49 +24,27 @@ pub neither : (p q : Bool) → (p || q) ≡ false → (p ≡ false) × (q ≡ fa
 neither true q e = absurd (true≢false e)
 neither false q e = (refl, e)
 
--- one byte at a time
-module _ (l : List ℕ) (i : ℕ) where
-  pub line-at-end : length l ≤ i → i + line_length (drop i l) ≡ i
-  unfolding line_length
-  line-at-end h = rw (rest-none l i h, add-zero)
+-- by the library's words: the place of the first LF, which is at most the number of bytes
+pub by_position : (bytes : List ℕ) → line_length bytes ≡ position_or_len is_lf bytes
+unfolding line_length
+by_position bytes = is_position_or_len line_length is_lf refl (λ b bs. ap (cond (is_lf b) 0) (sym (one-add (line_length bs)))) bytes
 
-  pub line-at-lf : i < length l → is_lf (get_or l i 0) ≡ true → i + line_length (drop i l) ≡ i
-  unfolding line_length
-  line-at-lf h e = rw (rest-step l i h, e, add-zero)
-
-  pub line-more : i < length l → is_lf (get_or l i 0) ≡ false → i + line_length (drop i l) ≡ i + 1 + line_length (drop (i + 1) l)
-  unfolding line_length
-  line-more h e =
-      rw (rest-step l i h, e)
-      (add-suc i _ ∙ sym (suc-add i _) ∙ ap (λ (k : ℕ). k + line_length (drop (i + 1) l)) (sym (add-one i)))
-
--- two stretches one after the other; one byte more at the end
-has_parts : (s t : List ℕ) → has_lf (s ++ t) ≡ (has_lf s || has_lf t)
-unfolding has_lf
-has_parts [] t = refl
-has_parts (x ∷ s) t = ap (λ (p : Bool). is_lf x || p) (has_parts s t) ∙ or_assoc (is_lf x) (has_lf s) (has_lf t)
+pub line_within : (bytes : List ℕ) → line_length bytes ≤ length bytes
+unfolding line_length
+line_within [] = zero-le
+line_within (b ∷ bs) = go (is_lf b) (line_within bs)
   where
-    or_assoc : (p q r : Bool) → (p || (q || r)) ≡ ((p || q) || r)
-    or_assoc true q r = refl
-    or_assoc false q r = refl
+    go : (t : Bool) → line_length bs ≤ length bs → cond t 0 (suc (line_length bs)) ≤ suc (length bs)
+    go true h = zero-le
+    go false h = omega arith
 
-has_more : (s : List ℕ) (b : ℕ) → has_lf (s ++ (b ∷ [])) ≡ (has_lf s || is_lf b)
-unfolding has_lf
-has_more s b = has_parts s (b ∷ []) ∙ ap (λ (p : Bool). has_lf s || p) (or-false (is_lf b))
-
--- a flag over the stretch from `at` on: before the first byte, one byte more, and the whole
-pub flag-none : (l : List ℕ) → false ≡ has_lf (take 0 l)
-unfolding has_lf
-flag-none l = refl
-
-pub flag-more : (l : List ℕ) (at i : ℕ) (found : Bool) → at + i < length l → found ≡ has_lf (take i (drop at l))
-    → (found || is_lf (get_or l (at + i) 0)) ≡ has_lf (take (i + 1) (drop at l))
-flag-more l at i found h e =
-    let fits : i < length (drop at l) = rw (length-drop at l) (omega arith) in
-    rw (add-one i, take-suc (drop at l) i 0 fits, has_more (take i (drop at l)) (get_or (drop at l) i 0), get_or-drop at l i 0, e)
-
-pub flag-all : (l : List ℕ) (n i : ℕ) (found : Bool) → i ≡ n → found ≡ has_lf (take i l) → found ≡ has_lf (take n l)
-flag-all l n i found same e = rw same at e
+pub from_position : (bytes : List ℕ) → unwrap_or (position is_lf bytes) (length bytes) ≡ line_length bytes
+from_position bytes = go (ltb (position_or_len is_lf bytes) (length bytes)) refl
+  where
+    go : (t : Bool) → ltb (position_or_len is_lf bytes) (length bytes) ≡ t
+        → unwrap_or (cond t (Some (position_or_len is_lf bytes)) None) (length bytes) ≡ line_length bytes
+    go true e = sym (by_position bytes)
+    go false e = omega (arith, by_position bytes, line_within bytes, ltb-false (position_or_len is_lf bytes) (length bytes) e)
 
 -- a stretch with no LF is passed over
 pub passed_over : (k : ℕ) (l : List ℕ) → k ≤ length l → has_lf (take k l) ≡ false → line_length l ≡ k + line_length (drop k l)
@@ -73,57 +55,34 @@ passed_over (suc k) (b ∷ l) h e =
     let parts = neither (is_lf b) (has_lf (take k l)) e in
     rw parts.0 (ap suc (passed_over k l (le_of_suc-le-suc h) parts.1) ∙ sym (suc-add k (line_length (drop k l))))
 
-pub line-over : (n : ℕ) (l : List ℕ) (i : ℕ) → i + n ≤ length l → has_lf (take n (drop i l)) ≡ false
-    → i + line_length (drop i l) ≡ i + n + line_length (drop (i + n) l)
-line-over n l i h e =
-    let fits : n ≤ length (drop i l) = rw (length-drop i l) (omega arith) in
-    let over : line_length (drop i l) ≡ n + line_length (drop (i + n) l) =
-    passed_over n (drop i l) fits e ∙ ap (λ (x : List ℕ). n + line_length x) (drop-drop n i l) in
+-- one turn of a search by sixteens: what is left when a stretch with no LF is passed
+pub turned : (bytes rest after : List ℕ) → length rest ≤ length bytes → length bytes - length rest + line_length rest ≡ line_length bytes
+    → after ≡ drop 16 rest → length after + 16 ≡ length rest → has_lf (take 16 rest) ≡ false
+    → length bytes - length after + line_length after ≡ line_length bytes
+turned bytes rest after within whole left size none =
+    let over = passed_over 16 rest (omega arith) none in
+    let same = ap line_length left in
     omega arith
 
--- a full line, by the tests that the code makes, and where it ends
-module _ (l : List ℕ) (at : ℕ) where
-  pub no-full-end : length l ≤ at + 80 → false ≡ is_full_line (drop at l)
-  unfolding is_full_line
-  no-full-end h = rw (le-ltb 80 (length (drop at l)) (omega (arith, length-drop at l)))
+-- a full line, its 80 columns looked at in two stretches, and where it ends
+pub full_by : (bytes : List ℕ) → 80 < length bytes → get_or bytes 80 0 ≡ 10
+    → is_full_line bytes ≡ not (has_lf (take 16 bytes) || has_lf (take 64 (drop 16 bytes)))
+unfolding has_lf is_full_line
+full_by bytes long lf =
+    let both = ap (list_any is_lf) (take-add 16 64 bytes) ∙ list_any-append is_lf (take 16 bytes) (take 64 (drop 16 bytes)) in
+    rw (lt-ltb 80 (length bytes) long, lf, both)
 
-  -- its 80 columns are looked at in two stretches
-  in_two : has_lf (take 80 (drop at l)) ≡ (has_lf (take 16 (drop at l)) || has_lf (take 64 (drop (at + 16) l)))
-  in_two =
-      ap has_lf (take-add 16 64 (drop at l))
-      ∙ has_parts (take 16 (drop at l)) (take 64 (drop 16 (drop at l)))
-      ∙ ap (λ (s : List ℕ). has_lf (take 16 (drop at l)) || has_lf (take 64 s)) (drop-drop 16 at l)
-
-  module _ (long : at + 80 < length l) (lf : is_lf (get_or l (at + 80) 0) ≡ true) where
-    -- by the first of them, and by the second
-    full_by : is_full_line (drop at l) ≡ not (has_lf (take 16 (drop at l)) || has_lf (take 64 (drop (at + 16) l)))
-    unfolding is_full_line
-    full_by = rw (lt-ltb 80 (length (drop at l)) (omega (arith, length-drop at l)), get_or-drop at l 80 0, lf, in_two)
-
-    pub no-full-first : (found : Bool) → found ≡ has_lf (take 16 (drop at l)) → found ≡ true → false ≡ is_full_line (drop at l)
-    no-full-first found e is = sym (full_by ∙ rw (sym e ∙ is) refl)
-
-    pub full-second : (found other : Bool) → found ≡ has_lf (take 16 (drop at l)) → found ≡ false → other ≡ has_lf (take 64 (drop (at + 16) l))
-        → not other ≡ is_full_line (drop at l)
-    full-second found other e is f = sym (full_by ∙ rw (sym e ∙ is, f) refl)
-
-  pub no-full-lf : at + 80 < length l → is_lf (get_or l (at + 80) 0) ≡ false → false ≡ is_full_line (drop at l)
-  unfolding is_full_line
-  no-full-lf h e = rw (lt-ltb 80 (length (drop at l)) (omega (arith, length-drop at l)), get_or-drop at l 80 0, e)
-
-  pub full-ends : is_full_line (drop at l) ≡ true → (at + 80 < length l) × (at + 80 ≡ at + line_length (drop at l))
-  unfolding is_full_line
-  full-ends e =
-      let long = ltb-true 80 (length (drop at l)) (and_left (ltb 80 (length (drop at l))) _ e) in
-      let more = and_right (ltb 80 (length (drop at l))) _ e in
-      let lf = sym (ap is_lf (get_or-drop at l 80 0)) ∙ and_left (is_lf (get_or (drop at l) 80 0)) _ more in
-      let none = not-true-false (has_lf (take 80 (drop at l))) (and_right (is_lf (get_or (drop at l) 80 0)) _ more) in
-      let within : at + 80 < length l = omega (arith, length-drop at l) in
-      (within, sym (line-over 80 l at (omega arith) none ∙ line-at-lf l (at + 80) within lf))
-    where
-      not-true-false : (t : Bool) → not t ≡ true → t ≡ false
-      not-true-false true e = sym e
-      not-true-false false e = refl
+pub full-ends : (bytes : List ℕ) → is_full_line bytes ≡ true → 80 ≡ line_length bytes
+unfolding is_full_line line_length
+full-ends bytes e =
+    let long = ltb-true 80 (length bytes) (and_left (ltb 80 (length bytes)) _ e) in
+    let more = and_right (ltb 80 (length bytes)) _ e in
+    let none = not-true-false (has_lf (take 80 bytes)) (and_right (is_lf (get_or bytes 80 0)) _ more) in
+    sym (passed_over 80 bytes (omega arith) none ∙ rw (rest-step bytes 80 long, and_left (is_lf (get_or bytes 80 0)) _ more) refl)
+  where
+    not-true-false : (t : Bool) → not t ≡ true → t ≡ false
+    not-true-false true e = sym e
+    not-true-false false e = refl
 
 -- the first line of some bytes, and those after it
 pub lines_none : (xs : List ℕ) → length xs ≤ line_length xs → lines_of xs ≡ []
@@ -161,3 +120,6 @@ module _ (bytes : List ℕ) (at end : ℕ) (found : end ≡ at + line_length (dr
       ∙ ap (λ (n : ℕ). take n (drop at bytes) ∷ lines_of (drop (suc (line_length (drop at bytes))) (drop at bytes))) size
       ∙ ap (λ (l : List ℕ). take (end - at) (drop at bytes) ∷ lines_of l)
       (drop-drop (suc (line_length (drop at bytes))) at bytes ∙ ap (λ (n : ℕ). drop n bytes) next)
+
+-- what a search for a line's end takes
+pub ruleset endings = (line_within, passed_over, turned, full-ends, rest-none)

@@ -1,5 +1,6 @@
 -- Bytes as lines. 01, "Lines": "A line is the bytes up to the next LF." A file is read line by line; bytes after the last LF are no line.
-use Rattle.std.specs.Prelude.{Bool, false, not, cond, ◌&&◌, ◌||◌, List, [], ◌∷◌, ◌++◌, ℕ, zero, suc, ◌+◌, eqb, ltb, length, get_or, take}
+use Rattle.std.specs.Prelude.{Bool, not, cond, ◌&&◌, List, [], ◌∷◌, ◌++◌, ℕ, zero, suc, ◌+◌, eqb, ltb, length, get_or, take}
+use Rattle.std.specs.List.{list_any}
 
 -- the byte that ends a line, LF
 abbrev pub is_lf : ℕ → Bool
@@ -12,8 +13,7 @@ line_length (b ∷ bs) = cond (is_lf b) 0 (suc (line_length bs))
 
 -- whether some bytes have an LF
 unfoldable pub has_lf : List ℕ → Bool
-has_lf [] = false
-has_lf (b ∷ bs) = is_lf b || has_lf bs
+has_lf bytes = list_any is_lf bytes
 
 -- whether 80 columns and then an LF stand first
 unfoldable pub is_full_line : List ℕ → Bool

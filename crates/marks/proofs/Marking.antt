@@ -7,7 +7,7 @@ use mathlib.Core.List.{List, [], ◌∷◌, ◌++◌, append_assoc, append-nil}
 use Prim.Native.Nat.{ℕ, ◌+◌, ◌-◌, ◌≤◌, ◌<◌}
 use native.Mathlib.Decide.{dec_le}
 use native.Mathlib.Omega.{arith}
-use borrow.Author.Tests.{eqb-true, eq-eqb, leb-true, ltb-true, le-leb, lt-leb, lt-ltb, le-ltb}
+use borrow.Author.Tests.{eqb-true, eq-eqb, leb-true, ltb-true, le-leb, lt-ltb}
 use lib.Dec.{eqb, leb, ltb}
 use lib.ListN.{length, get_or, set, take, drop, take-append-drop, length-take, length-set, get_or-replicate, length-replicate}
 use lib.Seq.{get_or-set_same, get_or-set_other, take_all, take-take}
@@ -160,22 +160,6 @@ markable marks size n e =
     let range = within-true first_marked last_marked n e in
     and_both (leb first_marked n) (ltb (n - first_marked) (length marks)) (le-leb first_marked n range.0) (lt-ltb (n - first_marked) (length marks) (omega (arith, range.1, range.0, size)))
 
--- a number below the first, one above the last, and one that has a mark: whether it is new, and the marks after it
-module _ (marks : List ℕ) (n : ℕ) where
-  unmarked : has_mark marks n ≡ false → (false ≡ is_new marks n) × (marks ≡ marked_with n marks)
-  unfolding is_new marked_with
-  unmarked e = rw e (refl, refl)
-
-  pub too-low : n < first_marked → (false ≡ is_new marks n) × (marks ≡ marked_with n marks)
-  too-low h = unmarked (rw (lt-leb first_marked n h))
-
-  pub too-high : length marks ≤ n - first_marked → (false ≡ is_new marks n) × (marks ≡ marked_with n marks)
-  too-high h = unmarked (rw (le-ltb (n - first_marked) (length marks) h) (and-false (leb first_marked n)))
-
-  pub marked-there : first_marked ≤ n → n - first_marked < length marks → (eqb (get_or marks (n - first_marked) 0) 0 ≡ is_new marks n) × (set marks (n - first_marked) 1 ≡ marked_with n marks)
-  unfolding is_new marked_with
-  marked-there h k = rw (le-leb first_marked n h, lt-ltb (n - first_marked) (length marks) k) (refl, refl)
-
 -- Numbers marked one after the other, from place i on: what is left, with the flag so far, decides the whole.
 pub record Marking (first numbers marks : List ℕ) (all : Bool) (i : ℕ) : Type 0 where
   pub flag : (all && all_new marks (drop i numbers)) ≡ all_new first numbers
@@ -241,3 +225,8 @@ covers-front marked many numbers marks c =
         take_all marked (take many numbers) (omega (arith, length-take many numbers)) ∙ sym (take-take many marked numbers (omega arith)) in
         subst (λ (l : List ℕ). Covers l marks) (sym same) (covers-fewer (take many (take marked numbers)) (drop many (take marked numbers)) marks
         (subst (λ (l : List ℕ). Covers l marks) (sym (take-append-drop many (take marked numbers))) c))
+
+-- the end of a list, and what the marks tell of the new numbers
+pub ruleset marking = (marking-end)
+
+pub ruleset telling = (none-again, one_again)

@@ -3,11 +3,8 @@
 
 ghost use Rattle.std.specs.Prelude.{◌≡◌};
 ghost use Rattle.laws.specs.Texts.{every};
-ghost use Rattle.layout.specs.Kind.{is_one_of};
 ghost use Rattle.record.specs.Agrees.{repeats};
 ghost use Rattle.marks.specs.Marks.{is_markable, is_new, all_new, marked_with, marked_all};
-
-use laws::within;
 
 // The first and the last number that has a mark, A00 and Z99, and how many there are.
 const FIRST_MARKED: u64 = 6500;
@@ -20,6 +17,7 @@ pub const MARKS: usize = 2600;
 const FEW: usize = 17;
 
 // Sets the mark of a number, and tells whether it has one that was not set before.
+#[tactic(auto, unfolding(crate::specs::Marks::is_new, crate::specs::Marks::marked_with))]
 fn mark(marks: &mut [u8], number: u64) -> bool
     ensures result { result ≡ is_new marks.old number }
     ensures lent { marks.new ≡ marked_with number marks.old }
@@ -37,15 +35,14 @@ fn mark(marks: &mut [u8], number: u64) -> bool
 }
 
 // Marks identifiers one after the other, and tells whether each of them has a mark that was not set before: of G07, G08 and G07 it is not so.
+#[tactic(auto, using(crate::proofs::Marking::marking))]
 pub fn mark_identifiers(marks: &mut [u8], identifiers: &[u64]) -> bool
     ensures result { result ≡ all_new marks.old identifiers.now }
     ensures lent { marks.new ≡ marked_all identifiers.now marks.old }
 {
     let mut all = true;
-    let mut i = 0;
-    while i < identifiers.len() {
-        all = mark(marks, identifiers[i]) & all;
-        i += 1;
+    for identifier in identifiers {
+        all = mark(marks, *identifier) & all;
     }
     all
 }
@@ -54,47 +51,26 @@ pub fn mark_identifiers(marks: &mut [u8], identifiers: &[u64]) -> bool
 fn have_marks(numbers: &[u64]) -> bool
     ensures { result ≡ every is_markable numbers.now }
 {
-    let mut all = true;
-    let mut i = 0;
-    while i < numbers.len() {
-        all = all & within(FIRST_MARKED, LAST_MARKED, numbers[i]);
-        i += 1;
-    }
-    all
-}
-
-// Whether an identifier stands among others.
-fn is_among(identifier: u64, identifiers: &[u64]) -> bool
-    ensures { result ≡ is_one_of identifier identifiers.now }
-{
-    let mut i = 0;
-    while i < identifiers.len() {
-        if identifier == identifiers[i] {
-            return true;
-        }
-        i += 1;
-    }
-    false
+    numbers.iter().fold(
+        true,
+        |all, number| all & (FIRST_MARKED..=LAST_MARKED).contains(number),
+    )
 }
 
 // Whether one of the new numbers stands among those known or earlier among the new, each compared with each.
 fn compare_each(known: &[u64], new: &[u64]) -> bool
     ensures { result ≡ repeats known.now new.now }
 {
-    let mut i = 0;
-    while i < new.len() {
-        if is_among(new[i], known) {
+    for (i, number) in new.iter().enumerate() {
+        if known.contains(number) || new[..i].contains(number) {
             return true;
         }
-        if is_among(new[i], &new[0..i]) {
-            return true;
-        }
-        i += 1;
     }
     false
 }
 
 // Whether one of the new identifiers stands among those known or earlier among the new. A few are compared, and so are numbers that have no mark.
+#[tactic(auto, using(crate::proofs::Marking::telling))]
 pub fn repeats_identifier(known: &[u64], new: &[u64]) -> bool
     ensures result { result ≡ repeats known.now new.now }
 {

@@ -2,7 +2,6 @@
 use mathlib.Core.Path.{◌≡◌, refl, sym, ◌∙◌, subst}
 use mathlib.Core.Bool.{Bool, true, false, not, ◌&&◌}
 use mathlib.Core.List.{List, map}
-use native.Mathlib.Numerals.{add-one}
 use Prim.Native.Nat.{ℕ, ◌+◌, ◌-◌, ◌<◌, ◌≤◌}
 use native.Mathlib.Omega.{arith}
 use borrow.Author.Tests.{eqb-true, ltb-true, ltb-false}
@@ -13,10 +12,7 @@ use Rattle.laws.proofs.Bools.{and_left, and_right, and_both, same_truth}
 use Rattle.picture.specs.Picture.{Picture, row_columns, blank, column_fits, fits_at, usual}
 use Rattle.picture.proofs.Columns.{passes, each-passes}
 
--- one turn of a loop that tests one number after another, and its end
-pub below_more : (test : ℕ → Bool) (i : ℕ) (ok : Bool) → ok ≡ every_below i test → (test i && ok) ≡ every_below (i + 1) test
-below_more test i ok e = rw (add-one, e)
-
+-- the end of a loop that tests one number after another
 pub below_end : (test : ℕ → Bool) (n i : ℕ) (ok : Bool) → i ≤ n → n ≤ i → ok ≡ every_below i test → ok ≡ every_below n test
 below_end test n i ok h k e = subst (λ (m : ℕ). ok ≡ every_below m test) (same i n h k) e
   where
@@ -101,13 +97,12 @@ block-is line at agree = below-same 32 (fits_at (lows at) (highs at) (alsos at) 
         let sign-is = eqb-true (get_or (signs at) k 0) c.sign (and_right (eqb (get_or (alsos at) k 0) c.also) _ g) in
         rw (low-is, high_is, also-is, sign-is)
 
--- the tests of a usual line, its columns by three blocks
+-- the tests of a usual line of 80 columns, those by three blocks
 pub usual-by : (line : List ℕ) (front middle last : Bool)
+    → length line ≡ 80
     → front ≡ every_below 32 (λ i. column_fits line (0 + i))
     → middle ≡ every_below 32 (λ i. column_fits line (32 + i))
     → last ≡ every_below 32 (λ i. column_fits line (47 + i))
-    → (eqb (length line) 80
-    && (eqb (get_or line 0 0) 80 && (not (eqb (get_or line 2 0) 48 && eqb (get_or line 3 0) 48) && (front && (middle && last)))))
-    ≡ usual line
+    → (eqb (get_or line 0 0) 80 && (not (eqb (get_or line 2 0) 48 && eqb (get_or line 3 0) 48) && (front && (middle && last)))) ≡ usual line
 unfolding usual
-usual-by line front middle last e f g = rw (e, f, g, three-blocks (column_fits line))
+usual-by line front middle last wide e f g = rw (wide, e, f, g, three-blocks (column_fits line))
