@@ -1,7 +1,7 @@
 -- What stands at the front is known by its number and values: two that are told alike are one.
 -- Assumes nothing.
 use mathlib.Core.Path.{◌≡◌, ap}
-use mathlib.Core.List.{List, [], ◌∷◌}
+use mathlib.Core.List.{List}
 use Prim.Native.Nat.{ℕ}
 use lib.ListN.{get_or}
 use Rattle.scan.specs.Told.{told_front}
