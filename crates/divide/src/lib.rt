@@ -73,12 +73,10 @@ fn store_lengths(stretch: &[u8], count: usize, lengths: &mut [u64])
     requires { (count ≤ length (cuts_of stretch.now).lengths) × (count ≤ length lengths.old) }
     ensures { lengths.new ≡ over (take count (cuts_of stretch.now).lengths) lengths.old }
 {
-    let mut stored: usize = 0;
     let mut rest: usize = 0;
-    while stored < count {
+    for stored in 0..count {
         let size = file_length(&stretch[rest..]);
         lengths[stored] = size as u64;
-        stored += 1;
         rest += size;
     }
 }

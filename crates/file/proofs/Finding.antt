@@ -4,7 +4,7 @@ use mathlib.Core.Path.{◌≡◌, refl, sym, ap, ◌∙◌}
 use mathlib.Core.Bool.{Bool}
 use mathlib.Core.List.{List, [], ◌∷◌, ◌++◌, append-nil}
 use Prim.Native.Nat.{ℕ, zero, suc, ◌+◌, ◌-◌, ◌<◌, ◌≤◌}
-use native.Mathlib.Nat.{le_of_suc-le-suc, not-suc-le-zero, zero-add}
+use native.Mathlib.Nat.{zero-add}
 use native.Mathlib.Decide.{dec_lt}
 use native.Mathlib.Omega.{arith}
 use lib.ListN.{length, get_or, take, drop, length-append, length-drop, get_or-replicate}
@@ -17,12 +17,6 @@ use Rattle.lines.proofs.Picking.{nth-none, nth_here, nth_past, spot_past, placed
 use Rattle.lines.proofs.Split.{bytes-in, parted, first}
 use Rattle.record.specs.LineKinds.{kind_by, kind_of}
 use Rattle.header.specs.declared.types.Rules.{Rules}
-
--- a byte that is there, whatever stands for one that is not
-pub any-default : (l : List ℕ) (i d d' : ℕ) → i < length l → get_or l i d ≡ get_or l i d'
-any-default [] i d d' h = absurd (not-suc-le-zero h)
-any-default (b ∷ l) zero d d' h = refl
-any-default (b ∷ l) (suc i) d d' h = any-default l i d d' (le_of_suc-le-suc h)
 
 -- a column of a padded line: its byte, or a blank
 filled-column : (line : List ℕ) (w i : ℕ) → i < w → get_or (line ++ blanks w) i 0 ≡ get_or line i 32

@@ -9,18 +9,17 @@ ghost use Rattle.file.specs.Kinds.{kind_in, is_kind, of_kind};
 use header::Rules;
 use record::LineKind;
 
+mod complete;
 mod records;
 
+pub use complete::{CompleteLines, complete_lines};
 pub use records::{count_of, first_of, padded_line};
 
 // The byte in a column, counted from 0, a blank where the line is shorter.
 fn byte_at(line: &[u8], i: usize) -> u8
     ensures { result ≡ get_or line.now i 32 }
 {
-    if i < line.len() {
-        return line[i];
-    }
-    b' '
+    line.get(i).copied().unwrap_or(b' ')
 }
 
 // The number of a line's kind, 1 for `#d` to 14 for EOF, and 0 for none: 10 of `PG07`.
@@ -42,19 +41,16 @@ pub fn line_begins(rules: Rules, bytes: &[u8], kind: u64, k: u64) -> usize
 {
     let mut at: usize = 0;
     let mut left = k;
-    loop {
-        let end = lines::line_end(bytes, at);
-        if end >= bytes.len() {
-            return at;
-        }
-        if kind_in(rules, &bytes[at..end]) == kind {
+    for line in complete_lines(bytes) {
+        if kind_in(rules, line) == kind {
             if left == 0 {
                 return at;
             }
             left -= 1;
         }
-        at = end + 1;
+        at += line.len() + 1;
     }
+    at
 }
 
 // No bytes, at a byte of some, or at their end where they are fewer.
@@ -62,7 +58,7 @@ pub fn nothing_at(bytes: &[u8], at: usize) -> &[u8]
     ensures result { result.now ≡ [] }
     ensures lies { result.ref_ptr ≡ byte_of bytes.entry (min at (length bytes.now)) }
 {
-    let here = laws::fewer(at, bytes.len());
+    let here = at.min(bytes.len());
     &bytes[here..here]
 }
 

@@ -5,12 +5,11 @@ use mathlib.Core.Bool.{Bool, true, false, cond, ◌&&◌, ◌||◌}
 use mathlib.Core.List.{List, [], ◌∷◌, ◌++◌, append-nil}
 use Prim.Native.Nat.{ℕ, ◌+◌, ◌-◌, ◌<◌, ◌≤◌}
 use native.Mathlib.Omega.{arith}
-use borrow.Author.Tests.{eq-eqb, eqb-true, ne_eqb}
+use borrow.Author.Tests.{eqb-true}
 use borrow.Rule.Slice.PartMut.{put_mid}
 use lib.Dec.{eqb}
 use lib.IntN.{ℤ}
 use lib.ListN.{length, get_or, take, drop, length-take, length-drop}
-use Rattle.laws.proofs.Lists.{rest-step, rest-none}
 use Rattle.lines.specs.Lent.{over}
 use Rattle.lines.specs.Lines.{line_length, lines_of}
 use Rattle.lines.proofs.Ends.{no_line, first-line}
@@ -27,22 +26,6 @@ use Rattle.file.proofs.Finding.{kind-told}
 use Rattle.file.proofs.Wide.{after-wide, part-wide}
 use Rattle.file.specs.Kinds.{is_note, begins_note}
 use Rattle.file.specs.Table.{row_numbers, note_numbers, no_note, note_after}
-
--- a note begins at a byte, by the bytes there
-module _ (bytes : List ℕ) (at : ℕ) where
-  pub begins-end : length bytes ≤ at → false ≡ begins_note (drop at bytes)
-  begins-end h = rw (rest-none bytes at h)
-
-  module _ (h : at < length bytes) where
-    pub begins-other : (get_or bytes at 0 ≡ 69 → ⊥) → false ≡ begins_note (drop at bytes)
-    begins-other e = rw (rest-step bytes at h, ne_eqb (get_or bytes at 0) 69 e)
-
-    module _ (e : get_or bytes at 0 ≡ 69) where
-      pub begins-short : length bytes ≤ at + 1 → false ≡ begins_note (drop at bytes)
-      begins-short short = rw (rest-step bytes at h, rest-none bytes (at + 1) short, eq-eqb (get_or bytes at 0) 69 e)
-
-      pub begins-by : at + 1 < length bytes → (eqb (get_or bytes (at + 1) 0) 80 || eqb (get_or bytes (at + 1) 0) 86) ≡ begins_note (drop at bytes)
-      begins-by more = rw (rest-step bytes at h, rest-step bytes (at + 1) more, eq-eqb (get_or bytes at 0) 69 e)
 
 -- the kinds of EP and EV
 abbrev notes : LineKind → Bool

@@ -11,8 +11,8 @@ use borrow.Rule.Slice.PartMut.{put_mid}
 use lib.Dec.{leb}
 use lib.ListN.{length, take, drop}
 use Rattle.lines.specs.Lent.{laid, flat}
-use Rattle.lines.specs.Lines.{line_length, lines_of, select}
-use Rattle.lines.proofs.Ends.{neither, no_line, first-line}
+use Rattle.lines.specs.Lines.{select}
+use Rattle.lines.proofs.Ends.{neither}
 use Rattle.lines.proofs.Laying.{Laying, laying-none, laying-as, laying-block, laying-full, laying-all}
 use Rattle.lines.proofs.Picking.{select-none, select-first, select-other}
 
@@ -29,65 +29,53 @@ neither-met n a m b e =
     let parts = neither (leb n a) (leb m b) e in
     (leb-false n a parts.0, leb-false m b parts.1)
 
--- The bytes from `at` on are still to be walked, and `rest left` of their lines that pass the test is still to be laid.
-pub record Filling {A : Type 0} (test : List ℕ → Bool) (rest : ℕ → List (List ℕ) → List A) (bytes : List ℕ) (all old now : List A) (at stored left : ℕ) : Type 0 where
-  pub within : at ≤ length bytes
+-- The lines `ls` are still to be walked, and `rest left` of those that pass the test is still to be laid.
+pub record Filling {A : Type 0} (test : List ℕ → Bool) (rest : ℕ → List (List ℕ) → List A) (all old now : List A) (ls : List (List ℕ)) (stored left : ℕ) : Type 0 where
   pub room : stored ≤ length now
-  pub has : Laying all old now stored (rest left (select test (lines_of (drop at bytes))))
+  pub has : Laying all old now stored (rest left (select test ls))
 
-pub filling-first : {A : Type 0} (test : List ℕ → Bool) (rest : ℕ → List (List ℕ) → List A) (bytes : List ℕ) (all old : List A) (n : ℕ)
-    → all ≡ rest n (select test (lines_of bytes)) → Filling test rest bytes all old old 0 0 n
-filling-first test rest bytes all old n e = record { within = zero-le; room = zero-le; has = laying-as e (laying-none all old) }
+pub filling-first : {A : Type 0} (test : List ℕ → Bool) (rest : ℕ → List (List ℕ) → List A) (all old : List A) (ls : List (List ℕ)) (n : ℕ)
+    → all ≡ rest n (select test ls) → Filling test rest all old old ls 0 n
+filling-first test rest all old ls n e = record { room = zero-le; has = laying-as e (laying-none all old) }
 
-module _ {A : Type 0} {test : List ℕ → Bool} {rest : ℕ → List (List ℕ) → List A} {bytes : List ℕ} {all old now : List A} {at stored left : ℕ}
-    (f : Filling test rest bytes all old now at stored left) (end : ℕ) (found : end ≡ at + line_length (drop at bytes)) where
+module _ {A : Type 0} {test : List ℕ → Bool} {rest : ℕ → List (List ℕ) → List A} {all old now : List A} {ls : List (List ℕ)} {stored left : ℕ}
+    (f : Filling test rest all old now ls stored left) where
   -- no line is left
-  pub filling-none : rest left [] ≡ [] → length bytes ≤ end → now ≡ laid all old
-  filling-none none h = laying-all (laying-as (ap (rest left) (select-none test (no_line bytes at end found h)) ∙ none) f.has)
+  pub filling-none : rest left [] ≡ [] → ls ≡ [] → now ≡ laid all old
+  filling-none none e = laying-all (laying-as (ap (rest left) (select-none test e) ∙ none) f.has)
 
   -- a line is left
-  module _ (h : end < length bytes) where
-    abbrev line : List ℕ
-    line = take (end - at) (drop at bytes)
-
-    abbrev after : List (List ℕ)
-    after = select test (lines_of (drop (end + 1) bytes))
-
+  module _ (line : List ℕ) (more : List (List ℕ)) (e : ls ≡ line ∷ more) where
     -- it does not pass
-    pub filling-other : test line ≡ false → Filling test rest bytes all old now (end + 1) stored left
-    filling-other is =
-        record {
-          within = omega arith;
-          room = f.room;
-          has = laying-as (ap (rest left) (select-other test line (lines_of (drop (end + 1) bytes)) (first-line bytes at end found h) is)) f.has;
-        }
+    pub filling-other : test line ≡ false → Filling test rest all old now more stored left
+    filling-other is = record { room = f.room; has = laying-as (ap (rest left) (select-other test line more e is)) f.has }
 
     module _ (is : test line ≡ true) where
-      here : Laying all old now stored (rest left (line ∷ after))
-      here = laying-as (ap (rest left) (select-first test line (lines_of (drop (end + 1) bytes)) (first-line bytes at end found h) is)) f.has
+      here : Laying all old now stored (rest left (line ∷ select test more))
+      here = laying-as (ap (rest left) (select-first test line more e is)) f.has
 
       -- a block of it is laid into `&mut out[stored..]`
-      module _ (block : List A) (left' : ℕ) (one : rest left (line ∷ after) ≡ block ++ rest left' after) {part : List A}
-          (e : part ≡ laid block (take (length now - stored) (drop stored now))) where
+      module _ (block : List A) (left' : ℕ) (one : rest left (line ∷ select test more) ≡ block ++ rest left' (select test more)) {part : List A}
+          (b : part ≡ laid block (take (length now - stored) (drop stored now))) where
         abbrev then : List A
         then = put_mid stored (length now - stored) now part
 
-        laid-block : Laying all old then (stored + length block) (rest left' after)
-        laid-block = laying-block block (rest left' after) (laying-as one here) f.room e
+        laid-block : Laying all old then (stored + length block) (rest left' (select test more))
+        laid-block = laying-block block (rest left' (select test more)) (laying-as one here) f.room b
 
         pub filling-kept : length then ≡ length now
         filling-kept = laid-block.kept ∙ sym f.has.kept
 
         -- nothing is left, or no place
-        pub filling-last : rest left' after ≡ [] → then ≡ laid all old
+        pub filling-last : rest left' (select test more) ≡ [] → then ≡ laid all old
         filling-last none = laying-all (laying-as none laid-block)
 
         pub filling-full : length now ≤ stored + length block → then ≡ laid all old
         filling-full full = laying-full (omega (arith, f.has.kept)) laid-block
 
         -- both are left
-        pub filling-more : stored + length block ≤ length now → Filling test rest bytes all old then (end + 1) (stored + length block) left'
-        filling-more fits = record { within = omega arith; room = omega (arith, filling-kept); has = laid-block }
+        pub filling-more : stored + length block ≤ length now → Filling test rest all old then more (stored + length block) left'
+        filling-more fits = record { room = omega (arith, filling-kept); has = laid-block }
 
 -- Parts of one length: those of so many lines.
 abbrev pub parts_left : {A : Type 0} → (List ℕ → List A) → ℕ → List (List ℕ) → List A

@@ -11,9 +11,8 @@ use borrow.Rule.Slice.PartMut.{put_mid}
 use lib.IntN.{ℤ}
 use lib.ListN.{length, take, drop, length-take, length-drop, take-append-drop}
 use Rattle.lines.specs.Lent.{laid, over, flat}
-use Rattle.lines.specs.Lines.{line_length, lines_of}
+use Rattle.lines.specs.Lines.{lines_of}
 use Rattle.record.specs.Rows.{row_width}
-use Rattle.lines.proofs.Ends.{no_line, first-line}
 use Rattle.lines.proofs.Laying.{Laying, laying-all, laying-as, laying-block, laying-none, laid-fits}
 use Rattle.lines.proofs.Picking.{length-flat}
 use Rattle.lines.proofs.Each.{Each, each-front}
@@ -65,23 +64,21 @@ rows_fit rules bytes size =
       div-mul-le_self size row_width,
     )
 
--- The bytes from `at` on are still to be walked, and the rows of their lines that have room are still to be laid.
-pub record RowsFilling (rules : Rules) (bytes : List ℕ) (old now : List ℤ) (at stored : ℕ) : Type 0 where
-  pub within : at ≤ length bytes
+-- The lines `ls` are still to be walked, and the rows among them that have room are still to be laid.
+pub record RowsFilling (rules : Rules) (all old now : List ℤ) (ls : List (List ℕ)) (stored : ℕ) : Type 0 where
   pub room : stored ≤ length now
-  pub has : Laying (rows_for rules bytes (length old)) old now stored (rows_left rules (room_for (length now) stored) (lines_of (drop at bytes)))
+  pub has : Laying all old now stored (rows_left rules (room_for (length now) stored) ls)
 
-pub rows-first : (rules : Rules) (bytes : List ℕ) (old : List ℤ) → RowsFilling rules bytes old old 0 0
+pub rows-first : (rules : Rules) (bytes : List ℕ) (old : List ℤ) → RowsFilling rules (rows_for rules bytes (length old)) old old (lines_of bytes) 0
 rows-first rules bytes old =
     let whole : length old ≡ length old - 0 = omega arith in
     record {
-      within = zero-le;
       room = zero-le;
       has = laying-as (ap (λ (n : ℕ). rows_left rules (n / row_width) (lines_of bytes)) whole) (laying-none (rows_for rules bytes (length old)) old);
     }
 
-module _ (rules : Rules) (bytes : List ℕ) (old now : List ℤ) (at stored : ℕ)
-    (f : RowsFilling rules bytes old now at stored) (end : ℕ) (found : end ≡ at + line_length (drop at bytes)) where
+module _ (rules : Rules) (bytes : List ℕ) (old now : List ℤ) (ls : List (List ℕ)) (stored : ℕ)
+    (f : RowsFilling rules (rows_for rules bytes (length old)) old now ls stored) where
   abbrev all : List ℤ
   all = rows_for rules bytes (length old)
 
@@ -89,35 +86,29 @@ module _ (rules : Rules) (bytes : List ℕ) (old now : List ℤ) (at stored : �
   room-now = room_for (length now) stored
 
   -- nothing is left to be laid
-  whole-rows : rows_left rules room-now (lines_of (drop at bytes)) ≡ [] → now ≡ over all old
+  whole-rows : rows_left rules room-now ls ≡ [] → now ≡ over all old
   whole-rows none = laying-all (laying-as none f.has) ∙ laid-fits all old (rows_fit rules bytes (length old))
 
-  pub rows_end : length bytes ≤ end → now ≡ over all old
-  rows_end h = whole-rows (ap (rows_left rules room-now) (no_line bytes at end found h) ∙ rows_none rules room-now)
+  pub rows_end : ls ≡ [] → now ≡ over all old
+  rows_end e = whole-rows (ap (rows_left rules room-now) e ∙ rows_none rules room-now)
 
   -- no room for a row
   pub rows-full : length now - stored < row_width → now ≡ over all old
-  rows-full r = whole-rows (rows-spent rules room-now (lines_of (drop at bytes)) (div-eq_of_lt r))
+  rows-full r = whole-rows (rows-spent rules room-now ls (div-eq_of_lt r))
 
-  module _ (h : end < length bytes) where
-    abbrev line : List ℕ
-    line = take (end - at) (drop at bytes)
-
-    abbrev after : List (List ℕ)
-    after = lines_of (drop (end + 1) bytes)
-
-    here : Laying all old now stored (rows_left rules room-now (line ∷ after))
-    here = laying-as (ap (rows_left rules room-now) (first-line bytes at end found h)) f.has
+  module _ (line : List ℕ) (more : List (List ℕ)) (e : ls ≡ line ∷ more) where
+    here : Laying all old now stored (rows_left rules room-now (line ∷ more))
+    here = laying-as (ap (rows_left rules room-now) e) f.has
 
     -- no row
-    pub rows-passed : is_row rules line ≡ false → RowsFilling rules bytes old now (end + 1) stored
-    rows-passed is = record { within = omega arith; room = f.room; has = laying-as (rows_other rules room-now line after is) here }
+    pub rows-passed : is_row rules line ≡ false → RowsFilling rules all old now more stored
+    rows-passed is = record { room = f.room; has = laying-as (rows_other rules room-now line more is) here }
 
     -- a row more
     module _ (is : is_row rules line ≡ true) (r : row_width ≤ length now - stored) (row : Row) (taken : row ≡ row_in rules line) {part : List ℤ}
-        (e : part ≡ over (row_numbers row ++ note_after rules after) (take (length now - stored) (drop stored now))) where
+        (b : part ≡ over (row_numbers row ++ note_after rules more) (take (length now - stored) (drop stored now))) where
       abbrev numbers : List ℤ
-      numbers = row_numbers row ++ note_after rules after
+      numbers = row_numbers row ++ note_after rules more
 
       abbrev then : List ℤ
       then = put_mid stored (length now - stored) now part
@@ -127,30 +118,29 @@ module _ (rules : Rules) (bytes : List ℕ) (old now : List ℤ) (at stored : �
           let less : length now - stored - row_width ≡ length now - (stored + row_width) = omega arith in
           div-eq-sub-div (omega arith) r ∙ ap (λ (n : ℕ). n / row_width + 1) less
 
-      rows-here : rows_left rules room-now (line ∷ after) ≡ numbers ++ rows_left rules (room_for (length now) (stored + row_width)) after
+      rows-here : rows_left rules room-now (line ∷ more) ≡ numbers ++ rows_left rules (room_for (length now) (stored + row_width)) more
       rows-here =
-          ap (λ (n : ℕ). rows_left rules n (line ∷ after)) room-less
-          ∙ rows-one rules (room_for (length now) (stored + row_width)) line after is
-          ∙ ap (λ (p : Row). (row_numbers p ++ note_after rules after) ++ rows_left rules (room_for (length now) (stored + row_width)) after) (sym taken)
+          ap (λ (n : ℕ). rows_left rules n (line ∷ more)) room-less
+          ∙ rows-one rules (room_for (length now) (stored + row_width)) line more is
+          ∙ ap (λ (p : Row). (row_numbers p ++ note_after rules more) ++ rows_left rules (room_for (length now) (stored + row_width)) more) (sym taken)
 
       laid-row : part ≡ laid numbers (take (length now - stored) (drop stored now))
       laid-row =
-          e ∙ sym (laid-fits numbers (take (length now - stored) (drop stored now))
-          (omega (arith, part-wide rules row after, length-take (length now - stored) (drop stored now), length-drop stored now)))
+          b ∙ sym (laid-fits numbers (take (length now - stored) (drop stored now))
+          (omega (arith, part-wide rules row more, length-take (length now - stored) (drop stored now), length-drop stored now)))
 
-      laid_more : Laying all old then (stored + length numbers) (rows_left rules (room_for (length now) (stored + row_width)) after)
+      laid_more : Laying all old then (stored + length numbers) (rows_left rules (room_for (length now) (stored + row_width)) more)
       laid_more =
-          laying-block numbers (rows_left rules (room_for (length now) (stored + row_width)) after) (laying-as rows-here here) f.room laid-row
+          laying-block numbers (rows_left rules (room_for (length now) (stored + row_width)) more) (laying-as rows-here here) f.room laid-row
 
       rows-kept : length then ≡ length now
       rows-kept = laid_more.kept ∙ sym f.has.kept
 
-      pub rows_more : RowsFilling rules bytes old then (end + 1) (stored + row_width)
+      pub rows_more : RowsFilling rules all old then more (stored + row_width)
       rows_more =
-          let next : Laying all old then (stored + row_width) (rows_left rules (room_for (length now) (stored + row_width)) after) =
-          rw (part-wide rules row after) at laid_more in
+          let next : Laying all old then (stored + row_width) (rows_left rules (room_for (length now) (stored + row_width)) more) =
+          rw (part-wide rules row more) at laid_more in
           record {
-            within = omega arith;
             room = omega (arith, rows-kept);
-            has = laying-as (ap (λ (n : ℕ). rows_left rules (room_for n (stored + row_width)) after) (sym rows-kept)) next;
+            has = laying-as (ap (λ (n : ℕ). rows_left rules (room_for n (stored + row_width)) more) (sym rows-kept)) next;
           }

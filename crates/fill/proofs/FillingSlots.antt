@@ -1,20 +1,20 @@
 -- Turns of the loop that fills identifiers or exponents.
 -- Assumes nothing.
-use mathlib.Core.Path.{◌≡◌, refl, sym, ap, ap₂, ◌∙◌}
+use mathlib.Core.Path.{◌≡◌, refl, sym, ap, ◌∙◌}
 use mathlib.Core.Bool.{Bool, true, false, ◌||◌}
 use mathlib.Core.Logic.{◌⊎◌, inl, inr}
 use mathlib.Core.List.{List, [], ◌∷◌, ◌++◌, map}
-use Prim.Native.Nat.{ℕ, zero, suc, ◌+◌, ◌-◌, ◌<◌, ◌≤◌}
+use Prim.Native.Nat.{ℕ, zero, suc, ◌+◌, ◌-◌, ◌≤◌}
 use native.Mathlib.Decide.{dec_le}
 use native.Mathlib.Omega.{arith}
 use borrow.Rule.Slice.PartMut.{put_mid}
 use lib.Dec.{leb}
 use lib.ListN.{length, take, drop, length-take}
-use lib.Seq.{take-nil, take_all}
+use lib.Seq.{take-nil}
 use Rattle.layout.specs.Layout.{slots_from}
 use Rattle.layout.specs.Line.{padded}
 use Rattle.lines.specs.Lent.{laid, flat}
-use Rattle.lines.specs.Lines.{line_length, lines_of, select}
+use Rattle.lines.specs.Lines.{select}
 use Rattle.record.specs.SlotLines.{more_of}
 use Rattle.header.specs.declared.types.Rules.{Rules}
 use Rattle.file.specs.Kinds.{is_kind, of_kind}
@@ -29,18 +29,6 @@ pub slots_length : (accuracies : Bool) (columns : List ℕ) → length (more_of 
 unfolding slots_from
 slots_length true columns = refl
 slots_length false columns = refl
-
--- a line's slots as they are read, the first of them or all
-module _ (accuracies : Bool) (line values out : List ℕ) (left : ℕ) (e : values ≡ slot_numbers accuracies line) where
-  pub first-slots : laid (take (left - 0) (drop 0 values)) out ≡ laid (take left (slot_numbers accuracies line)) out
-  first-slots =
-      let same : left - 0 ≡ left = omega arith in
-      ap₂ (λ (n : ℕ) (t : List ℕ). laid (take n t) out) same e
-
-  pub all_slots : 17 ≤ left → laid values out ≡ laid (take left (slot_numbers accuracies line)) out
-  all_slots h =
-      ap (λ (t : List ℕ). laid t out)
-      (e ∙ sym (take_all left (slot_numbers accuracies line) (omega (arith, slots_length accuracies (padded line)))))
 
 front-append : {A : Type 0} (n : ℕ) (a b : List A) → take n (a ++ b) ≡ take n a ++ take (n - length a) b
 front-append {A} zero a b = ap (λ (k : ℕ). take k b) (zero-less (length a))
@@ -73,51 +61,49 @@ slots-spent accuracies n ls h =
     let none : n - 17 ≡ 0 = omega arith in
     ap (λ (k : ℕ). slots_left accuracies k ls) none
 
-pub slots-first : (rules : Rules) (accuracies : Bool) (kind n : ℕ) (bytes old : List ℕ) → kind ≡ slot_line_kind accuracies
-    → Filling (is_kind rules kind) (slots_left accuracies) bytes (slots_in rules accuracies n (lines_of bytes)) old old 0 0 n
+pub slots-first : (rules : Rules) (accuracies : Bool) (kind n : ℕ) (ls : List (List ℕ)) (old : List ℕ) → kind ≡ slot_line_kind accuracies
+    → Filling (is_kind rules kind) (slots_left accuracies) (slots_in rules accuracies n ls) old old ls 0 n
 unfolding slots_in
-slots-first rules accuracies kind n bytes old e =
-    filling-first (is_kind rules kind) (slots_left accuracies) bytes (slots_in rules accuracies n (lines_of bytes)) old n
-    (ap (λ (k : ℕ). slots_left accuracies n (of_kind rules k (lines_of bytes))) (sym e))
+slots-first rules accuracies kind n ls old e =
+    filling-first (is_kind rules kind) (slots_left accuracies) (slots_in rules accuracies n ls) old ls n
+    (ap (λ (k : ℕ). slots_left accuracies n (of_kind rules k ls)) (sym e))
 
-module _ (accuracies : Bool) {test : List ℕ → Bool} {bytes all old now : List ℕ} {at stored left : ℕ}
-    (f : Filling test (slots_left accuracies) bytes all old now at stored left) (end : ℕ) (found : end ≡ at + line_length (drop at bytes)) where
-  pub slots_end : length bytes ≤ end → now ≡ laid all old
-  slots_end h = filling-none f end found (slots-none accuracies left) h
+module _ (accuracies : Bool) {test : List ℕ → Bool} {all old now : List ℕ} {ls : List (List ℕ)} {stored left : ℕ}
+    (f : Filling test (slots_left accuracies) all old now ls stored left) where
+  pub slots_end : ls ≡ [] → now ≡ laid all old
+  slots_end e = filling-none f (slots-none accuracies left) e
 
-  module _ (h : end < length bytes) (is : test (take (end - at) (drop at bytes)) ≡ true) {part : List ℕ}
-      (e : part ≡ laid (take left (slot_numbers accuracies (take (end - at) (drop at bytes)))) (take (length now - stored) (drop stored now))) where
+  module _ (line : List ℕ) (more : List (List ℕ)) (e : ls ≡ line ∷ more) (is : test line ≡ true) {part : List ℕ}
+      (b : part ≡ laid (take left (slot_numbers accuracies line)) (take (length now - stored) (drop stored now))) where
     abbrev slots : List ℕ
-    slots = slot_numbers accuracies (take (end - at) (drop at bytes))
+    slots = slot_numbers accuracies line
 
-    abbrev more-slots : List (List ℕ)
-    more-slots = select test (lines_of (drop (end + 1) bytes))
+    abbrev then : List ℕ
+    then = put_mid stored (length now - stored) now part
 
-    slots-here : slots_left accuracies left (take (end - at) (drop at bytes) ∷ more-slots) ≡ take left slots ++ slots_left accuracies (left - 17) more-slots
-    slots-here = slots-one accuracies left (take (end - at) (drop at bytes)) more-slots
+    slots-here : slots_left accuracies left (line ∷ select test more) ≡ take left slots ++ slots_left accuracies (left - 17) (select test more)
+    slots-here = slots-one accuracies left line (select test more)
 
     slots-size : 17 ≤ left → length (take left slots) ≡ 17
-    slots-size m = omega (arith, length-take left slots, slots_length accuracies (padded (take (end - at) (drop at bytes))))
+    slots-size m = omega (arith, length-take left slots, slots_length accuracies (padded line))
 
-    pub slots_kept : length (put_mid stored (length now - stored) now part) ≡ length now
-    slots_kept = filling-kept f end found h is (take left slots) (left - 17) slots-here e
+    slots_kept : length then ≡ length now
+    slots_kept = filling-kept f line more e is (take left slots) (left - 17) slots-here b
 
     -- the last of them
-    pub slots-done : (leb left 17 || leb (length (put_mid stored (length now - stored) now part) - stored) 17) ≡ true
-        → put_mid stored (length now - stored) now part ≡ laid all old
-    slots-done flag = go (dec_le left 17) (either-met left 17 (length (put_mid stored (length now - stored) now part) - stored) 17 flag)
+    pub slots-done : (leb left 17 || leb (length then - stored) 17) ≡ true → then ≡ laid all old
+    slots-done flag = go (dec_le left 17) (either-met left 17 (length then - stored) 17 flag)
       where
-        go : Dec (left ≤ 17) → (left ≤ 17) ⊎ (length (put_mid stored (length now - stored) now part) - stored ≤ 17)
-            → put_mid stored (length now - stored) now part ≡ laid all old
-        go (yes m) w = filling-last f end found h is (take left slots) (left - 17) slots-here e (slots-spent accuracies left more-slots m)
+        go : Dec (left ≤ 17) → (left ≤ 17) ⊎ (length then - stored ≤ 17) → then ≡ laid all old
+        go (yes m) w = filling-last f line more e is (take left slots) (left - 17) slots-here b (slots-spent accuracies left (select test more) m)
         go (no m) (inl w) = absurd (m w)
         go (no m) (inr w) =
-            filling-full f end found h is (take left slots) (left - 17) slots-here e (omega (arith, slots-size (omega arith), slots_kept))
+            filling-full f line more e is (take left slots) (left - 17) slots-here b (omega (arith, slots-size (omega arith), slots_kept))
 
     -- and more
-    pub slots-more : (leb left 17 || leb (length (put_mid stored (length now - stored) now part) - stored) 17) ≡ false
-        → Filling test (slots_left accuracies) bytes all old (put_mid stored (length now - stored) now part) (end + 1) (stored + 17) (left - 17)
+    pub slots-more : (leb left 17 || leb (length then - stored) 17) ≡ false
+        → Filling test (slots_left accuracies) all old then more (stored + 17) (left - 17)
     slots-more flag =
-        let both = neither-met left 17 (length (put_mid stored (length now - stored) now part) - stored) 17 flag in
+        let both = neither-met left 17 (length then - stored) 17 flag in
         let size = slots-size (omega (arith, both.0)) in
-        rw size at (filling-more f end found h is (take left slots) (left - 17) slots-here e (omega (arith, both.1, slots_kept)))
+        rw size at (filling-more f line more e is (take left slots) (left - 17) slots-here b (omega (arith, both.1, slots_kept)))

@@ -19,14 +19,8 @@ fn lay_slots(line: &[u8], accuracies: bool, left: u64, out: &mut [u64])
 {
     let padded = layout::pad(line);
     let slots = record::slots::read_slots(&padded, accuracies, 17);
-    let values = slots.values;
-    let all = &values[..];
-    if left < 17 {
-        let few = left as usize;
-        lines::lay_numbers(out, &all[0..few]);
-        return;
-    }
-    lines::lay_numbers(out, all);
+    let count = left.min(17) as usize;
+    lines::lay_numbers(out, &slots.values[..count]);
 }
 
 // The identifiers of n satellites, or their exponents where `accuracies` says so.
@@ -38,15 +32,9 @@ pub fn fill_slots(rules: Rules, bytes: &[u8], accuracies: bool, n: u64, out: &mu
     } else {
         SATELLITES_KIND
     };
-    let mut at: usize = 0;
     let mut stored: usize = 0;
     let mut left = n;
-    loop {
-        let end = lines::line_end(bytes, at);
-        if end >= bytes.len() {
-            return;
-        }
-        let line = &bytes[at..end];
+    for line in file::complete_lines(bytes) {
         if file::kind_in(rules, line) == kind {
             lay_slots(line, accuracies, left, &mut out[stored..]);
             if (left <= 17) | (out.len() - stored <= 17) {
@@ -55,7 +43,6 @@ pub fn fill_slots(rules: Rules, bytes: &[u8], accuracies: bool, n: u64, out: &mu
             left -= 17;
             stored += 17;
         }
-        at = end + 1;
     }
 }
 
@@ -64,8 +51,7 @@ fn lay_comment(line: &[u8], out: &mut [u8])
     ensures { out.new ≡ laid (comment_text line.now) out.old }
 {
     let padded = layout::pad(line);
-    let columns = &padded[..];
-    layout::copy_front(out, &columns[3..80]);
+    layout::copy_front(out, &padded[3..80]);
 }
 
 // The first comments, so many of them.
@@ -75,15 +61,9 @@ pub fn fill_comments(rules: Rules, bytes: &[u8], count: u64, out: &mut [u8])
     if count == 0 {
         return;
     }
-    let mut at: usize = 0;
     let mut stored: usize = 0;
     let mut left = count;
-    loop {
-        let end = lines::line_end(bytes, at);
-        if end >= bytes.len() {
-            return;
-        }
-        let line = &bytes[at..end];
+    for line in file::complete_lines(bytes) {
         if file::kind_in(rules, line) == COMMENT_KIND {
             lay_comment(line, &mut out[stored..]);
             if (left <= 1) | (out.len() - stored <= COMMENT_WIDTH) {
@@ -92,7 +72,6 @@ pub fn fill_comments(rules: Rules, bytes: &[u8], count: u64, out: &mut [u8])
             left -= 1;
             stored += COMMENT_WIDTH;
         }
-        at = end + 1;
     }
 }
 
@@ -100,28 +79,18 @@ pub fn fill_comments(rules: Rules, bytes: &[u8], count: u64, out: &mut [u8])
 pub fn fill_rows(rules: Rules, bytes: &[u8], out: &mut [i64])
     ensures lent { out.new ≡ over (flat (take (length out.old / row_width) (rows_of_lines rules (lines_of bytes.now)))) out.old }
 {
-    let mut at: usize = 0;
+    let mut behind: usize = 0;
     let mut stored: usize = 0;
-    loop {
-        let end = lines::line_end(bytes, at);
-        if end >= bytes.len() {
-            return;
-        }
-        let line = &bytes[at..end];
+    for line in file::complete_lines(bytes) {
+        behind += line.len() + 1;
         let kind = file::kind_in(rules, line);
         if (kind == POSITION_KIND) | (kind == VELOCITY_KIND) {
-            let width = ROW_WIDTH;
-            if out.len() - stored < width {
+            if out.len() - stored < ROW_WIDTH {
                 return;
             }
-            rows::store_noted(
-                record::rows::row_of(line, kind == VELOCITY_KIND),
-                bytes,
-                end + 1,
-                &mut out[stored..],
-            );
+            let row = record::rows::row_of(line, kind == VELOCITY_KIND);
+            rows::store_noted(row, bytes, behind, &mut out[stored..]);
             stored += ROW_WIDTH;
         }
-        at = end + 1;
     }
 }

@@ -112,10 +112,8 @@ pub fn after_lines<'a, 'b>(
     ensures lent { identifiers.new ≡ identifiers_past (rules_in file.now) file.now identifiers.old spot lines }
 {
     let mut w = new(file, spot);
-    let mut left = lines;
-    while 0 < left {
+    for _line in 0..lines {
         w = moved(w, identifiers);
-        left -= 1;
     }
     spot_of(w)
 }

@@ -1,59 +1,25 @@
 -- What a line must agree with: one step of each loop over bytes or identifiers, and the answers of the calendar.
 -- Assumes nothing.
-use Rattle.std.proofs.Common.{◌≡◌, ℕ, ◌+◌, ◌-◌, ◌*◌, ◌/◌, ◌%◌, ◌<◌, ◌≤◌, Bool, true, false, ◌&&◌, ◌||◌, eqb, ltb, List, [], ◌∷◌, length, get_or, drop, sym, refl, arith, lit≤, ltb-false, ltb-true, eq-eqb, ne_eqb, eqb-true}
-use mathlib.Core.Bool.{false≢true}
+use Rattle.std.proofs.Common.{◌≡◌, ℕ, ◌+◌, ◌-◌, ◌*◌, ◌/◌, ◌%◌, ◌<◌, ◌≤◌, false, not, cond, ◌&&◌, eqb, ltb, List, [], ◌∷◌, length, refl, arith, lit≤, eq-eqb, ne_eqb, eqb-true}
+use Rattle.std.specs.List.{position_or_len}
+use Rattle.std.proofs.lemmas.Bool.Decides.{nat_tests}
 use Rattle.laws.specs.Tests.{within}
-use Rattle.laws.specs.Texts.{every, is_printable}
+use Rattle.laws.specs.Texts.{is_printable}
 use Rattle.calendar.specs.Clock.{day_units, week_answer}
 use Rattle.calendar.specs.Fraction.{agrees}
 use Rattle.record.specs.declared.types.Second.{Second}
 use Rattle.record.specs.Agrees.{second_agrees}
 use Rattle.machine.specs.Faults.{first_unprintable}
 use Rattle.laws.proofs.Bools.{same_truth}
-use Rattle.laws.proofs.Bounds.{true-within, below-within, above_within}
-use Rattle.laws.proofs.Lists.{rest-step, rest-none}
 use Rattle.laws.proofs.Answers as answers
 
--- a byte outside 32 to 126, by the two tests that find it
-out-printable : (b : ℕ) → (ltb b 32 || ltb 126 b) ≡ true → is_printable b ≡ false
-out-printable b e = go (ltb b 32) refl e
-  where
-    go : (t : Bool) → ltb b 32 ≡ t → (t || ltb 126 b) ≡ true → is_printable b ≡ false
-    go true l f = below-within 32 126 b (ltb-true b 32 l)
-    go false l f = above_within 32 126 b (ltb-true 126 b f)
-
-in-printable : (b : ℕ) → (ltb b 32 || ltb 126 b) ≡ false → is_printable b ≡ true
-in-printable b e = go (ltb b 32) refl e
-  where
-    go : (t : Bool) → ltb b 32 ≡ t → (t || ltb 126 b) ≡ false → is_printable b ≡ true
-    go true l f = absurd (false≢true (sym f))
-    go false l f = true-within 32 126 b (ltb-false b 32 l) (ltb-false 126 b f)
-
--- the first such byte, from a place on
-module _ (s : List ℕ) (i : ℕ) where
-  abbrev byte : ℕ
-  byte = get_or s i 0
-
-  pub unprintable-here : i < length s → (ltb byte 32 || ltb 126 byte) ≡ true → i + first_unprintable (drop i s) ≡ i + 1
-  unfolding first_unprintable
-  unprintable-here h e = rw (rest-step s i h, out-printable byte e)
-
-  pub unprintable-later : i < length s → (ltb byte 32 || ltb 126 byte) ≡ false
-      → i + first_unprintable (drop i s) ≡ i + 1 + first_unprintable (drop (i + 1) s)
-  unfolding first_unprintable
-  unprintable-later h e = rw (rest-step s i h, in-printable byte e) (omega arith)
-
-  pub unprintable-end : length s ≤ i → i + first_unprintable (drop i s) ≡ i
-  unfolding first_unprintable
-  unprintable-end h = rw (rest-none s i h) (omega arith)
-
--- one identifier more of those of which each must begin with a letter
-pub every-step : (test : ℕ → Bool) (s : List ℕ) (i : ℕ) → i < length s
-    → every test (drop i s) ≡ (test (get_or s i 0) && every test (drop (i + 1) s))
-every-step test s i h = rw (rest-step s i h)
-
-pub every-end : (test : ℕ → Bool) (s : List ℕ) (i : ℕ) → length s ≤ i → every test (drop i s) ≡ true
-every-end test s i h = rw (rest-none s i h)
+-- the first byte that may not stand in a line, by the library's search
+pub first_unprintable_at : (s : List ℕ)
+    → first_unprintable s
+    ≡ cond (ltb (position_or_len (λ b. not (is_printable b)) s) (length s)) (position_or_len (λ b. not (is_printable b)) s + 1) (length s)
+unfolding first_unprintable
+first_unprintable_at [] = refl
+first_unprintable_at (b ∷ s) = grind (arith, nat_tests, first_unprintable_at s)
 
 -- an instant as much later as a gap says
 pub later : (gap from at : ℕ) → gap ≤ at → eqb (at - gap) from ≡ eqb at (from + gap)

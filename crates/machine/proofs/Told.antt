@@ -1,6 +1,6 @@
 -- Each answer is known by its number and values: two that are told alike are one.
 -- Assumes nothing.
-use Rattle.std.proofs.Common.{◌≡◌, ℕ, Bool, true, false, cond, List, [], ◌∷◌, get_or, refl, ap, ap₂}
+use Rattle.std.proofs.Common.{◌≡◌, ℕ, Bool, true, false, cond, List, get_or, refl, ap, ap₂}
 use Rattle.machine.specs.Told.{told_state, told_verdict, told_read}
 use Rattle.machine.specs.declared.types.State.{State}
 use Rattle.machine.specs.declared.types.Verdict.{Verdict}

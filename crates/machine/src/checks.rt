@@ -1,6 +1,6 @@
 // What a line must agree with besides its own columns.
-ghost use Rattle.std.specs.Prelude.{◌≡◌, ◌||◌, length, nat_eq};
-ghost use Rattle.laws.specs.Texts.{every};
+ghost use Rattle.std.specs.Prelude.{◌≡◌, not, position, nat_eq};
+ghost use Rattle.laws.specs.Texts.{every, is_printable};
 ghost use Rattle.record.specs.Agrees.{instant_in, second_agrees, letter_of, type_agrees};
 ghost use Rattle.machine.specs.Faults.{first_unprintable};
 
@@ -8,18 +8,22 @@ use calendar::DAY;
 use header::Moment;
 use record::Second;
 
+// Where the first byte outside 32 to 126 stands, counted from 0.
+fn unprintable_at(line: &[u8]) -> Option<usize>
+    ensures { result ≡ position (λ b. not (is_printable b)) line.now }
+{
+    line.iter().position(|b| !(32..=126).contains(b))
+}
+
 // The column of the first byte outside 32 to 126, counted from 1, in a line that has one.
+#[tactic(auto, using(crate::proofs::Checking::first_unprintable_at))]
 pub(crate) fn first_unprintable(line: &[u8]) -> usize
     ensures { result ≡ first_unprintable line.now }
 {
-    let mut i = 0;
-    while i < line.len() {
-        if (line[i] < 32) | (126 < line[i]) {
-            return i + 1;
-        }
-        i += 1;
+    match unprintable_at(line) {
+        Some(i) => i + 1,
+        None => line.len(),
     }
-    i
 }
 
 // The instant of a date and time in 10^-8 s since MJD 0, or 0 where there is none: second 60 is none.
@@ -45,22 +49,15 @@ pub(crate) fn second_agrees(start8: u64, second: Second) -> bool
 fn all_begin(letter: u64, identifiers: &[u64]) -> bool
     ensures { result ≡ every (λ identifier. nat_eq (letter_of identifier) letter) identifiers.now }
 {
-    let mut i = 0;
-    while i < identifiers.len() {
-        if identifiers[i] / 100 != letter {
-            return false;
-        }
-        i += 1;
-    }
-    true
+    identifiers
+        .iter()
+        .all(|identifier| identifier / 100 == letter)
 }
 
 // Whether a file type agrees with the identifiers: M with all, another with those that begin with it.
+#[tactic(auto, unfolding(record::specs::Agrees::type_agrees))]
 pub fn type_agrees(file_type: u8, identifiers: &[u64]) -> bool
     ensures result { result ≡ type_agrees file_type identifiers.now }
 {
-    if file_type == b'M' {
-        return true;
-    }
-    all_begin(file_type as u64, identifiers)
+    file_type == b'M' || all_begin(u64::from(file_type), identifiers)
 }

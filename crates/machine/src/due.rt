@@ -11,23 +11,27 @@ use header::Rules;
 use record::kind::{EPOCH_KIND, POSITION_KIND, SATELLITES_KIND, VELOCITY_KIND};
 
 // The instant at which the epoch that is due must stand.
+#[tactic(auto, unfolding(crate::specs::Due::instant_due))]
 fn instant_due(state: State) -> u64
     ensures { result ≡ instant_due state }
 {
     if state.due == EPOCH_KIND {
-        return std::num::wrapping_add_u64(state.at8, state.gap8);
+        state.at8.wrapping_add(state.gap8)
+    } else {
+        0
     }
-    0
 }
 
 // The satellite that the row that is due must name.
+#[tactic(auto, unfolding(crate::specs::Due::satellite_due))]
 fn satellite_due(state: State, identifiers: &[u64]) -> u64
     ensures { result ≡ satellite_due state identifiers.now }
 {
     if (state.due == POSITION_KIND) | (state.due == VELOCITY_KIND) {
-        return faults::identifier_due(state, identifiers);
+        faults::identifier_due(state, identifiers)
+    } else {
+        0
     }
-    0
 }
 
 // Whether the slots of a `+ ` line, those after the last satellite too, have no fault by themselves.
@@ -70,6 +74,7 @@ fn names_again(rules: Rules, bytes: &[u8], at: usize, state: State, identifiers:
 }
 
 // What must stand at a byte, where the state and the identifiers are those of the lines before it.
+#[tactic(auto, unfolding(crate::specs::Due::due_at))]
 pub fn due_at(rules: Rules, bytes: &[u8], at: usize, state: State, identifiers: &[u64]) -> Due
     ensures result { result ≡ due_at rules bytes.now at state identifiers.now }
 {

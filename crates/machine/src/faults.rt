@@ -39,34 +39,25 @@ fn lower_unless(lowest: usize, passed: bool, number: usize) -> usize
 pub(crate) fn seen_so_far(state: State) -> usize
     ensures { result ≡ seen state }
 {
-    if state.left < state.satellites {
-        return (state.satellites - state.left) as usize;
-    }
-    0
+    state.satellites.saturating_sub(state.left) as usize
 }
 
 // The first identifiers, as many as there are.
 pub(crate) fn front_of(identifiers: &[u64], n: usize) -> &[u64]
     ensures { result.now ≡ take n identifiers.now }
 {
-    if n < identifiers.len() {
-        return &identifiers[0..n];
-    }
-    identifiers
+    &identifiers[..n.min(identifiers.len())]
 }
 
 // The identifier of the satellite whose row must come.
 pub(crate) fn identifier_due(state: State, identifiers: &[u64]) -> u64
     ensures { result ≡ identifier_due state identifiers.now }
 {
-    let at = seen_so_far(state);
-    if at < identifiers.len() {
-        return identifiers[at];
-    }
-    0
+    identifiers.get(seen_so_far(state)).copied().unwrap_or(0)
 }
 
 // Line 2 agrees with the start.
+#[tactic(auto, unfolding(crate::specs::Faults::second_fault))]
 fn second_fault(state: State, line: &[u8; 80]) -> usize
     ensures { result ≡ second_fault state line.now }
 {
@@ -76,23 +67,25 @@ fn second_fault(state: State, line: &[u8; 80]) -> usize
 }
 
 // A `+ ` line: no identifier repeats.
+#[tactic(auto, unfolding(crate::specs::Faults::satellites_fault, crate::specs::State::identifiers_in))]
 fn satellites_fault(rules: Rules, state: State, identifiers: &[u64], line: &[u8; 80]) -> usize
     ensures { result ≡ satellites_fault rules state identifiers.now line.now }
 {
     let known = front_of(identifiers, seen_so_far(state));
     if state.satellites == 0 {
         let first = record::slots::read_satellites(rules, line);
-        let all = first.identifiers;
-        let repeated = marks::repeats_identifier(known, front_of(&all, first.count as usize));
+        let named = front_of(&first.identifiers, first.count as usize);
+        let repeated = marks::repeats_identifier(known, named);
         return lower_unless(first.fault, !repeated, 8);
     }
     let more = record::slots::read_slots(line, false, state.left);
-    let all = more.values;
-    let repeated = marks::repeats_identifier(known, front_of(&all, state.left as usize));
+    let named = front_of(&more.values, state.left as usize);
+    let repeated = marks::repeats_identifier(known, named);
     lower_unless(more.fault, !repeated, 8)
 }
 
 // The first `%c` agrees with the identifiers; the second has placeholders alone.
+#[tactic(auto, unfolding(crate::specs::Faults::characters_fault))]
 fn characters_fault(state: State, identifiers: &[u64], line: &[u8; 80]) -> usize
     ensures { result ≡ characters_fault state identifiers.now line.now }
 {
@@ -106,37 +99,35 @@ fn characters_fault(state: State, identifiers: &[u64], line: &[u8; 80]) -> usize
 }
 
 // The first `%f` has the bases; the second has placeholders alone.
+#[tactic(auto, unfolding(crate::specs::Faults::floats_fault))]
 fn floats_fault(state: State, line: &[u8; 80]) -> usize
     ensures { result ≡ floats_fault state line.now }
 {
     if state.lines != 2 {
         return record::descriptors::floats_fault(line);
     }
-    let bases = record::descriptors::read_bases(line);
-    bases.fault
+    record::descriptors::read_bases(line).fault
 }
 
 // Whether an instant is as much later than another as the gap says.
 fn is_later_by(gap8: u64, from8: u64, at8: u64) -> bool
     ensures { result ≡ (at8 == from8 + gap8) }
 {
-    if at8 < gap8 {
-        return false;
-    }
-    at8 - gap8 == from8
+    gap8 <= at8 && at8 - gap8 == from8
 }
 
 // An epoch stands at its instant.
+#[tactic(auto, unfolding(crate::specs::Faults::epoch_fault))]
 fn epoch_fault(state: State, line: &[u8; 80]) -> usize
     ensures { result ≡ epoch_fault state line.now }
 {
     let epoch = record::opening::read_epoch(line);
-    let moment = epoch.moment;
-    let stands = is_later_by(state.gap8, state.at8, checks::instant_in(moment));
+    let stands = is_later_by(state.gap8, state.at8, checks::instant_in(epoch.moment));
     lower_unless(epoch.fault, stands, 9)
 }
 
 // A P line, or a V line where `velocity` says so, names the satellite that the header has here.
+#[tactic(auto, unfolding(crate::specs::Faults::named_fault))]
 fn named_fault(velocity: bool, state: State, identifiers: &[u64], line: &[u8; 80]) -> usize
     ensures { result ≡ named_fault velocity state identifiers.now line.now }
 {
@@ -162,16 +153,10 @@ fn record_fault(
         LineKind::VelocityCorrelation => record::notes::correlation_fault(line, true),
         LineKind::Epoch => epoch_fault(state, line),
         LineKind::Comment => record::plain::comment_fault(line),
-        LineKind::First => {
-            let first = record::opening::read_first(rules, line);
-            first.fault
-        }
+        LineKind::First => record::opening::read_first(rules, line).fault,
         LineKind::Second => second_fault(state, line),
         LineKind::Satellites => satellites_fault(rules, state, identifiers, line),
-        LineKind::Accuracies => {
-            let slots = record::slots::read_slots(line, true, state.left);
-            slots.fault
-        }
+        LineKind::Accuracies => record::slots::read_slots(line, true, state.left).fault,
         LineKind::Characters => characters_fault(state, identifiers, line),
         LineKind::Floats => floats_fault(state, line),
         LineKind::Integers => record::descriptors::integers_fault(line),
@@ -204,6 +189,7 @@ pub fn kind_number(kind: LineKind) -> u64
 }
 
 // The fault of a line where it stands: 4 where its kind may not stand here.
+#[tactic(auto, unfolding(crate::specs::Faults::standing_fault))]
 pub(crate) fn standing_fault(
     kind: LineKind,
     rules: Rules,
@@ -224,11 +210,8 @@ pub(crate) fn standing_fault(
 pub(crate) fn longest_line(rules: Rules, kind: LineKind) -> usize
     ensures { result ≡ longest rules kind }
 {
-    let LineKind::Comment = kind else {
-        return 80;
-    };
-    if rules.comment_columns < 80 {
-        return rules.comment_columns as usize;
+    match kind {
+        LineKind::Comment => rules.comment_columns.min(80) as usize,
+        _ => 80,
     }
-    80
 }

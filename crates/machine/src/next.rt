@@ -1,5 +1,5 @@
 // What must stand after a line without fault.
-ghost use Rattle.std.specs.Prelude.{◌≡◌, ◌-◌};
+ghost use Rattle.std.specs.Prelude.{◌≡◌};
 ghost use Rattle.machine.specs.Next.{expect, allow, leave, line_less, after_first, after_second, after_count, after_identifiers, after_satellites, after_accuracies, comments_due, after_integers, after_epoch, row_due, satellite_done, after_position, next_of};
 
 use crate::checks;
@@ -11,16 +11,6 @@ use record::kind::{
     VELOCITY_CORRELATION_KIND, VELOCITY_KIND,
 };
 use record::{First, LineKind};
-
-// So many less, or none.
-fn less(n: u64, by: u64) -> u64
-    ensures { result ≡ n - by }
-{
-    if n < by {
-        return 0;
-    }
-    n - by
-}
 
 // Lines of this kind must come, so many of them.
 fn expected(due: u64, lines: u64, state: State) -> State
@@ -52,7 +42,7 @@ fn with_left(left: u64, state: State) -> State
 fn line_less(next: u64, many: u64, state: State) -> State
     ensures { result ≡ line_less next many state }
 {
-    let lines = less(state.lines, 1);
+    let lines = state.lines.saturating_sub(1);
     if lines == 0 {
         return expected(next, many, state);
     }
@@ -60,10 +50,10 @@ fn line_less(next: u64, many: u64, state: State) -> State
 }
 
 // Mode, start and epochs are known; `##` must come.
+#[tactic(auto, unfolding(crate::specs::Next::after_first))]
 fn after_first(first: First, state: State) -> State
     ensures { result ≡ after_first first state }
 {
-    let start = first.start;
     State {
         due: SECOND_KIND,
         also: NO_KIND,
@@ -71,13 +61,14 @@ fn after_first(first: First, state: State) -> State
         velocity: first.mode == b'V',
         satellites: 0,
         epochs: first.epochs,
-        at8: checks::instant_in(start),
+        at8: checks::instant_in(first.start),
         gap8: 0,
         ..state
     }
 }
 
 // The interval is known; the first `+ ` line must come.
+#[tactic(auto, unfolding(crate::specs::Next::after_second))]
 fn after_second(interval8: u64, state: State) -> State
     ensures { result ≡ after_second interval8 state }
 {
@@ -90,6 +81,7 @@ fn after_second(interval8: u64, state: State) -> State
 }
 
 // The number of satellites is known, and with it that of the `+ ` lines.
+#[tactic(auto, unfolding(crate::specs::Next::after_count))]
 fn after_count(n: u64, state: State) -> State
     ensures { result ≡ after_count n state }
 {
@@ -97,35 +89,41 @@ fn after_count(n: u64, state: State) -> State
         due: SATELLITES_KIND,
         also: NO_KIND,
         lines: header::slot_lines(n) - 1,
-        left: less(n, 17),
+        left: n.saturating_sub(17),
         satellites: n,
         ..state
     }
 }
 
 // A further `+ ` line: after the last as many `++` lines.
+#[tactic(auto, unfolding(crate::specs::Next::after_identifiers))]
 fn after_identifiers(state: State) -> State
     ensures { result ≡ after_identifiers state }
 {
-    let lines = less(state.lines, 1);
+    let lines = state.lines.saturating_sub(1);
     if lines == 0 {
         let many = header::slot_lines(state.satellites);
         return with_left(state.satellites, expected(ACCURACIES_KIND, many, state));
     }
     with_left(
-        less(state.left, 17),
+        state.left.saturating_sub(17),
         expected(SATELLITES_KIND, lines, state),
     )
 }
 
 // A `++` line: after the last two `%c`.
+#[tactic(auto, unfolding(crate::specs::Next::after_accuracies))]
 fn after_accuracies(state: State) -> State
     ensures { result ≡ after_accuracies state }
 {
-    with_left(less(state.left, 17), line_less(CHARACTERS_KIND, 2, state))
+    with_left(
+        state.left.saturating_sub(17),
+        line_less(CHARACTERS_KIND, 2, state),
+    )
 }
 
 // So many comments must come, and so many may.
+#[tactic(auto, unfolding(crate::specs::Next::comments_due))]
 fn comments_due(needed: u64, allowed: u64, state: State) -> State
     ensures { result ≡ comments_due needed allowed state }
 {
@@ -143,10 +141,11 @@ fn comments_due(needed: u64, allowed: u64, state: State) -> State
 }
 
 // A `%i` line: after the second the comments.
+#[tactic(auto, unfolding(crate::specs::Next::after_integers))]
 fn after_integers(rules: Rules, state: State) -> State
     ensures { result ≡ after_integers rules state }
 {
-    let lines = less(state.lines, 1);
+    let lines = state.lines.saturating_sub(1);
     if lines == 0 {
         return comments_due(rules.fewest_comments, rules.most_comments, state);
     }
@@ -154,6 +153,7 @@ fn after_integers(rules: Rules, state: State) -> State
 }
 
 // An epoch less; the row of the first satellite must come, and the next epoch an interval later.
+#[tactic(auto, unfolding(crate::specs::Next::after_epoch))]
 fn after_epoch(at8: u64, state: State) -> State
     ensures { result ≡ after_epoch at8 state }
 {
@@ -162,7 +162,7 @@ fn after_epoch(at8: u64, state: State) -> State
         also: NO_KIND,
         lines: 1,
         left: state.satellites,
-        epochs: less(state.epochs, 1),
+        epochs: state.epochs.saturating_sub(1),
         at8,
         gap8: state.interval8,
         ..state
@@ -180,10 +180,11 @@ fn row_due(left: u64, epochs: u64) -> u64
 }
 
 // The rows of a satellite are read; the correlation record of the last of them may stand.
+#[tactic(auto, unfolding(crate::specs::Next::satellite_done))]
 fn satellite_done(also: u64, state: State) -> State
     ensures { result ≡ satellite_done also state }
 {
-    let left = less(state.left, 1);
+    let left = state.left.saturating_sub(1);
     State {
         due: row_due(left, state.epochs),
         also,
@@ -194,6 +195,7 @@ fn satellite_done(also: u64, state: State) -> State
 }
 
 // A P line: in mode V the same satellite's V must come; one EP may stand.
+#[tactic(auto, unfolding(crate::specs::Next::after_position))]
 pub(crate) fn after_position(state: State) -> State
     ensures { result ≡ after_position state }
 {
@@ -209,6 +211,7 @@ pub(crate) fn after_position(state: State) -> State
 }
 
 // A `+ ` line: the first says how many satellites there are.
+#[tactic(auto, unfolding(crate::specs::Next::after_satellites))]
 fn after_satellites(rules: Rules, state: State, line: &[u8; 80]) -> State
     ensures { result ≡ after_satellites rules state line.now }
 {
@@ -226,15 +229,19 @@ pub(crate) fn after_line(kind: LineKind, rules: Rules, state: State, line: &[u8;
     match kind {
         LineKind::Position => Verdict::Next(after_position(state)),
         LineKind::Velocity => Verdict::Next(satellite_done(VELOCITY_CORRELATION_KIND, state)),
-        LineKind::PositionCorrelation => Verdict::Next(with_also(NO_KIND, state)),
-        LineKind::VelocityCorrelation => Verdict::Next(with_also(NO_KIND, state)),
+        LineKind::PositionCorrelation | LineKind::VelocityCorrelation => {
+            Verdict::Next(with_also(NO_KIND, state))
+        }
         LineKind::Epoch => {
             let epoch = record::opening::read_epoch(line);
-            let moment = epoch.moment;
-            Verdict::Next(after_epoch(checks::instant_in(moment), state))
+            Verdict::Next(after_epoch(checks::instant_in(epoch.moment), state))
         }
         LineKind::Comment => {
-            Verdict::Next(comments_due(less(state.lines, 1), less(state.comments, 1), state))
+            Verdict::Next(comments_due(
+                state.lines.saturating_sub(1),
+                state.comments.saturating_sub(1),
+                state,
+            ))
         }
         LineKind::First => Verdict::Next(after_first(
             record::opening::read_first(rules, line),

@@ -34,6 +34,7 @@ pub fn start() -> State
 }
 
 // A line of 80 columns by its kind.
+#[tactic(auto, unfolding(crate::specs::Step::judged_line, crate::specs::Step::on_key))]
 fn judge_line(
     kind: LineKind,
     rules: Rules,
@@ -62,8 +63,7 @@ fn is_plain(line: &[u8], columns: &[u8; 80]) -> bool
     if line.len() > 80 {
         return layout::is_printable(line);
     }
-    let s = &columns[..];
-    layout::is_printable(s)
+    layout::is_printable(columns)
 }
 
 // Whether a line is the P line that is due, without fault and of the usual kind: most lines of a file are, and no more is asked of them.
@@ -71,11 +71,8 @@ fn is_due_row(state: State, identifiers: &[u64], line: &[u8], columns: &[u8; 80]
     ensures { result ≡ due_row state identifiers.now line.now columns.now }
 {
     let due = (state.due == POSITION_KIND) & (line.len() <= 80);
-    if !due {
-        return false;
-    }
-    let named = record::rows::satellite_in(columns) == faults::identifier_due(state, identifiers);
-    picture::is_usual(columns) & named
+    due && picture::is_usual(columns)
+        && record::rows::satellite_in(columns) == faults::identifier_due(state, identifiers)
 }
 
 // What a line does where the header's identifiers so far are `identifiers`: CR in column 61 is 2 at column 61, 81 blanks are 3 at column 81.
@@ -108,10 +105,7 @@ fn lay_behind(list: &mut [u64], from: usize, new: &[u64]) -> bool
     ensures result { result ≡ fit_behind from new.now list.old }
     ensures lent { list.new ≡ laid_behind from new.now list.old }
 {
-    if list.len() < from {
-        return false;
-    }
-    if list.len() - from < new.len() {
+    if list.len() < from || list.len() - from < new.len() {
         return false;
     }
     lines::lay_numbers(&mut list[from..], new);
@@ -146,9 +140,12 @@ pub fn keep_identifiers(rules: Rules, state: State, identifiers: &mut [u64], lin
     ensures lent { identifiers.new ≡ identifiers_joined rules state identifiers.old (padded line.now) }
 {
     let brought = brought_by(rules, state, line);
-    let all = brought.identifiers;
     let from = faults::seen_so_far(state);
-    lay_behind(identifiers, from, faults::front_of(&all, brought.count))
+    lay_behind(
+        identifiers,
+        from,
+        faults::front_of(&brought.identifiers, brought.count),
+    )
 }
 
 // Marks the identifiers that a `+ ` line brings, and tells whether each of them has a mark that was not set before.
@@ -157,8 +154,7 @@ pub fn mark_brought(rules: Rules, state: State, marks: &mut [u8], line: &[u8]) -
     ensures lent { marks.new ≡ marked_all (identifiers_in rules state (padded line.now)) marks.old }
 {
     let brought = brought_by(rules, state, line);
-    let all = brought.identifiers;
-    marks::mark_identifiers(marks, faults::front_of(&all, brought.count))
+    marks::mark_identifiers(marks, faults::front_of(&brought.identifiers, brought.count))
 }
 
 // Marks the identifiers known so far of which the first `marked` are marked already, and tells how many are known.

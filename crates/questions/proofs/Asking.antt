@@ -2,15 +2,16 @@
 -- of an accepted file. Assumes nothing.
 use mathlib.Core.Path.{◌≡◌, refl, sym, ap, ap₂, ◌∙◌}
 use mathlib.Core.Bool.{Bool, true, false, ◌&&◌}
-use mathlib.Core.List.{List, [], ◌++◌, append-nil}
+use mathlib.Core.List.{List, [], ◌∷◌, ◌++◌}
 use Prim.Native.Nat.{ℕ, ◌+◌, ◌*◌, ◌-◌, ◌<◌, ◌≤◌, min}
 use native.Mathlib.Nat.{add-zero, sub-zero, mul-le-mul}
 use native.Mathlib.Omega.{arith}
 use borrow.Author.Tests.{eq-eqb, ne_eqb, lt-ltb, le-ltb, ltb-true}
-use lib.Dec.{ltb}
-use lib.ListN.{length, get_or, take, drop, drop_of_length-le}
+use lib.Dec.{eqb, ltb}
+use lib.ListN.{length, get_or, take, drop}
 use lib.Seq.{take-append_seam}
 use denote.Ref.{Bor}
+use Rattle.std.specs.List.{position_or_len}
 use Rattle.laws.specs.Places.{byte_of}
 use Rattle.laws.proofs.Places.{in-front, in-part}
 use Rattle.layout.specs.Line.{trimmed}
@@ -53,19 +54,11 @@ module _ (line : List ℕ) (n : ℕ) (told : n ≡ length (trimmed (words_of lin
   pub text-told : take (n - 0) (words_of line) ≡ text_in line
   text-told = ap (λ (k : ℕ). take k (words_of line)) (sub-zero n ∙ told) ∙ trimmed-front (words_of line) ∙ ap trimmed (rest_part line 3)
 
--- an identifier's number, from a place on
-module _ (identifier : ℕ) (identifiers : List ℕ) (i : ℕ) where
-  pub index-here : i < length identifiers → identifier ≡ get_or identifiers i 0 → i + index_of identifier (drop i identifiers) ≡ i
-  unfolding index_of
-  index-here h e = rw (rest-step identifiers i h, eq-eqb identifier (get_or identifiers i 0) e, add-zero)
-
-  pub index-later : i < length identifiers → (identifier ≡ get_or identifiers i 0 → ⊥) → (i + 1) + index_of identifier (drop (i + 1) identifiers) ≡ i + index_of identifier (drop i identifiers)
-  unfolding index_of
-  index-later h n = rw (rest-step identifiers i h, ne_eqb identifier (get_or identifiers i 0) n) (omega arith)
-
-  pub index-none : length identifiers ≤ i → i + index_of identifier (drop i identifiers) ≡ i
-  unfolding index_of
-  index-none h = rw (rest-none identifiers i h, add-zero)
+-- an identifier's number, by the library's search
+pub index_of_place : (identifier : ℕ) (identifiers : List ℕ) → index_of identifier identifiers ≡ position_or_len (λ other. eqb identifier other) identifiers
+unfolding index_of
+index_of_place identifier [] = refl
+index_of_place identifier (x ∷ xs) = grind (arith, index_of_place identifier xs)
 
 -- where a comment's text lies, by its line's place, its line and the text
 pub comment-told : (rules : Rules) (lines : List (List ℕ)) (k place indent : ℕ) (line text : List ℕ)
@@ -203,8 +196,5 @@ module _ (identifiers old now : List ℕ) (is : now ≡ laid identifiers old) (f
   named : now ≡ identifiers ++ drop (length identifiers) old
   named = is ∙ laid-fits identifiers old fits
 
-  pub first-identifiers : (n : ℕ) → n ≡ length identifiers → take (n - 0) now ≡ identifiers
-  first-identifiers n e = ap₂ (λ (k : ℕ) (l : List ℕ). take k l) (sub-zero n ∙ e) named ∙ take-append_seam identifiers (drop (length identifiers) old)
-
-  pub all-identifiers : length old ≤ length identifiers → now ≡ identifiers
-  all-identifiers h = named ∙ ap (λ (l : List ℕ). identifiers ++ l) (drop_of_length-le old h) ∙ append-nil identifiers
+  pub first-identifiers : (n : ℕ) → n ≡ length identifiers → take n now ≡ identifiers
+  first-identifiers n e = ap₂ (λ (k : ℕ) (l : List ℕ). take k l) e named ∙ take-append_seam identifiers (drop (length identifiers) old)

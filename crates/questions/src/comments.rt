@@ -42,7 +42,7 @@ fn comment_at(rules: Rules, bytes: &[u8], k: u64) -> CommentAnswer
 {
     let place = file::line_begins(rules, bytes, COMMENT_KIND, k);
     let line = file::line_of(rules, bytes, COMMENT_KIND, k);
-    let indent = laws::fewer(3, line.len());
+    let indent = line.len().min(3);
     let text = text_of(line);
     CommentAnswer {
         refusal: 0,

@@ -1,5 +1,5 @@
 // Satellites of one whole file, asked for by identifier: the file's own refusal first, then 13 with line 0.
-ghost use Rattle.std.specs.Prelude.{◌≡◌, ◌&&◌, ◌+◌, ◌-◌, ◌*◌, ◌≤◌, length};
+ghost use Rattle.std.specs.Prelude.{◌≡◌, ◌&&◌, ◌+◌, ◌-◌, ◌*◌, ◌≤◌, length, nat_eq, position};
 ghost use Rattle.laws.specs.Tests.{within};
 ghost use Rattle.field.specs.Digits.{is_digit};
 ghost use Rattle.lines.specs.Lines.{lines_of};
@@ -7,23 +7,16 @@ ghost use Rattle.header.specs.Rules.{max_satellites};
 ghost use Rattle.header.specs.Versions.{rules_in};
 ghost use Rattle.file.specs.Table.{count_of};
 ghost use Rattle.reader.specs.Reading.{file_of, identifiers_of};
-ghost use Rattle.questions.specs.Questions.{identifier_named, index_of, no_satellite, satellite_in, satellite_answer};
+ghost use Rattle.questions.specs.Questions.{identifier_named, no_satellite, satellite_in, satellite_answer};
 
 use crate::types::SatelliteAnswer;
 use header::{Header, Rules};
 
-// The number of an identifier among others, or how many there are.
-fn index_of(identifier: u64, identifiers: &[u64]) -> usize
-    ensures { result ≡ index_of identifier identifiers.now }
+// The number of an identifier among others.
+fn place_of(identifier: u64, identifiers: &[u64]) -> Option<usize>
+    ensures { result ≡ position (λ other. nat_eq identifier other) identifiers.now }
 {
-    let mut i = 0;
-    while i < identifiers.len() {
-        if identifier == identifiers[i] {
-            return i;
-        }
-        i += 1;
-    }
-    i
+    identifiers.iter().position(|other| identifier == *other)
 }
 
 // A refusal beside no satellite.
@@ -39,19 +32,19 @@ fn no_satellite(number: usize, line: u64, column: usize) -> SatelliteAnswer
 }
 
 // The number of an identifier among those of a header.
+#[tactic(auto, using(crate::proofs::Asking::index_of_place))]
 fn satellite_in(identifier: u64, identifiers: &[u64]) -> SatelliteAnswer
     ensures { result ≡ satellite_in identifier identifiers.now }
 {
-    let number = index_of(identifier, identifiers);
-    if number < identifiers.len() {
-        return SatelliteAnswer {
-            refusal: 0,
-            line: 0,
-            column: 0,
-            number: number as u64,
-        };
+    let Some(number) = place_of(identifier, identifiers) else {
+        return no_satellite(13, 0, 0);
+    };
+    SatelliteAnswer {
+        refusal: 0,
+        line: 0,
+        column: 0,
+        number: number as u64,
     }
-    no_satellite(13, 0, 0)
 }
 
 // The number of an identifier among the identifiers of some lines, as many as they say and at most so many as there may be.
@@ -62,28 +55,21 @@ fn satellite_among(rules: Rules, bytes: &[u8], identifier: u64) -> SatelliteAnsw
     let mut identifiers = [0u64; Header::MAX_SATELLITES as usize];
     let n = file::count_of(rules, bytes);
     fill::fill_slots(rules, bytes, false, n, &mut identifiers);
-    let all = &identifiers[..];
-    if n < Header::MAX_SATELLITES {
-        let few = n as usize;
-        return satellite_in(identifier, &all[0..few]);
-    }
-    satellite_in(identifier, all)
+    satellite_in(identifier, &identifiers[..n as usize])
 }
 
 // Whether three bytes are an identifier's letter and digits.
 fn is_named(letter: u8, tens: u8, ones: u8) -> bool
     ensures { result ≡ (within 65 90 letter && (is_digit tens && is_digit ones)) }
 {
-    ((65 <= letter) & (letter <= 90))
-        & (((48 <= tens) & (tens <= 57)) & ((48 <= ones) & (ones <= 57)))
+    (b'A'..=b'Z').contains(&letter) && tens.is_ascii_digit() && ones.is_ascii_digit()
 }
 
 // A digit's number, and 0 for all that stands below the digits.
 fn figure(b: u8) -> u64
     ensures { result ≡ b - 48 }
 {
-    let d = b as u64;
-    if d < 48 { 0 } else { d - 48 }
+    u64::from(b).saturating_sub(48)
 }
 
 // The number of two digits.
@@ -99,22 +85,24 @@ fn identifier_code(letter: u8, number: u64) -> u64
     requires { number ≤ 2277 }
     ensures { result ≡ letter * 100 + number }
 {
-    letter as u64 * 100 + number
+    u64::from(letter) * 100 + number
 }
 
 // The identifier that a text of three bytes names, as one number: 7107 for `G07`; 0, which is no satellite, for `G 7`, `g07`, `G00` and every other
 // text.
+#[tactic(auto, unfolding(crate::specs::Questions::identifier_named))]
 pub fn identifier_of(text: &[u8]) -> u64
     ensures result { result ≡ identifier_named text.now }
 {
-    if text.len() != 3 {
+    let [letter, tens, ones] = *text else {
         return 0;
+    };
+    let number = two_digits(tens, ones);
+    if is_named(letter, tens, ones) && number != 0 {
+        identifier_code(letter, number)
+    } else {
+        0
     }
-    let number = two_digits(text[1], text[2]);
-    if !(is_named(text[0], text[1], text[2]) & (number != 0)) {
-        return 0;
-    }
-    identifier_code(text[0], number)
 }
 
 // The number in the header of the satellite with this identifier, held as its letter's byte times 100 and its number (7107 for G07): 13 where

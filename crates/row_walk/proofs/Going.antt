@@ -8,6 +8,7 @@ use Rattle.lines.proofs.Split.{bytes-in, parted}
 use Rattle.record.specs.LineKinds.{position_kind, told_kind, kind_of, kind_by, star_kind, e_kind, plus_kind, slash_kind, percent_kind, hash_kind}
 use Rattle.file.specs.Kinds.{is_kind}
 use Rattle.file.proofs.Finding.{padded-column}
+use Rattle.file.proofs.FirstLine.{passed}
 use Rattle.machine.specs.Step.{step_of, read_first}
 use Rattle.header.specs.declared.types.Rules.{Rules}
 use Rattle.record.specs.declared.types.LineKind.{LineKind}
@@ -75,29 +76,13 @@ row-begins rules (b ∷ bs) l ls e = go (is_lf b) refl (lines_of bs) refl
         let first : b ∷ m ≡ l = cc in
         line_row rules l ∙ ap (λ (x : List ℕ). eqb (get_or x 0 32) 80) (sym first)
 
--- the lines after the first begin behind its LF
-pub record Passed (file : List ℕ) (at : ℕ) (l : List ℕ) (ls : List (List ℕ)) : Type 0 where
-  pub within : at + length l + 1 ≤ length file
-  pub rest : lines_of (drop (at + length l + 1) file) ≡ ls
-
-one_line : (l : List ℕ) → bytes_in (l ∷ []) ≡ length l + 1
-unfolding bytes_in
-one_line l = omega arith
-
-pub passed : (file : List ℕ) (at : ℕ) (l : List ℕ) (ls : List (List ℕ)) → lines_of (drop at file) ≡ l ∷ ls → Passed file at l ls
-passed file at l ls e =
-    let p = parted (l ∷ []) (drop at file) ls e in
-    let long : length (join_lines (l ∷ [])) ≡ length l + 1 = sym (bytes-in (l ∷ [])) ∙ one_line l in
-    let some : 1 ≤ length (drop at file) = omega (arith, p.within) in
+-- the lines behind the first begin after its LF
+passed-to : (file : List ℕ) (at : ℕ) (l : List ℕ) (ls : List (List ℕ)) → lines_of (drop at file) ≡ l ∷ ls
+    → (at + length l + 1 ≤ length file) × (lines_of (drop (at + length l + 1) file) ≡ ls)
+passed-to file at l ls e =
+    let p = passed file at l ls e in
     let behind : at + length l + 1 ≡ at + (length l + 1) = omega arith in
-    record {
-      within = omega (arith, p.within, length-drop at file);
-      rest =
-          ap (λ (n : ℕ). lines_of (drop n file)) behind
-          ∙ ap lines_of (sym (drop-drop (length l + 1) at file))
-          ∙ ap (λ (n : ℕ). lines_of (drop n (drop at file))) (sym long)
-          ∙ p.rest_lines;
-    }
+    (omega (arith, p.within), ap (λ (n : ℕ). lines_of (drop n file)) behind ∙ p.rest)
 
 -- the line at a spot, or none: what the next step of a walk over the lines does
 module _ (rules : Rules) (file identifiers : List ℕ) (p : Spot) where
@@ -130,7 +115,7 @@ module _ (rules : Rules) (file identifiers : List ℕ) (p : Spot) where
     moves : (s : State) → is_kind rules position_kind l ≡ false → step_of rules p.state identifiers l ≡ verdict.Next s
         → (row_ahead rules file identifiers (behind s) ≡ row_ahead rules file identifiers p) × (spot_past rules file identifiers p ≡ behind s)
     unfolding to_row spot_past read_first
-    moves s is v = (rw (e, is, v, (passed file p.at l ls e).rest), rw (e, v))
+    moves s is v = (rw (e, is, v, (passed-to file p.at l ls e).1), rw (e, v))
 
   -- a turn of the walk to the next row
   pub record Turn (next : Spot) : Type 0 where
@@ -151,7 +136,7 @@ module _ (rules : Rules) (file identifiers : List ℕ) (p : Spot) where
       record {
         stays = λ stay. absurd (omega arith);
         goes = λ not. ap (row_ahead rules file identifiers) next ∙ same;
-        nearer = λ not. (omega arith, omega (arith, (passed file p.at l ls e).within));
+        nearer = λ not. (omega arith, omega (arith, (passed-to file p.at l ls e).0));
       }
 
   here-byte : get_or (drop p.at file) 0 0 ≡ get_or file p.at 0
@@ -180,23 +165,3 @@ module _ (rules : Rules) (file identifiers : List ℕ) (p : Spot) where
       go : (ls : List (List ℕ)) → lines_of (drop p.at file) ≡ ls → p ≡ row_ahead rules file identifiers p
       go [] e = (stays-none e).0
       go (l ∷ ls) e = stays-row l ls e (row-begins rules (drop p.at file) l ls e ∙ ap (λ (b : ℕ). eqb b 80) here-byte ∙ some)
-
--- counting the lines before a spot: those counted and those left are all
-pub record Counting (before : List ℕ) (from number : ℕ) : Type 0 where
-  pub within : from ≤ length before
-  pub small : number ≤ from + 1
-  pub same : number + length (lines_of (drop from before)) ≡ length (lines_of before) + 1
-
-pub counting-first : (before : List ℕ) → Counting before 0 1
-counting-first before = record { within = omega arith; small = omega arith; same = omega arith }
-
-module _ (before : List ℕ) (from number end : ℕ) (g : Counting before from number) (ended : end ≡ from + line_length (drop from before)) where
-  pub counted-all : length before ≤ end → number ≡ length (lines_of before) + 1
-  counted-all h =
-      let none : length (lines_of (drop from before)) ≡ 0 = ap length (no_line before from end ended h) in
-      omega (arith, g.same)
-
-  pub counts-line : end < length before → Counting before (end + 1) (number + 1)
-  counts-line h =
-      let one : length (lines_of (drop from before)) ≡ suc (length (lines_of (drop (end + 1) before))) = ap length (first-line before from end ended h) in
-      record { within = omega arith; small = omega (arith, g.small); same = omega (arith, g.same) }

@@ -26,10 +26,7 @@ pub fn first() -> RowWalk
 fn is_row_at(file: &[u8], at: usize) -> bool
     ensures { result ≡ (slice_index file.now at == 80) }
 {
-    if at < file.len() {
-        return file[at] == b'P';
-    }
-    false
+    file.get(at) == Some(&b'P')
 }
 
 // The line reader by these rules: what the line at a spot does, and where the next begins.
@@ -59,63 +56,35 @@ fn at_row<'a>(rules: Rules, file: &'a [u8], identifiers: &'a [u64], from: Spot) 
     ensures { result ≡ row_ahead rules file.now identifiers.now from }
 {
     let mut spot = from;
-    loop {
-        let at = spot.at;
-        if is_row_at(file, at) {
-            return spot;
-        }
+    while !is_row_at(file, spot.at) {
         let next = spot_past(rules, file, identifiers, spot);
-        if next.at == at {
+        if next.at == spot.at {
             return spot;
         }
         spot = next;
     }
+    spot
 }
 
 // The number of the line that begins at a spot, counted from 1.
 fn line_number(file: &[u8], at: usize) -> u64
     ensures { result ≡ length (lines_of (take at file.now)) + 1 }
 {
-    let before = front_of(file, at);
-    let mut from: usize = 0;
-    let mut number: u64 = 1;
-    loop {
-        let end = lines::line_end(before, from);
-        if end >= before.len() {
-            return number;
-        }
-        number += 1;
-        from = end + 1;
-    }
-}
-
-// The first bytes, as many as there are.
-fn front_of(file: &[u8], n: usize) -> &[u8]
-    ensures { result.now ≡ take n file.now }
-{
-    if n < file.len() {
-        return &file[0..n];
-    }
-    file
+    let before = &file[..at.min(file.len())];
+    file::complete_lines(before).count() as u64 + 1
 }
 
 // The epoch and the satellite of a row, by how many rows stand before it.
 fn epoch_of(passed: u64, satellites: u64) -> u64
     ensures { result ≡ epoch_of passed satellites }
 {
-    if satellites == 0 {
-        return 0;
-    }
-    passed / satellites
+    passed.checked_div(satellites).unwrap_or(0)
 }
 
 fn satellite_of(passed: u64, satellites: u64) -> u64
     ensures { result ≡ satellite_of passed satellites }
 {
-    if satellites == 0 {
-        return 0;
-    }
-    passed % satellites
+    passed.checked_rem(satellites).unwrap_or(0)
 }
 
 // The row of the P line at a spot.
@@ -178,7 +147,7 @@ pub fn next_row<'a>(file: &'a [u8], identifiers: &'a [u64], from: RowWalk) -> Ro
                     at: end,
                     state: after,
                 },
-                passed: std::num::wrapping_add_u64(passed, 1),
+                passed: passed.wrapping_add(1),
             },
         ),
     }

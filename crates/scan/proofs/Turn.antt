@@ -1,7 +1,7 @@
 -- A turn of `scan_front`'s loop, on plain values. `Going` is the loop's invariant: the run over all lines is the run from here over the lines left.
 -- Assumes nothing.
 use mathlib.Core.Path.{◌≡◌, refl, sym, ap, ap₂, ◌∙◌, subst}
-use mathlib.Core.Bool.{Bool, true, false, ◌||◌}
+use mathlib.Core.Bool.{Bool, true, false, cond, ◌||◌}
 use mathlib.Core.List.{List, [], ◌∷◌}
 use Prim.Native.Nat.{ℕ, ◌+◌, ◌-◌, ◌^◌, ◌≤◌, ◌<◌, zero-le}
 use native.Mathlib.Omega.{arith}
@@ -32,7 +32,15 @@ use Rattle.scan.specs.Run.{nothing_seen, one_more, counted, on_verdict, run, sca
 pub position-told : (rules : Rules) (line : List ℕ) → get_or line 0 32 ≡ 80 → position_kind ≡ kind_in rules line
 position-told rules line e = rw (← kind-told rules line 80 (get_or line 1 32) (get_or line 2 32) (sym e) refl refl)
 
+pub position-first : (rules : Rules) (line : List ℕ) → get_or line 0 0 ≡ 80 → 10 ≡ kind_in rules line
+position-first rules [] e = absurd (omega arith)
+position-first rules (b ∷ l) e = position-told rules (b ∷ l) e
+
 -- one line more, by the number of its kind
+pub more-by : (passed : Bool) (n m : ℕ) → m ≡ cond passed 1 0 → n + m ≡ one_more passed n
+more-by true n m e = omega arith
+more-by false n m e = omega arith
+
 pub counted-as : (rules : Rules) (t : Tally) (line : List ℕ) (kind comments rows : ℕ) → kind ≡ kind_in rules line
     → comments ≡ one_more (eqb kind comment_kind) t.comments → rows ≡ one_more (eqb kind position_kind || eqb kind velocity_kind) t.rows
     → ◌≡◌ {A = Tally} (record { lines = t.lines + 1; end = t.end + length line + 1; comments = comments; rows = rows }) (counted rules t line)

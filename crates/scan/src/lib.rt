@@ -51,10 +51,8 @@ fn nothing_seen() -> Tally
 fn kind_told(rules: Rules, line: &[u8]) -> u64
     ensures { result ≡ kind_in rules line.now }
 {
-    if line.len() > 0 {
-        if line[0] == b'P' {
-            return POSITION_KIND;
-        }
+    if line.first() == Some(&b'P') {
+        return POSITION_KIND;
     }
     file::kind_in(rules, line)
 }
@@ -65,21 +63,13 @@ fn count_line(rules: Rules, tally: Tally, line: &[u8]) -> Tally
     ensures { result ≡ counted rules tally line.now }
 {
     let kind = kind_told(rules, line);
-    let comments = if kind == COMMENT_KIND {
-        tally.comments + 1
-    } else {
-        tally.comments
-    };
-    let rows = if (kind == POSITION_KIND) | (kind == VELOCITY_KIND) {
-        tally.rows + 1
-    } else {
-        tally.rows
-    };
+    let is_comment = kind == COMMENT_KIND;
+    let is_row = (kind == POSITION_KIND) | (kind == VELOCITY_KIND);
     Tally {
         lines: tally.lines + 1,
         end: tally.end + line.len() + 1,
-        comments,
-        rows,
+        comments: tally.comments + u64::from(is_comment),
+        rows: tally.rows + u64::from(is_row),
     }
 }
 

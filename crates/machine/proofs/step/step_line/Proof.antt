@@ -4,7 +4,6 @@ use Rattle.machine.proofs.Stepping.{short-enough, too_long, unprintable}
 use Rattle.machine.proofs.Usual.{due-row-next}
 use Rattle.machine.specs.declared.types.Verdict.TheVariants as verdict
 use Rattle.std.proofs.Common.{sym, ap, ◌∙◌, rules}
-use borrow.Author.Tests.{not-false, not-true}
 use Rattle.machine.specs.Told.{told_verdict}
 use Rattle.machine.proofs.step.step_line.Statement.{statement}
 use Rattle.machine.proofs.step.step_line.Tie as tie
