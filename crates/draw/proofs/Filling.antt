@@ -12,20 +12,7 @@ use Rattle.laws.specs.Texts.{blanks}
 use Rattle.field.specs.Show.{written, fits_whole, put_whole}
 use Rattle.layout.specs.Inking.{text_end}
 use Rattle.layout.proofs.Lines.{blanks-length}
-use Rattle.layout.proofs.Inked.{Fills, fills-end}
-
-module _ (fits : ℕ → Bool) (text : ℕ → List ℕ) (out : List ℕ) (r : Bool) (told : r ≡ fits (length out)) where
-  abbrev put : List ℕ → List ℕ
-  put columns = written (fits (length columns)) (text (length columns)) columns
-
-  pub fitting : not r ≡ false → put out ≡ put (blanks (length out))
-  fitting e = let yes : fits (length out) ≡ true = sym told ∙ not-false r e in rw (blanks-length (length out), yes)
-
-  pub too_wide : (after : List ℕ) → after ≡ put out → not r ≡ true → blanks (length after) ≡ put (blanks (length out))
-  too_wide after kept e =
-      let no : fits (length out) ≡ false = sym told ∙ not-true r e in
-      let same : after ≡ out = rw no at kept in
-      rw (blanks-length (length out), no, same)
+use Rattle.layout.proofs.Inked.{Fills, fills-end, blank-fills}
 
 -- where a field ends that fills its columns or is blank
 module _ (first last : ℕ) (begins : 1 ≤ first) (some : first ≤ last) (earlier : ℕ) {shown : Bool} {bytes : List ℕ} (f : Fills shown (last - (first - 1)) bytes) where
@@ -35,20 +22,6 @@ module _ (first last : ℕ) (begins : 1 ≤ first) (some : first ≤ last) (earl
       let ends : first - 1 + w ≡ last = omega arith in
       e ∙ ap (λ (t : Bool). cond t last earlier) same ∙ ap (λ (n : ℕ). cond shown n earlier) (sym ends) ∙ sym (fills-end (first - 1) earlier (omega arith) f)
 
--- a number that may be unknown: it is blank where it is the one for unknown or does not fit
-module _ (w n unknown : ℕ) (fits : Bool) (told : fits ≡ fits_whole w n) where
-  pub known-blank : (eqb n unknown || not fits) ≡ true → blanks w ≡ cond (eqb n unknown) (blanks w) (put_whole n (blanks w))
-  known-blank e = go (eqb n unknown) e
-    where
-      go : (t : Bool) → (t || not fits) ≡ true → blanks w ≡ cond t (blanks w) (put_whole n (blanks w))
-      go true h = refl
-      go false h =
-          let wide : fits_whole w n ≡ false = sym told ∙ not-true fits h in
-          rw (blanks-length w, wide)
-
-  pub known-shown : (eqb n unknown || not fits) ≡ false → eqb n unknown ≡ false
-  known-shown e = go (eqb n unknown) e
-    where
-      go : (t : Bool) → (t || not fits) ≡ false → t ≡ false
-      go true h = h
-      go false h = refl
+-- where one ends that is blank
+pub blank-end : (first last earlier : ℕ) → 1 ≤ first → first ≤ last → earlier ≡ text_end (first - 1) (blanks (last - (first - 1))) earlier
+blank-end first last earlier begins some = ends_there first last begins some earlier (blank-fills (last - (first - 1))) false refl earlier refl

@@ -6,6 +6,7 @@ ghost use Rattle.layout.specs.Line.{Lays};
 ghost use Rattle.record.specs.Rows.{body_items, body_values, flag_items, flag_values, row_items, row_values, row_line};
 
 use crate::columns;
+use crate::ended::lay_ended;
 use field::write::{fits_decimal, fits_whole};
 use record::rows::UNKNOWN;
 use record::{Row, Signed};
@@ -126,11 +127,5 @@ fn put_row(line: &mut [u8], p: Row, velocity: bool)
 pub fn write_row(p: Row, velocity: bool, out: &mut [u8]) -> usize
     ensures lays { Lays (row_line velocity p) out.old result out.new }
 {
-    let n = row_end(p, velocity);
-    if n >= out.len() {
-        return n + 1;
-    }
-    put_row(&mut out[..n], p, velocity);
-    out[n] = b'\n';
-    n + 1
+    lay_ended(row_end(p, velocity), out, |line| put_row(line, p, velocity))
 }
