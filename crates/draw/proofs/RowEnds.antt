@@ -102,12 +102,12 @@ body-steps p =
     (end-item (sym (exponent-end 70 3 p.clock_exponent _ (omega arith) (omega arith)))
     ended-all))))))))))))
 
-pub body-ends : (p : Row) → body_end p ≡ end_from 1 body_items (body_values p)
-body-ends p = ends body_items (body_values p) 1 (body-steps p)
+pub body_ends : (p : Row) → body_end p ≡ end_from 1 body_items (body_values p)
+body_ends p = ends body_items (body_values p) 1 (body-steps p)
 
 -- a V line ends with its columns up to 73
-pub velocity-ends : (p : Row) → end_from 1 body_items (body_values p) ≡ line_end (row_items true) (row_values true p)
-velocity-ends p =
+pub velocity_ends : (p : Row) → end_from 1 body_items (body_values p) ≡ line_end (row_items true) (row_values true p)
+velocity_ends p =
     line-ends (row_items true) (row_values true p) (rows-tiled true) (end-item refl (end-several body_items refl (end-item refl ended-all)))
 
 -- a P line with its flags
@@ -121,7 +121,7 @@ flag-steps p =
     (end-item (sym (fills-end 79 _ (omega arith) (flag-fills 80 p.orbit_predicted (omega arith))))
     ended-all)))))
 
-pub position-ends : (p : Row) → flagged_end p ≡ line_end (row_items false) (row_values false p)
-position-ends p =
+pub position_ends : (p : Row) → flagged_end p ≡ line_end (row_items false) (row_values false p)
+position_ends p =
     line-ends (row_items false) (row_values false p) (rows-tiled false)
-    (end-item refl (end-several body_items (body-ends p) (flag-steps p)))
+    (end-item refl (end-several body_items (body_ends p) (flag-steps p)))

@@ -36,6 +36,7 @@ pub fn write_descriptor(d: Descriptor, out: &mut [u8]) -> usize
 }
 
 // The same of the second.
+#[tactic(auto, unfolding(record::specs::Descriptors::fixed_line))]
 pub fn write_characters(out: &mut [u8]) -> usize
     ensures lays { Lays (fixed_line character_items) out.old result out.new }
 {
@@ -65,6 +66,7 @@ pub fn write_bases(b: BaseLine, out: &mut [u8]) -> usize
 }
 
 // The same of the second.
+#[tactic(auto, unfolding(record::specs::Descriptors::fixed_line, field::specs::Show::show_integer, field::specs::Show::fits_integer, field::specs::Show::show_decimal, field::specs::Show::fits_decimal))]
 pub fn write_floats(out: &mut [u8]) -> usize
     ensures lays { Lays (fixed_line float_items) out.old result out.new }
 {
@@ -75,6 +77,7 @@ pub fn write_floats(out: &mut [u8]) -> usize
 }
 
 // The same of a `%i` line.
+#[tactic(auto, unfolding(record::specs::Descriptors::fixed_line, field::specs::Show::show_integer, field::specs::Show::fits_integer))]
 pub fn write_integers(out: &mut [u8]) -> usize
     ensures lays { Lays (fixed_line integer_items) out.old result out.new }
 {

@@ -34,6 +34,7 @@ pub(crate) fn write_same(line: &[u8], out: &mut [u8]) -> usize
 }
 
 // The same of the end of the file.
+#[tactic(auto, unfolding(record::specs::Descriptors::fixed_line))]
 pub fn write_end(out: &mut [u8]) -> usize
     ensures lays { Lays (fixed_line end_items) out.old result out.new }
 {

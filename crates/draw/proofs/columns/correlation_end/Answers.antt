@@ -17,4 +17,4 @@ returns c =
     rw (ne_eqb a.n.magnitude unnoted c.if-n-eq-UNNOTED.false)
     (ends_there a.first a.last (omega arith) (omega arith) a.earlier
     (signed-fills (a.last - (a.first - 1)) a.n.negative a.n.magnitude)
-    fits.result fits.ensures c.end_if.result c.end_if.ensures)
+    fits.result fits.ensures.result c.end_if.result c.end_if.ensures)

@@ -8,4 +8,4 @@ returns c =
     let a = c.args in
     let fits = c.fits_decimal-shown in
     ends_there a.first a.last (omega arith) (omega arith) a.earlier (decimal-fills (a.last - (a.first - 1)) a.places false a.m)
-    fits.result fits.ensures c.end_if.result c.end_if.ensures
+    fits.result fits.ensures.result c.end_if.result c.end_if.ensures

@@ -7,4 +7,4 @@ pub returns : goal.returns
 returns c =
     let a = c.args in
     ends_there a.first a.last (omega arith) (omega arith) a.earlier (whole-fills (a.last - (a.first - 1)) a.n)
-    c.fits_whole.result c.fits_whole.ensures c.end_if.result c.end_if.ensures
+    c.fits_whole.result c.fits_whole.ensures.result c.end_if.result c.end_if.ensures
