@@ -78,13 +78,6 @@ end_to_maneuver p = cond p.maneuver 79 (end_to_predicted p)
 abbrev pub flagged_end : Row → ℕ
 flagged_end p = cond p.orbit_predicted 80 (end_to_maneuver p)
 
--- a test from the right: the line ends here, or with what stands before
-pub ends-here : (earlier : ℕ) {test shown : Bool} {last end : ℕ} → test ≡ shown → test ≡ true → cond shown last earlier ≡ end → last ≡ end
-ends-here earlier {last = last} told shows e = ap (λ (t : Bool). cond t last earlier) (sym shows ∙ told) ∙ e
-
-pub ends-before : (last : ℕ) {test shown : Bool} {earlier end : ℕ} → test ≡ shown → test ≡ false → cond shown last earlier ≡ end → earlier ≡ end
-ends-before last {earlier = earlier} told blank e = ap (λ (t : Bool). cond t last earlier) (sym blank ∙ told) ∙ e
-
 body-steps : (p : Row) → Ends body_items (body_values p) 1 (body_end p)
 body-steps p =
     end-item (sym (fills-end 1 1 (omega arith) (identifier-fills p.satellite)))

@@ -19,7 +19,6 @@ fn fits(n: Signed) -> bool
 }
 
 // The last column up to 73 that is not blank: that of an exponent, of a number, or of the identifier.
-#[tactic(auto, using(crate::proofs::RowEnds::body_ends))]
 fn body_end(p: Row) -> usize
     ensures { result ≡ end_from 1 body_items (body_values p) }
 {
@@ -48,7 +47,6 @@ fn body_end(p: Row) -> usize
 }
 
 // The same of P up to 80: that of a flag.
-#[tactic(auto, using(crate::proofs::RowEnds::body_ends, crate::proofs::RowEnds::position_ends))]
 fn flagged_end(p: Row) -> usize
     ensures { result ≡ line_end (row_items false) (row_values false p) }
 {

@@ -1,4 +1,4 @@
-use Rattle.std.proofs.Common.{◌≡◌, ◌+◌, ◌*◌, ◌-◌, length, drop}
+use Rattle.std.proofs.Common.{◌≡◌, ◌+◌, ◌*◌, ◌-◌, drop}
 use Rattle.layout.specs.Layout.{slots_from, ones_of}
 use Rattle.layout.specs.Inking.{inked}
 use Rattle.record.specs.SlotLines.{slot_kind}
@@ -7,5 +7,5 @@ use Rattle.draw.proofs.slots.put_slots.Given as goal
 -- the slots from k on, put over the line so far, finish the line
 abbrev pub invariant-loop-k : goal.invariant-loop-k
 invariant-loop-k l =
-    (length l.line ≡ length l.initial.line)
-    × (inked (slots_from (slot_kind l.accuracies) 17 l.left 10) (ones_of l.fn.values) l.initial.line ≡ inked (slots_from (slot_kind l.accuracies) (17 - l.k-index) (l.left - l.k-index) (10 + 3 * l.k-index)) (ones_of (drop l.k-index l.fn.values)) l.line)
+    inked (slots_from (slot_kind l.accuracies) 17 l.left 10) (ones_of l.fn.values) l.initial.line
+    ≡ inked (slots_from (slot_kind l.accuracies) (17 - l.k) (l.left - l.k) (10 + 3 * l.k)) (ones_of (drop l.k l.fn.values)) l.line

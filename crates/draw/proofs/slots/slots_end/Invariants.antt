@@ -8,4 +8,4 @@ use Rattle.draw.proofs.slots.slots_end.Given as goal
 abbrev pub invariant-loop-k : goal.invariant-loop-k
 invariant-loop-k l =
     end_from l.fn.earlier (slots_from (slot_kind l.accuracies) 17 l.left 10) (ones_of l.fn.values)
-    ≡ end_from l.end (slots_from (slot_kind l.accuracies) (17 - l.k-index) (l.left - l.k-index) (10 + 3 * l.k-index)) (ones_of (drop l.k-index l.fn.values))
+    ≡ end_from l.end (slots_from (slot_kind l.accuracies) (17 - l.k) (l.left - l.k) (10 + 3 * l.k)) (ones_of (drop l.k l.fn.values))
