@@ -37,46 +37,22 @@ exponent-end before w n earlier some h =
     fills-end before earlier some (maybe-fills w (eqb n unknown) (whole-fills w n))
     ∙ ap (λ (t : Bool). cond t (before + w) earlier) (known-fits w n h)
 
-abbrev pub fits_amount : Signed → Bool
+abbrev fits_amount : Signed → Bool
 fits_amount n = fits_decimal 14 6 n.negative n.magnitude
 
--- the last column up to that of x, of y, and so on, up to 73
-abbrev pub end_to_x : Row → ℕ
-end_to_x p = cond (fits_amount p.x) 18 4
+-- the last column up to 60: that of the last number that fits
+abbrev numbers_end : Row → ℕ
+numbers_end p = cond (fits_amount p.clock) 60 (cond (fits_amount p.z) 46 (cond (fits_amount p.y) 32 (cond (fits_amount p.x) 18 4)))
 
-abbrev pub end_to_y : Row → ℕ
-end_to_y p = cond (fits_amount p.y) 32 (end_to_x p)
-
-abbrev pub end_to_z : Row → ℕ
-end_to_z p = cond (fits_amount p.z) 46 (end_to_y p)
-
-abbrev pub end_to_clock : Row → ℕ
-end_to_clock p = cond (fits_amount p.clock) 60 (end_to_z p)
-
-abbrev pub end_to_x_exponent : Row → ℕ
-end_to_x_exponent p = cond (fits_whole 2 p.x_exponent) 63 (end_to_clock p)
-
-abbrev pub end_to_y_exponent : Row → ℕ
-end_to_y_exponent p = cond (fits_whole 2 p.y_exponent) 66 (end_to_x_exponent p)
-
-abbrev pub end_to_z_exponent : Row → ℕ
-end_to_z_exponent p = cond (fits_whole 2 p.z_exponent) 69 (end_to_y_exponent p)
-
+-- up to 73: that of the last exponent that fits, else of the numbers
 abbrev pub body_end : Row → ℕ
-body_end p = cond (fits_whole 3 p.clock_exponent) 73 (end_to_z_exponent p)
+body_end p =
+    cond (fits_whole 3 p.clock_exponent) 73
+    (cond (fits_whole 2 p.z_exponent) 69 (cond (fits_whole 2 p.y_exponent) 66 (cond (fits_whole 2 p.x_exponent) 63 (numbers_end p))))
 
--- and up to the flags
-abbrev pub end_to_event : Row → ℕ
-end_to_event p = cond p.event 75 (body_end p)
-
-abbrev pub end_to_predicted : Row → ℕ
-end_to_predicted p = cond p.predicted 76 (end_to_event p)
-
-abbrev pub end_to_maneuver : Row → ℕ
-end_to_maneuver p = cond p.maneuver 79 (end_to_predicted p)
-
+-- up to 80: that of the last flag that is set, else of what stands before
 abbrev pub flagged_end : Row → ℕ
-flagged_end p = cond p.orbit_predicted 80 (end_to_maneuver p)
+flagged_end p = cond p.orbit_predicted 80 (cond p.maneuver 79 (cond p.predicted 76 (cond p.event 75 (body_end p))))
 
 body-steps : (p : Row) → Ends body_items (body_values p) 1 (body_end p)
 body-steps p =

@@ -23,10 +23,10 @@ pub(crate) fn put_number(out: &mut [u8], n: u64)
 }
 
 // A decimal in all of `out`.
-fn put_places(out: &mut [u8], places: usize, negative: bool, m: u64)
-    ensures { out.new ≡ shown_in (signed places) (length out.old) (amount negative m) }
+fn put_places(out: &mut [u8], places: usize, n: Signed)
+    ensures { out.new ≡ shown_in (signed places) (length out.old) (amount n.negative n.magnitude) }
 {
-    if !field::write::put_decimal(out, places, negative, m) {
+    if !field::write::put_decimal(out, places, n.negative, n.magnitude) {
         out.fill(b' ');
     }
 }
@@ -145,7 +145,11 @@ pub(crate) fn ink_decimal(line: &mut [u8], places: usize, m: u64, first: usize, 
     requires { (1 ≤ first) × (first ≤ last) }
     ensures { line.new ≡ inked_whole first last (shown_in (decimal places 0 0) (last - (first - 1)) (one m)) line.old }
 {
-    ink_in(line, first, last, |part| put_places(part, places, false, m));
+    let n = Signed {
+        negative: false,
+        magnitude: m,
+    };
+    ink_in(line, first, last, |part| put_places(part, places, n));
 }
 
 // A number of 14 columns with a sign: so many in any line, which the compiler makes use of.
@@ -153,7 +157,7 @@ pub(crate) fn ink_signed(line: &mut [u8], n: Signed, first: usize, last: usize)
     requires { (1 ≤ first) × (last ≡ first + 13) }
     ensures { line.new ≡ inked_whole first last (shown_in (signed 6) (last - (first - 1)) (amount n.negative n.magnitude)) line.old }
 {
-    ink_in(line, first, first + 13, |part| put_places(part, 6, n.negative, n.magnitude));
+    ink_in(line, first, first + 13, |part| put_places(part, 6, n));
 }
 
 pub(crate) fn ink_known(line: &mut [u8], n: u64, unknown: u64, first: usize, last: usize)
