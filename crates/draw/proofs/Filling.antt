@@ -1,27 +1,35 @@
--- A field that is written, or filled with blanks where its number does not fit: either way it is the number written over blanks.
+-- Where a field ends that fills its columns or is blank.
 -- Assumes nothing.
-use mathlib.Core.Path.{◌≡◌, refl, sym, ap, ◌∙◌}
-use mathlib.Core.Bool.{Bool, true, false, cond, not, ◌||◌}
+use mathlib.Core.Path.{◌≡◌, ap, ◌∙◌}
+use mathlib.Core.Bool.{Bool, false, cond}
 use mathlib.Core.List.{List}
-use Prim.Native.Nat.{ℕ, ◌+◌, ◌-◌, ◌≤◌}
+use Prim.Native.Nat.{ℕ, ◌-◌, ◌+◌, ◌≤◌}
 use native.Mathlib.Omega.{arith}
-use borrow.Author.Tests.{not-false, not-true}
-use lib.Dec.{eqb}
-use lib.ListN.{length}
 use Rattle.laws.specs.Texts.{blanks}
-use Rattle.field.specs.Show.{written, fits_whole, put_whole}
+use Rattle.field.specs.Show.{fits_whole, fits_signed, fits_decimal, put_signed}
+use Rattle.layout.specs.Kind.{shown_in}
+use Rattle.layout.specs.Kind.Kind.{whole, decimal}
+use Rattle.layout.specs.Kind.Held.{one}
 use Rattle.layout.specs.Inking.{text_end}
-use Rattle.layout.proofs.Lines.{blanks-length}
-use Rattle.layout.proofs.Inked.{Fills, fills-end, blank-fills}
+use Rattle.layout.proofs.Inked.{Fills, fills-end, blank-fills, whole-fills, decimal-fills, signed-fills}
 
--- where a field ends that fills its columns or is blank
-module _ (first last : ℕ) (begins : 1 ≤ first) (some : first ≤ last) (earlier : ℕ) {shown : Bool} {bytes : List ℕ} (f : Fills shown (last - (first - 1)) bytes) where
-  pub ends_there : (fits : Bool) → fits ≡ shown → (r : ℕ) → r ≡ cond fits last earlier → r ≡ text_end (first - 1) bytes earlier
-  ends_there fits same r e =
-      let w = last - (first - 1) in
-      let ends : first - 1 + w ≡ last = omega arith in
-      e ∙ ap (λ (t : Bool). cond t last earlier) same ∙ ap (λ (n : ℕ). cond shown n earlier) (sym ends) ∙ sym (fills-end (first - 1) earlier (omega arith) f)
+module _ (first last earlier : ℕ) (begins : 1 ≤ first) (some : first ≤ last) where
+  abbrev wide : ℕ
+  wide = last - (first - 1)
 
--- where one ends that is blank
-pub blank-end : (first last earlier : ℕ) → 1 ≤ first → first ≤ last → earlier ≡ text_end (first - 1) (blanks (last - (first - 1))) earlier
-blank-end first last earlier begins some = ends_there first last begins some earlier (blank-fills (last - (first - 1))) false refl earlier refl
+  filled : {shown : Bool} {bytes : List ℕ} → Fills shown wide bytes → text_end (first - 1) bytes earlier ≡ cond shown last earlier
+  filled {shown} f =
+      let ends : first - 1 + wide ≡ last = omega arith in
+      fills-end (first - 1) earlier (omega arith) f ∙ ap (λ (n : ℕ). cond shown n earlier) ends
+
+  pub blank_end : text_end (first - 1) (blanks wide) earlier ≡ earlier
+  blank_end = filled (blank-fills wide)
+
+  pub whole_end : (n : ℕ) → text_end (first - 1) (shown_in (whole 0 0) wide (one n)) earlier ≡ cond (fits_whole wide n) last earlier
+  whole_end n = filled (whole-fills wide n)
+
+  pub decimal_end : (places m : ℕ) → text_end (first - 1) (shown_in (decimal places 0 0) wide (one m)) earlier ≡ cond (fits_decimal wide places false m) last earlier
+  decimal_end places m = filled (decimal-fills wide places false m)
+
+  pub signed_end : (negative : Bool) (m : ℕ) → text_end (first - 1) (put_signed negative m (blanks wide)) earlier ≡ cond (fits_signed wide negative m) last earlier
+  signed_end negative m = filled (signed-fills wide negative m)

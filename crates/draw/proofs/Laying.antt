@@ -3,14 +3,13 @@
 use mathlib.Core.Path.{◌≡◌, sym, ap, ◌∙◌}
 use mathlib.Core.Bool.{true}
 use mathlib.Core.List.{List, [], ◌∷◌, ◌++◌}
-use Prim.Native.Nat.{ℕ, ◌+◌, ◌≤◌, ◌<◌, ◌^◌}
+use Prim.Native.Nat.{ℕ, ◌+◌, ◌≤◌, ◌<◌}
 use native.Mathlib.Numerals.{add-one}
 use native.Mathlib.Omega.{arith}
 use borrow.Author.Tests.{le-leb, lt-leb}
-use lib.ListN.{length, take, drop, set, length-append}
-use lib.Seq.{length-take-le}
+use lib.ListN.{length, drop, set, length-append}
 use Rattle.layout.specs.Layout.{Item, Values, tiled, show_line}
-use Rattle.layout.specs.Line.{Lays, trimmed, ended}
+use Rattle.layout.specs.Line.{Lays, trimmed}
 use Rattle.layout.specs.Inking.{line_end, inked}
 use Rattle.layout.proofs.Lines.{copy_ended}
 use Rattle.layout.proofs.Inking.{inked-line, end-bound}

@@ -218,6 +218,7 @@ fn end_if(shown: bool, last: usize, earlier: usize) -> usize
 }
 
 // The same of a whole number, by its columns; of a decimal; of a number or a correlation that may be unknown.
+#[tactic(auto, using(crate::proofs::Filling::whole_end))]
 pub(crate) fn whole_end(n: u64, first: usize, last: usize, earlier: usize) -> usize
     requires { (1 ≤ first) × (first ≤ last) }
     ensures { result ≡ text_end (first - 1) (shown_in (whole 0 0) (last - (first - 1)) (one n)) earlier }
@@ -229,6 +230,7 @@ pub(crate) fn whole_end(n: u64, first: usize, last: usize, earlier: usize) -> us
     )
 }
 
+#[tactic(auto, using(crate::proofs::Filling::decimal_end))]
 pub(crate) fn decimal_end(places: usize, m: u64, first: usize, last: usize, earlier: usize) -> usize
     requires { (1 ≤ first) × (first ≤ last) }
     ensures { result ≡ text_end (first - 1) (shown_in (decimal places 0 0) (last - (first - 1)) (one m)) earlier }
@@ -237,6 +239,7 @@ pub(crate) fn decimal_end(places: usize, m: u64, first: usize, last: usize, earl
     end_if(shown, last, earlier)
 }
 
+#[tactic(auto, using(crate::proofs::Filling::blank_end))]
 pub(crate) fn known_end(n: u64, unknown: u64, first: usize, last: usize, earlier: usize) -> usize
     requires { (1 ≤ first) × (first ≤ last) }
     ensures { result ≡ text_end (first - 1) (shown_in (maybe unknown) (last - (first - 1)) (one n)) earlier }
@@ -247,6 +250,7 @@ pub(crate) fn known_end(n: u64, unknown: u64, first: usize, last: usize, earlier
     whole_end(n, first, last, earlier)
 }
 
+#[tactic(auto, using(crate::proofs::Filling::blank_end, crate::proofs::Filling::signed_end))]
 pub(crate) fn correlation_end(n: Signed, first: usize, last: usize, earlier: usize) -> usize
     requires { (1 ≤ first) × (first ≤ last) }
     ensures { result ≡ text_end (first - 1) (shown_in correlation (last - (first - 1)) (amount n.negative n.magnitude)) earlier }

@@ -1,4 +1,4 @@
-use Rattle.std.proofs.Common.{◌≡◌, ◌-◌, List, ℕ, refl, sym, arith, length, take, drop, length-take, length-drop}
+use Rattle.std.proofs.Common.{◌≡◌, ◌-◌, refl, sym, arith, length, take, drop, length-take, length-drop}
 use Rattle.layout.proofs.Inking.{past-whole, reached}
 use Rattle.draw.proofs.columns.ink_in.Goals as goal
 

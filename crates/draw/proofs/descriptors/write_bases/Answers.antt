@@ -1,6 +1,4 @@
 use Rattle.std.proofs.Common.{rules, sym}
-use Rattle.layout.specs.Layout.{show_line}
-use Rattle.layout.specs.Line.{trimmed}
 use Rattle.field.specs.Show.{show_integer, fits_integer, show_decimal, fits_decimal}
 use Rattle.record.specs.Descriptors.{base_items, base_values, base_line}
 use Rattle.record.specs.declared.types.BaseLine.{BaseLine}

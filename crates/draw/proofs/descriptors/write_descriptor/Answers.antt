@@ -1,6 +1,4 @@
 use Rattle.std.proofs.Common.{rules, sym}
-use Rattle.layout.specs.Layout.{show_line}
-use Rattle.layout.specs.Line.{trimmed}
 use Rattle.record.specs.Descriptors.{descriptor_items, descriptor_values, descriptor_line}
 use Rattle.record.specs.declared.types.Descriptor.{Descriptor}
 use Rattle.record.proofs.Tiled.{descriptor-tiled}

@@ -1,6 +1,4 @@
 use Rattle.std.proofs.Common.{◌≡◌, ℕ, rules, Bool}
-use Rattle.layout.specs.Layout.{show_line}
-use Rattle.layout.specs.Line.{trimmed}
 use Rattle.layout.specs.Inking.{line_end}
 use Rattle.record.specs.Notes.{correlation_items, note_values, note_line}
 use Rattle.record.specs.declared.types.Note.{Note}

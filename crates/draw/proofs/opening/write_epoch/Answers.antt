@@ -1,6 +1,4 @@
 use Rattle.std.proofs.Common.{◌≡◌, ℕ, rules}
-use Rattle.layout.specs.Layout.{show_line}
-use Rattle.layout.specs.Line.{trimmed}
 use Rattle.layout.specs.Inking.{end_from}
 use Rattle.record.specs.Times.{time_items, moment_values}
 use Rattle.record.specs.Opening.{epoch_items, epoch_values, epoch_line}

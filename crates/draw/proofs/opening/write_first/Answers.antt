@@ -1,6 +1,4 @@
 use Rattle.std.proofs.Common.{◌≡◌, ℕ, rules}
-use Rattle.layout.specs.Layout.{show_line}
-use Rattle.layout.specs.Line.{trimmed}
 use Rattle.layout.specs.Inking.{line_end}
 use Rattle.record.specs.Opening.{first_items, first_values, first_line}
 use Rattle.header.specs.declared.types.Rules.{Rules}

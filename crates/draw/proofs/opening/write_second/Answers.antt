@@ -1,6 +1,4 @@
 use Rattle.std.proofs.Common.{◌≡◌, ℕ, rules}
-use Rattle.layout.specs.Layout.{show_line}
-use Rattle.layout.specs.Line.{trimmed}
 use Rattle.layout.specs.Inking.{line_end}
 use Rattle.record.specs.Opening.{second_items, second_values, second_line}
 use Rattle.record.specs.declared.types.Second.{Second}

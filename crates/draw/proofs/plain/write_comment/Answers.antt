@@ -1,6 +1,4 @@
 use Rattle.std.proofs.Common.{◌≡◌, ℕ, rules, List, [], ◌∷◌}
-use Rattle.layout.specs.Layout.{show_line}
-use Rattle.layout.specs.Line.{trimmed}
 use Rattle.layout.specs.Kind.{shown_text}
 use Rattle.layout.specs.Kind.Held.{words}
 use Rattle.layout.specs.Inking.{text_end}

@@ -1,6 +1,4 @@
 use Rattle.std.proofs.Common.{◌≡◌, ℕ, rules}
-use Rattle.layout.specs.Layout.{show_line}
-use Rattle.layout.specs.Line.{trimmed}
 use Rattle.layout.specs.Inking.{line_end}
 use Rattle.record.specs.SlotLines.{satellite_items, satellites_values, satellites_line}
 use Rattle.header.specs.declared.types.Rules.{Rules}

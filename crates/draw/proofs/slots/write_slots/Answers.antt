@@ -1,6 +1,4 @@
 use Rattle.std.proofs.Common.{◌≡◌, ℕ, rules, Bool}
-use Rattle.layout.specs.Layout.{show_line}
-use Rattle.layout.specs.Line.{trimmed}
 use Rattle.layout.specs.Inking.{line_end}
 use Rattle.layout.specs.Layout.{ones_of}
 use Rattle.record.specs.SlotLines.{more_items, more_line}
