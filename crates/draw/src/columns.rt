@@ -37,9 +37,9 @@ fn put_known(out: &mut [u8], n: u64, unknown: u64)
 {
     if (n == unknown) | !field::write::fits_whole(out.len(), n) {
         out.fill(b' ');
-        return;
+    } else {
+        put_number(out, n);
     }
-    put_number(out, n);
 }
 
 // A whole number with a sign in all of `out`.
@@ -57,9 +57,9 @@ fn put_correlation(out: &mut [u8], n: Signed)
 {
     if n.magnitude == UNNOTED {
         out.fill(b' ');
-        return;
+    } else {
+        put_signed(out, n);
     }
-    put_signed(out, n);
 }
 
 // A text in all of `out`.

@@ -85,9 +85,6 @@ fn put_note(line: &mut [u8], n: Note, velocity: bool)
 pub fn write_note(n: Note, velocity: bool, out: &mut [u8]) -> usize
     ensures lays { Lays (note_line velocity n) out.old result out.new }
 {
-    lay_ended(
-        note_end(n, velocity),
-        out,
-        |line| put_note(line, n, velocity),
-    )
+    let end = note_end(n, velocity);
+    lay_ended(end, out, |line| put_note(line, n, velocity))
 }

@@ -147,9 +147,6 @@ fn put_epoch(line: &mut [u8], m: Moment)
 pub fn write_epoch(e: Epoch, out: &mut [u8]) -> usize
     ensures lays { Lays (epoch_line e) out.old result out.new }
 {
-    lay_ended(
-        moment_end(e.moment, 1),
-        out,
-        |line| put_epoch(line, e.moment),
-    )
+    let end = moment_end(e.moment, 1);
+    lay_ended(end, out, |line| put_epoch(line, e.moment))
 }

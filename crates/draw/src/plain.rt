@@ -22,11 +22,8 @@ fn put_comment(line: &mut [u8], text: &[u8])
 pub fn write_comment(text: &[u8], out: &mut [u8]) -> usize
     ensures lays { Lays (comment_line text.now) out.old result out.new }
 {
-    lay_ended(
-        columns::text_end(text, 4, 80, 2),
-        out,
-        |line| put_comment(line, text),
-    )
+    let end = columns::text_end(text, 4, 80, 2);
+    lay_ended(end, out, |line| put_comment(line, text))
 }
 
 // The same of a line that is always the same, of up to 80 columns of which the last is not blank.

@@ -71,9 +71,10 @@ fn row_end(p: Row, velocity: bool) -> usize
     ensures { result ≡ line_end (row_items velocity) (row_values velocity p) }
 {
     if velocity {
-        return body_end(p);
+        body_end(p)
+    } else {
+        flagged_end(p)
     }
-    flagged_end(p)
 }
 
 // Columns 2 to 73 of a line.
@@ -119,9 +120,9 @@ fn put_row(line: &mut [u8], p: Row, velocity: bool)
     put_body(line, p);
     if velocity {
         columns::ink_blank(line, 74, 80);
-        return;
+    } else {
+        put_flags(line, p);
     }
-    put_flags(line, p);
 }
 
 // A P line, or a V line where `velocity` says so, laid at the front of `out`, where there is room, and its length in any case.

@@ -29,12 +29,10 @@ fn ink_slot(line: &mut [u8], accuracies: bool, used: bool, value: u64, first: us
     requires { (1 ≤ first) × (first ≤ 58) }
     ensures { line.new ≡ inked_whole first (first + 2) (shown_in (slot_for used (slot_kind accuracies)) 3 (one value)) line.old }
 {
-    columns::ink_in(
-        line,
-        first,
-        first + 2,
-        |part| put_slot(part, accuracies, used, value),
-    );
+    let last = first + 2;
+    columns::ink_in(line, first, last, |part| {
+        put_slot(part, accuracies, used, value)
+    });
 }
 
 // The slots of a line, of which the first `left` are of satellites.
@@ -93,11 +91,8 @@ fn put_satellites(line: &mut [u8], rules: Rules, s: Satellites)
 pub fn write_satellites(rules: Rules, s: Satellites, out: &mut [u8]) -> usize
     ensures lays { Lays (satellites_line rules s) out.old result out.new }
 {
-    lay_ended(
-        satellites_end(rules, s),
-        out,
-        |line| put_satellites(line, rules, s),
-    )
+    let end = satellites_end(rules, s);
+    lay_ended(end, out, |line| put_satellites(line, rules, s))
 }
 
 // The symbol of a further line.
@@ -131,9 +126,6 @@ fn put_more(line: &mut [u8], s: Slots, accuracies: bool, left: u64)
 pub fn write_slots(s: Slots, accuracies: bool, left: u64, out: &mut [u8]) -> usize
     ensures lays { Lays (more_line accuracies left s) out.old result out.new }
 {
-    lay_ended(
-        more_end(s, accuracies, left),
-        out,
-        |line| put_more(line, s, accuracies, left),
-    )
+    let end = more_end(s, accuracies, left);
+    lay_ended(end, out, |line| put_more(line, s, accuracies, left))
 }

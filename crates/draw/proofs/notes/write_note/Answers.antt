@@ -10,11 +10,11 @@ ends : (note : Note) (velocity : Bool) {n : ℕ} → n ≡ line_end (correlation
 ends note velocity told = record { tiles = correlation-tiled velocity; told = told }
 
 pub lay_ended-requires-clause-short : goal.lay_ended-requires-clause-short
-lay_ended-requires-clause-short c = let a = c.args in short (ends a.n a.velocity c.note_end.ensures)
+lay_ended-requires-clause-short c = let a = c.args in short (ends a.n a.velocity c.note_end-end.ensures)
 
 pub returns : goal.returns
 unfolding note_line
 returns c =
     let a = c.args in
-    let there = ends a.n a.velocity c.note_end.ensures in
+    let there = ends a.n a.velocity c.note_end-end.ensures in
     record { lays = c.lay_ended.ensures _ (long there) (λ old new wide met. put-line there old wide (search rules)) }

@@ -12,11 +12,11 @@ ends : (e : Epoch) {n : ℕ} → n ≡ end_from 1 time_items (moment_values e.mo
 ends e told = record { tiles = epoch-tiled; told = rw (line-end epoch_items (epoch_values e) epoch-tiled) (search rules) }
 
 pub lay_ended-requires-clause-short : goal.lay_ended-requires-clause-short
-lay_ended-requires-clause-short c = let a = c.args in short (ends a.e c.moment_end.ensures)
+lay_ended-requires-clause-short c = let a = c.args in short (ends a.e c.moment_end-end.ensures)
 
 pub returns : goal.returns
 unfolding epoch_line
 returns c =
     let a = c.args in
-    let there = ends a.e c.moment_end.ensures in
+    let there = ends a.e c.moment_end-end.ensures in
     record { lays = c.lay_ended.ensures _ (long there) (λ old new wide met. put-line there old wide (search rules)) }

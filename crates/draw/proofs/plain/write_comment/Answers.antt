@@ -12,11 +12,11 @@ ends : (text : List ℕ) {n : ℕ} → n ≡ text_end 3 (shown_text 77 text) 2 �
 ends text told = record { tiles = comment-tiled; told = rw (line-end comment_items (words text ∷ []) comment-tiled) (search rules) }
 
 pub lay_ended-requires-clause-short : goal.lay_ended-requires-clause-short
-lay_ended-requires-clause-short c = let a = c.args in short (ends a.text.now c.text_end.ensures)
+lay_ended-requires-clause-short c = let a = c.args in short (ends a.text.now c.text_end-end.ensures)
 
 pub returns : goal.returns
 unfolding comment_line
 returns c =
     let a = c.args in
-    let there = ends a.text.now c.text_end.ensures in
+    let there = ends a.text.now c.text_end-end.ensures in
     record { lays = c.lay_ended.ensures _ (long there) (λ old new wide met. put-line there old wide (search rules)) }

@@ -11,11 +11,11 @@ ends : (rules : Rules) (s : Satellites) {n : ℕ} → n ≡ line_end (satellite_
 ends rules s told = record { tiles = satellites-tiled rules s.count; told = told }
 
 pub lay_ended-requires-clause-short : goal.lay_ended-requires-clause-short
-lay_ended-requires-clause-short c = let a = c.args in short (ends a.rules a.s c.satellites_end.ensures)
+lay_ended-requires-clause-short c = let a = c.args in short (ends a.rules a.s c.satellites_end-end.ensures)
 
 pub returns : goal.returns
 unfolding satellites_line
 returns c =
     let a = c.args in
-    let there = ends a.rules a.s c.satellites_end.ensures in
+    let there = ends a.rules a.s c.satellites_end-end.ensures in
     record { lays = c.lay_ended.ensures _ (long there) (λ old new wide met. put-line there old wide (search rules)) }

@@ -11,11 +11,11 @@ ends : (s : Slots) (accuracies : Bool) (left : ℕ) {n : ℕ} → n ≡ line_end
 ends s accuracies left told = record { tiles = more-tiled accuracies left; told = told }
 
 pub lay_ended-requires-clause-short : goal.lay_ended-requires-clause-short
-lay_ended-requires-clause-short c = let a = c.args in short (ends a.s a.accuracies a.left c.more_end.ensures)
+lay_ended-requires-clause-short c = let a = c.args in short (ends a.s a.accuracies a.left c.more_end-end.ensures)
 
 pub returns : goal.returns
 unfolding more_line
 returns c =
     let a = c.args in
-    let there = ends a.s a.accuracies a.left c.more_end.ensures in
+    let there = ends a.s a.accuracies a.left c.more_end-end.ensures in
     record { lays = c.lay_ended.ensures _ (long there) (λ old new wide met. put-line there old wide (search rules)) }
