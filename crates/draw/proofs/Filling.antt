@@ -1,54 +1,35 @@
--- A field that is written, or filled with blanks where its number does not fit: either way it is the number written over blanks.
+-- Where a field ends that fills its columns or is blank.
 -- Assumes nothing.
-use mathlib.Core.Path.{◌≡◌, refl, sym, ap, ◌∙◌}
-use mathlib.Core.Bool.{Bool, true, false, cond, not, ◌||◌}
+use mathlib.Core.Path.{◌≡◌, ap, ◌∙◌}
+use mathlib.Core.Bool.{Bool, false, cond}
 use mathlib.Core.List.{List}
-use Prim.Native.Nat.{ℕ, ◌+◌, ◌-◌, ◌≤◌}
+use Prim.Native.Nat.{ℕ, ◌-◌, ◌+◌, ◌≤◌}
 use native.Mathlib.Omega.{arith}
-use borrow.Author.Tests.{not-false, not-true}
-use lib.Dec.{eqb}
-use lib.ListN.{length}
 use Rattle.laws.specs.Texts.{blanks}
-use Rattle.field.specs.Show.{written, fits_whole, put_whole}
+use Rattle.field.specs.Show.{fits_whole, fits_signed, fits_decimal, put_signed}
+use Rattle.layout.specs.Kind.{shown_in}
+use Rattle.layout.specs.Kind.Kind.{whole, decimal}
+use Rattle.layout.specs.Kind.Held.{one}
 use Rattle.layout.specs.Inking.{text_end}
-use Rattle.layout.proofs.Lines.{blanks-length}
-use Rattle.layout.proofs.Inked.{Fills, fills-end}
+use Rattle.layout.proofs.Inked.{Fills, fills-end, blank-fills, whole-fills, decimal-fills, signed-fills}
 
-module _ (fits : ℕ → Bool) (text : ℕ → List ℕ) (out : List ℕ) (r : Bool) (told : r ≡ fits (length out)) where
-  abbrev put : List ℕ → List ℕ
-  put columns = written (fits (length columns)) (text (length columns)) columns
+module _ (first last earlier : ℕ) (begins : 1 ≤ first) (some : first ≤ last) where
+  abbrev wide : ℕ
+  wide = last - (first - 1)
 
-  pub fitting : not r ≡ false → put out ≡ put (blanks (length out))
-  fitting e = let yes : fits (length out) ≡ true = sym told ∙ not-false r e in rw (blanks-length (length out), yes)
+  filled : {shown : Bool} {bytes : List ℕ} → Fills shown wide bytes → text_end (first - 1) bytes earlier ≡ cond shown last earlier
+  filled {shown} f =
+      let ends : first - 1 + wide ≡ last = omega arith in
+      fills-end (first - 1) earlier (omega arith) f ∙ ap (λ (n : ℕ). cond shown n earlier) ends
 
-  pub too_wide : (after : List ℕ) → after ≡ put out → not r ≡ true → blanks (length after) ≡ put (blanks (length out))
-  too_wide after kept e =
-      let no : fits (length out) ≡ false = sym told ∙ not-true r e in
-      let same : after ≡ out = rw no at kept in
-      rw (blanks-length (length out), no, same)
+  pub blank_end : text_end (first - 1) (blanks wide) earlier ≡ earlier
+  blank_end = filled (blank-fills wide)
 
--- where a field ends that fills its columns or is blank
-module _ (first last : ℕ) (begins : 1 ≤ first) (some : first ≤ last) (earlier : ℕ) {shown : Bool} {bytes : List ℕ} (f : Fills shown (last - (first - 1)) bytes) where
-  pub ends_there : (fits : Bool) → fits ≡ shown → (r : ℕ) → r ≡ cond fits last earlier → r ≡ text_end (first - 1) bytes earlier
-  ends_there fits same r e =
-      let w = last - (first - 1) in
-      let ends : first - 1 + w ≡ last = omega arith in
-      e ∙ ap (λ (t : Bool). cond t last earlier) same ∙ ap (λ (n : ℕ). cond shown n earlier) (sym ends) ∙ sym (fills-end (first - 1) earlier (omega arith) f)
+  pub whole_end : (n : ℕ) → text_end (first - 1) (shown_in (whole 0 0) wide (one n)) earlier ≡ cond (fits_whole wide n) last earlier
+  whole_end n = filled (whole-fills wide n)
 
--- a number that may be unknown: it is blank where it is the one for unknown or does not fit
-module _ (w n unknown : ℕ) (fits : Bool) (told : fits ≡ fits_whole w n) where
-  pub known-blank : (eqb n unknown || not fits) ≡ true → blanks w ≡ cond (eqb n unknown) (blanks w) (put_whole n (blanks w))
-  known-blank e = go (eqb n unknown) e
-    where
-      go : (t : Bool) → (t || not fits) ≡ true → blanks w ≡ cond t (blanks w) (put_whole n (blanks w))
-      go true h = refl
-      go false h =
-          let wide : fits_whole w n ≡ false = sym told ∙ not-true fits h in
-          rw (blanks-length w, wide)
+  pub decimal_end : (places m : ℕ) → text_end (first - 1) (shown_in (decimal places 0 0) wide (one m)) earlier ≡ cond (fits_decimal wide places false m) last earlier
+  decimal_end places m = filled (decimal-fills wide places false m)
 
-  pub known-shown : (eqb n unknown || not fits) ≡ false → eqb n unknown ≡ false
-  known-shown e = go (eqb n unknown) e
-    where
-      go : (t : Bool) → (t || not fits) ≡ false → t ≡ false
-      go true h = h
-      go false h = refl
+  pub signed_end : (negative : Bool) (m : ℕ) → text_end (first - 1) (put_signed negative m (blanks wide)) earlier ≡ cond (fits_signed wide negative m) last earlier
+  signed_end negative m = filled (signed-fills wide negative m)

@@ -3,14 +3,13 @@
 use mathlib.Core.Path.{◌≡◌, sym, ap, ◌∙◌}
 use mathlib.Core.Bool.{true}
 use mathlib.Core.List.{List, [], ◌∷◌, ◌++◌}
-use Prim.Native.Nat.{ℕ, ◌+◌, ◌≤◌, ◌<◌, ◌^◌}
+use Prim.Native.Nat.{ℕ, ◌+◌, ◌≤◌, ◌<◌}
 use native.Mathlib.Numerals.{add-one}
 use native.Mathlib.Omega.{arith}
 use borrow.Author.Tests.{le-leb, lt-leb}
-use lib.ListN.{length, take, drop, set, length-append}
-use lib.Seq.{length-take-le}
+use lib.ListN.{length, drop, set, length-append}
 use Rattle.layout.specs.Layout.{Item, Values, tiled, show_line}
-use Rattle.layout.specs.Line.{Lays, trimmed, ended}
+use Rattle.layout.specs.Line.{Lays, trimmed}
 use Rattle.layout.specs.Inking.{line_end, inked}
 use Rattle.layout.proofs.Lines.{copy_ended}
 use Rattle.layout.proofs.Inking.{inked-line, end-bound}
@@ -43,23 +42,13 @@ pub record EndsIn (items : List Item) (vs : Values) (n : ℕ) : Type 0 where
   pub told : n ≡ line_end items vs
 
 module _ {items : List Item} {vs : Values} {n : ℕ} (ends : EndsIn items vs n) where
-  -- its length is a machine number
-  pub length-fits : n + 1 < 2 ^ 64
-  length-fits = omega (arith, ends.told, end-bound items vs ends.tiles)
+  pub short : n ≤ 80
+  short = omega (arith, ends.told, end-bound items vs ends.tiles)
 
-  -- there is no room for it
-  pub left_out : (out : List ℕ) → length out ≤ n → Lays (ended (show_line items vs)) out (n + 1) out
+  pub long : length (trimmed (show_line items vs)) ≡ n
   unfolding line_end
-  left_out out short = no_room (trimmed (show_line items vs)) out n ends.told short
+  long = sym ends.told
 
-  -- it was laid over the first n bytes, and its LF after it
-  pub cut-laid : (out : List ℕ) {part : List ℕ} → n < length out → part ≡ trimmed (show_line items vs)
-      → Lays (ended (show_line items vs)) out (n + 1) (set (part ++ drop n out) n 10)
-  unfolding line_end
-  cut-laid out long same = rw same (laid-over (trimmed (show_line items vs)) out n ends.told long)
-
-  -- its items were put there
-  pub put-line : (out : List ℕ) {part : List ℕ} → n < length out → part ≡ inked items vs (take n out)
-      → Lays (ended (show_line items vs)) out (n + 1) (set (part ++ drop n out) n 10)
-  put-line out long put =
-      cut-laid out long (put ∙ inked-line items vs (take n out) ends.tiles (length-take-le n out (omega arith) ∙ ends.told))
+  -- the items put over n bytes are the line
+  pub put-line : (old : List ℕ) {new : List ℕ} → length old ≡ n → new ≡ inked items vs old → new ≡ trimmed (show_line items vs)
+  put-line old wide put = put ∙ inked-line items vs old ends.tiles (wide ∙ ends.told)

@@ -37,53 +37,22 @@ exponent-end before w n earlier some h =
     fills-end before earlier some (maybe-fills w (eqb n unknown) (whole-fills w n))
     ∙ ap (λ (t : Bool). cond t (before + w) earlier) (known-fits w n h)
 
-abbrev pub fits_amount : Signed → Bool
+abbrev fits_amount : Signed → Bool
 fits_amount n = fits_decimal 14 6 n.negative n.magnitude
 
--- the last column up to that of x, of y, and so on, up to 73
-abbrev pub end_to_x : Row → ℕ
-end_to_x p = cond (fits_amount p.x) 18 4
+-- the last column up to 60: that of the last number that fits
+abbrev numbers_end : Row → ℕ
+numbers_end p = cond (fits_amount p.clock) 60 (cond (fits_amount p.z) 46 (cond (fits_amount p.y) 32 (cond (fits_amount p.x) 18 4)))
 
-abbrev pub end_to_y : Row → ℕ
-end_to_y p = cond (fits_amount p.y) 32 (end_to_x p)
-
-abbrev pub end_to_z : Row → ℕ
-end_to_z p = cond (fits_amount p.z) 46 (end_to_y p)
-
-abbrev pub end_to_clock : Row → ℕ
-end_to_clock p = cond (fits_amount p.clock) 60 (end_to_z p)
-
-abbrev pub end_to_x_exponent : Row → ℕ
-end_to_x_exponent p = cond (fits_whole 2 p.x_exponent) 63 (end_to_clock p)
-
-abbrev pub end_to_y_exponent : Row → ℕ
-end_to_y_exponent p = cond (fits_whole 2 p.y_exponent) 66 (end_to_x_exponent p)
-
-abbrev pub end_to_z_exponent : Row → ℕ
-end_to_z_exponent p = cond (fits_whole 2 p.z_exponent) 69 (end_to_y_exponent p)
-
+-- up to 73: that of the last exponent that fits, else of the numbers
 abbrev pub body_end : Row → ℕ
-body_end p = cond (fits_whole 3 p.clock_exponent) 73 (end_to_z_exponent p)
+body_end p =
+    cond (fits_whole 3 p.clock_exponent) 73
+    (cond (fits_whole 2 p.z_exponent) 69 (cond (fits_whole 2 p.y_exponent) 66 (cond (fits_whole 2 p.x_exponent) 63 (numbers_end p))))
 
--- and up to the flags
-abbrev pub end_to_event : Row → ℕ
-end_to_event p = cond p.event 75 (body_end p)
-
-abbrev pub end_to_predicted : Row → ℕ
-end_to_predicted p = cond p.predicted 76 (end_to_event p)
-
-abbrev pub end_to_maneuver : Row → ℕ
-end_to_maneuver p = cond p.maneuver 79 (end_to_predicted p)
-
+-- up to 80: that of the last flag that is set, else of what stands before
 abbrev pub flagged_end : Row → ℕ
-flagged_end p = cond p.orbit_predicted 80 (end_to_maneuver p)
-
--- a test from the right: the line ends here, or with what stands before
-pub ends-here : (earlier : ℕ) {test shown : Bool} {last end : ℕ} → test ≡ shown → test ≡ true → cond shown last earlier ≡ end → last ≡ end
-ends-here earlier {last = last} told shows e = ap (λ (t : Bool). cond t last earlier) (sym shows ∙ told) ∙ e
-
-pub ends-before : (last : ℕ) {test shown : Bool} {earlier end : ℕ} → test ≡ shown → test ≡ false → cond shown last earlier ≡ end → earlier ≡ end
-ends-before last {earlier = earlier} told blank e = ap (λ (t : Bool). cond t last earlier) (sym blank ∙ told) ∙ e
+flagged_end p = cond p.orbit_predicted 80 (cond p.maneuver 79 (cond p.predicted 76 (cond p.event 75 (body_end p))))
 
 body-steps : (p : Row) → Ends body_items (body_values p) 1 (body_end p)
 body-steps p =
@@ -102,12 +71,12 @@ body-steps p =
     (end-item (sym (exponent-end 70 3 p.clock_exponent _ (omega arith) (omega arith)))
     ended-all))))))))))))
 
-pub body-ends : (p : Row) → body_end p ≡ end_from 1 body_items (body_values p)
-body-ends p = ends body_items (body_values p) 1 (body-steps p)
+pub body_ends : (p : Row) → body_end p ≡ end_from 1 body_items (body_values p)
+body_ends p = ends body_items (body_values p) 1 (body-steps p)
 
 -- a V line ends with its columns up to 73
-pub velocity-ends : (p : Row) → end_from 1 body_items (body_values p) ≡ line_end (row_items true) (row_values true p)
-velocity-ends p =
+pub velocity_ends : (p : Row) → end_from 1 body_items (body_values p) ≡ line_end (row_items true) (row_values true p)
+velocity_ends p =
     line-ends (row_items true) (row_values true p) (rows-tiled true) (end-item refl (end-several body_items refl (end-item refl ended-all)))
 
 -- a P line with its flags
@@ -121,7 +90,7 @@ flag-steps p =
     (end-item (sym (fills-end 79 _ (omega arith) (flag-fills 80 p.orbit_predicted (omega arith))))
     ended-all)))))
 
-pub position-ends : (p : Row) → flagged_end p ≡ line_end (row_items false) (row_values false p)
-position-ends p =
+pub position_ends : (p : Row) → flagged_end p ≡ line_end (row_items false) (row_values false p)
+position_ends p =
     line-ends (row_items false) (row_values false p) (rows-tiled false)
-    (end-item refl (end-several body_items (body-ends p) (flag-steps p)))
+    (end-item refl (end-several body_items (body_ends p) (flag-steps p)))

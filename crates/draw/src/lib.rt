@@ -3,6 +3,7 @@
 
 mod columns;
 pub mod descriptors;
+mod ended;
 pub mod notes;
 pub mod opening;
 pub mod plain;

@@ -5,6 +5,7 @@ ghost use Rattle.layout.specs.Line.{Lays};
 ghost use Rattle.record.specs.Notes.{correlation_symbol, deviation_items, deviation_values, pair_items, pair_values, correlation_items, note_values, note_line};
 
 use crate::columns;
+use crate::ended::lay_ended;
 use record::Note;
 use record::notes::UNNOTED;
 
@@ -85,10 +86,5 @@ pub fn write_note(n: Note, velocity: bool, out: &mut [u8]) -> usize
     ensures lays { Lays (note_line velocity n) out.old result out.new }
 {
     let end = note_end(n, velocity);
-    if end >= out.len() {
-        return end + 1;
-    }
-    put_note(&mut out[..end], n, velocity);
-    out[end] = b'\n';
-    end + 1
+    lay_ended(end, out, |line| put_note(line, n, velocity))
 }

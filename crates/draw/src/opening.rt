@@ -6,6 +6,7 @@ ghost use Rattle.record.specs.Times.{time_items, moment_values};
 ghost use Rattle.record.specs.Opening.{text_items, text_values, first_items, first_values, first_line, second_items, second_values, second_line, epoch_items, epoch_line};
 
 use crate::columns;
+use crate::ended::lay_ended;
 use header::{Moment, Rules, Texts};
 use record::{Epoch, First, Second};
 
@@ -42,31 +43,23 @@ fn put_moment(line: &mut [u8], m: Moment)
 fn texts_end(t: Texts, earlier: usize) -> usize
     ensures { result ≡ end_from earlier text_items (text_values t) }
 {
-    let data_used = t.data_used;
-    let coordinates = t.coordinates;
-    let orbit = t.orbit;
-    let agency = t.agency;
-    let a = columns::text_end(&data_used, 41, 45, earlier);
-    let b = columns::text_end(&coordinates, 47, 51, a);
-    let c = columns::text_end(&orbit, 53, 55, b);
-    columns::text_end(&agency, 57, 60, c)
+    let a = columns::text_end(&t.data_used, 41, 45, earlier);
+    let b = columns::text_end(&t.coordinates, 47, 51, a);
+    let c = columns::text_end(&t.orbit, 53, 55, b);
+    columns::text_end(&t.agency, 57, 60, c)
 }
 
 // Columns 41 to 80 of line 1: the four texts.
 fn put_texts(line: &mut [u8], t: Texts)
     ensures { line.new ≡ inked text_items (text_values t) line.old }
 {
-    let data_used = t.data_used;
-    let coordinates = t.coordinates;
-    let orbit = t.orbit;
-    let agency = t.agency;
-    columns::ink_text(line, &data_used, 41, 45);
+    columns::ink_text(line, &t.data_used, 41, 45);
     columns::ink_blank(line, 46, 46);
-    columns::ink_text(line, &coordinates, 47, 51);
+    columns::ink_text(line, &t.coordinates, 47, 51);
     columns::ink_blank(line, 52, 52);
-    columns::ink_text(line, &orbit, 53, 55);
+    columns::ink_text(line, &t.orbit, 53, 55);
     columns::ink_blank(line, 56, 56);
-    columns::ink_text(line, &agency, 57, 60);
+    columns::ink_text(line, &t.agency, 57, 60);
     columns::ink_blank(line, 61, 80);
 }
 
@@ -101,13 +94,7 @@ fn put_first(line: &mut [u8], rules: Rules, f: First)
 pub fn write_first(rules: Rules, f: First, out: &mut [u8]) -> usize
     ensures lays { Lays (first_line rules f) out.old result out.new }
 {
-    let n = first_end(rules, f);
-    if n >= out.len() {
-        return n + 1;
-    }
-    put_first(&mut out[..n], rules, f);
-    out[n] = b'\n';
-    n + 1
+    lay_ended(first_end(rules, f), out, |line| put_first(line, rules, f))
 }
 
 // The last column of line 2 that is not blank.
@@ -143,13 +130,7 @@ fn put_second(line: &mut [u8], s: Second)
 pub fn write_second(s: Second, out: &mut [u8]) -> usize
     ensures lays { Lays (second_line s) out.old result out.new }
 {
-    let n = second_end(s);
-    if n >= out.len() {
-        return n + 1;
-    }
-    put_second(&mut out[..n], s);
-    out[n] = b'\n';
-    n + 1
+    lay_ended(second_end(s), out, |line| put_second(line, s))
 }
 
 // An epoch line in the bytes up to its end.
@@ -166,11 +147,6 @@ fn put_epoch(line: &mut [u8], m: Moment)
 pub fn write_epoch(e: Epoch, out: &mut [u8]) -> usize
     ensures lays { Lays (epoch_line e) out.old result out.new }
 {
-    let n = moment_end(e.moment, 1);
-    if n >= out.len() {
-        return n + 1;
-    }
-    put_epoch(&mut out[..n], e.moment);
-    out[n] = b'\n';
-    n + 1
+    let end = moment_end(e.moment, 1);
+    lay_ended(end, out, |line| put_epoch(line, e.moment))
 }

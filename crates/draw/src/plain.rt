@@ -7,6 +7,7 @@ ghost use Rattle.record.specs.Descriptors.{fixed_line};
 ghost use Rattle.record.specs.Plain.{comment_items, comment_line, end_items};
 
 use crate::columns;
+use crate::ended::lay_ended;
 
 // A comment of this text in the bytes up to its line's end.
 fn put_comment(line: &mut [u8], text: &[u8])
@@ -21,13 +22,8 @@ fn put_comment(line: &mut [u8], text: &[u8])
 pub fn write_comment(text: &[u8], out: &mut [u8]) -> usize
     ensures lays { Lays (comment_line text.now) out.old result out.new }
 {
-    let n = columns::text_end(text, 4, 80, 2);
-    if n >= out.len() {
-        return n + 1;
-    }
-    put_comment(&mut out[..n], text);
-    out[n] = b'\n';
-    n + 1
+    let end = columns::text_end(text, 4, 80, 2);
+    lay_ended(end, out, |line| put_comment(line, text))
 }
 
 // The same of a line that is always the same, of up to 80 columns of which the last is not blank.
@@ -35,16 +31,11 @@ pub(crate) fn write_same(line: &[u8], out: &mut [u8]) -> usize
     requires { length line.now ≤ 80 }
     ensures { Lays (line.now ++ (10 ∷ [])) out.old result out.new }
 {
-    let length = line.len();
-    if length >= out.len() {
-        return length + 1;
-    }
-    layout::copy_front(out, line);
-    out[length] = b'\n';
-    length + 1
+    lay_ended(line.len(), out, |part| part.copy_from_slice(line))
 }
 
 // The same of the end of the file.
+#[tactic(auto, unfolding(record::specs::Descriptors::fixed_line))]
 pub fn write_end(out: &mut [u8]) -> usize
     ensures lays { Lays (fixed_line end_items) out.old result out.new }
 {

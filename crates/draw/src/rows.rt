@@ -6,6 +6,7 @@ ghost use Rattle.layout.specs.Line.{Lays};
 ghost use Rattle.record.specs.Rows.{body_items, body_values, flag_items, flag_values, row_items, row_values, row_line};
 
 use crate::columns;
+use crate::ended::lay_ended;
 use field::write::{fits_decimal, fits_whole};
 use record::rows::UNKNOWN;
 use record::{Row, Signed};
@@ -65,13 +66,15 @@ fn flagged_end(p: Row) -> usize
 }
 
 // The last column of a row's line that is not blank.
+#[tactic(auto, using(crate::proofs::RowEnds::velocity_ends))]
 fn row_end(p: Row, velocity: bool) -> usize
     ensures { result ≡ line_end (row_items velocity) (row_values velocity p) }
 {
     if velocity {
-        return body_end(p);
+        body_end(p)
+    } else {
+        flagged_end(p)
     }
-    flagged_end(p)
 }
 
 // Columns 2 to 73 of a line.
@@ -117,20 +120,14 @@ fn put_row(line: &mut [u8], p: Row, velocity: bool)
     put_body(line, p);
     if velocity {
         columns::ink_blank(line, 74, 80);
-        return;
+    } else {
+        put_flags(line, p);
     }
-    put_flags(line, p);
 }
 
 // A P line, or a V line where `velocity` says so, laid at the front of `out`, where there is room, and its length in any case.
 pub fn write_row(p: Row, velocity: bool, out: &mut [u8]) -> usize
     ensures lays { Lays (row_line velocity p) out.old result out.new }
 {
-    let n = row_end(p, velocity);
-    if n >= out.len() {
-        return n + 1;
-    }
-    put_row(&mut out[..n], p, velocity);
-    out[n] = b'\n';
-    n + 1
+    lay_ended(row_end(p, velocity), out, |line| put_row(line, p, velocity))
 }

@@ -8,6 +8,7 @@ ghost use Rattle.layout.specs.Line.{Lays};
 ghost use Rattle.record.specs.SlotLines.{slot_kind, slot_items, slot_symbol, satellite_items, satellites_values, satellites_line, more_items, more_line};
 
 use crate::columns;
+use crate::ended::lay_ended;
 use header::Rules;
 use record::{Satellites, Slots};
 
@@ -16,15 +17,11 @@ fn put_slot(out: &mut [u8], accuracies: bool, used: bool, value: u64)
     requires { length out.old ≡ 3 }
     ensures { out.new ≡ shown_in (slot_for used (slot_kind accuracies)) 3 (one value) }
 {
-    if !used {
-        layout::copy_front(out, b"  0");
-        return;
+    match (used, accuracies) {
+        (false, _) => out.copy_from_slice(b"  0"),
+        (true, true) => columns::put_number(out, value),
+        (true, false) => columns::put_identifier(out, value),
     }
-    if accuracies {
-        columns::put_number(out, value);
-        return;
-    }
-    columns::put_identifier(out, value);
 }
 
 // The same in the columns of a line from `first` on.
@@ -33,23 +30,17 @@ fn ink_slot(line: &mut [u8], accuracies: bool, used: bool, value: u64, first: us
     ensures { line.new ≡ inked_whole first (first + 2) (shown_in (slot_for used (slot_kind accuracies)) 3 (one value)) line.old }
 {
     let last = first + 2;
-    if line.len() < last {
-        return;
-    }
-    put_slot(&mut line[first - 1..last], accuracies, used, value);
+    columns::ink_in(line, first, last, |part| {
+        put_slot(part, accuracies, used, value)
+    });
 }
 
 // The slots of a line, of which the first `left` are of satellites.
 fn put_slots(line: &mut [u8], accuracies: bool, left: u64, values: &[u64; 17])
     ensures { line.new ≡ inked (slot_items accuracies left) (ones_of values.now) line.old }
 {
-    let s = &values[..];
-    let mut k: usize = 0;
-    let mut first: usize = 10;
-    while k < 17 {
-        ink_slot(line, accuracies, (k as u64) < left, s[k], first);
-        first += 3;
-        k += 1;
+    for (k, value) in values.iter().enumerate() {
+        ink_slot(line, accuracies, (k as u64) < left, *value, 10 + 3 * k);
     }
 }
 
@@ -59,10 +50,7 @@ fn slot_end(accuracies: bool, used: bool, value: u64, first: usize, earlier: usi
     ensures { result ≡ text_end (first - 1) (shown_in (slot_for used (slot_kind accuracies)) 3 (one value)) earlier }
 {
     let last = first + 2;
-    if !used {
-        return last;
-    }
-    if accuracies {
+    if used && accuracies {
         return columns::whole_end(value, first, last, earlier);
     }
     last
@@ -72,14 +60,9 @@ fn slot_end(accuracies: bool, used: bool, value: u64, first: usize, earlier: usi
 fn slots_end(accuracies: bool, left: u64, values: &[u64; 17], earlier: usize) -> usize
     ensures { result ≡ end_from earlier (slot_items accuracies left) (ones_of values.now) }
 {
-    let s = &values[..];
     let mut end = earlier;
-    let mut k: usize = 0;
-    let mut first: usize = 10;
-    while k < 17 {
-        end = slot_end(accuracies, (k as u64) < left, s[k], first, end);
-        first += 3;
-        k += 1;
+    for (k, value) in values.iter().enumerate() {
+        end = slot_end(accuracies, (k as u64) < left, *value, 10 + 3 * k, end);
     }
     end
 }
@@ -88,21 +71,19 @@ fn slots_end(accuracies: bool, left: u64, values: &[u64; 17], earlier: usize) ->
 fn satellites_end(rules: Rules, s: Satellites) -> usize
     ensures { result ≡ line_end (satellite_items rules s.count) (satellites_values s) }
 {
-    let identifiers = s.identifiers;
     let count = columns::whole_end(s.count, 4, 6, 1);
-    slots_end(false, s.count, &identifiers, count)
+    slots_end(false, s.count, &s.identifiers, count)
 }
 
 // The first `+ ` line in the bytes up to its end.
 fn put_satellites(line: &mut [u8], rules: Rules, s: Satellites)
     ensures { line.new ≡ inked (satellite_items rules s.count) (satellites_values s) line.old }
 {
-    let identifiers = s.identifiers;
     columns::ink_fixed(line, b"+ ", 1, 2);
     columns::ink_blank(line, 3, 3);
     columns::ink_whole(line, s.count, 4, 6);
     columns::ink_blank(line, 7, 9);
-    put_slots(line, false, s.count, &identifiers);
+    put_slots(line, false, s.count, &s.identifiers);
     columns::ink_blank(line, 61, 80);
 }
 
@@ -110,13 +91,8 @@ fn put_satellites(line: &mut [u8], rules: Rules, s: Satellites)
 pub fn write_satellites(rules: Rules, s: Satellites, out: &mut [u8]) -> usize
     ensures lays { Lays (satellites_line rules s) out.old result out.new }
 {
-    let n = satellites_end(rules, s);
-    if n >= out.len() {
-        return n + 1;
-    }
-    put_satellites(&mut out[..n], rules, s);
-    out[n] = b'\n';
-    n + 1
+    let end = satellites_end(rules, s);
+    lay_ended(end, out, |line| put_satellites(line, rules, s))
 }
 
 // The symbol of a further line.
@@ -131,9 +107,8 @@ fn more_end(s: Slots, accuracies: bool, left: u64) -> usize
     ensures { result ≡ line_end (more_items accuracies left) (ones_of s.values) }
 {
     let symbol = symbol_of(accuracies);
-    let values = s.values;
     let first = columns::text_end(&symbol, 1, 2, 0);
-    slots_end(accuracies, left, &values, first)
+    slots_end(accuracies, left, &s.values, first)
 }
 
 // A further line in the bytes up to its end.
@@ -141,10 +116,9 @@ fn put_more(line: &mut [u8], s: Slots, accuracies: bool, left: u64)
     ensures { line.new ≡ inked (more_items accuracies left) (ones_of s.values) line.old }
 {
     let symbol = symbol_of(accuracies);
-    let values = s.values;
     columns::ink_fixed(line, &symbol, 1, 2);
     columns::ink_blank(line, 3, 9);
-    put_slots(line, accuracies, left, &values);
+    put_slots(line, accuracies, left, &s.values);
     columns::ink_blank(line, 61, 80);
 }
 
@@ -152,11 +126,6 @@ fn put_more(line: &mut [u8], s: Slots, accuracies: bool, left: u64)
 pub fn write_slots(s: Slots, accuracies: bool, left: u64, out: &mut [u8]) -> usize
     ensures lays { Lays (more_line accuracies left s) out.old result out.new }
 {
-    let n = more_end(s, accuracies, left);
-    if n >= out.len() {
-        return n + 1;
-    }
-    put_more(&mut out[..n], s, accuracies, left);
-    out[n] = b'\n';
-    n + 1
+    let end = more_end(s, accuracies, left);
+    lay_ended(end, out, |line| put_more(line, s, accuracies, left))
 }
