@@ -43,7 +43,7 @@ pub(crate) fn put_slots(accuracies: bool, lines: u64, numbers: &[u64], out: &mut
             values: shown::seventeen(rest),
         };
         at += draw::slots::write_slots(slots, accuracies, rest.len() as u64, &mut out[at..]);
-        rest = &rest[rest.len().min(17)..];
+        rest = rest.split_at(rest.len().min(17)).1;
     }
     at
 }
