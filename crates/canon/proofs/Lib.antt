@@ -4,7 +4,6 @@ pub mod Counting
 pub mod HeaderBounds
 pub mod Parts
 pub mod Parted
-pub mod Reach
 pub mod Spending
 pub mod FixedLengths
 pub mod SlotLengths

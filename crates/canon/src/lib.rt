@@ -10,4 +10,4 @@ mod types;
 
 pub use bounds::cell_width;
 pub use measuring::{form_length, measure};
-pub use types::Measured;
+pub use types::{Measured, Table};

@@ -1,11 +1,11 @@
 // The note of a row: its mark, four deviations and six correlations.
-ghost use Rattle.std.specs.Prelude.{◌≡◌, true, false, ◌-◌, ◌+◌, ◌≤◌, length};
+ghost use Rattle.std.specs.Prelude.{◌≡◌, true, false, ◌+◌, ◌≤◌, length};
 ghost use Rattle.record.specs.Rows.{note_width};
 ghost use Rattle.canon.specs.Valid.{entry, deviation_valid, is_unnoted, correlation_valid, four_valid, ten_valid, is_noted, note_valid};
 ghost use Rattle.canon.specs.Measured.{deviations_end, correlations_end, note_length};
+ghost use Rattle.canon.specs.Spent.{spent};
 
-use crate::types::Spent;
-use crate::{lists, numbers};
+use crate::numbers;
 use field::sign::magnitude_of;
 use record::notes::{LARGEST_CLOCK_DEVIATION, LARGEST_CORRELATION, LARGEST_DEVIATION, UNNOTED};
 
@@ -60,9 +60,11 @@ fn ten_valid(note: &[i64]) -> bool
 }
 
 // The last column of a note that has no correlation.
+#[tactic(auto, unfolding(crate::specs::Measured::deviations_end))]
 fn deviations_end(note: &[i64]) -> usize
     requires { length note.now ≡ note_width }
-    ensures { result ≡ deviations_end note.now }
+    ensures value { result ≡ deviations_end note.now }
+    ensures upper_bound { result ≤ 80 }
 {
     let x = numbers::end_at(note, 1, UNNOTED, 8, 2);
     let y = numbers::end_at(note, 2, UNNOTED, 13, x);
@@ -71,6 +73,7 @@ fn deviations_end(note: &[i64]) -> usize
 }
 
 // The bytes of a note's line, with its LF.
+#[tactic(auto, unfolding(crate::specs::Measured::correlations_end))]
 fn line_length(note: &[i64]) -> usize
     requires { length note.now ≡ note_width }
     ensures { result ≡ correlations_end note.now + 1 }
@@ -92,19 +95,15 @@ fn is_noted(note: &[i64]) -> bool
     note[0] != 0
 }
 
-// A note judged and measured: where there is none, nothing is known.
-pub(crate) fn note_spent(note: &[i64], left: usize) -> Spent
+// What a note leaves of a room, where it is valid: where there is none, nothing is known.
+#[tactic(auto, unfolding(crate::specs::Valid::note_valid, crate::specs::Measured::note_length))]
+pub(crate) fn note_spent(note: &[i64], room: usize) -> Option<usize>
     requires { length note.now ≡ note_width }
-    ensures { (result.valid ≡ note_valid note.now) × (result.left ≡ left - note_length note.now) }
+    ensures { result ≡ spent (note_valid note.now) room (note_length note.now) }
 {
     if !is_noted(note) {
-        return Spent {
-            valid: none_known(note),
-            left,
-        };
+        return none_known(note).then_some(room);
     }
-    Spent {
-        valid: numbers::at_most(note, 0, 1) & ten_valid(note),
-        left: lists::spend(left, line_length(note)),
-    }
+    let valid = numbers::at_most(note, 0, 1) & ten_valid(note);
+    valid.then_some(room.saturating_sub(line_length(note)))
 }

@@ -1,16 +1,16 @@
 // The rows of a table.
-ghost use Rattle.std.specs.Prelude.{◌≡◌, true, false, cond, not, ◌&&◌, ◌||◌, ◌-◌, ◌*◌, ◌+◌, ◌≤◌, eqb, leb, nat_abs, length};
+ghost use Rattle.std.specs.Prelude.{◌≡◌, true, false, cond, not, ◌&&◌, ◌||◌, ◌*◌, ◌+◌, ◌≤◌, eqb, leb, nat_abs, length};
 ghost use Rattle.field.specs.Sign.{is_negative};
 ghost use Rattle.record.specs.Rows.{row_width};
 ghost use Rattle.canon.specs.Table.{cell_width};
 ghost use Rattle.canon.specs.Valid.{entry, amount_valid, clock_valid, exponent_valid, most_flag, flag_valid, four_valid, row_valid, noted_valid, cell_valid, rows_valid};
 ghost use Rattle.canon.specs.Measured.{exponents_end, row_length, noted_length, cell_length, rows_length};
+ghost use Rattle.canon.specs.Spent.{spent};
 
-use crate::types::Spent;
-use crate::{bounds, lists, notes};
+use crate::{bounds, notes};
 use field::sign::{LARGEST, LARGEST_CLOCK, magnitude_of};
 use record::absence::{LARGEST_CLOCK_EXPONENT, LARGEST_EXPONENT};
-use record::rows::{BARE_WIDTH, BOTH_WIDTH, ROW_WIDTH, UNKNOWN};
+use record::rows::{BARE_WIDTH, ROW_WIDTH, UNKNOWN};
 
 // The bounds of x, y and z, and the largest clock that is not absent.
 const MOST: i64 = LARGEST as i64;
@@ -24,7 +24,7 @@ fn amount_valid(row: &[i64], i: usize) -> bool
     requires { i + 1 ≤ length row.now }
     ensures { result ≡ amount_valid (entry row.now i) }
 {
-    (row[i] <= MOST) & (LEAST <= row[i])
+    (LEAST..=MOST).contains(&row[i])
 }
 
 // Whether a number is a clock, or twelve nines for one that is absent.
@@ -32,7 +32,7 @@ fn clock_valid(row: &[i64], i: usize) -> bool
     requires { i + 1 ≤ length row.now }
     ensures { result ≡ clock_valid (entry row.now i) }
 {
-    ((row[i] <= MOST_CLOCK) & (LEAST <= row[i])) | (row[i] == MOST)
+    (LEAST..=MOST_CLOCK).contains(&row[i]) | (row[i] == MOST)
 }
 
 // Whether a number is a count of at most so much.
@@ -41,10 +41,7 @@ pub(crate) fn at_most(row: &[i64], i: usize, most: u64) -> bool
     ensures { result ≡ (not (is_negative (entry row.now i)) && leb (nat_abs (entry row.now i)) most) }
 {
     let v = row[i];
-    if v < 0 {
-        return false;
-    }
-    v as u64 <= most
+    0 <= v && v as u64 <= most
 }
 
 // Whether a number is this count.
@@ -53,10 +50,7 @@ pub(crate) fn is_count(row: &[i64], i: usize, n: u64) -> bool
     ensures { result ≡ (not (is_negative (entry row.now i)) && eqb (nat_abs (entry row.now i)) n) }
 {
     let v = row[i];
-    if v < 0 {
-        return false;
-    }
-    v as u64 == n
+    0 <= v && v as u64 == n
 }
 
 // Whether a number is at most so much, or the one that stands for unknown.
@@ -104,6 +98,7 @@ fn flags_valid(row: &[i64], velocity: bool) -> bool
 }
 
 // Whether the first twelve numbers are a P row, or a V row where `velocity` says so.
+#[tactic(auto, unfolding(crate::specs::Valid::row_valid))]
 fn row_valid(row: &[i64], velocity: bool) -> bool
     requires { length row.now ≡ row_width }
     ensures { result ≡ row_valid velocity row.now }
@@ -113,8 +108,9 @@ fn row_valid(row: &[i64], velocity: bool) -> bool
 
 // A column, where the number at i is not this one; else the column before.
 pub(crate) fn end_at(row: &[i64], i: usize, none: u64, column: usize, earlier: usize) -> usize
-    requires { i + 1 ≤ length row.now }
-    ensures { result ≡ cond (eqb (nat_abs (entry row.now i)) none) earlier column }
+    requires { (i + 1 ≤ length row.now) × ((column ≤ 80) × (earlier ≤ 80)) }
+    ensures value { result ≡ cond (eqb (nat_abs (entry row.now i)) none) earlier column }
+    ensures upper_bound { result ≤ 80 }
 {
     if magnitude_of(row[i]) == none {
         earlier
@@ -124,9 +120,11 @@ pub(crate) fn end_at(row: &[i64], i: usize, none: u64, column: usize, earlier: u
 }
 
 // The last column of a row that has no flag.
+#[tactic(auto, unfolding(crate::specs::Measured::exponents_end))]
 fn exponents_end(row: &[i64]) -> usize
     requires { length row.now ≡ row_width }
-    ensures { result ≡ exponents_end row.now }
+    ensures value { result ≡ exponents_end row.now }
+    ensures upper_bound { result ≤ 80 }
 {
     let x = end_at(row, 4, UNKNOWN, 63, 60);
     let y = end_at(row, 5, UNKNOWN, 66, x);
@@ -135,10 +133,10 @@ fn exponents_end(row: &[i64]) -> usize
 }
 
 // The bytes of a row's line, with its LF.
+#[tactic(auto, unfolding(crate::specs::Measured::row_length))]
 fn row_length(row: &[i64]) -> usize
     requires { length row.now ≡ row_width }
-    ensures value { result ≡ row_length row.now }
-    ensures upper_bound { result ≤ 81 }
+    ensures { result ≡ row_length row.now }
 {
     let none = exponents_end(row);
     let event = end_at(row, 8, 0, 75, none);
@@ -147,51 +145,37 @@ fn row_length(row: &[i64]) -> usize
     end_at(row, 11, 0, 80, maneuver) + 1
 }
 
-// A row and its note judged and measured.
-fn row_spent(row: &[i64], velocity: bool, left: usize) -> Spent
+// What a row and its note leave of a room, where both are valid.
+#[tactic(auto, unfolding(crate::specs::Valid::noted_valid, crate::specs::Measured::noted_length))]
+fn row_spent(row: &[i64], velocity: bool, room: usize) -> Option<usize>
     requires { length row.now ≡ row_width }
-    ensures { (result.valid ≡ noted_valid velocity row.now) × (result.left ≡ left - noted_length row.now) }
+    ensures { result ≡ spent (noted_valid velocity row.now) room (noted_length row.now) }
 {
-    let note = notes::note_spent(&row[BARE_WIDTH..ROW_WIDTH], left);
-    Spent {
-        valid: row_valid(row, velocity) & note.valid,
-        left: lists::spend(note.left, row_length(row)),
-    }
+    let left = notes::note_spent(&row[BARE_WIDTH..], room)?;
+    row_valid(row, velocity).then_some(left.saturating_sub(row_length(row)))
 }
 
-// The rows of one satellite in one epoch.
-fn cell_spent(cell: &[i64], velocity: bool, left: usize) -> Spent
+// What the rows of one satellite in one epoch leave.
+#[tactic(auto, unfolding(crate::specs::Valid::cell_valid, crate::specs::Measured::cell_length))]
+fn cell_spent(cell: &[i64], velocity: bool, room: usize) -> Option<usize>
     requires { length cell.now ≡ cell_width velocity }
-    ensures { (result.valid ≡ cell_valid velocity cell.now) × (result.left ≡ left - cell_length velocity cell.now) }
+    ensures { result ≡ spent (cell_valid velocity cell.now) room (cell_length velocity cell.now) }
 {
     if !velocity {
-        return row_spent(cell, false, left);
+        return row_spent(cell, false, room);
     }
-    let place = row_spent(&cell[0..ROW_WIDTH], false, left);
-    let motion = row_spent(&cell[ROW_WIDTH..BOTH_WIDTH], true, place.left);
-    Spent {
-        valid: place.valid & motion.valid,
-        left: motion.left,
-    }
+    let left = row_spent(&cell[..ROW_WIDTH], false, room)?;
+    row_spent(&cell[ROW_WIDTH..], true, left)
 }
 
-// The rows of so many.
-pub(crate) fn rows_spent(velocity: bool, cells: usize, rows: &[i64], room: usize) -> Spent
+// What the rows of so many leave.
+pub(crate) fn rows_spent(velocity: bool, cells: usize, rows: &[i64], room: usize) -> Option<usize>
     requires { length rows.now ≡ cells * cell_width velocity }
-    ensures { (result.valid ≡ rows_valid velocity cells rows.now) × (result.left ≡ room - rows_length velocity cells rows.now) }
+    ensures { result ≡ spent (rows_valid velocity cells rows.now) room (rows_length velocity cells rows.now) }
 {
-    let width = bounds::cell_width(velocity);
-    let mut valid = true;
     let mut left = room;
-    let mut at: usize = 0;
-    let mut more = cells;
-    while 0 < more {
-        let next = at + width;
-        let cell = cell_spent(&rows[at..next], velocity, left);
-        valid = valid & cell.valid;
-        left = cell.left;
-        at = next;
-        more -= 1;
+    for cell in rows.chunks_exact(bounds::cell_width(velocity)) {
+        left = cell_spent(cell, velocity, left)?;
     }
-    Spent { valid, left }
+    Some(left)
 }

@@ -2,7 +2,7 @@
 #![tactic(auto)]
 
 ghost use Rattle.std.specs.Prelude.{◌≡◌};
-ghost use Rattle.std.specs.Float.{nan, binary64};
+ghost use Rattle.std.specs.Float.{binary64};
 ghost use Rattle.std.specs.Float.Ieee.{of_int};
 ghost use Rattle.file.specs.Table.{stored_signed};
 ghost use Rattle.float_row.specs.Floats.{float_unless, float_row, absent_row};
@@ -22,13 +22,6 @@ pub struct FloatRow {
     pub clock_absent: bool,
 }
 
-// No number at all.
-fn no_number() -> f64
-    ensures { result ≡ nan }
-{
-    0.0 / 0.0
-}
-
 // A whole number as a float.
 fn float_of(s: Signed) -> f64
     ensures { result ≡ of_int binary64 (stored_signed s) }
@@ -37,23 +30,21 @@ fn float_of(s: Signed) -> f64
 }
 
 // The same, or no number where it is absent.
+#[tactic(auto, unfolding(crate::specs::Floats::float_unless))]
 fn float_unless(absent: bool, s: Signed) -> f64
     ensures { result ≡ float_unless absent s }
 {
-    if absent {
-        return no_number();
-    }
-    float_of(s)
+    if absent { f64::NAN } else { float_of(s) }
 }
 
 // The row of a P line as floats: three zeros are no place, whatever the clock.
+#[tactic(auto, unfolding(crate::specs::Floats::float_row))]
 pub fn float_row(row: Row) -> FloatRow
     ensures result { result ≡ float_row row }
 {
-    let x = row.x;
-    let y = row.y;
-    let z = row.z;
-    let clock = row.clock;
+    let Row {
+        x, y, z, clock, ..
+    } = row;
     let place_absent = record::absence::place_absent(x.magnitude, y.magnitude, z.magnitude);
     let clock_absent = record::absence::clock_absent(clock.negative, clock.magnitude);
     FloatRow {
@@ -67,15 +58,15 @@ pub fn float_row(row: Row) -> FloatRow
 }
 
 // What stands beside a refusal: both absent.
+#[tactic(auto, unfolding(crate::specs::Floats::absent_row))]
 pub fn absent_row() -> FloatRow
     ensures result { result ≡ absent_row }
 {
-    let none = no_number();
     FloatRow {
-        x: none,
-        y: none,
-        z: none,
-        clock: none,
+        x: f64::NAN,
+        y: f64::NAN,
+        z: f64::NAN,
+        clock: f64::NAN,
         place_absent: true,
         clock_absent: true,
     }

@@ -1,7 +1,8 @@
 // The row of a P or V line: the first twelve numbers of a stored row, asked for by name.
-ghost use Rattle.std.specs.Prelude.{◌≡◌};
+ghost use Rattle.std.specs.Prelude.{◌≡◌, cond, ◌&&◌, ◌+◌, ◌<◌, leb, Some, None};
+ghost use Rattle.record.specs.Rows.{row_width};
 ghost use Rattle.file.specs.Table.{stored_int};
-ghost use Rattle.stored_row.specs.Stored.{is_there, place_in, clock_in, exponent_read_in, flag_in, told_place, told_clock, told_exponent_read, told_flag};
+ghost use Rattle.stored_row.specs.Stored.{is_there, number_at, place_in, clock_in, exponent_read_in, flag_in, told_place, told_clock, told_exponent_read, told_flag};
 
 use crate::types::{ClockRead, ExponentRead, Flag, Place};
 use record::rows::ROW_WIDTH;
@@ -20,7 +21,20 @@ pub(crate) fn is_there(rows: &[i64], k: usize) -> bool
     k < rows.len() / ROW_WIDTH
 }
 
+// What is asked for of the k-th row, of its numbers from a place on, by 0 to `last`; none where there is no such row or number.
+pub(crate) fn asked(rows: &[i64], k: usize, from: usize, last: usize, which: usize) -> Option<i64>
+    requires { from + last < row_width }
+    ensures { result ≡ cond (is_there rows.now k && leb which last) (Some (number_at rows.now k (from + which))) None }
+{
+    if is_there(rows, k) && which <= last {
+        Some(rows[k * ROW_WIDTH + (from + which)])
+    } else {
+        None
+    }
+}
+
 // The place or velocity of the k-th row: absent exactly where all three are zero, whatever the clock.
+#[tactic(auto, unfolding(crate::specs::Stored::place_in))]
 pub fn place_of(rows: &[i64], k: usize) -> Place
     ensures result { told_place result ≡ told_place (place_in rows.now k) }
 {
@@ -43,6 +57,7 @@ pub fn place_of(rows: &[i64], k: usize) -> Place
 }
 
 // The clock or rate of the k-th row: absent exactly at twelve nines, whatever the place.
+#[tactic(auto, unfolding(crate::specs::Stored::clock_in))]
 pub fn clock_of(rows: &[i64], k: usize) -> ClockRead
     ensures result { told_clock result ≡ told_clock (clock_in rows.now k) }
 {
@@ -58,13 +73,14 @@ pub fn clock_of(rows: &[i64], k: usize) -> ClockRead
 }
 
 // The exponent of x, y, z or clock (0 to 3) of the k-th row.
+#[tactic(auto, unfolding(crate::specs::Stored::exponent_read_in))]
 pub fn exponent_of(rows: &[i64], k: usize, which: usize) -> ExponentRead
     ensures result { told_exponent_read result ≡ told_exponent_read (exponent_read_in rows.now k which) }
 {
-    if !(is_there(rows, k) & (which <= 3)) {
+    let Some(v) = asked(rows, k, 4, 3, which) else {
         return ExponentRead::NotThere;
-    }
-    let n = field::sign::magnitude_of(rows[k * ROW_WIDTH + (4 + which)]);
+    };
+    let n = field::sign::magnitude_of(v);
     if record::absence::is_unknown(n) {
         return ExponentRead::Unknown;
     }
@@ -78,14 +94,14 @@ pub fn exponent_of(rows: &[i64], k: usize, which: usize) -> ExponentRead
 const NOT_SET: u64 = 0;
 
 // The flag of column 75, 76, 79 or 80 (0 to 3) of the k-th row: clock event, clock predicted, maneuver, orbit predicted.
+#[tactic(auto, unfolding(crate::specs::Stored::flag_in))]
 pub fn flag_of(rows: &[i64], k: usize, which: usize) -> Flag
     ensures result { told_flag result ≡ told_flag (flag_in rows.now k which) }
 {
-    if !(is_there(rows, k) & (which <= 3)) {
+    let Some(v) = asked(rows, k, 8, 3, which) else {
         return Flag::NotThere;
-    }
-    let n = field::sign::magnitude_of(rows[k * ROW_WIDTH + (8 + which)]);
-    if n == NOT_SET {
+    };
+    if field::sign::magnitude_of(v) == NOT_SET {
         return Flag::NotSet;
     }
     Flag::Set

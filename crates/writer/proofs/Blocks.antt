@@ -20,17 +20,8 @@ use Rattle.record.specs.Notes.{note_line}
 use Rattle.canon.specs.Table.{cell_width}
 use Rattle.canon.specs.Valid.{is_noted}
 use Rattle.canon.specs.Canonical.{row_shown, note_shown, slots_shown, slot_lines_of, comment_lines, note_lines, noted_lines, cell_lines, cells_lines, epoch_shown, epochs_lines}
-use Rattle.writer.proofs.Laying.{first-room}
-
--- so many blocks of a width are left from a place on
-pub record Left (size width from more : ℕ) : Type 0 where
-  pub exact : from + more * width ≡ size
-
-pub left-all : (size width more : ℕ) → size ≡ more * width → Left size width 0 more
-left-all size width more e = record { exact = omega arith }
-
-pub left_as : {size width from more more' : ℕ} → more ≡ more' → Left size width from more → Left size width from more'
-left_as {size} {width} {from} e l = record { exact = ap (λ (n : ℕ). from + n * width) (sym e) ∙ l.exact }
+use Rattle.layout.specs.Line.{Lays}
+use Rattle.writer.proofs.Laying.{Laying, then, first-room, laying-as, laying-room, laying-more, one_line}
 
 -- one of so many and the others
 one_more : (more : ℕ) → 0 < more → more ≡ suc (more - 1)
@@ -38,26 +29,6 @@ one_more more some = omega arith
 
 pub less_one : (more width : ℕ) → 0 < more → more * width ≡ width + (more - 1) * width
 less_one more width some = ap (λ (n : ℕ). n * width) (one_more more some) ∙ suc-mul (more - 1) width ∙ omega arith
-
-module _ {size width from more : ℕ} (l : Left size width from more) (some : 0 < more) where
-  pub left_here : from + width ≤ size
-  left_here = omega (arith, less_one more width some, l.exact)
-
-  pub left-next : Left size width (from + width) (more - 1)
-  left-next = record { exact = omega (arith, less_one more width some, l.exact) }
-
--- a block of a list
-module _ {A : Type 0} (xs : List A) (from width : ℕ) where
-  pub block-is : take (from + width - from) (drop from xs) ≡ take width (drop from xs)
-  block-is =
-      let same : from + width - from ≡ width = omega arith in
-      ap (λ (n : ℕ). take n (drop from xs)) same
-
-  pub block-length : from + width ≤ length xs → length (take (from + width - from) (drop from xs)) ≡ width
-  block-length h = omega (arith, length-take (from + width - from) (drop from xs), length-drop from xs)
-
-  pub rest-is : drop width (drop from xs) ≡ drop (from + width) xs
-  rest-is = drop-drop width from xs
 
 -- past its end a list has nothing, however far
 pub rest-past : {A : Type 0} (l : List A) (k : ℕ) → drop (min k (length l)) l ≡ drop k l
@@ -71,34 +42,54 @@ rest-past l k = go (dec_le k (length l))
         let same : min k (length l) ≡ length l = omega arith in
         rw (same, drop_of_length-le l {i = k} (omega arith), drop_of_length-le l {i = length l} (omega arith))
 
+-- the satellites of one epoch have no rows past its own
+pub cells-front : (velocity : Bool) (identifiers : List ℕ) (rows : List ℤ) (n : ℕ) → length identifiers * cell_width velocity ≤ n
+    → cells_lines velocity identifiers rows ≡ cells_lines velocity identifiers (take n rows)
+unfolding cells_lines
+cells-front velocity [] rows n h = refl
+cells-front velocity (identifier ∷ identifiers) rows n h =
+    let w = cell_width velocity in
+    let more = suc-mul (length identifiers) w in
+    ap₂ (λ (here there : List (List ℕ)). here ++ there)
+    (ap (cell_lines velocity identifier) (sym (take-take w n rows (omega arith))))
+    (cells-front velocity identifiers (drop w rows) (n - w) (omega arith) ∙ ap (cells_lines velocity identifiers) (sym (front_rest w n rows)))
+
 -- What is still to be laid, as the next line or lines and the others.
 module _ (more : ℕ) (some : 0 < more) where
   -- the next comment
-  pub comments-next : (bytes : List ℕ) (from : ℕ)
-      → comment_lines more (drop from bytes)
-      ≡ comment_line (take (from + comment_width - from) (drop from bytes)) ∷ comment_lines (more - 1) (drop (from + comment_width) bytes)
+  pub comments-next : (bytes : List ℕ) → comment_lines more bytes ≡ comment_line (take comment_width bytes) ∷ comment_lines (more - 1) (drop comment_width bytes)
   unfolding comment_lines
-  comments-next bytes from =
-      ap (λ (n : ℕ). comment_lines n (drop from bytes)) (one_more more some)
-      ∙ ap₂ (λ (text rest : List ℕ). comment_line text ∷ comment_lines (more - 1) rest) (sym (block-is bytes from comment_width)) (rest-is bytes from comment_width)
+  comments-next bytes = ap (λ (n : ℕ). comment_lines n bytes) (one_more more some)
 
   -- the next line of slots
-  pub slots_next : (accuracies : Bool) (numbers : List ℕ) (from : ℕ)
-      → slot_lines_of accuracies more (drop from numbers)
-      ≡ more_line accuracies (length (drop from numbers)) (slots_shown (drop from numbers)) ∷ slot_lines_of accuracies (more - 1) (drop (min (from + 17) (length numbers)) numbers)
+  pub slots_next : (accuracies : Bool) (numbers : List ℕ)
+      → slot_lines_of accuracies more numbers
+      ≡ more_line accuracies (length numbers) (slots_shown numbers) ∷ slot_lines_of accuracies (more - 1) (drop (min (length numbers) 17) numbers)
   unfolding slot_lines_of
-  slots_next accuracies numbers from =
-      ap (λ (n : ℕ). slot_lines_of accuracies n (drop from numbers)) (one_more more some)
-      ∙ ap (λ (rest : List ℕ). more_line accuracies (length (drop from numbers)) (slots_shown (drop from numbers)) ∷ slot_lines_of accuracies (more - 1) rest)
-      (rest-is numbers from 17 ∙ sym (rest-past numbers (from + 17)))
+  slots_next accuracies numbers =
+      let turned : min 17 (length numbers) ≡ min (length numbers) 17 = omega arith in
+      ap (λ (n : ℕ). slot_lines_of accuracies n numbers) (one_more more some)
+      ∙ ap (λ (rest : List ℕ). more_line accuracies (length numbers) (slots_shown numbers) ∷ slot_lines_of accuracies (more - 1) rest)
+      (sym (rest-past numbers 17) ∙ ap (λ (n : ℕ). drop n numbers) turned)
+
+  -- the next epoch
+  pub epochs-next : (velocity : Bool) (identifiers : List ℕ) (interval8 at8 : ℕ) (rows : List ℤ) (width : ℕ) → width ≡ length identifiers * cell_width velocity
+      → epochs_lines velocity identifiers interval8 more at8 rows
+      ≡ (epoch_line (epoch_shown at8) ∷ cells_lines velocity identifiers (take width rows))
+      ++ epochs_lines velocity identifiers interval8 (more - 1) (at8 + interval8) (drop width rows)
+  unfolding epochs_lines
+  epochs-next velocity identifiers interval8 at8 rows width e =
+      ap (λ (n : ℕ). epochs_lines velocity identifiers interval8 n at8 rows) (one_more more some)
+      ∙ ap₂ (λ (cells : List (List ℕ)) (rest : List ℤ). (epoch_line (epoch_shown at8) ∷ cells) ++ epochs_lines velocity identifiers interval8 (more - 1) (at8 + interval8) rest)
+      (cells-front velocity identifiers rows width (omega (arith, e)))
+      (ap (λ (n : ℕ). drop n rows) (sym e))
 
 -- the lines of the next satellite
-pub cells-next : (velocity : Bool) (identifiers : List ℕ) (rows : List ℤ) (j from width : ℕ) → j < length identifiers → width ≡ cell_width velocity
-    → cells_lines velocity (drop j identifiers) (drop from rows)
-    ≡ cell_lines velocity (get_or identifiers j 0) (take (from + width - from) (drop from rows)) ++ cells_lines velocity (drop (j + 1) identifiers) (drop (from + width) rows)
+pub cells-next : (velocity : Bool) (identifiers : List ℕ) (rows : List ℤ) (j : ℕ) → j < length identifiers
+    → cells_lines velocity (drop j identifiers) rows
+    ≡ cell_lines velocity (get_or identifiers j 0) (take (cell_width velocity) rows) ++ cells_lines velocity (drop (j + 1) identifiers) (drop (cell_width velocity) rows)
 unfolding cells_lines
-cells-next velocity identifiers rows j from width h e =
-    rw (rest-step identifiers j h, block-is rows from width, ← rest-is rows from width, e)
+cells-next velocity identifiers rows j h = rw (rest-step identifiers j h)
 
 -- the lines of a row: its own, and that of its note where there is one
 module _ (velocity : Bool) (identifier : ℕ) (row : List ℤ) (size : length row ≡ row_width) where
@@ -152,27 +143,53 @@ module _ (velocity : Bool) (cell : List ℤ) (size : length cell ≡ cell_width 
       go true e = first-room (noted_lines false identifier (take row_width cell)) (noted_lines true identifier (take row_width (drop row_width cell))) out (rw (cell-moved identifier e) at h)
       go false e = rw (cell-placed identifier e) at h
 
--- the satellites of one epoch have no rows past its own
-pub cells-front : (velocity : Bool) (identifiers : List ℕ) (rows : List ℤ) (n : ℕ) → length identifiers * cell_width velocity ≤ n
-    → cells_lines velocity identifiers rows ≡ cells_lines velocity identifiers (take n rows)
-unfolding cells_lines
-cells-front velocity [] rows n h = refl
-cells-front velocity (identifier ∷ identifiers) rows n h =
-    let w = cell_width velocity in
-    let more = suc-mul (length identifiers) w in
-    ap₂ (λ (here there : List (List ℕ)). here ++ there)
-    (ap (cell_lines velocity identifier) (sym (take-take w n rows (omega arith))))
-    (cells-front velocity identifiers (drop w rows) (n - w) (omega arith) ∙ ap (cells_lines velocity identifiers) (sym (front_rest w n rows)))
+-- the part of the output from the next free byte on
+abbrev pub free : ℕ → List ℕ → List ℕ
+free at now = take (length now - at) (drop at now)
 
--- the next epoch
-pub epochs-next : (more : ℕ) → 0 < more → (velocity : Bool) (identifiers : List ℕ) (interval8 at8 : ℕ) (rows : List ℤ) (from width : ℕ)
-    → width ≡ length identifiers * cell_width velocity
-    → epochs_lines velocity identifiers interval8 more at8 (drop from rows)
-    ≡ (epoch_line (epoch_shown at8) ∷ cells_lines velocity identifiers (take (from + width - from) (drop from rows)))
-    ++ epochs_lines velocity identifiers interval8 (more - 1) (at8 + interval8) (drop (from + width) rows)
-unfolding epochs_lines
-epochs-next more some velocity identifiers interval8 at8 rows from width e =
-    ap (λ (n : ℕ). epochs_lines velocity identifiers interval8 n at8 (drop from rows)) (one_more more some)
-    ∙ ap₂ (λ (cells : List (List ℕ)) (rest : List ℤ). (epoch_line (epoch_shown at8) ∷ cells) ++ epochs_lines velocity identifiers interval8 (more - 1) (at8 + interval8) rest)
-    (cells-front velocity identifiers (drop from rows) (from + width - from) (omega arith))
-    (ap (λ (n : ℕ). drop n (drop from rows)) (sym e) ∙ rest-is rows from width)
+-- What is laid once the next of them is laid behind the others.
+pub comment-laid : {all : List (List ℕ)} {entry now part : List ℕ} {at r : ℕ} (more : ℕ) (bytes : List ℕ) → 0 < more
+    → Laying all entry at now (comment_lines more bytes) → Lays (comment_line (take comment_width bytes)) (free at now) r part
+    → Laying all entry (at + r) (then at now part) (comment_lines (more - 1) (drop comment_width bytes))
+comment-laid more bytes some s l =
+    let line = comment_line (take comment_width bytes) in
+    laying-more (line ∷ []) (comment_lines (more - 1) (drop comment_width bytes)) (laying-as (comments-next more some bytes) s) (one_line line l)
+
+pub slots-laid : {all : List (List ℕ)} {entry now part : List ℕ} {at r : ℕ} (accuracies : Bool) (more : ℕ) (numbers : List ℕ) → 0 < more
+    → Laying all entry at now (slot_lines_of accuracies more numbers) → Lays (more_line accuracies (length numbers) (slots_shown numbers)) (free at now) r part
+    → Laying all entry (at + r) (then at now part) (slot_lines_of accuracies (more - 1) (drop (min (length numbers) 17) numbers))
+slots-laid accuracies more numbers some s l =
+    let line = more_line accuracies (length numbers) (slots_shown numbers) in
+    laying-more (line ∷ []) (slot_lines_of accuracies (more - 1) (drop (min (length numbers) 17) numbers))
+    (laying-as (slots_next more some accuracies numbers) s) (one_line line l)
+
+pub cell-fits : {all : List (List ℕ)} {entry now : List ℕ} {at : ℕ} (velocity : Bool) (identifiers : List ℕ) (rows : List ℤ) (j : ℕ) → j < length identifiers
+    → Laying all entry at now (cells_lines velocity (drop j identifiers) rows)
+    → length (flat (cell_lines velocity (get_or identifiers j 0) (take (cell_width velocity) rows))) ≤ length (free at now)
+cell-fits velocity identifiers rows j some s =
+    laying-room (cell_lines velocity (get_or identifiers j 0) (take (cell_width velocity) rows))
+    (cells_lines velocity (drop (j + 1) identifiers) (drop (cell_width velocity) rows)) (laying-as (cells-next velocity identifiers rows j some) s)
+
+pub cell-laid : {all : List (List ℕ)} {entry now part : List ℕ} {at r : ℕ} (velocity : Bool) (identifiers : List ℕ) (rows : List ℤ) (j : ℕ) → j < length identifiers
+    → Laying all entry at now (cells_lines velocity (drop j identifiers) rows)
+    → Lays (flat (cell_lines velocity (get_or identifiers j 0) (take (cell_width velocity) rows))) (free at now) r part
+    → Laying all entry (at + r) (then at now part) (cells_lines velocity (drop (j + 1) identifiers) (drop (cell_width velocity) rows))
+cell-laid velocity identifiers rows j some s l =
+    laying-more (cell_lines velocity (get_or identifiers j 0) (take (cell_width velocity) rows))
+    (cells_lines velocity (drop (j + 1) identifiers) (drop (cell_width velocity) rows)) (laying-as (cells-next velocity identifiers rows j some) s) l
+
+module _ (velocity : Bool) (identifiers : List ℕ) (interval8 more at8 : ℕ) (rows : List ℤ) (width : ℕ)
+    (wide : width ≡ length identifiers * cell_width velocity) (some : 0 < more) where
+  abbrev pub epoch : List (List ℕ)
+  epoch = epoch_line (epoch_shown at8) ∷ cells_lines velocity identifiers (take width rows)
+
+  abbrev pub others : List (List ℕ)
+  others = epochs_lines velocity identifiers interval8 (more - 1) (at8 + interval8) (drop width rows)
+
+  pub epoch-fits : {all : List (List ℕ)} {entry now : List ℕ} {at : ℕ} → Laying all entry at now (epochs_lines velocity identifiers interval8 more at8 rows)
+      → length (flat epoch) ≤ length (free at now)
+  epoch-fits s = laying-room epoch others (laying-as (epochs-next more some velocity identifiers interval8 at8 rows width wide) s)
+
+  pub epoch-laid : {all : List (List ℕ)} {entry now part : List ℕ} {at r : ℕ} → Laying all entry at now (epochs_lines velocity identifiers interval8 more at8 rows)
+      → Lays (flat epoch) (free at now) r part → Laying all entry (at + r) (then at now part) others
+  epoch-laid s l = laying-more epoch others (laying-as (epochs-next more some velocity identifiers interval8 at8 rows width wide) s) l

@@ -5,3 +5,4 @@ pub mod Times
 pub mod Fitting
 pub mod Answering
 pub mod Determined
+pub mod Forming

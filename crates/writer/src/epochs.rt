@@ -48,14 +48,12 @@ fn put_cells(velocity: bool, identifiers: &[u64], rows: &[i64], out: &mut [u8]) 
     ensures { Lays (flat (cells_lines velocity identifiers.now rows.now)) out.old result out.new }
 {
     let width = canon::cell_width(velocity);
-    let mut at: usize = 0;
-    let mut from: usize = 0;
-    let mut j: usize = 0;
-    while j < identifiers.len() {
-        let next = from + width;
-        at += put_cell(velocity, identifiers[j], &rows[from..next], &mut out[at..]);
-        from = next;
-        j += 1;
+    let mut at = 0;
+    let mut rest = rows;
+    for identifier in identifiers {
+        let (cell, later) = rest.split_at(width);
+        at += put_cell(velocity, *identifier, cell, &mut out[at..]);
+        rest = later;
     }
     at
 }
@@ -83,22 +81,14 @@ pub(crate) fn put_epochs(h: Header, identifiers: &[u64], rows: &[i64], out: &mut
     ensures { Lays (flat (epochs_lines h.velocity identifiers.now h.interval8 h.epochs h.start8 rows.now)) out.old result out.new }
 {
     let width = identifiers.len() * canon::cell_width(h.velocity);
-    let mut at: usize = 0;
-    let mut from: usize = 0;
+    let mut at = 0;
     let mut at8 = h.start8;
-    let mut more = h.epochs;
-    while 0 < more {
-        let next = from + width;
-        at += put_epoch(
-            h.velocity,
-            identifiers,
-            at8,
-            &rows[from..next],
-            &mut out[at..],
-        );
-        from = next;
+    let mut rest = rows;
+    for _ in 0..h.epochs {
+        let (cells, later) = rest.split_at(width);
+        at += put_epoch(h.velocity, identifiers, at8, cells, &mut out[at..]);
         at8 += h.interval8;
-        more -= 1;
+        rest = later;
     }
     at
 }

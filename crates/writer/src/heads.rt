@@ -35,18 +35,15 @@ pub(crate) fn put_slots(accuracies: bool, lines: u64, numbers: &[u64], out: &mut
     requires { length (flat (slot_lines_of accuracies lines numbers.now)) ≤ length out.old }
     ensures { Lays (flat (slot_lines_of accuracies lines numbers.now)) out.old result out.new }
 {
-    let mut at: usize = 0;
-    let mut from: usize = 0;
-    let mut more = lines;
-    while 0 < more {
-        let rest = &numbers[from..];
+    let mut at = 0;
+    let mut rest = numbers;
+    for _ in 0..lines {
         let slots = Slots {
             fault: 0,
             values: shown::seventeen(rest),
         };
         at += draw::slots::write_slots(slots, accuracies, rest.len() as u64, &mut out[at..]);
-        from = laws::fewer(from + 17, numbers.len());
-        more -= 1;
+        rest = rest.split_at(rest.len().min(17)).1;
     }
     at
 }
@@ -85,14 +82,12 @@ pub(crate) fn put_comments(count: u64, bytes: &[u8], out: &mut [u8]) -> usize
     requires bytes_in_bounds { length (flat (comment_lines count bytes.now)) ≤ length out.old }
     ensures { Lays (flat (comment_lines count bytes.now)) out.old result out.new }
 {
-    let mut at: usize = 0;
-    let mut from: usize = 0;
-    let mut more = count;
-    while 0 < more {
-        let next = from + COMMENT_WIDTH;
-        at += draw::plain::write_comment(&bytes[from..next], &mut out[at..]);
-        from = next;
-        more -= 1;
+    let mut at = 0;
+    let mut rest = bytes;
+    for _ in 0..count {
+        let (text, later) = rest.split_at(COMMENT_WIDTH);
+        at += draw::plain::write_comment(text, &mut out[at..]);
+        rest = later;
     }
     at
 }

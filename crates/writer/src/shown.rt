@@ -28,6 +28,7 @@ pub(crate) fn moment_of(at8: u64) -> Moment
 }
 
 // Line 1 of a table.
+#[tactic(auto, unfolding(canon::specs::Canonical::first_shown))]
 pub(crate) fn first_shown(h: Header) -> First
     requires { is_instant h.start8 ≡ true }
     ensures { result ≡ first_shown h }
@@ -67,6 +68,7 @@ pub(crate) fn second_shown(h: Header) -> Second
 }
 
 // The next seventeen numbers, zeros after the last.
+#[tactic(auto, unfolding(canon::specs::Canonical::seventeen))]
 pub(crate) fn seventeen(numbers: &[u64]) -> [u64; 17]
     ensures { result ≡ seventeen numbers.now }
 {
@@ -103,6 +105,7 @@ fn signed_at(row: &[i64], i: usize) -> Signed
 }
 
 // The row of a satellite of its stored numbers.
+#[tactic(auto, unfolding(canon::specs::Canonical::row_shown))]
 pub(crate) fn row_shown(identifier: u64, row: &[i64]) -> Row
     requires { length row.now ≡ row_width }
     ensures { result ≡ row_shown identifier row.now }
@@ -125,6 +128,7 @@ pub(crate) fn row_shown(identifier: u64, row: &[i64]) -> Row
 }
 
 // A note of its stored numbers, after its mark.
+#[tactic(auto, unfolding(canon::specs::Canonical::note_shown))]
 pub(crate) fn note_shown(note: &[i64]) -> Note
     requires { length note.now ≡ note_width }
     ensures { result ≡ note_shown note.now }

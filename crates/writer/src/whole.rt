@@ -7,10 +7,11 @@ ghost use Rattle.canon.specs.Table.{table_of};
 ghost use Rattle.canon.specs.Valid.{is_instant, valid};
 ghost use Rattle.canon.specs.Canonical.{lines_before, canonical};
 ghost use Rattle.canon.specs.Measured.{measured_in};
+ghost use Rattle.canon.specs.Spent.{lent_table};
 ghost use Rattle.writer.specs.Writing.{out_after};
 
 use crate::{epochs, heads};
-use canon::Measured;
+use canon::{Measured, Table};
 use header::{Header, Rules, Version};
 use record::plain::COMMENT_WIDTH;
 
@@ -35,30 +36,19 @@ fn put_opening(
 }
 
 // The whole form of a valid table, where there is room.
-fn put_table(
-    rules: Rules,
-    h: Header,
-    identifiers: &[u64],
-    exponents: &[u64],
-    comments: &[u8],
-    rows: &[i64],
-    out: &mut [u8],
-)
-    requires rows_value { valid rules (table_of h identifiers.now exponents.now comments.now rows.now) ≡ true }
-    requires rows_in_bounds { length (canonical rules (table_of h identifiers.now exponents.now comments.now rows.now)) ≤ length out.old }
-    ensures { out.new ≡ over (canonical rules (table_of h identifiers.now exponents.now comments.now rows.now)) out.old }
+fn put_table(rules: Rules, table: Table, out: &mut [u8])
+    requires table_value { valid rules (lent_table table) ≡ true }
+    requires table_in_bounds { length (canonical rules (lent_table table)) ≤ length out.old }
+    ensures { out.new ≡ over (canonical rules (lent_table table.entry)) out.old }
 {
+    let h = table.header;
     let n = h.satellites as usize;
-    let listed = &identifiers[0..n];
-    let count = h.comments as usize;
-    let numbers = n * (h.epochs as usize) * canon::cell_width(h.velocity);
-    let mut at = put_opening(rules, h, listed, &exponents[0..n], out);
-    at += heads::put_comments(
-        h.comments,
-        &comments[0..count * COMMENT_WIDTH],
-        &mut out[at..],
-    );
-    at += epochs::put_epochs(h, listed, &rows[0..numbers], &mut out[at..]);
+    let identifiers = &table.identifiers[..n];
+    let comments = &table.comments[..h.comments as usize * COMMENT_WIDTH];
+    let rows = &table.rows[..n * (h.epochs as usize) * canon::cell_width(h.velocity)];
+    let mut at = put_opening(rules, h, identifiers, &table.exponents[..n], out);
+    at += heads::put_comments(h.comments, comments, &mut out[at..]);
+    at += epochs::put_epochs(h, identifiers, rows, &mut out[at..]);
     draw::plain::write_end(&mut out[at..]);
 }
 
@@ -80,7 +70,13 @@ pub fn write(
     if answer.refusal != 0 {
         return answer;
     }
-    let rules = Rules::of(version);
-    put_table(rules, h, identifiers, exponents, comments, rows, out);
+    let table = Table {
+        header: h,
+        identifiers,
+        exponents,
+        comments,
+        rows,
+    };
+    put_table(Rules::of(version), table, out);
     answer
 }

@@ -1,0 +1,7 @@
+use Rattle.std.proofs.Common.{refl}
+use lib.Ieee.{of_bits}
+use Rattle.float_row.proofs.absent_row.Goals as goal
+
+pub returns : goal.returns
+unfolding of_bits
+returns c = record { result = refl }
