@@ -1,130 +1,86 @@
 // The cases of standard input, one after the other: a line of numbers (room for lengths, 1 for a walk, room for identifiers, how many identifiers follow, how
 // many bytes), the identifiers after them, and then so many bytes.
-ghost use Rattle.std.specs.Prelude.{◌+◌, ◌≤◌, length};
+ghost use Rattle.std.specs.Prelude.{◌<◌, ◌≤◌, length};
 
-use crate::{divided, print, walked};
-
-// A number, and where the text goes on after the byte that ended it.
-#[derive(Clone, Copy)]
-struct Read {
-    value: u64,
-    next: usize,
-}
-
-// A count, or the most that there is.
-pub(crate) fn at_most(n: u64, most: usize) -> usize
-    ensures { result ≤ most }
-{
-    if n < most as u64 {
-        return n as usize;
-    }
-    most
-}
+use crate::{divided, walked};
 
 // A number with one more digit, of which twelve are kept.
 fn with_digit(n: u64, digit: u8) -> u64 {
-    (n % 100_000_000_000) * 10 + (digit % 16) as u64
+    (n % 100_000_000_000) * 10 + u64::from(digit % 16)
 }
 
-// The number at `at`, which any byte but a digit ends.
-fn number(text: &[u8], at: usize) -> Read
-    requires { at + 1 ≤ length text.now }
-    ensures { (at + 1 ≤ result.next) × (result.next ≤ length text.now) }
+// The number that some digits show.
+fn value_of(digits: &[u8]) -> u64 {
+    digits.iter().fold(0, |n, digit| with_digit(n, *digit))
+}
+
+// The number that a text begins with, and the text after the byte that ended it, which is any but a digit.
+fn number(text: &[u8]) -> (u64, &[u8])
+    requires { 0 < length text.now }
+    ensures { length result.1.now < length text.now }
 {
-    let mut value = 0;
-    let mut end = at;
-    while end < text.len() {
-        if (text[end] < b'0') | (text[end] > b'9') {
-            return Read {
-                value,
-                next: end + 1,
-            };
-        }
-        value = with_digit(value, text[end]);
-        end += 1;
+    let end = text.iter().take_while(|b| b.is_ascii_digit()).count();
+    let (digits, rest) = text.split_at(end);
+    match rest {
+        [_, rest @ ..] => (value_of(digits), rest),
+        [] => (value_of(digits), rest),
     }
-    Read { value, next: end }
 }
 
-// Fills a list with the numbers from `at` on, as far as there are any, and gives where the text goes on.
-fn numbers(text: &[u8], at: usize, list: &mut [u64]) -> usize
-    requires { at ≤ length text.now }
-    ensures { (at ≤ result) × (result ≤ length text.now) }
+// Fills a list with the numbers that a text begins with, as far as there are any, and gives the text after them.
+fn numbers<'a>(text: &'a [u8], list: &mut [u64]) -> &'a [u8]
+    ensures { length result.now ≤ length text.now }
 {
-    let mut from = at;
-    let mut k: usize = 0;
-    while k < list.len() {
-        if from >= text.len() {
-            return from;
+    let mut rest = text;
+    for place in list.iter_mut() {
+        if rest.is_empty() {
+            break;
         }
-        let n = number(text, from);
-        list[k] = n.value;
-        from = n.next;
-        k += 1;
+        let (value, after) = number(rest);
+        *place = value;
+        rest = after;
     }
-    from
+    rest
 }
 
-// The answers to one case: `front` has whether it is walked, and the room for identifiers.
+// The answers to one case: how its bytes divide into a room and, where they are walked, what the walk gives with room for `most` identifiers.
 fn answer<'a>(
     rt: &impl Print,
     room: u64,
-    front: &[u64; 4],
+    walks: bool,
+    most: u64,
     identifiers: &'a [u64],
     bytes: &'a [u8],
 ) {
-    print::text(rt, b"case");
-    print::value(rt, bytes.len() as u64);
-    print::text(rt, b"\n");
+    let _ = println!(rt; "case {}", bytes.len());
     divided::shown(rt, bytes, room);
-    if front[0] == 1 {
-        walked::shown(rt, bytes, front[1], identifiers);
+    if walks {
+        walked::shown(rt, bytes, most, identifiers);
     }
 }
 
-// A case of which the identifiers, as many as this list has, stand at `second`; gives where the next one begins.
-fn named(
-    rt: &impl Print,
-    input: &[u8],
-    room: u64,
-    front: &[u64; 4],
-    second: usize,
-    identifiers: &mut [u64],
-) -> usize
-    requires { second ≤ length input.now }
-    ensures { (second ≤ result) × (result ≤ length input.now) }
+// The case that the input begins with, and the input after it.
+fn case<'a>(rt: &impl Print, input: &'a [u8]) -> &'a [u8]
+    requires { 0 < length input.now }
+    ensures { length result.now < length input.now }
 {
-    let from = numbers(input, second, identifiers);
-    let to = from + at_most(front[3], input.len() - from);
-    answer(rt, room, front, identifiers, &input[from..to]);
-    to
-}
-
-// The case at `at`, and where the next one begins.
-fn case(rt: &impl Print, input: &[u8], at: usize) -> usize
-    requires { at + 1 ≤ length input.now }
-    ensures { (at + 1 ≤ result) × (result ≤ length input.now) }
-{
-    let room = number(input, at);
-    let mut front = [0u64; 4];
-    let second = numbers(input, room.next, &mut front);
-    let mut identifiers = [0u64; 1000];
-    let n = at_most(front[2], 1000);
-    named(
-        rt,
-        input,
-        room.value,
-        &front,
-        second,
-        &mut identifiers[0..n],
-    )
+    let (room, rest) = number(input);
+    let mut front = [0; 4];
+    let rest = numbers(rest, &mut front);
+    let [walks, most, named, length] = front;
+    let mut identifiers = [0; 1000];
+    let n = (named as usize).min(1000);
+    let rest = numbers(rest, &mut identifiers[..n]);
+    let (bytes, rest) = rest.split_at((length as usize).min(rest.len()));
+    answer(rt, room, walks == 1, most, &identifiers[..n], bytes);
+    rest
 }
 
 // Every case of the input.
 fn batch(rt: &impl Print, input: &[u8]) {
-    let mut at = 0;
-    while at < input.len() {
-        at = case(rt, input, at);
+    let mut rest = input;
+    while !rest.is_empty() {
+        rest = case(rt, rest);
     }
 }
 

@@ -4,45 +4,26 @@ use crate::print;
 // The mark.
 pub(crate) const MARK: u64 = 7777;
 
-// A filled number: the length of a file, or a satellite's identifier.
-fn one(rt: &impl Print, named: bool, n: u64) {
-    if named {
-        print::identifier(rt, n);
-    } else {
-        print::text(rt, b"length");
-        print::value(rt, n);
-        print::text(rt, b"\n");
-    }
+// Whether the numbers that were not filled are marks.
+fn others(rt: &impl Print, numbers: &[u64]) {
+    let kept = numbers.iter().all(|n| *n == MARK);
+    let _ = println!(rt; "{}", if kept { "kept" } else { "changed" });
 }
 
-// All filled numbers.
-fn filled(rt: &impl Print, named: bool, numbers: &[u64]) {
-    let mut i = 0;
-    while i < numbers.len() {
-        one(rt, named, numbers[i]);
-        i += 1;
+// Lent numbers of which the first n are filled with the lengths of files.
+pub(crate) fn lengths(rt: &impl Print, numbers: &[u64], n: u64) {
+    let (filled, rest) = numbers.split_at((n as usize).min(numbers.len()));
+    for length in filled {
+        let _ = println!(rt; "length {length}");
     }
+    others(rt, rest);
 }
 
-// Whether each number is the mark.
-fn marked(numbers: &[u64]) -> bool {
-    let mut i = 0;
-    while i < numbers.len() {
-        if numbers[i] != MARK {
-            return false;
-        }
-        i += 1;
+// Lent numbers of which the first n are filled with the identifiers of satellites.
+pub(crate) fn identifiers(rt: &impl Print, numbers: &[u64], n: u64) {
+    let (filled, rest) = numbers.split_at((n as usize).min(numbers.len()));
+    for identifier in filled {
+        print::identifier(rt, *identifier);
     }
-    true
-}
-
-// Lent numbers of which the first n are filled.
-pub(crate) fn shown(rt: &impl Print, named: bool, numbers: &[u64], n: u64) {
-    let to = crate::input::at_most(n, numbers.len());
-    filled(rt, named, &numbers[0..to]);
-    if marked(&numbers[to..]) {
-        print::text(rt, b"kept\n");
-    } else {
-        print::text(rt, b"changed\n");
-    }
+    others(rt, rest);
 }

@@ -1,58 +1,36 @@
-// Answers as text.
+// Answers as text. What cannot be written is passed over.
+use std::fmt;
 
-// Bytes as they stand.
-pub(crate) fn text(rt: &impl Print, s: &[u8]) {
+// Bytes as they stand, which need not be text.
+pub(crate) fn bytes(rt: &impl Print, s: &[u8]) {
     let _ = rt.write_all(s);
 }
 
-// A number with a blank before it.
-pub(crate) fn value(rt: &impl Print, n: u64) {
-    text(rt, b" ");
-    let _ = rt.print(n);
-}
-
-// A satellite's identifier: 7107 is G07.
+// A line with a satellite's identifier: 7107 is G07.
 pub(crate) fn identifier(rt: &impl Print, n: u64) {
-    let letter = [(n / 100 % 256) as u8];
-    text(rt, b"identifier ");
-    text(rt, &letter);
-    let _ = rt.print(n % 100 / 10);
-    let _ = rt.print(n % 10);
-    text(rt, b"\n");
+    let _ = print!(rt; "identifier ");
+    bytes(rt, &[(n / 100 % 256) as u8]);
+    let _ = println!(rt; "{:02}", n % 100);
 }
 
-// The letter of a version, and the end of a line.
+// The end of a line, with the letter of a version.
 pub(crate) fn version(rt: &impl Print, letter: u8) {
-    let one = [letter];
-    text(rt, b" |");
-    text(rt, &one);
-    text(rt, b"|\n");
+    bytes(rt, &[b' ', b'|', letter, b'|', b'\n']);
 }
 
 // A mark that something is not as it must be.
-pub(crate) fn mark(rt: &impl Print, wrong: bool) {
-    if wrong {
-        text(rt, b"?");
-    }
+pub(crate) fn mark(wrong: bool) -> &'static str {
+    if wrong { "?" } else { "" }
 }
 
-// The whole number that a float is, where it is one of 64 bits; else 0.
-fn whole_of(x: f64) -> i64 {
-    if x >= -9223372036854775808.0 {
-        if x < 9223372036854775808.0 {
-            return std::num::truncating_f64_to_i64(x);
-        }
-    }
-    0
-}
+// A float that is a whole number, as one; any other is followed by a mark.
+#[derive(Clone, Copy)]
+pub(crate) struct Float(pub f64);
 
-// A float that is a whole number, with a blank before it; any other is followed by a mark.
-pub(crate) fn float(rt: &impl Print, x: f64) {
-    let v = whole_of(x);
-    text(rt, b" ");
-    if field::sign::is_negative(v) {
-        text(rt, b"-");
+impl fmt::Display for Float {
+    fn fmt<W: fmt::Write>(&self, f: &mut fmt::Formatter<W>) -> fmt::Result {
+        let whole = std::num::saturating_f64_to_i64(self.0);
+        let wrong = std::num::nearest_i64_to_f64(whole) != self.0;
+        write!(f, "{whole}{}", mark(wrong))
     }
-    let _ = rt.print(field::sign::magnitude_of(v));
-    mark(rt, std::num::nearest_i64_to_f64(v) != x);
 }

@@ -1,7 +1,4 @@
 // Every date of the years around the bounds, every day of the bounds and every second of a day, each made into a sum that every number changes.
-ghost use Rattle.std.specs.Prelude.{◌≤◌, ◌<◌};
-
-use crate::print;
 use calendar::{Dated, Week};
 
 const PRIME: u64 = 1_000_000_007;
@@ -40,40 +37,21 @@ fn with_instant(sum: u64, answer: Option<u64>) -> u64 {
 
 // The days 0 to 32 of a month.
 fn month_sum(sum: u64, year: u64, month: u64) -> u64 {
-    let mut all = sum;
-    let mut day: u64 = 0;
-    while day < 33 {
-        all = with_date(all, calendar::date(year, month, day));
-        day += 1;
-    }
-    all
+    (0..33).fold(
+        sum,
+        |all, day| with_date(all, calendar::date(year, month, day)),
+    )
 }
 
 // The months 0 to 13 of a year.
 fn year_sum(year: u64) -> u64 {
-    let mut sum: u64 = 0;
-    let mut month: u64 = 0;
-    while month < 14 {
-        sum = month_sum(sum, year, month);
-        month += 1;
-    }
-    sum
-}
-
-fn year_line(rt: &impl Print, year: u64) {
-    print::text(rt, b"year ");
-    print::number(rt, year);
-    print::text(rt, b":");
-    print::value(rt, year_sum(year));
-    print::text(rt, b"\n");
+    (0..14).fold(0, |sum, month| month_sum(sum, year, month))
 }
 
 // A line for each year, with its sum.
 fn years(rt: &impl Print) {
-    let mut year: u64 = 1979;
-    while year < 2101 {
-        year_line(rt, year);
-        year += 1;
+    for year in 1979..2101 {
+        let _ = println!(rt; "year {year}: {}", year_sum(year));
     }
 }
 
@@ -101,33 +79,22 @@ fn with_day(sum: u64, mjd: u64) -> u64 {
 
 // Every day of the bounds, and a day before and after them.
 fn every_day() -> u64 {
-    let mut sum: u64 = 0;
-    let mut mjd: u64 = 44_243;
-    while mjd < 88_070 {
-        sum = with_day(sum, mjd);
-        mjd += 1;
-    }
-    sum
+    (44_243..88_070).fold(0, with_day)
 }
 
-fn two_below(f: u64) -> u64 {
-    if f < 2 { 0 } else { f - 2 }
+// Whether a fraction agrees with a second, as the table has it: 0, or 8.
+pub(crate) fn agreement(f: u64, s: u64) -> u64 {
+    if calendar::fraction_agrees(f, s) {
+        0
+    } else {
+        8
+    }
 }
 
 // Whether F agrees with S, and the two below it and above it.
 fn with_agreement(sum: u64, f: u64, s: u64) -> u64 {
-    let least = two_below(f) % WHOLE_DAY;
-    let mut all = sum;
-    let mut above: u64 = 0;
-    while above < 5 {
-        if calendar::fraction_agrees(least + above, s) {
-            all = mixed(all, 0);
-        } else {
-            all = mixed(all, 8);
-        }
-        above += 1;
-    }
-    all
+    let least = f.saturating_sub(2) % WHOLE_DAY;
+    (least..least + 5).fold(sum, |all, near| mixed(all, agreement(near, s)))
 }
 
 fn with_fraction(sum: u64, s: u64) -> u64 {
@@ -147,21 +114,16 @@ fn with_clock(sum: u64, at: u64) -> u64 {
 
 // Every second of a day and one past it, each a little later than the one before.
 fn every_second() -> u64 {
-    let mut sum: u64 = 0;
-    let mut second: u64 = 0;
-    while second < 86_401 {
-        let s = second * SECOND + second;
+    let mut sum = 0;
+    for second in 0..86_401 {
+        let s = second * (SECOND + 1);
         sum = with_fraction(with_clock(sum, s), s);
-        second += 1;
     }
     sum
 }
 
 pub(crate) fn all(rt: &impl Print) {
     years(rt);
-    print::text(rt, b"days:");
-    print::value(rt, every_day());
-    print::text(rt, b"\nseconds:");
-    print::value(rt, every_second());
-    print::text(rt, b"\n");
+    let _ = println!(rt; "days: {}", every_day());
+    let _ = println!(rt; "seconds: {}", every_second());
 }

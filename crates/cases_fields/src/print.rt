@@ -11,17 +11,12 @@ pub(crate) fn number(rt: &impl Print, n: u64) {
 }
 
 pub(crate) fn value(rt: &impl Print, n: u64) {
-    text(rt, b" ");
-    number(rt, n);
+    let _ = print!(rt; " {n}");
 }
 
 // A minus is 1, none is 0.
 fn sign(rt: &impl Print, negative: bool) {
-    if negative {
-        value(rt, 1);
-    } else {
-        value(rt, 0);
-    }
+    value(rt, u64::from(negative));
 }
 
 pub(crate) fn whole(rt: &impl Print, answer: Option<u64>) {

@@ -1,7 +1,5 @@
 // Reads a field from each line of standard input, and prints its answer and its text written again, in its own columns and in one less.
 // A line is a kind (W whole, S signed, E exponent, U decimal without a minus, D decimal with one, C clock), two digits for the places, the field.
-ghost use Rattle.std.specs.Prelude.{◌≤◌, length};
-
 use crate::print;
 use field::{Exponent, Signed};
 
@@ -11,79 +9,50 @@ const MOST: usize = 20;
 // The number of standard input.
 const STDIN: i32 = 0;
 
-// Where the next LF stands from `at` on, or the end.
-fn line_end(bytes: &[u8], at: usize) -> usize
-    requires { at ≤ length bytes.now }
-    ensures { (at ≤ result) × (result ≤ length bytes.now) }
+// What a writer puts into so many columns that held a mark in each.
+fn written<W: FnOnce(&mut [u8]) -> bool>(rt: &impl Print, width: usize, put: W)
+    requires { (columns : _) → W.pre put columns }
 {
-    let mut end = at;
-    while end < bytes.len() {
-        if bytes[end] == b'\n' {
-            return end;
-        }
-        end += 1;
+    let mut columns = [b'#'; MOST];
+    if width <= MOST {
+        let _ = put(&mut columns[..width]);
+        let _ = print!(rt; " |");
+        print::text(rt, &columns[..width]);
+        let _ = print!(rt; "|");
     }
-    end
-}
-
-// What stands in so many columns that held a mark in each.
-fn shown(rt: &impl Print, columns: &[u8]) {
-    print::text(rt, b" |");
-    print::text(rt, columns);
-    print::text(rt, b"|");
-}
-
-fn put_whole(rt: &impl Print, columns: &mut [u8], v: u64) {
-    field::write::put_whole(columns, v);
-    shown(rt, columns);
 }
 
 fn written_whole(rt: &impl Print, width: usize, v: u64) {
-    let mut columns = [35u8; 20];
-    if width <= MOST {
-        put_whole(rt, &mut columns[0..width], v);
-    }
-}
-
-fn put_signed(rt: &impl Print, columns: &mut [u8], negative: bool, magnitude: u64) {
-    field::write::put_signed_whole(columns, negative, magnitude);
-    shown(rt, columns);
+    written(rt, width, |columns| field::write::put_whole(columns, v));
 }
 
 fn written_signed(rt: &impl Print, width: usize, negative: bool, magnitude: u64) {
-    let mut columns = [35u8; 20];
-    if width <= MOST {
-        put_signed(rt, &mut columns[0..width], negative, magnitude);
-    }
-}
-
-fn put_exponent(rt: &impl Print, columns: &mut [u8], exponent: Exponent) {
-    field::write::put_exponent(columns, exponent);
-    shown(rt, columns);
+    written(
+        rt,
+        width,
+        |columns| field::write::put_signed_whole(columns, negative, magnitude),
+    );
 }
 
 fn written_exponent(rt: &impl Print, width: usize, exponent: Exponent) {
-    let mut columns = [35u8; 20];
-    if width <= MOST {
-        put_exponent(rt, &mut columns[0..width], exponent);
-    }
-}
-
-fn put_decimal(rt: &impl Print, columns: &mut [u8], places: usize, negative: bool, magnitude: u64) {
-    field::write::put_decimal(columns, places, negative, magnitude);
-    shown(rt, columns);
+    written(
+        rt,
+        width,
+        |columns| field::write::put_exponent(columns, exponent),
+    );
 }
 
 fn written_decimal(rt: &impl Print, width: usize, places: usize, negative: bool, magnitude: u64) {
-    let mut columns = [35u8; 20];
-    if width <= MOST {
-        put_decimal(rt, &mut columns[0..width], places, negative, magnitude);
-    }
+    written(
+        rt,
+        width,
+        |columns| field::write::put_decimal(columns, places, negative, magnitude),
+    );
 }
 
 // One column less, where there is one.
 fn narrower(width: usize) -> usize {
-    if width == 0 { 0 } else { width - 1 }
+    width.saturating_sub(1)
 }
 
 fn whole(rt: &impl Print, s: &[u8]) {
@@ -132,7 +101,7 @@ fn clock(rt: &impl Print, s: &[u8], places: usize) {
 
 // The number of the places, of two digits.
 fn places_of(tens: u8, ones: u8) -> usize {
-    (tens as usize) * 10 + (ones as usize)
+    usize::from(tens % 16) * 10 + usize::from(ones % 16)
 }
 
 // One line's field by its kind.
@@ -149,19 +118,16 @@ fn field_of(rt: &impl Print, kind: u8, places: usize, s: &[u8]) {
 }
 
 fn line(rt: &impl Print, s: &[u8]) {
-    if s.len() < 3 {
+    let [kind, tens, ones, field @ ..] = s else {
         return;
-    }
-    field_of(rt, s[0], places_of(s[1] % 16, s[2] % 16), &s[3..]);
-    print::text(rt, b"\n");
+    };
+    field_of(rt, *kind, places_of(*tens, *ones), field);
+    let _ = println!(rt; "");
 }
 
 fn lines(rt: &impl Print, input: &[u8]) {
-    let mut at = 0;
-    while at < input.len() {
-        let end = line_end(input, at);
-        line(rt, &input[at..end]);
-        at = end + 1;
+    for s in input.split(|b| *b == b'\n') {
+        line(rt, s);
     }
 }
 

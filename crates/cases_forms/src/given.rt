@@ -1,23 +1,40 @@
 // A table given by numbers: the arguments of a header, a field that is another after the header was accepted, the lengths of the lists, the lists.
-ghost use Rattle.std.specs.Prelude.{◌≡◌, ◌≤◌, length};
-
-use crate::shown::Wanted;
-use crate::words::at_most;
-use crate::{fields, print, shown, words};
+use crate::fields::{Fields, Numbers};
+use crate::shown::{Lists, Wanted};
+use crate::{shown, words};
 use header::Header;
 
-// An accepted header with one field changed; 1 stands for the start, 34 and more for none.
-fn changed(h: Header, n: &mut [u64], field: u64, value: u64) -> Header
-    requires { length n.old ≡ 34 }
-{
-    if field >= 34 {
-        return h;
+// What is another in an accepted header: a field by its place among the numbers, of which 34 and more are none, and its value.
+#[derive(Clone, Copy)]
+struct Change {
+    field: u64,
+    value: u64,
+}
+
+// The lengths of the lists.
+#[derive(Clone, Copy)]
+struct Lengths {
+    identifiers: u64,
+    exponents: u64,
+    comments: u64,
+    rows: u64,
+}
+
+// The place of the start among the numbers.
+const START: u64 = 1;
+
+// An accepted header with one field changed.
+fn changed(h: Header, n: &mut Numbers, change: Change) -> Header {
+    match n.get_mut(change.field as usize) {
+        Some(number) => *number = change.value,
+        None => return h,
     }
-    n[field as usize] = value;
-    if field == 1 {
-        return fields::with(n, value);
-    }
-    fields::with(n, h.start8)
+    let start8 = if change.field == START {
+        change.value
+    } else {
+        h.start8
+    };
+    Fields::from(&*n).with(start8)
 }
 
 // The lists of the table, in the order of the text.
@@ -25,86 +42,73 @@ fn lists(
     rt: &impl Print,
     h: Header,
     text: &[u8],
-    at: usize,
     identifiers: &mut [u64],
     exponents: &mut [u64],
     comments: &mut [u8],
     rows: &mut [i64],
     wanted: Wanted,
-)
-    requires { at ≤ length text.now }
-{
-    let first = words::numbers(text, at, identifiers);
-    let second = words::numbers(text, first, exponents);
-    let third = words::signed_numbers(text, second, rows);
-    words::bytes(text, third, comments);
-    shown::table(rt, h, identifiers, exponents, comments, rows, wanted);
-}
-
-// Lists of the lengths that the text says.
-fn body(rt: &impl Print, h: Header, text: &[u8], at: usize, lengths: &[u64], wanted: Wanted)
-    requires at_in_bounds { at ≤ length text.now }
-    requires lengths_len { length lengths.now ≡ 4 }
-{
-    let mut identifiers = [0u64; 1000];
-    let mut exponents = [0u64; 1000];
-    let mut comments = [b' '; 8000];
-    let mut rows = [0i64; 23_000];
-    let i = at_most(lengths[0], 1000);
-    let x = at_most(lengths[1], 1000);
-    let c = at_most(lengths[2], 8000);
-    let r = at_most(lengths[3], 23_000);
-    lists(
+) {
+    let rest = words::numbers(text, identifiers);
+    let rest = words::numbers(rest, exponents);
+    let rest = words::signed_numbers(rest, rows);
+    words::bytes(rest, comments);
+    shown::table(
         rt,
         h,
-        text,
-        at,
-        &mut identifiers[0..i],
-        &mut exponents[0..x],
-        &mut comments[0..c],
-        &mut rows[0..r],
+        Lists {
+            identifiers,
+            exponents,
+            comments,
+            rows,
+        },
         wanted,
     );
 }
 
-// The table of an accepted header: `rest` has the field that is another, its value and the lengths of the lists, which stand at `at`.
-fn accepted(
-    rt: &impl Print,
-    h: Header,
-    n: &mut [u64],
-    rest: &[u64],
-    text: &[u8],
-    at: usize,
-    wanted: Wanted,
-)
-    requires n_len { length n.old ≡ 34 }
-    requires rest_len { length rest.now ≡ 6 }
-    requires at_in_bounds { at ≤ length text.now }
-{
-    let other = changed(h, n, rest[0], rest[1]);
-    body(rt, other, text, at, &rest[2..6], wanted);
+// Lists of the lengths that the text says.
+fn body(rt: &impl Print, h: Header, text: &[u8], lengths: Lengths, wanted: Wanted) {
+    let mut identifiers = [0u64; 1000];
+    let mut exponents = [0u64; 1000];
+    let mut comments = [b' '; 8000];
+    let mut rows = [0i64; 23_000];
+    let i = (lengths.identifiers as usize).min(1000);
+    let x = (lengths.exponents as usize).min(1000);
+    let c = (lengths.comments as usize).min(8000);
+    let r = (lengths.rows as usize).min(23_000);
+    lists(
+        rt,
+        h,
+        text,
+        &mut identifiers[..i],
+        &mut exponents[..x],
+        &mut comments[..c],
+        &mut rows[..r],
+        wanted,
+    );
 }
 
-// The header's answer, and what is written where it is accepted.
-fn answered(rt: &impl Print, n: &mut [u64], rest: &[u64], text: &[u8], at: usize, wanted: Wanted)
-    requires n_len { length n.old ≡ 34 }
-    requires rest_len { length rest.now ≡ 6 }
-    requires at_in_bounds { at ≤ length text.now }
-{
-    let answer = fields::made(n);
-    print::text(rt, b"new");
-    print::value(rt, answer.refusal);
-    print::text(rt, b"\n");
-    if answer.refusal == 0 {
-        accepted(rt, answer.header, n, rest, text, at, wanted);
-    }
-}
-
-// One table.
+// One table: what the header is answered and, where it is accepted, what is written.
 pub(crate) fn table(rt: &impl Print, text: &[u8], wanted: Wanted) {
-    let mut n = [0u64; 34];
-    let mut rest = [0u64; 6];
-    let first = words::numbers(text, 0, &mut n);
-    let second = words::numbers(text, first, &mut rest);
-    answered(rt, &mut n, &rest, text, second, wanted);
+    let mut n = [0; 34];
+    let mut more = [0; 6];
+    let rest = words::numbers(text, &mut n);
+    let rest = words::numbers(rest, &mut more);
+    let [field, value, identifiers, exponents, comments, rows] = more;
+    let answer = Fields::from(&n).made();
+    let _ = println!(rt; "new {}", answer.refusal);
+    if answer.refusal == 0 {
+        let h = changed(answer.header, &mut n, Change { field, value });
+        body(
+            rt,
+            h,
+            rest,
+            Lengths {
+                identifiers,
+                exponents,
+                comments,
+                rows,
+            },
+            wanted,
+        );
+    }
 }

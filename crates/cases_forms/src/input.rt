@@ -1,43 +1,63 @@
 // The cases of standard input, one after the other: a line of four numbers (kind, letter of the version wanted, room, length), then so many bytes.
-ghost use Rattle.std.specs.Prelude.{◌+◌, ◌≤◌, length};
+ghost use Rattle.std.specs.Prelude.{◌<◌, length};
 
 use crate::shown::Wanted;
-use crate::words::at_most;
-use crate::{given, print, shown, words};
+use crate::{given, shown, words};
+use header::Version;
 
-// The answers to one case.
-fn answer(rt: &impl Print, kind: u64, wanted: Wanted, bytes: &[u8]) {
-    if kind == 0 {
-        print::told(rt, b"file", wanted.size, bytes.len() as u64);
-        shown::file(rt, bytes, wanted);
-    } else {
-        print::told(rt, b"table", wanted.size, bytes.len() as u64);
-        given::table(rt, bytes, wanted);
+// What the bytes of a case are.
+#[derive(Clone, Copy, PartialEq, Eq)]
+enum Kind {
+    File,
+    Table,
+}
+
+impl From<u64> for Kind {
+    fn from(number: u64) -> Kind {
+        match number {
+            0 => Kind::File,
+            _ => Kind::Table,
+        }
     }
 }
 
-// The case at `at`, and where the next one begins.
-fn case(rt: &impl Print, input: &[u8], at: usize) -> usize
-    requires { at + 1 ≤ length input.now }
-    ensures { (at + 1 ≤ result) × (result ≤ length input.now) }
+// The answers to one case.
+fn answer(rt: &impl Print, kind: Kind, wanted: Wanted, bytes: &[u8]) {
+    match kind {
+        Kind::File => {
+            let _ = println!(rt; "file {} {}", wanted.size, bytes.len());
+            shown::file(rt, bytes, wanted);
+        }
+        Kind::Table => {
+            let _ = println!(rt; "table {} {}", wanted.size, bytes.len());
+            given::table(rt, bytes, wanted);
+        }
+    }
+}
+
+// The case that the input begins with, and the input after it.
+fn case<'a>(rt: &impl Print, input: &'a [u8]) -> &'a [u8]
+    requires { 0 < length input.now }
+    ensures { length result.now < length input.now }
 {
-    let second = words::next(input, at);
-    let mut front = [0u64; 3];
-    let from = words::numbers(input, second, &mut front);
-    let to = from + at_most(front[2], input.len() - from);
+    let (kind, rest) = words::word(input);
+    let mut front = [0; 3];
+    let rest = words::numbers(rest, &mut front);
+    let [letter, size, length] = front;
+    let (bytes, rest) = rest.split_at((length as usize).min(rest.len()));
     let wanted = Wanted {
-        letter: (front[0] % 256) as u8,
-        size: front[1],
+        version: Version::by((letter % 256) as u8),
+        size,
     };
-    answer(rt, words::value(input, at), wanted, &input[from..to]);
-    to
+    answer(rt, Kind::from(words::value_of(kind)), wanted, bytes);
+    rest
 }
 
 // Every case of the input.
 fn batch(rt: &impl Print, input: &[u8]) {
-    let mut at = 0;
-    while at < input.len() {
-        at = case(rt, input, at);
+    let mut rest = input;
+    while !rest.is_empty() {
+        rest = case(rt, rest);
     }
 }
 

@@ -1,116 +1,67 @@
 // A table written, and the answer printed.
 use crate::print;
-use crate::words::at_most;
 use header::{Header, Version};
 use reader::Reading;
 
-// What is wanted of a writing: the version by its letter, and the size of the room.
+// What is wanted of a writing: the version, and the size of the room.
 #[derive(Clone, Copy)]
 pub(crate) struct Wanted {
-    pub letter: u8,
+    pub version: Version,
     pub size: u64,
 }
 
-// Whether each byte holds the mark.
-fn marked(bytes: &[u8]) -> bool {
-    let mut i = 0;
-    while i < bytes.len() {
-        if bytes[i] != 7 {
-            return false;
-        }
-        i += 1;
-    }
-    true
+// The lists of a table.
+#[derive(Clone, Copy)]
+pub(crate) struct Lists<'a> {
+    pub identifiers: &'a [u64],
+    pub exponents: &'a [u64],
+    pub comments: &'a [u8],
+    pub rows: &'a [i64],
 }
+
+// The mark that a room holds in each byte before a writing.
+const MARK: u8 = 7;
 
 // What a writing left in the room: its bytes, and whether the others are as they were.
 fn left(rt: &impl Print, length: usize, room: &[u8]) {
-    let n = at_most(length as u64, room.len());
-    print::text(rt, &room[0..n]);
-    if marked(&room[n..]) {
-        print::text(rt, b"kept\n");
-    } else {
-        print::text(rt, b"changed\n");
-    }
+    let (written, others) = room.split_at(length.min(room.len()));
+    let kept = others.iter().all(|b| *b == MARK);
+    print::bytes(rt, written);
+    let _ = println!(rt; "{}", if kept { "kept" } else { "changed" });
 }
 
 // A table written in a version into a room of marks.
-fn into(
-    rt: &impl Print,
-    version: Version,
-    h: Header,
-    identifiers: &[u64],
-    exponents: &[u64],
-    comments: &[u8],
-    rows: &[i64],
-    room: &mut [u8],
-) {
-    let answer = writer::write(version, h, identifiers, exponents, comments, rows, room);
-    print::told(rt, b"write", answer.refusal as u64, answer.length as u64);
+fn into(rt: &impl Print, version: Version, h: Header, lists: Lists<'_>, room: &mut [u8]) {
+    let answer = writer::write(
+        version,
+        h,
+        lists.identifiers,
+        lists.exponents,
+        lists.comments,
+        lists.rows,
+        room,
+    );
+    let _ = println!(rt; "write {} {}", answer.refusal, answer.length);
     left(rt, answer.length, room);
 }
 
 // A table written as it is wanted, into a room of 75,000 bytes at most.
-pub(crate) fn table(
-    rt: &impl Print,
-    h: Header,
-    identifiers: &[u64],
-    exponents: &[u64],
-    comments: &[u8],
-    rows: &[i64],
-    wanted: Wanted,
-) {
-    let mut room = [7u8; 75_000];
-    let n = at_most(wanted.size, room.len());
-    into(
-        rt,
-        Version::by(wanted.letter),
-        h,
-        identifiers,
-        exponents,
-        comments,
-        rows,
-        &mut room[0..n],
-    );
+pub(crate) fn table(rt: &impl Print, h: Header, lists: Lists<'_>, wanted: Wanted) {
+    let mut room = [MARK; 75_000];
+    let n = (wanted.size as usize).min(room.len());
+    into(rt, wanted.version, h, lists, &mut room[..n]);
 }
 
 // What a reading answers: the refusal, its line, its column, and the letter of the version.
 fn told(rt: &impl Print, reading: Reading) {
-    let letter = [reading.version];
-    print::text(rt, b"read");
-    print::value(rt, reading.refusal as u64);
-    print::value(rt, reading.line);
-    print::value(rt, reading.column as u64);
-    print::text(rt, b" |");
-    print::text(rt, &letter);
-    print::text(rt, b"|\n");
+    let _ = print!(rt;
+        "read {} {} {} |",
+        reading.refusal, reading.line, reading.column
+    );
+    print::bytes(rt, &[reading.version, b'|', b'\n']);
 }
 
-// What a reading answers, and what it read written.
-fn again(
-    rt: &impl Print,
-    reading: Reading,
-    identifiers: &[u64],
-    exponents: &[u64],
-    comments: &[u8],
-    rows: &[i64],
-    wanted: Wanted,
-) {
-    told(rt, reading);
-    if reading.refusal == 0 {
-        table(
-            rt,
-            reading.header,
-            identifiers,
-            exponents,
-            comments,
-            rows,
-            wanted,
-        );
-    }
-}
-
-// A file read into these lists.
+// A file read into these lists, and what was read written.
 fn read(
     rt: &impl Print,
     bytes: &[u8],
@@ -121,7 +72,16 @@ fn read(
     wanted: Wanted,
 ) {
     let reading = reader::read(bytes, identifiers, exponents, comments, rows);
-    again(rt, reading, identifiers, exponents, comments, rows, wanted);
+    told(rt, reading);
+    if reading.refusal == 0 {
+        let lists = Lists {
+            identifiers,
+            exponents,
+            comments,
+            rows,
+        };
+        table(rt, reading.header, lists, wanted);
+    }
 }
 
 // A file read into lists of marks.

@@ -1,164 +1,82 @@
 // Numbers out of a text, each with one blank or LF after it.
-ghost use Rattle.std.specs.Prelude.{◌+◌, ◌≤◌, length};
+ghost use Rattle.std.specs.Prelude.{◌<◌, ◌≤◌, length};
 
-// A count, or the most that there is.
-pub(crate) fn at_most(n: u64, most: usize) -> usize
-    ensures { result ≤ most }
+// The word that a text begins with, and the text after the blank or LF that ended it.
+pub(crate) fn word(text: &[u8]) -> (&[u8], &[u8])
+    requires { 0 < length text.now }
+    ensures { length result.1.now < length text.now }
 {
-    if n < most as u64 {
-        return n as usize;
+    let end = text
+        .iter()
+        .take_while(|b| !matches!(**b, b' ' | b'\n'))
+        .count();
+    let (word, rest) = text.split_at(end);
+    match rest {
+        [_, rest @ ..] => (word, rest),
+        [] => (word, rest),
     }
-    most
 }
 
-// Where the number at `at` ends: the next blank or LF, or the end of the text.
-fn word_end(text: &[u8], at: usize) -> usize
-    requires { at ≤ length text.now }
-    ensures { (at ≤ result) × (result ≤ length text.now) }
-{
-    let mut end = at;
-    while end < text.len() {
-        if (text[end] == b' ') | (text[end] == b'\n') {
-            return end;
-        }
-        end += 1;
-    }
-    end
-}
-
-// Where the number after the one at `at` begins.
-pub(crate) fn next(text: &[u8], at: usize) -> usize
-    requires { at + 1 ≤ length text.now }
-    ensures { (at + 1 ≤ result) × (result ≤ length text.now) }
-{
-    let end = word_end(text, at);
-    if end < text.len() {
-        return end + 1;
-    }
-    end
-}
-
-// A number times ten and one digit more, modulo 2^64.
-fn with_digit(n: u64, digit: u8) -> u64 {
-    let twice = std::num::wrapping_add_u64(n, n);
-    let times4 = std::num::wrapping_add_u64(twice, twice);
-    let times8 = std::num::wrapping_add_u64(times4, times4);
-    let times10 = std::num::wrapping_add_u64(times8, twice);
-    std::num::wrapping_add_u64(times10, (digit % 16) as u64)
-}
-
-// A number with one byte more: a digit, or a sign that counts for nothing here.
+// A number with one byte more: a digit, or a sign that counts for nothing here. It counts modulo 2^64.
 fn with_byte(n: u64, b: u8) -> u64 {
     if b == b'-' {
         return n;
     }
-    with_digit(n, b)
+    n.wrapping_mul(10).wrapping_add(u64::from(b % 16))
 }
 
 // The number that a word shows.
-fn value_of(word: &[u8]) -> u64 {
-    let mut value = 0;
-    let mut i = 0;
-    while i < word.len() {
-        value = with_byte(value, word[i]);
-        i += 1;
-    }
-    value
+pub(crate) fn value_of(word: &[u8]) -> u64 {
+    word.iter().fold(0, |n, b| with_byte(n, *b))
 }
 
-// The number at `at`; 0 where the text has ended.
-pub(crate) fn value(text: &[u8], at: usize) -> u64
-    requires { at ≤ length text.now }
-{
-    let end = word_end(text, at);
-    value_of(&text[at..end])
-}
-
-// Minus a magnitude, of 2^63 at most.
-fn minus(magnitude: u64) -> i64 {
-    if magnitude > 9_223_372_036_854_775_807 {
-        return -9_223_372_036_854_775_807 - 1;
-    }
-    -(magnitude as i64)
-}
-
-// A magnitude below 2^63; 0 for another.
-fn plus(magnitude: u64) -> i64 {
-    if magnitude > 9_223_372_036_854_775_807 {
-        return 0;
-    }
-    magnitude as i64
-}
-
-// Whether a word begins with a minus.
-fn is_minus(word: &[u8]) -> bool {
-    if word.len() == 0 {
-        return false;
-    }
-    word[0] == b'-'
-}
-
-// The signed number at `at`.
-fn signed(text: &[u8], at: usize) -> i64
-    requires { at ≤ length text.now }
-{
-    let end = word_end(text, at);
-    let word = &text[at..end];
+// The signed number that a word shows: the least one where it is below that, and 0 where it is above the largest.
+fn signed_of(word: &[u8]) -> i64 {
     let magnitude = value_of(word);
-    if is_minus(word) {
-        return minus(magnitude);
+    if word.starts_with(b"-") {
+        0i64.saturating_sub_unsigned(magnitude)
+    } else {
+        i64::try_from(magnitude).unwrap_or(0)
     }
-    plus(magnitude)
 }
 
-// Fills a list with the numbers from `at` on, as far as there are any, and gives where the text goes on.
-pub(crate) fn numbers(text: &[u8], at: usize, list: &mut [u64]) -> usize
-    requires { at ≤ length text.now }
-    ensures { (at ≤ result) × (result ≤ length text.now) }
+// Fills a list with what the words of a text show, as far as there are any, and gives the text after them.
+fn filled<'a, T: Drop, F: FnMut(&[u8]) -> T>(
+    text: &'a [u8],
+    list: &mut [T],
+    mut value_of: F,
+) -> &'a [u8]
+    requires { F.IsAlwaysCallable value_of }
+    ensures { length result.now ≤ length text.now }
 {
-    let mut from = at;
-    let mut k: usize = 0;
-    while k < list.len() {
-        if from >= text.len() {
-            return from;
+    let mut rest = text;
+    for place in list.iter_mut() {
+        if rest.is_empty() {
+            break;
         }
-        list[k] = value(text, from);
-        from = next(text, from);
-        k += 1;
+        let (word, after) = word(rest);
+        *place = value_of(word);
+        rest = after;
     }
-    from
+    rest
 }
 
-// The same with signed numbers.
-pub(crate) fn signed_numbers(text: &[u8], at: usize, list: &mut [i64]) -> usize
-    requires { at ≤ length text.now }
-    ensures { (at ≤ result) × (result ≤ length text.now) }
+// Fills a list with numbers.
+pub(crate) fn numbers<'a>(text: &'a [u8], list: &mut [u64]) -> &'a [u8]
+    ensures { length result.now ≤ length text.now }
 {
-    let mut from = at;
-    let mut k: usize = 0;
-    while k < list.len() {
-        if from >= text.len() {
-            return from;
-        }
-        list[k] = signed(text, from);
-        from = next(text, from);
-        k += 1;
-    }
-    from
+    filled(text, list, value_of)
 }
 
-// Fills a list with the bytes from `at` on, as far as there are any.
-pub(crate) fn bytes(text: &[u8], at: usize, list: &mut [u8])
-    requires { at ≤ length text.now }
+// Fills a list with signed numbers.
+pub(crate) fn signed_numbers<'a>(text: &'a [u8], list: &mut [i64]) -> &'a [u8]
+    ensures { length result.now ≤ length text.now }
 {
-    let mut from = at;
-    let mut k: usize = 0;
-    while k < list.len() {
-        if from >= text.len() {
-            return;
-        }
-        list[k] = text[from];
-        from += 1;
-        k += 1;
-    }
+    filled(text, list, signed_of)
+}
+
+// Fills a list with the bytes of a text, as far as there are any.
+pub(crate) fn bytes(text: &[u8], list: &mut [u8]) {
+    let n = text.len().min(list.len());
+    list[..n].copy_from_slice(&text[..n]);
 }

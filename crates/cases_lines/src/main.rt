@@ -6,6 +6,7 @@
 
 mod cases;
 mod input;
+mod kinds;
 mod print;
 mod words;
 mod written;

@@ -1,5 +1,6 @@
 // A record by its values, which may be any, written into a room that held a mark in each byte.
-use crate::{print, words};
+use crate::kinds::Kind;
+use crate::{kinds, print, words};
 use header::{Bases, Moment, Rules, Texts};
 use record::{BaseLine, Descriptor, Epoch, First, Note, Row, Satellites, Second, Slots};
 
@@ -24,27 +25,10 @@ fn moment(s: &[u8]) -> Moment {
 // The texts of line 1, of five, five, three and four bytes, after the mode.
 fn texts(s: &[u8]) -> Texts {
     Texts {
-        data_used: [
-            words::byte(s, 1),
-            words::byte(s, 2),
-            words::byte(s, 3),
-            words::byte(s, 4),
-            words::byte(s, 5),
-        ],
-        coordinates: [
-            words::byte(s, 6),
-            words::byte(s, 7),
-            words::byte(s, 8),
-            words::byte(s, 9),
-            words::byte(s, 10),
-        ],
-        orbit: [words::byte(s, 11), words::byte(s, 12), words::byte(s, 13)],
-        agency: [
-            words::byte(s, 14),
-            words::byte(s, 15),
-            words::byte(s, 16),
-            words::byte(s, 17),
-        ],
+        data_used: words::text(s, 1),
+        coordinates: words::text(s, 6),
+        orbit: words::text(s, 11),
+        agency: words::text(s, 14),
     }
 }
 
@@ -101,7 +85,7 @@ fn descriptor(s: &[u8], out: &mut [u8]) -> usize {
     let line = Descriptor {
         fault: 0,
         file_type: words::byte(s, 0),
-        time_system: [words::byte(s, 1), words::byte(s, 2), words::byte(s, 3)],
+        time_system: words::text(s, 1),
     };
     draw::descriptors::write_descriptor(line, out)
 }
@@ -164,56 +148,42 @@ fn note(s: &[u8], velocity: bool, out: &mut [u8]) -> usize {
     draw::notes::write_note(line, velocity, out)
 }
 
-// The record of a kind letter, and what its writer answers; 0 for no kind.
-fn laid(rules: Rules, letter: u8, s: &[u8], out: &mut [u8]) -> usize {
-    match letter {
-        b'a' => first(rules, s, out),
-        b'b' => second(s, out),
-        b'c' => satellites(rules, s, out),
-        b'd' => more(s, false, out),
-        b'e' => more(s, true, out),
-        b'f' => descriptor(s, out),
-        b'g' => draw::descriptors::write_characters(out),
-        b'h' => bases(s, out),
-        b'i' => draw::descriptors::write_floats(out),
-        b'j' => draw::descriptors::write_integers(out),
-        b'k' => draw::plain::write_comment(s, out),
-        b'l' => epoch(s, out),
-        b'm' => row(s, false, out),
-        b'n' => row(s, true, out),
-        b'o' => note(s, false, out),
-        b'p' => note(s, true, out),
-        b'q' => draw::plain::write_end(out),
-        _ => 0,
+// The record of a kind, and what its writer answers; 0 for no kind.
+fn laid(kind: Kind, rules: Rules, s: &[u8], out: &mut [u8]) -> usize {
+    match kind {
+        Kind::First => first(rules, s, out),
+        Kind::Second => second(s, out),
+        Kind::Satellites => satellites(rules, s, out),
+        Kind::MoreSatellites => more(s, false, out),
+        Kind::Accuracies => more(s, true, out),
+        Kind::Descriptor => descriptor(s, out),
+        Kind::Characters => draw::descriptors::write_characters(out),
+        Kind::Bases => bases(s, out),
+        Kind::Floats => draw::descriptors::write_floats(out),
+        Kind::Integers => draw::descriptors::write_integers(out),
+        Kind::Comment => draw::plain::write_comment(s, out),
+        Kind::Epoch => epoch(s, out),
+        Kind::Position => row(s, false, out),
+        Kind::Velocity => row(s, true, out),
+        Kind::PositionNote => note(s, false, out),
+        Kind::VelocityNote => note(s, true, out),
+        Kind::End => draw::plain::write_end(out),
+        Kind::Asked => 0,
     }
 }
 
-// The same by the rules of SP3-c for a capital letter.
-fn laid_in(letter: u8, s: &[u8], out: &mut [u8]) -> usize {
-    if letter < b'a' {
-        return laid(Rules::c(), letter + 32, s, out);
-    }
-    laid(Rules::d(), letter, s, out)
-}
-
-// The record written into all of `out`, and what came of it.
+// The record of the kind that its letter says, written into all of `out`, and what came of it.
 fn into(rt: &impl Print, letter: u8, s: &[u8], out: &mut [u8]) {
-    let n = laid_in(letter, s, out);
+    let n = Kind::try_from(letter).map_or(0, |kind| laid(kind, kinds::rules_of(letter), s, out));
     print::room(rt, out, n);
 }
 
-// The record written into the first bytes of `out`, as many as the room has.
-fn into_part(rt: &impl Print, letter: u8, s: &[u8], out: &mut [u8], room: u64) {
-    let n = laws::fewer(room as usize, out.len());
-    into(rt, letter, s, &mut out[0..n]);
-}
-
-// A case: the kind letter, the mark and the values.
-pub(crate) fn answer(rt: &impl Print, room: u64, s: &[u8]) {
-    if s.len() < 2 {
+// A case: the kind letter, the mark and the values. The record is written into as many of the bytes that hold the mark as the room has.
+pub(crate) fn answer(rt: &impl Print, room: u64, case: &[u8]) {
+    let [letter, mark, values @ ..] = case else {
         return;
-    }
-    let mark = s[1];
-    let mut out = [mark; MOST];
-    into_part(rt, s[0], &s[2..], &mut out, room);
+    };
+    let mut out = [*mark; MOST];
+    let n = (room as usize).min(out.len());
+    into(rt, *letter, values, &mut out[..n]);
 }

@@ -2,9 +2,11 @@
 use crate::{asked, lent, print};
 use reader::Reading;
 
-// How much of each list is lent, and what is asked: the comment, epoch and satellite by number, the satellite's identifier as a number.
+// How many bytes follow the line of a case, how much of each list is lent, and what is asked: the comment, epoch and satellite by number, the satellite's
+// identifier as a number.
 #[derive(Clone, Copy)]
 pub(crate) struct Case {
+    pub length: u64,
     pub identifiers: u64,
     pub exponents: u64,
     pub comments: u64,
@@ -16,22 +18,19 @@ pub(crate) struct Case {
 }
 
 // A judgement or a reading: the refusal, its line, its column, the length, and the letter of the version.
-pub(crate) fn told(rt: &impl Print, name: &[u8], reading: Reading) {
-    print::text(rt, name);
-    print::refusal(rt, reading.refusal, reading.line, reading.column);
-    print::value(rt, reading.length as u64);
-    print::text(rt, b" |");
-    print::byte(rt, reading.version);
-    print::text(rt, b"|\n");
+pub(crate) fn told(rt: &impl Print, name: &str, reading: Reading) {
+    let _ = print!(rt;
+        "{name} {} {} {} {} |",
+        reading.refusal, reading.line, reading.column, reading.length
+    );
+    print::bytes(rt, &[reading.version, b'|', b'\n']);
 }
 
 // Every answer about some bytes.
 pub(crate) fn answer(rt: &impl Print, case: Case, file: &[u8]) {
-    print::text(rt, b"case");
-    print::value(rt, file.len() as u64);
-    print::text(rt, b"\n");
-    told(rt, b"front", reader::judge_front(file));
-    told(rt, b"whole", reader::judge(file));
+    let _ = println!(rt; "case {}", file.len());
+    told(rt, "front", reader::judge_front(file));
+    told(rt, "whole", reader::judge(file));
     lent::read(rt, case, file, false);
     lent::read(rt, case, file, true);
     asked::comment(rt, file, case.comment);

@@ -1,63 +1,24 @@
 // The cases of standard input, one after the other: a line of nine numbers, then so many bytes as the first of them says.
-ghost use Rattle.std.specs.Prelude.{◌+◌, ◌≤◌, length};
+ghost use Rattle.std.specs.Prelude.{◌<◌, length, IfSome};
 
 use crate::cases;
 use crate::cases::Case;
 
-// Where the next LF stands from `at` on, or the end.
-fn line_end(bytes: &[u8], at: usize) -> usize
-    requires { at ≤ length bytes.now }
-    ensures { (at ≤ result) × (result ≤ length bytes.now) }
-{
-    let mut end = at;
-    while end < bytes.len() {
-        if bytes[end] == b'\n' {
-            return end;
-        }
-        end += 1;
-    }
-    end
-}
-
 // A number with one more digit, of which twelve are kept.
 fn with_digit(n: u64, digit: u8) -> u64 {
-    (n % 100_000_000_000) * 10 + (digit % 16) as u64
-}
-
-// 1 for a blank, 0 for another byte.
-fn is_blank(b: u8) -> usize
-    ensures { result ≤ 1 }
-{
-    if b == b' ' {
-        return 1;
-    }
-    0
-}
-
-// A number with one more digit where the byte is of this number and no blank.
-fn with_byte(n: u64, own: bool, b: u8) -> u64 {
-    if own & (b != b' ') {
-        return with_digit(n, b);
-    }
-    n
+    (n % 100_000_000_000) * 10 + u64::from(digit % 16)
 }
 
 // The k-th number of a line, counted from 0: in `12 7` number 1 is 7, and number 2 is 0 as there is none.
 fn number(line: &[u8], k: usize) -> u64 {
-    let mut value = 0;
-    let mut blanks = 0;
-    let mut i = 0;
-    while i < line.len() {
-        value = with_byte(value, blanks == k, line[i]);
-        blanks += is_blank(line[i]);
-        i += 1;
-    }
-    value
+    let word = line.split(|b| *b == b' ').nth(k).unwrap_or_default();
+    word.iter().fold(0, |n, digit| with_digit(n, *digit))
 }
 
 // What the line of a case lends and asks.
 fn case_of(line: &[u8]) -> Case {
     Case {
+        length: number(line, 0),
         identifiers: number(line, 1),
         exponents: number(line, 2),
         comments: number(line, 3),
@@ -69,37 +30,22 @@ fn case_of(line: &[u8]) -> Case {
     }
 }
 
-// A count, or the most that there is.
-pub(crate) fn at_most(n: u64, most: usize) -> usize
-    ensures { result ≤ most }
+// The line that a text begins with, and the text after its LF; none where it has no LF.
+fn first_line(text: &[u8]) -> Option<(&[u8], &[u8])>
+    ensures { IfSome result (λ parts. length parts.1.now < length text.now) }
 {
-    if n < most as u64 {
-        return n as usize;
-    }
-    most
-}
-
-// The case at `at`, and where the next one begins.
-fn case(rt: &impl Print, input: &[u8], at: usize) -> usize
-    requires { at + 1 ≤ length input.now }
-    ensures { (at + 1 ≤ result) × (result ≤ length input.now) }
-{
-    let end = line_end(input, at);
-    if end >= input.len() {
-        return input.len();
-    }
-    let line = &input[at..end];
-    let from = end + 1;
-    let to = from + at_most(number(line, 0), input.len() - from);
-    cases::answer(rt, case_of(line), &input[from..to]);
-    to
+    let end = text.iter().position(|b| *b == b'\n')?;
+    Some((&text[..end], &text[end + 1..]))
 }
 
 // Every case of the input.
 fn batch(rt: &impl Print, input: &[u8]) {
-    let mut at = 0;
-    while at < input.len() {
-        at = case(rt, input, at);
+    let mut rest = input;
+    while let Some((line, after)) = first_line(rest) {
+        let case = case_of(line);
+        let (file, others) = after.split_at((case.length as usize).min(after.len()));
+        cases::answer(rt, case, file);
+        rest = others;
     }
 }
 

@@ -1,73 +1,36 @@
-// Answers as text.
+// Answers as text. What cannot be written is passed over.
+use std::fmt;
 
-// Bytes as they stand.
-pub(crate) fn text(rt: &impl Print, s: &[u8]) {
+// Bytes as they stand, which need not be text.
+pub(crate) fn bytes(rt: &impl Print, s: &[u8]) {
     let _ = rt.write_all(s);
-}
-
-// One byte.
-pub(crate) fn byte(rt: &impl Print, b: u8) {
-    let one = [b];
-    text(rt, &one);
-}
-
-// A number in decimal.
-pub(crate) fn number(rt: &impl Print, n: u64) {
-    let _ = rt.print(n);
-}
-
-// A number with a blank before it.
-pub(crate) fn value(rt: &impl Print, n: u64) {
-    text(rt, b" ");
-    number(rt, n);
-}
-
-// A signed number with a blank before it.
-pub(crate) fn signed(rt: &impl Print, v: i64) {
-    text(rt, b" ");
-    if field::sign::is_negative(v) {
-        text(rt, b"-");
-    }
-    number(rt, field::sign::magnitude_of(v));
-}
-
-// A refusal, its line and its column.
-pub(crate) fn refusal(rt: &impl Print, refusal: usize, line: u64, column: usize) {
-    value(rt, refusal as u64);
-    value(rt, line);
-    value(rt, column as u64);
 }
 
 // A satellite's identifier: 7107 is G07.
 pub(crate) fn identifier(rt: &impl Print, n: u64) {
-    byte(rt, (n / 100 % 256) as u8);
-    number(rt, n % 100 / 10);
-    number(rt, n % 10);
+    bytes(rt, &[(n / 100 % 256) as u8]);
+    let _ = print!(rt; "{:02}", n % 100);
 }
 
-// The whole number that a float is, where it is one of 64 bits; else 0.
-fn whole_of(x: f64) -> i64 {
-    if x >= -9223372036854775808.0 {
-        if x < 9223372036854775808.0 {
-            return std::num::truncating_f64_to_i64(x);
-        }
-    }
-    0
-}
+// A float that is a whole number, as one; any other is followed by a mark.
+#[derive(Clone, Copy)]
+pub(crate) struct Float(pub f64);
 
-// A float that is a whole number, with a blank before it; any other is followed by a mark.
-pub(crate) fn float(rt: &impl Print, x: f64) {
-    let v = whole_of(x);
-    signed(rt, v);
-    if std::num::nearest_i64_to_f64(v) != x {
-        text(rt, b"?");
+impl fmt::Display for Float {
+    fn fmt<W: fmt::Write>(&self, f: &mut fmt::Formatter<W>) -> fmt::Result {
+        let whole = std::num::saturating_f64_to_i64(self.0);
+        let wrong = std::num::nearest_i64_to_f64(whole) != self.0;
+        write!(f, "{whole}{}", if wrong { "?" } else { "" })
     }
 }
 
 // What is absent, which is no number; a number is followed by a mark.
-pub(crate) fn absent_float(rt: &impl Print, x: f64) {
-    text(rt, b" absent");
-    if x == x {
-        text(rt, b"?");
+#[derive(Clone, Copy)]
+pub(crate) struct AbsentFloat(pub f64);
+
+impl fmt::Display for AbsentFloat {
+    fn fmt<W: fmt::Write>(&self, f: &mut fmt::Formatter<W>) -> fmt::Result {
+        let wrong = self.0 == self.0;
+        write!(f, "absent{}", if wrong { "?" } else { "" })
     }
 }

@@ -1,10 +1,6 @@
--- `cases_forms::input::batch` is safe and ends: a case ends past where it begins.
--- Assumes nothing.
-use Rattle.std.proofs.Common.{length, ◌-◌, ◌≤◌}
+-- `cases_forms::input::batch` ends: a case takes a part of what is left.
+use Rattle.std.proofs.Common.{length}
 use Rattle.cases_forms.proofs.input.batch.Given as goal
 
-abbrev pub invariant-loop-at : goal.invariant-loop-at
-invariant-loop-at g l = l.at ≤ length l.input
-
-abbrev pub decreases-loop-at : goal.decreases-loop-at
-decreases-loop-at g l = length l.input - l.at
+abbrev pub decreases-loop-rest : goal.decreases-loop-rest
+decreases-loop-rest g l = length l.rest

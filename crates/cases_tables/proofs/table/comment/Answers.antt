@@ -4,5 +4,5 @@ use Rattle.std.proofs.Common.{arith}
 use Rattle.layout.proofs.Lines.{trimmed-shorter}
 use Rattle.cases_tables.proofs.table.comment.Goals as goal
 
-pub slice_bounds-text-end-2 : goal.slice_bounds-text-end-2
-slice_bounds-text-end-2 g c = omega (arith, c.trimmed_length-n.ensures, trimmed-shorter c.args.text.now)
+pub split_at-requires : goal.split_at-requires
+split_at-requires g c = omega (arith, c.trimmed_length-n.ensures, trimmed-shorter c.args.text.now)
