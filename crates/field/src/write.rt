@@ -101,7 +101,7 @@ fn sign_width(negative: bool) -> usize
 }
 
 // Whether an integer has the columns that it needs.
-#[tactic(auto, using(crate::proofs::Powers::ten_to_narrow), unfolding(crate::specs::Show::fits_integer))]
+#[tactic(auto, using(crate::proofs::Powers::ten_to_is), unfolding(crate::specs::Show::fits_integer))]
 fn fits_integer(width: usize, negative: bool, v: u64) -> bool
     ensures { result ≡ fits_integer width negative v }
 {
