@@ -14,7 +14,7 @@ use Rattle.field.specs.Digits.{point_of}
 use Rattle.field.specs.declared.Exponent.{Exponent}
 use Rattle.field.specs.declared.Exponent.TheVariants as exponent
 use Rattle.laws.proofs.Bools.{and_left, and_right, same_truth}
-use Rattle.field.proofs.Powers.{ten-to-is, ten_pos}
+use Rattle.field.proofs.Powers.{ten_to_is, ten_pos}
 
 module _ (w : ℕ) (negative : Bool) (v : ℕ) where
   pub fits-wide : 18 < w → false ≡ fits_integer w negative v
@@ -82,7 +82,7 @@ module _ (w places : ℕ) (negative : Bool) (m : ℕ) where
     pub decimal_bounded : sign < w - places - 1 → (unit : ℕ) → unit ≡ ten_to (w - 1 - sign) → ltb m unit ≡ fits_decimal w places negative m
     decimal_bounded n unit e =
         let columns : w - 1 - sign ≡ w - 1 - sign_width (shown_negative negative m) = ap (λ (k : ℕ). w - 1 - k) is in
-        ap (ltb m) (e ∙ ten-to-is (w - 1 - sign) (omega arith) ∙ ap (λ (k : ℕ). 10 ^ k) columns)
+        ap (ltb m) (e ∙ ten_to_is (w - 1 - sign) (omega arith) ∙ ap (λ (k : ℕ). 10 ^ k) columns)
         ∙ decimal-digits narrow room (omega arith)
 
 -- what a number that fits satisfies

@@ -6,7 +6,7 @@ use mathlib.Core.Bool.{Bool, true, false, cond, ◌||◌, or_assoc, or-false}
 use Prim.Native.Nat.{ℕ, suc, ◌+◌, ◌-◌, ◌*◌, ◌^◌, ◌<◌, ◌≤◌}
 use native.Mathlib.Nat.{mul_assoc, mul_comm}
 use native.Mathlib.Omega.{arith}
-use borrow.Author.Tests.{eqb-true, ne_eqb, le-leb, lt-leb}
+use borrow.Author.Tests.{eqb-true, ne_eqb, le-leb}
 use lib.Dec.{eqb}
 use lib.ListN.{length, take, drop, length-drop}
 use Rattle.std.specs.List.{fold}
@@ -45,17 +45,7 @@ minus_folded s = from false s
     from t [] = sym (or-false t)
     from t (b ∷ s) = from (t || eqb b 45) s ∙ or_assoc t (eqb b 45) (has_minus s)
 
--- the three answers of the magnitude
-pub known-none : (s : List ℕ) (places : ℕ) → length s ≡ 0 → 0 ≡ known_magnitude s places
-unfolding known_magnitude
-known-none [] places e = let first : 0 - places - 1 ≡ 0 = omega arith in rw first
-known-none (b ∷ s) places e = absurd (omega arith)
-
 module _ (s : List ℕ) (places : ℕ) where
-  pub known-wide : 17 < length s → 0 ≡ known_magnitude s places
-  unfolding known_magnitude
-  known-wide h = rw (lt-leb (length s) 17 h)
-
   pub known-folded : length s ≤ 17
       → value_from (value_from 0 (take (point_of places (length s)) s)) (drop (point_of places (length s) + 1) s) ≡ known_magnitude s places
   unfolding known_magnitude

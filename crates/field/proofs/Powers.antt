@@ -5,7 +5,7 @@ use Prim.Native.Nat.{ℕ, suc, ◌+◌, ◌*◌, ◌/◌, ◌^◌, ◌<◌, ◌�
 use native.Mathlib.Nat.{pow-suc, pow-le-pow_right, div-div-eq-div-mul, mul_comm}
 use native.Mathlib.Numerals.{add-one}
 use native.Mathlib.Omega.{arith}
-use borrow.Author.Tests.{le-leb, lt-leb}
+use borrow.Author.Tests.{le-leb}
 use Rattle.field.specs.Scale.{ten_to}
 
 pub ten-suc : (n : ℕ) → 10 ^ suc n ≡ 10 ^ n * 10
@@ -31,20 +31,13 @@ tenth-first v n = div-div-eq-div-mul v 10 (10 ^ n) ∙ ap (λ (k : ℕ). v / k) 
 pub tenth-last : (v n : ℕ) → v / 10 ^ n / 10 ≡ v / 10 ^ suc n
 tenth-last v n = div-div-eq-div-mul v (10 ^ n) 10 ∙ ap (λ (k : ℕ). v / k) (sym (ten-suc n))
 
-pub ten-to-is : (n : ℕ) → n ≤ 18 → ten_to n ≡ 10 ^ n
+pub ten_to_is : (n : ℕ) → n ≤ 18 → ten_to n ≡ 10 ^ n
 unfolding ten_to
-ten-to-is n h = rw (le-leb n 18 h)
-
-pub ten-to-above : (n : ℕ) → 18 < n → ten_to n ≡ 0
-unfolding ten_to
-ten-to-above n h = rw (lt-leb n 18 h)
+ten_to_is n h = rw (le-leb n 18 h)
 
 pub ten_13 : (n : ℕ) → n ≤ 13 → 10 ^ n ≤ 10 ^ 13
 ten_13 n h = ten-mono h
 
 -- with few places the unit is the power
 pub ten_to_small : (n : ℕ) → n ≤ 13 → ten_to n ≡ 10 ^ n
-ten_to_small n h = ten-to-is n (omega arith)
-
-pub ten_to_narrow : (n : ℕ) → n ≤ 18 → ten_to n ≡ 10 ^ n
-ten_to_narrow n h = ten-to-is n h
+ten_to_small n h = ten_to_is n (omega arith)

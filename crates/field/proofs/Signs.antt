@@ -3,11 +3,11 @@
 use mathlib.Core.Path.{◌≡◌, refl, sym, ◌∙◌, ap, ap₂}
 use mathlib.Core.List.{[], ◌∷◌}
 use mathlib.Core.Bool.{Bool, true, false, ◌&&◌}
-use Prim.Native.Nat.{ℕ, zero, suc, ◌+◌, ◌<◌, ◌≤◌}
+use Prim.Native.Nat.{ℕ, zero, suc, ◌<◌, ◌≤◌}
 use native.Mathlib.Omega.{arith}
 use borrow.Author.Tests.{le-leb, lt-leb, le-ltb, lt-ltb}
 use lib.Dec.{T, ltb}
-use lib.IntN.{ℤ, pos, negsuc, neg_ℤ, nat_abs, ◌+ℤ◌, ◌-ℤ◌, +ℤ_one, +ℤ_idl, neg_ℤ-neg_ℤ}
+use lib.IntN.{ℤ, pos, negsuc, neg_ℤ, nat_abs, ◌-ℤ◌, +ℤ_idl}
 use lib.Signed.{mag, lt_z, non_neg}
 use mir.Syntax.{w64}
 use mir.Val.{Fits, SFits, to_z, of_z}
@@ -19,18 +19,6 @@ use Rattle.std.specs.Prelude.{Some}
 mag-turned : (n : ℕ) → mag (neg_ℤ (pos n)) ≤ n
 mag-turned zero = omega arith
 mag-turned (suc n) = omega arith
-
-turned : (n : ℕ) → pos 0 -ℤ neg_ℤ (pos n) ≡ pos n
-turned n = +ℤ_idl (neg_ℤ (neg_ℤ (pos n))) ∙ neg_ℤ-neg_ℤ (pos n)
-
-one_more : (v : ℤ) → is_negative v ≡ true → v +ℤ pos 1 ≡ neg_ℤ (pos (mag v))
-one_more (pos n) e = cc
-one_more (negsuc zero) e = +ℤ_one (negsuc zero)
-one_more (negsuc (suc n)) e = +ℤ_one (negsuc (suc n))
-
-pub abs-negative : (v : ℤ) → is_negative v ≡ true → mag v + 1 ≡ nat_abs v
-abs-negative (pos n) e = let z : ◌≡◌ {A = ℕ} 0 1 = cc in absurd (omega arith)
-abs-negative (negsuc n) e = omega arith
 
 module _ (v : ℤ) (f : SFits w64 v) where
   -- the machine's test of the sign
@@ -48,20 +36,6 @@ module _ (v : ℤ) (f : SFits w64 v) where
       fit : (v : ℤ) → SFits w64 v → is_negative v ≡ false → T (non_neg v) × Fits w64 (nat_abs v)
       fit (pos n) f e = (tt, record { fits = omega (arith, f.sfits) })
       fit (negsuc n) f e = let z : ◌≡◌ {A = ℕ} 0 1 = cc in absurd (omega arith)
-
-  -- one more than a negative number, and the turn of that, fit and are its magnitude less one
-  module _ (e : is_negative v ≡ true) where
-    pub more-fits : SFits w64 (to_z w64 (of_z w64 v) +ℤ pos 1)
-    more-fits = rw (to_z-of_z w64 v f, one_more v e) (record { sfits = omega (arith, f.sfits, mag-turned (mag v)) })
-
-    more-is : to_z w64 (of_z w64 (to_z w64 (of_z w64 v) +ℤ pos 1)) ≡ neg_ℤ (pos (mag v))
-    more-is = to_z-of_z w64 _ more-fits ∙ ap (λ (z : ℤ). z +ℤ pos 1) (to_z-of_z w64 v f) ∙ one_more v e
-
-    pub turned-fits : SFits w64 (pos 0 -ℤ to_z w64 (of_z w64 (to_z w64 (of_z w64 v) +ℤ pos 1)))
-    turned-fits = rw (more-is, turned (mag v)) (record { sfits = f.sfits })
-
-    pub turned-is : to_z w64 (of_z w64 (pos 0 -ℤ to_z w64 (of_z w64 (to_z w64 (of_z w64 v) +ℤ pos 1)))) ≡ pos (mag v)
-    turned-is = to_z-of_z w64 _ turned-fits ∙ ap (λ (z : ℤ). pos 0 -ℤ z) more-is ∙ turned (mag v)
 
 -- the number has the sign and the magnitude that it was made of
 module _ (negative : Bool) (m : ℕ) where
@@ -83,9 +57,9 @@ module _ (negative : Bool) (m : ℕ) where
       back true (suc m) = sym (lt-ltb 0 (suc m) (omega arith))
       back false m = refl
 
-  pub number-above : largest < m → 7 ∷ [] ≡ number_answer negative m
+  pub number_above : largest < m → 7 ∷ [] ≡ number_answer negative m
   unfolding number_answer
-  number-above h = rw (lt-leb m largest h)
+  number_above h = rw (lt-leb m largest h)
 
   module _ (h : m ≤ largest) where
     plain : to_z w64 m ≡ pos m
@@ -106,6 +80,12 @@ module _ (negative : Bool) (m : ℕ) where
     unfolding signed_int
     minus_is e = to_z-of_z w64 _ minus-fits ∙ ap (λ (z : ℤ). pos 0 -ℤ z) plain ∙ +ℤ_idl (neg_ℤ (pos m)) ∙ rw e refl
 
-    pub plain-is : negative ≡ false → to_z w64 m ≡ signed_int negative m
+    pub plain_is : negative ≡ false → to_z w64 m ≡ signed_int negative m
     unfolding signed_int
-    plain-is e = rw e plain
+    plain_is e = rw e plain
+
+    pub number_minus : negative ≡ true → told_number (Some (to_z w64 (of_z w64 (pos 0 -ℤ to_z w64 m)))) ≡ number_answer negative m
+    number_minus e = number-told _ (minus_is e)
+
+    pub number_plain : negative ≡ false → told_number (Some (to_z w64 m)) ≡ number_answer negative m
+    number_plain e = number-told _ (plain_is e)

@@ -10,6 +10,7 @@ pub const LARGEST: u64 = 999_999_999_999;
 pub const LARGEST_CLOCK: u64 = 999_998_999_999;
 
 // The number with its sign; none (7, out of bounds) where its magnitude is above the largest, as 1,000,000,000,000 is. Minus zero is zero.
+#[tactic(auto, using(crate::proofs::Signs::number_above, crate::proofs::Signs::number_minus, crate::proofs::Signs::number_plain))]
 pub fn number(negative: bool, magnitude: u64) -> Option<i64>
     ensures result { told_number result ≡ number_answer negative magnitude }
 {

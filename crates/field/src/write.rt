@@ -40,7 +40,7 @@ fn put_fixed(out: &mut [u8], v: u64)
     while i > 1 {
         let pair = rest % 100;
         put_pair(out, i - 2, pair);
-        rest = rest / 100;
+        rest /= 100;
         i -= 2;
     }
     if i > 0 {
@@ -69,7 +69,7 @@ fn put_digits(out: &mut [u8], v: u64) -> usize
         let pair = rest % 100;
         i -= 2;
         put_pair(out, i, pair);
-        rest = rest / 100;
+        rest /= 100;
     }
     i -= 1;
     out[i] = last_digit(rest);
@@ -101,7 +101,7 @@ fn sign_width(negative: bool) -> usize
 }
 
 // Whether an integer has the columns that it needs.
-#[tactic(auto, using(crate::proofs::Powers::ten_to_narrow), unfolding(crate::specs::Show::fits_integer))]
+#[tactic(auto, using(crate::proofs::Powers::ten_to_is), unfolding(crate::specs::Show::fits_integer))]
 fn fits_integer(width: usize, negative: bool, v: u64) -> bool
     ensures { result ≡ fits_integer width negative v }
 {
