@@ -1,9 +1,5 @@
-use Rattle.std.proofs.Common.{take, ap, ◌∙◌, ℕ}
-use Rattle.layout.specs.Fault.{lower}
-use Rattle.record.specs.Times.{date_fault}
+use Rattle.std.proofs.Common.{take}
 use Rattle.record.specs.Opening.{epoch_items}
-use Rattle.header.specs.declared.types.Moment.{Moment}
-use Rattle.record.specs.declared.fields.Judge.{Judge}
 use Rattle.record.proofs.Reading.{judged, kept, dated}
 use Rattle.record.proofs.opening.read_epoch.Goals as goal
 
