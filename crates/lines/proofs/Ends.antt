@@ -4,19 +4,17 @@ use mathlib.Core.Path.{◌≡◌, refl, sym, ap, ◌∙◌}
 use mathlib.Core.Bool.{Bool, true, false, cond, not, ◌||◌, true≢false}
 use mathlib.Core.List.{List, [], ◌∷◌}
 use Prim.Native.Nat.{ℕ, zero, suc, ◌+◌, ◌-◌, ◌≤◌, ◌<◌, zero-le}
-use native.Mathlib.Nat.{zero-add, suc-add, not-suc-le-zero, le_of_suc-le-suc}
-use native.Mathlib.Numerals.{one-add}
+use native.Mathlib.Nat.{add-zero, zero-add, add-suc, suc-add, not-suc-le-zero, le_of_suc-le-suc}
+use native.Mathlib.Numerals.{add-one}
 use native.Mathlib.Omega.{arith}
-use borrow.Author.Tests.{ltb-true, ltb-false, lt-ltb}
+use borrow.Author.Tests.{ltb-true, lt-ltb, ne_eqb}
 use lib.Dec.{ltb}
 use lib.ListN.{length, get_or, take, drop, length-drop}
 use lib.Seq.{drop-drop, take-add}
 use Rattle.laws.proofs.Bools.{and_left, and_right}
 use Rattle.laws.proofs.Lists.{rest-step, rest-none}
-use Rattle.std.proofs.Common.{Some, None, unwrap_or}
-use Rattle.std.specs.List.{list_any, position, position_or_len}
+use Rattle.std.specs.List.{list_any}
 use Rattle.std.proofs.lemmas.List.Folds.{list_any-append}
-use Rattle.std.proofs.lemmas.List.Recursion.{is_position_or_len}
 use Rattle.lines.specs.Lines.{is_lf, line_length, has_lf, is_full_line, on_first, lines_of}
 
 -- both halves of a test of either that fails
@@ -24,11 +22,25 @@ pub neither : (p q : Bool) → (p || q) ≡ false → (p ≡ false) × (q ≡ fa
 neither true q e = absurd (true≢false e)
 neither false q e = (refl, e)
 
--- by the library's words: the place of the first LF, which is at most the number of bytes
-pub by_position : (bytes : List ℕ) → line_length bytes ≡ position_or_len is_lf bytes
-unfolding line_length
-by_position bytes = is_position_or_len line_length is_lf refl (λ b bs. ap (cond (is_lf b) 0) (sym (one-add (line_length bs)))) bytes
+-- one byte at a time, to an LF or to the end
+module _ (l : List ℕ) (i : ℕ) where
+  pub line_at_end : length l ≤ i → i + line_length (drop i l) ≡ i
+  unfolding line_length
+  line_at_end h = rw (rest-none l i h, add-zero)
 
+  pub line_at_lf : i < length l → get_or l i 0 ≡ 10 → i + line_length (drop i l) ≡ i
+  unfolding line_length
+  line_at_lf h e = rw (rest-step l i h, e, add-zero)
+
+  pub line_more : i < length l → (get_or l i 0 ≡ 10 → ⊥) → i + line_length (drop i l) ≡ i + 1 + line_length (drop (i + 1) l)
+  unfolding line_length
+  line_more h e =
+      rw (rest-step l i h, ne_eqb (get_or l i 0) 10 e)
+      (add-suc i _ ∙ sym (suc-add i _) ∙ ap (λ (k : ℕ). k + line_length (drop (i + 1) l)) (sym (add-one i)))
+
+pub ruleset bytewise = (line_at_end, line_at_lf, line_more)
+
+-- a line is no longer than the bytes
 pub line_within : (bytes : List ℕ) → line_length bytes ≤ length bytes
 unfolding line_length
 line_within [] = zero-le
@@ -37,14 +49,6 @@ line_within (b ∷ bs) = go (is_lf b) (line_within bs)
     go : (t : Bool) → line_length bs ≤ length bs → cond t 0 (suc (line_length bs)) ≤ suc (length bs)
     go true h = zero-le
     go false h = omega arith
-
-pub from_position : (bytes : List ℕ) → unwrap_or (position is_lf bytes) (length bytes) ≡ line_length bytes
-from_position bytes = go (ltb (position_or_len is_lf bytes) (length bytes)) refl
-  where
-    go : (t : Bool) → ltb (position_or_len is_lf bytes) (length bytes) ≡ t
-        → unwrap_or (cond t (Some (position_or_len is_lf bytes)) None) (length bytes) ≡ line_length bytes
-    go true e = sym (by_position bytes)
-    go false e = omega (arith, by_position bytes, line_within bytes, ltb-false (position_or_len is_lf bytes) (length bytes) e)
 
 -- a stretch with no LF is passed over
 pub passed_over : (k : ℕ) (l : List ℕ) → k ≤ length l → has_lf (take k l) ≡ false → line_length l ≡ k + line_length (drop k l)

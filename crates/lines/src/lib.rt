@@ -29,13 +29,16 @@ fn is_full_line(bytes: &[u8]) -> bool
 }
 
 // How many bytes stand before the first LF, or in all where there is none, byte by byte.
+#[tactic(auto, using(crate::proofs::Ends::bytewise))]
 fn length_by_bytes(bytes: &[u8]) -> usize
     ensures { result ≡ line_length bytes.now }
 {
-    bytes
-        .iter()
-        .position(|b| *b == LINE_END)
-        .unwrap_or(bytes.len())
+    for (i, b) in bytes.iter().enumerate() {
+        if *b == LINE_END {
+            return i;
+        }
+    }
+    bytes.len()
 }
 
 // The same, a full line at once, and sixteen bytes at once as long as they have no LF.
