@@ -1,5 +1,5 @@
 -- A turn stores the length of the file that stands first in the rest.
-use Rattle.std.proofs.Common.{refl, rules, arith}
+use Rattle.std.proofs.Common.{refl, arith}
 use Rattle.divide.proofs.Cutting.{storing-first, stored-all, file-lent, cut-there, stores-length}
 use Rattle.divide.proofs.store_lengths.Goals as goal
 
