@@ -4,11 +4,11 @@ use mathlib.Core.Path.{◌≡◌, refl, sym, ap, ap₂, ◌∙◌}
 use mathlib.Core.Bool.{Bool, true, false, ◌&&◌}
 use mathlib.Core.List.{List, [], ◌∷◌, ◌++◌}
 use Prim.Native.Nat.{ℕ, ◌+◌, ◌*◌, ◌-◌, ◌<◌, ◌≤◌, min}
-use native.Mathlib.Nat.{add-zero, sub-zero, mul-le-mul}
+use native.Mathlib.Nat.{sub-zero, mul-le-mul}
 use native.Mathlib.Omega.{arith}
-use borrow.Author.Tests.{eq-eqb, ne_eqb, lt-ltb, le-ltb, ltb-true}
+use borrow.Author.Tests.{lt-ltb, le-ltb, ltb-true}
 use lib.Dec.{eqb, ltb}
-use lib.ListN.{length, get_or, take, drop}
+use lib.ListN.{length, take, drop}
 use lib.Seq.{take-append_seam}
 use denote.Ref.{Bor}
 use Rattle.std.specs.List.{position_or_len}
@@ -36,7 +36,7 @@ use Rattle.questions.specs.declared.types.CommentAnswer.{CommentAnswer}
 use Rattle.questions.specs.declared.types.RowBegins.{RowBegins}
 use Rattle.questions.specs.declared.types.SatelliteAnswer.{SatelliteAnswer}
 use Rattle.laws.proofs.Bools.{both_true}
-use Rattle.laws.proofs.Lists.{rest-step, rest-none, rest_part}
+use Rattle.laws.proofs.Lists.{rest_part}
 use Rattle.layout.proofs.Lines.{trimmed-front, trimmed-shorter}
 use Rattle.scan_laws.proofs.Files.{plain-front}
 use Rattle.scan_laws.proofs.Local.{whole-ends}

@@ -1,13 +1,11 @@
 -- A walk over rows, on plain values: what its loops do in a turn.
 -- Assumes nothing.
-use Rattle.std.proofs.Common.{◌≡◌, ℕ, suc, ◌+◌, ◌-◌, ◌<◌, ◌≤◌, Bool, true, false, cond, ◌&&◌, eqb, List, [], ◌∷◌, length, get_or, drop, sym, refl, ap, ◌∙◌, add-zero, arith, length-drop, get_or-drop, drop-drop, eqb-true}
+use Rattle.std.proofs.Common.{◌≡◌, ℕ, ◌+◌, ◌<◌, ◌≤◌, Bool, true, false, cond, ◌&&◌, eqb, List, [], ◌∷◌, length, get_or, drop, sym, refl, ap, ◌∙◌, add-zero, arith, get_or-drop, eqb-true}
 use Rattle.layout.specs.Line.{padded}
-use Rattle.lines.specs.Lines.{is_lf, line_length, lines_of, on_first, join_lines, bytes_in}
-use Rattle.lines.proofs.Ends.{no_line, first-line}
-use Rattle.lines.proofs.Split.{bytes-in, parted}
+use Rattle.lines.specs.Lines.{is_lf, lines_of, on_first, bytes_in}
 use Rattle.record.specs.LineKinds.{position_kind, told_kind, kind_of, kind_by, star_kind, e_kind, plus_kind, slash_kind, percent_kind, hash_kind}
 use Rattle.file.specs.Kinds.{is_kind}
-use Rattle.file.proofs.Finding.{padded-column}
+use Rattle.file.proofs.Finding.{padded-column, lines-within}
 use Rattle.file.proofs.FirstLine.{passed}
 use Rattle.machine.specs.Step.{step_of, read_first}
 use Rattle.header.specs.declared.types.Rules.{Rules}
@@ -165,3 +163,12 @@ module _ (rules : Rules) (file identifiers : List ℕ) (p : Spot) where
       go : (ls : List (List ℕ)) → lines_of (drop p.at file) ≡ ls → p ≡ row_ahead rules file identifiers p
       go [] e = (stays-none e).0
       go (l ∷ ls) e = stays-row l ls e (row-begins rules (drop p.at file) l ls e ∙ ap (λ (b : ℕ). eqb b 80) here-byte ∙ some)
+
+-- complete lines are fewer than their bytes
+lines-fewer : (ls : List (List ℕ)) → length ls ≤ bytes_in ls
+unfolding bytes_in
+lines-fewer [] = omega arith
+lines-fewer (l ∷ ls) = omega (arith, lines-fewer ls)
+
+pub few-lines : (bytes : List ℕ) → length (lines_of bytes) ≤ length bytes
+few-lines bytes = omega (arith, lines-fewer (lines_of bytes), lines-within bytes)

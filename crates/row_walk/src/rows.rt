@@ -66,21 +66,29 @@ fn at_row<'a>(rules: Rules, file: &'a [u8], identifiers: &'a [u64], from: Spot) 
     spot
 }
 
+// How many complete lines some bytes have.
+fn count_lines(bytes: &[u8]) -> usize
+    ensures { result ≡ length (lines_of bytes.now) }
+{
+    file::complete_lines(bytes).count()
+}
+
 // The number of the line that begins at a spot, counted from 1.
 fn line_number(file: &[u8], at: usize) -> u64
     ensures { result ≡ length (lines_of (take at file.now)) + 1 }
 {
-    let before = &file[..at.min(file.len())];
-    file::complete_lines(before).count() as u64 + 1
+    count_lines(&file[..at.min(file.len())]) as u64 + 1
 }
 
 // The epoch and the satellite of a row, by how many rows stand before it.
+#[tactic(auto, unfolding(crate::specs::Rows::epoch_of))]
 fn epoch_of(passed: u64, satellites: u64) -> u64
     ensures { result ≡ epoch_of passed satellites }
 {
     passed.checked_div(satellites).unwrap_or(0)
 }
 
+#[tactic(auto, unfolding(crate::specs::Rows::satellite_of))]
 fn satellite_of(passed: u64, satellites: u64) -> u64
     ensures { result ≡ satellite_of passed satellites }
 {

@@ -3,8 +3,8 @@ use Rattle.std.proofs.Common.{◌≡◌, ◌-◌, length}
 use Rattle.row_walk.specs.Rows.{row_ahead}
 use Rattle.row_walk.proofs.rows.at_row.Given as goal
 
-abbrev pub invariant-loop-spot : goal.invariant-loop-spot
-invariant-loop-spot l = row_ahead l.rules l.file l.identifiers l.spot ≡ row_ahead l.rules l.file l.identifiers l.from
+abbrev pub invariant-loop-rules : goal.invariant-loop-rules
+invariant-loop-rules l = row_ahead l.rules l.file l.identifiers l.spot ≡ row_ahead l.rules l.file l.identifiers l.fn.from
 
-abbrev pub decreases-loop-spot : goal.decreases-loop-spot
-decreases-loop-spot l = length l.file - l.spot.at
+abbrev pub decreases-loop-rules : goal.decreases-loop-rules
+decreases-loop-rules l = length l.file - l.spot.at
