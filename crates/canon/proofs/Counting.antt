@@ -3,9 +3,9 @@
 use mathlib.Core.Bool.{Bool, true, false, ◌&&◌}
 use mathlib.Core.Path.{◌≡◌}
 use Prim.Native.Nat.{ℕ, ◌-◌, ◌*◌, ◌/◌, ◌<◌, ◌≤◌}
-use native.Mathlib.Nat.{le-div_iff_mul-le, mul_comm, mul-le-mul}
+use native.Mathlib.Nat.{le-div_iff_mul-le, mul-le-mul}
 use native.Mathlib.Omega.{arith}
-use borrow.Author.Tests.{leb-true, le-leb}
+use borrow.Author.Tests.{leb-true}
 use lib.Dec.{leb, lit≤}
 use Rattle.laws.specs.Tests.{within}
 use Rattle.calendar.specs.Clock.{day_units}
@@ -16,25 +16,12 @@ use Rattle.canon.specs.Table.{cell_width, cells_in}
 use Rattle.canon.specs.Valid.{is_instant, last_epoch, times_valid, counts_valid, words_valid, header_valid, lists_long}
 use Rattle.header.specs.declared.types.Header.{Header}
 use Rattle.header.specs.declared.types.Rules.{Rules}
-use Rattle.laws.proofs.Bools.{and_left, and_right, same_truth}
+use Rattle.laws.proofs.Bools.{and_left, and_right}
 use Rattle.laws.proofs.Bounds.{within-true}
 
 pub some-width : (velocity : Bool) → 0 < cell_width velocity
 some-width true = lit≤ tt
 some-width false = lit≤ tt
-
--- no satellites have no cells
-pub no_cells : (satellites epochs cells : ℕ) → satellites ≡ 0 → leb (satellites * epochs) cells ≡ true
-no_cells satellites epochs cells none = le-leb (satellites * epochs) cells (rw none (omega arith))
-
--- so many satellites have no more cells than there are exactly where each epoch has its part
-pub cells-each : (satellites epochs cells : ℕ) → (satellites ≡ 0 → ⊥) → leb epochs (cells / satellites) ≡ leb (satellites * epochs) cells
-cells-each satellites epochs cells some =
-    let iff = le-div_iff_mul-le {k = satellites} {x = epochs} {y = cells} (omega arith) in
-    let turn = mul_comm epochs satellites in
-    same_truth (leb epochs (cells / satellites)) (leb (satellites * epochs) cells)
-    (λ t. le-leb (satellites * epochs) cells (rw turn at (iff.0 (leb-true epochs (cells / satellites) t))))
-    (λ t. le-leb epochs (cells / satellites) (iff.1 (rw (← turn) at (leb-true (satellites * epochs) cells t))))
 
 -- a start, a count and an interval within their bounds
 pub record Begun (h : Header) : Type 0 where

@@ -1,5 +1,3 @@
-pub mod Tests
-pub mod Reading
 pub mod Counting
 pub mod HeaderBounds
 pub mod Parts

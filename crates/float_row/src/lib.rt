@@ -42,9 +42,7 @@ fn float_unless(absent: bool, s: Signed) -> f64
 pub fn float_row(row: Row) -> FloatRow
     ensures result { result ≡ float_row row }
 {
-    let Row {
-        x, y, z, clock, ..
-    } = row;
+    let Row { x, y, z, clock, .. } = row;
     let place_absent = record::absence::place_absent(x.magnitude, y.magnitude, z.magnitude);
     let clock_absent = record::absence::clock_absent(clock.negative, clock.magnitude);
     FloatRow {

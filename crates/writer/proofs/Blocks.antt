@@ -8,8 +8,8 @@ use native.Mathlib.Nat.{suc-mul}
 use native.Mathlib.Decide.{dec_le}
 use native.Mathlib.Omega.{arith}
 use lib.IntN.{ℤ}
-use lib.ListN.{length, take, drop, get_or, length-drop, length-take, drop_of_length-le}
-use lib.Seq.{drop-drop, take_all, take-take}
+use lib.ListN.{length, take, drop, get_or, length-drop, drop_of_length-le}
+use lib.Seq.{take_all, take-take}
 use Rattle.laws.proofs.Lists.{rest-step, front_rest}
 use Rattle.lines.specs.Lent.{flat}
 use Rattle.record.specs.Opening.{epoch_line}

@@ -1,9 +1,8 @@
 -- The instants of the epochs of a table: each lies between the start and the last epoch, so on a day of the bounds.
 -- Assumes nothing.
-use mathlib.Core.Path.{◌≡◌, refl}
+use mathlib.Core.Path.{◌≡◌}
 use mathlib.Core.Bool.{true}
 use Prim.Native.Nat.{ℕ, ◌+◌, ◌-◌, ◌*◌, ◌/◌, ◌≤◌, ◌<◌, ◌^◌}
-use native.Mathlib.Nat.{le_refl}
 use native.Mathlib.Omega.{arith}
 use Rattle.laws.proofs.Bounds.{within-true}
 use Rattle.calendar.specs.Gregorian.{first_mjd, last_mjd}
@@ -23,9 +22,6 @@ instant-below a p =
 pub record Clocked (h : Header) (at8 more : ℕ) : Type 0 where
   pub since : h.start8 ≤ at8
   pub until : at8 + more * h.interval8 ≡ h.start8 + h.epochs * h.interval8
-
-pub clocked-first : (h : Header) → Clocked h h.start8 h.epochs
-clocked-first h = record { since = le_refl h.start8; until = refl }
 
 module _ {h : Header} {at8 more : ℕ} (t : Timed h) (c : Clocked h at8 more) (some : 0 < more) where
   not-past : at8 ≤ last_epoch h

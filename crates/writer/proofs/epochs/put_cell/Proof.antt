@@ -6,7 +6,6 @@ use mathlib.Core.List.{List, [], ◌++◌}
 use Prim.Native.Nat.{ℕ, ◌+◌}
 use native.Mathlib.Omega.{arith}
 use borrow.Author.Rules.{rules}
-use borrow.Author.Tests.{not-true, not-false}
 use lib.ListN.{take, drop, length-take, length-drop}
 use Rattle.record.specs.Rows.{row_width}
 use Rattle.canon.specs.Canonical.{noted_lines}

@@ -1,4 +1,4 @@
-use Rattle.std.proofs.Common.{◌≡◌, ℕ, List, ◌+◌, ◌-◌, ◌*◌, ◌<◌, length, drop, ap, arith}
+use Rattle.std.proofs.Common.{◌≡◌, ℕ, List, ◌+◌, ◌-◌, ◌*◌, ◌<◌, length, ap, arith}
 use Rattle.canon.specs.Table.{cell_width}
 use Rattle.canon.specs.Canonical.{cells_lines}
 use Rattle.laws.proofs.Lists.{rest-none}
