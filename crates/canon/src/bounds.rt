@@ -6,13 +6,11 @@ ghost use Rattle.canon.specs.Valid.{is_instant, texts_fit, times_valid, counts_v
 ghost use Rattle.canon.specs.Spent.{lent_table};
 
 use crate::types::Table;
+use calendar::DAY;
 use header::{Bases, Header, Rules, Texts};
 use laws::within;
 use record::plain::COMMENT_WIDTH;
 use record::rows::{BOTH_WIDTH, ROW_WIDTH};
-
-// One day in 10^-8 s.
-const DAY: u64 = 8_640_000_000_000;
 
 // Whether an instant lies on a day from 1980-01-06 to 2099-12-31.
 #[tactic(auto, unfolding(crate::specs::Valid::is_instant))]
