@@ -1,5 +1,5 @@
 -- A decimal of 14 columns of the usual kind has no fault. Assumes nothing.
-use mathlib.Core.Path.{◌≡◌, refl, ◌∙◌}
+use mathlib.Core.Path.{◌≡◌, refl, ap, ◌∙◌}
 use mathlib.Core.Bool.{Bool, true, false, cond, ◌&&◌}
 use mathlib.Core.List.{List, [], ◌∷◌}
 use Prim.Native.Nat.{ℕ, ◌<◌}
@@ -7,7 +7,7 @@ use native.Mathlib.Omega.{arith}
 use borrow.Author.Tests.{le-leb}
 use lib.Dec.{ltb}
 use Rattle.field.specs.Digits.{all_digits, value_from}
-use Rattle.field.specs.Read.{integer_of, decimal_of, settled}
+use Rattle.field.specs.Read.{integer_of, decimal_of, settled, carried}
 use Rattle.field.specs.Clock.{all_nines, is_nines, clock_held}
 use Rattle.field.specs.Sign.{largest}
 use Rattle.field.proofs.Bounds.{decimal-bound}
@@ -15,7 +15,9 @@ use Rattle.field.proofs.Clocks.{clock-decimal}
 use Rattle.layout.specs.Fault.{clean}
 use Rattle.layout.specs.Kind.{amount_fault, fault_in}
 use Rattle.layout.specs.Kind.Kind.{signed, clock}
-use Rattle.picture.proofs.Integers.{led_from, integer-led}
+use Rattle.picture.proofs.Integers.{led_from, integer-blank, integer-led}
+use Rattle.std.specs.Prelude.{Option}
+use Rattle.field.specs.declared.Signed.{Signed}
 use Rattle.field.specs.Read.{some_amount}
 
 within-bounds : (column : ℕ) (n : Bool) (m : ℕ) → m < 1000000000000 → amount_fault column 0 largest (some_amount n m) ≡ clean
@@ -48,8 +50,8 @@ module _ (b1 b2 b3 b4 b5 b6 c1 c2 c3 c4 c5 c6 : ℕ) where
 
   -- and a blank before them changes nothing
   read-fourteen : decimal_of (32 ∷ thirteen) 6 true ≡ decimal_of thirteen 6 true
-  unfolding decimal_of integer_of
-  read-fourteen = refl
+  unfolding decimal_of
+  read-fourteen = ap (λ (a : Option Signed). carried a after) (integer-blank before)
 
   -- so it has none, as a coordinate and as a clock
   pub decimal-usual : (column : ℕ) → led_from 32 before ≡ true → all_digits after ≡ true

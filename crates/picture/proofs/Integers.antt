@@ -1,13 +1,13 @@
 -- Bytes that may each stand after the one before them are an integer that reading takes. Assumes nothing.
-use mathlib.Core.Path.{◌≡◌, refl, sym, ◌∙◌}
+use mathlib.Core.Path.{◌≡◌, refl, sym, ap, ◌∙◌}
 use mathlib.Core.Bool.{Bool, true, false, ◌&&◌, ◌||◌}
 use mathlib.Core.List.{List, [], ◌∷◌}
-use Prim.Native.Nat.{ℕ, ◌≤◌}
+use Prim.Native.Nat.{ℕ, suc, ◌+◌, ◌≤◌}
 use native.Mathlib.Omega.{arith}
 use borrow.Author.Tests.{leb-true, eqb-true, ne_eqb}
 use lib.Dec.{leb, eqb}
-use lib.ListN.{length}
-use Rattle.field.specs.Digits.{is_digit, all_digits, value_from}
+use lib.ListN.{length, drop}
+use Rattle.field.specs.Digits.{blanks_of, is_digit, all_digits, value_from}
 use Rattle.field.specs.Read.{digits_from, number_of, minus_first, signed_of, integer_of}
 use Rattle.laws.proofs.Bools.{and_left, and_right, and_both}
 use Rattle.std.specs.Prelude.{Some}
@@ -62,11 +62,17 @@ after_minus (b ∷ s) h =
     let d = follow-other 45 b refl (and_left (may_follow 45 b) (led_from b s) h) in
     (value_from 0 (b ∷ s), digits_number b s d (after-digit b s d (and_right (may_follow 45 b) (led_from b s) h)))
 
+-- a blank more before an integer changes nothing
+pub integer-blank : (s : List ℕ) → integer_of true (32 ∷ s) ≡ integer_of true s
+unfolding integer_of
+integer-blank s =
+    let one : 1 + blanks_of s ≡ suc (blanks_of s) = omega arith in
+    ap (λ (n : ℕ). signed_of true (drop n (32 ∷ s))) one
+
 -- the first byte after blanks: one more blank, a minus, or a digit
 module _ (b : ℕ) (s : List ℕ) where
   first-blank : b ≡ 32 → Taken s → Taken (b ∷ s)
-  unfolding integer_of
-  first-blank e t = rw e t
+  first-blank e t = rw e (t.0, t.1, integer-blank s ∙ t.2)
 
   first-minus : b ≡ 45 → led_from b s ≡ true → Taken (b ∷ s)
   unfolding integer_of signed_of minus_first
