@@ -31,9 +31,6 @@ module _ (text out : List ℕ) (i v d : ℕ) (pos : 0 < i) (h : i ≤ length out
       snoc-turn text front out i d pos h
       (e ∙ ap (λ (t : List ℕ). t ++ drop i out) (step ∙ ap (λ (b : ℕ). front ++ (b ∷ [])) (sym is)))
 
-  pub fixed-turn : text ≡ fixed_digits i v ++ drop i out → text ≡ fixed_digits (i - 1) (v / 10) ++ drop (i - 1) (set out (i - 1) d)
-  fixed-turn = turn (fixed_digits (i - 1) (v / 10)) (fixed_digits i v) (fixed-step v i pos)
-
   pub digits-turn : 10 ≤ v → text ≡ digits_in i v ++ drop i out → text ≡ digits_in (i - 1) (v / 10) ++ drop (i - 1) (set out (i - 1) d)
   digits-turn more = turn (digits_in (i - 1) (v / 10)) (digits_in i v) (digits_more v i pos more)
 
@@ -105,8 +102,3 @@ shorter-fits (suc n) v pos h = rw (one_less n) (tenth-below n v h)
 pub pair_fits : (i v : ℕ) → 1 < i → v < 10 ^ i → v / 100 < 10 ^ (i - 2)
 pair_fits i v two h =
     rw (two-less i, hundredth v) at (shorter-fits (i - 1) (v / 10) (omega arith) (shorter-fits i v (omega arith) h))
-
--- nothing is left to write at the left edge
-pub fixed-edge : (i v : ℕ) (out : List ℕ) → i ≤ 0 → fixed_digits i v ++ drop i out ≡ out
-fixed-edge zero v out h = refl
-fixed-edge (suc i) v out h = absurd (omega arith)
