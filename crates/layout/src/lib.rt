@@ -37,7 +37,8 @@ pub fn column_of(key: usize) -> usize
 pub fn is_printable(s: &[u8]) -> bool
     ensures result { result ≡ every is_printable s.now }
 {
-    s.iter().fold(true, |plain, b| plain & (32..=126).contains(b))
+    s.iter()
+        .fold(true, |plain, b| plain & (32..=126).contains(b))
 }
 
 // The bytes laid over the front of `out`, as many as it has room for.
