@@ -5,7 +5,7 @@ use crate::{days, print};
 fn dated(rt: &impl Print, name: &str, year: u64, month: u64, day: u64) {
     let _ = print!(rt; "{name}: ");
     print::date(rt, calendar::date(year, month, day));
-    let _ = println!(rt; "");
+    let _ = println!(rt);
 }
 
 // A number of six places as the table has it: malformed is 6, above the largest is 7.
@@ -20,7 +20,7 @@ fn table_number(rt: &impl Print, field: &[u8]) {
 fn read(rt: &impl Print, name: &str, field: &[u8]) {
     let _ = print!(rt; "{name}: ");
     table_number(rt, field);
-    let _ = println!(rt; "");
+    let _ = println!(rt);
 }
 
 // Whether a fraction agrees with one second past midnight.

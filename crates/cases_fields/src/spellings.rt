@@ -122,7 +122,7 @@ fn line(rt: &impl Print, s: &[u8]) {
         return;
     };
     field_of(rt, *kind, places_of(*tens, *ones), field);
-    let _ = println!(rt; "");
+    let _ = println!(rt);
 }
 
 fn lines(rt: &impl Print, input: &[u8]) {

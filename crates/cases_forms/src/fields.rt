@@ -42,48 +42,33 @@ fn texts(n: &[u64]) -> Texts {
     }
 }
 
+// The start.
+fn moment(n: &Numbers) -> Moment {
+    Moment {
+        year: n[1],
+        month: n[2],
+        day: n[3],
+        hour: n[4],
+        minute: n[5],
+        second8: n[6],
+    }
+}
+
 impl From<&Numbers> for Fields {
     fn from(n: &Numbers) -> Fields {
-        let [
-            mode,
-            year,
-            month,
-            day,
-            hour,
-            minute,
-            second8,
-            epochs,
-            interval8,
-            satellites,
-            comments,
-            file_type,
-            _,
-            _,
-            _,
-            place,
-            clock,
-            ..
-        ] = n;
         Fields {
-            mode: letter(*mode),
-            start: Moment {
-                year: *year,
-                month: *month,
-                day: *day,
-                hour: *hour,
-                minute: *minute,
-                second8: *second8,
-            },
-            epochs: *epochs,
-            interval8: *interval8,
+            mode: letter(n[0]),
+            start: moment(n),
+            epochs: n[7],
+            interval8: n[8],
             texts: texts(n),
-            satellites: *satellites,
-            comments: *comments,
-            file_type: letter(*file_type),
+            satellites: n[9],
+            comments: n[10],
+            file_type: letter(n[11]),
             time_system: letters(n, 12),
             bases: Bases {
-                place: *place,
-                clock: *clock,
+                place: n[15],
+                clock: n[16],
             },
         }
     }
