@@ -28,16 +28,20 @@ returns-in_err-tally c =
 pub returns-then-tally-bytes : goal.returns-then-tally-bytes
 unfolding whole_front
 returns-then-tally-bytes c =
-    record { result = rw (
-      c.refused.ensures,
-      found _ _ _ c.scan_front.ensures.result c.in_ok-tally.was,
-      lt-ltb c.in_ok-tally.tally.end (length c.args.bytes.now) c.if-tally-bytes.true,
-    ) }
+    record {
+      result = rw (
+        c.refused.ensures,
+        found _ _ _ c.scan_front.ensures.result c.in_ok-tally.was,
+        lt-ltb c.in_ok-tally.tally.end (length c.args.bytes.now) c.if-tally-bytes.true,
+      );
+    }
 
 pub returns : goal.returns
 unfolding whole_front
 returns c =
-    record { result = rw (
-      found _ _ _ c.scan_front.ensures.result c.in_ok-tally.was,
-      le-ltb c.in_ok-tally.tally.end (length c.args.bytes.now) c.if-tally-bytes.false,
-    ) }
+    record {
+      result = rw (
+        found _ _ _ c.scan_front.ensures.result c.in_ok-tally.was,
+        le-ltb c.in_ok-tally.tally.end (length c.args.bytes.now) c.if-tally-bytes.false,
+      );
+    }

@@ -13,5 +13,5 @@ pub returns : goal.returns
 unfolding moment_of
 returns c =
     let date = same_Some _ _
-      (sym c.unwrap-date.ensures ∙ named c.args.at8 c.clock_of-clock.result c.civil.result c.requires c.clock_of-clock.ensures.result c.civil.ensures.result) in
+    (sym c.unwrap-date.ensures ∙ named c.args.at8 c.clock_of-clock.result c.civil.result c.requires c.clock_of-clock.ensures.result c.civil.ensures.result) in
     rw (date, c.clock_of-clock.ensures.result)
