@@ -10,6 +10,7 @@ use Rattle.file.proofs.line_of.Reads as line-of
 use Rattle.file.proofs.records.padded_line.Reads as padded-line
 use Rattle.file.proofs.records.first_of.Reads as first_of
 use Rattle.file.proofs.records.count_of.Reads as count_of
+use Rattle.file.proofs.complete.complete_lines.Reads as complete-lines
 
 pub kind-in-determined : (κs : _) (a : _) (r r' : _) (s s' : _) → kind-in.Post κs a r s → kind-in.Post κs a r' s' → r ≡ r'
 kind-in-determined κs a r r' s s' p q = p ∙ sym q
@@ -34,3 +35,8 @@ first-of-determined κs a r r' s s' p q = p ∙ sym q
 
 pub count-of-determined : (κs : _) (a : _) (r r' : _) (s s' : _) → count_of.Post κs a r s → count_of.Post κs a r' s' → r ≡ r'
 count-of-determined κs a r r' s s' p q = p ∙ sym q
+
+-- what the lines are taken from, in every byte
+pub complete-lines-determined : (κs : _) (a : _) (r r' : _) (s s' : _) → complete-lines.Post κs a r s → complete-lines.Post κs a r' s'
+    → r.rest.now ≡ r'.rest.now
+complete-lines-determined κs a r r' s s' p q = p ∙ sym q
