@@ -7,7 +7,7 @@ use Rattle.sp3.proofs.asking.sp3_date.Statement.{statement}
 use Rattle.sp3.proofs.asking.sp3_date.Tie as tie
 
 returns : tie.Need-returns
-returns c = c.date_answer.ensures ∙ ap date_door c.date.ensures
+returns c = c.from.ensures ∙ ap date_door c.date.ensures
 
 pub sp3_date_spec : {M : Type 1} → statement M
 sp3_date_spec =
