@@ -75,7 +75,7 @@ row-begins rules (b ∷ bs) l ls e = go (is_lf b) refl (lines_of bs) refl
         line_row rules l ∙ ap (λ (x : List ℕ). eqb (get_or x 0 32) 80) (sym first)
 
 -- the lines behind the first begin after its LF
-passed-to : (file : List ℕ) (at : ℕ) (l : List ℕ) (ls : List (List ℕ)) → lines_of (drop at file) ≡ l ∷ ls
+pub passed-to : (file : List ℕ) (at : ℕ) (l : List ℕ) (ls : List (List ℕ)) → lines_of (drop at file) ≡ l ∷ ls
     → (at + length l + 1 ≤ length file) × (lines_of (drop (at + length l + 1) file) ≡ ls)
 passed-to file at l ls e =
     let p = passed file at l ls e in

@@ -132,13 +132,13 @@ module _ {rules : Rules} (proper : Proper rules) where
           eleven : refusal.number ≡ 11
           eleven = ap (λ (r : Reading). r.refusal) is
 
-          same : l ≡ line
+          same : refusal.line ≡ line
           same = ap (λ (r : Reading). r.line) is
 
-          by : (front_of rules bytes ≡ front.Refused number l column)
-              ⊎ Followed rules bytes number l column
+          by : (front_of rules bytes ≡ front.Refused refusal.number refusal.line refusal.column)
+              ⊎ Followed rules bytes refusal.number refusal.line refusal.column
               → There'
-          by (inl refused) = absurd (omega (arith, (refused-numbers proper bytes number l column refused).1, eleven))
+          by (inl refused) = absurd (omega (arith, (refused-numbers proper bytes refusal.number refusal.line refusal.column refused).1, eleven))
           by (inr (t, f, h, n, m, c)) = (
             take t.end bytes,
             drop t.end bytes,
@@ -178,7 +178,7 @@ module _ {rules : Rules} (proper : Proper rules) where
               absurd (omega arith)
           by (inr short) = (t, e, short)
       there (Err refusal) e twelve =
-          let n : 12 ≡ number = sym twelve ∙ ap (λ (a : Reading). a.refusal) (refused-whatever-room whole bytes refusal.number refusal.line refusal.column e i x c r) in
+          let n : 12 ≡ refusal.number = sym twelve ∙ ap (λ (a : Reading). a.refusal) (refused-whatever-room whole bytes refusal.number refusal.line refusal.column e i x c r) in
           absurd (omega (arith, found-few whole bytes refusal.number refusal.line refusal.column e))
 
       back : ((t : Tally) × (found_in rules whole bytes ≡ front.File t) × Short (header_to rules bytes t) i x c r) → (answer rules whole bytes i x c r).refusal ≡ 12
@@ -199,7 +199,7 @@ module _ {rules : Rules} (proper : Proper rules) where
               let z : ◌≡◌ {A = ℕ} 13 12 = sym thirteen ∙ ap (λ (a : Reading). a.refusal) (short-refused proper whole bytes t e i x c r short) in
               omega arith
       go (Err refusal) e thirteen =
-          let n : 13 ≡ number = sym thirteen ∙ ap (λ (a : Reading). a.refusal) (refused-whatever-room whole bytes refusal.number refusal.line refusal.column e i x c r) in
+          let n : 13 ≡ refusal.number = sym thirteen ∙ ap (λ (a : Reading). a.refusal) (refused-whatever-room whole bytes refusal.number refusal.line refusal.column e i x c r) in
           omega (arith, found-few whole bytes refusal.number refusal.line refusal.column e)
 
   -- THE ROW QUESTION answers 13 exactly for an epoch or satellite that an accepted file does not have.
@@ -214,7 +214,7 @@ module _ {rules : Rules} (proper : Proper rules) where
             omega arith,
       )
       there (Err refusal) e thirteen =
-          let n : 13 ≡ number = sym thirteen ∙ ap (λ (a : RowAnswer). a.refusal) (row-refused proper bytes refusal.number refusal.line refusal.column e k j) in
+          let n : 13 ≡ refusal.number = sym thirteen ∙ ap (λ (a : RowAnswer). a.refusal) (row-refused proper bytes refusal.number refusal.line refusal.column e k j) in
           absurd (omega (arith, (found-numbers bytes refusal.number refusal.line refusal.column e).1))
 
   -- THE COMMENT QUESTION: the file's own refusal first,
@@ -287,7 +287,7 @@ module _ {rules : Rules} (proper : Proper rules) where
           by (no some) one = none (λ there. some there.epoch)
           by (yes some) (no one) = none (λ there. one there.satellite)
       row (Err refusal) e twelve =
-          let n : 12 ≡ number = sym twelve ∙ ap (λ (a : RowAnswer). a.refusal) (row-refused proper bytes refusal.number refusal.line refusal.column e k j) in
+          let n : 12 ≡ refusal.number = sym twelve ∙ ap (λ (a : RowAnswer). a.refusal) (row-refused proper bytes refusal.number refusal.line refusal.column e k j) in
           omega (arith, (found-numbers bytes refusal.number refusal.line refusal.column e).1)
 
       comment : (f : Front) → file_of rules bytes ≡ f → (comment_answer rules bytes f k).refusal ≡ 12 → ⊥
@@ -387,7 +387,7 @@ module _ {rules : Rules} (proper : Proper rules) where
               absurd (omega arith)
           by (no h) = omega arith
       there (Err refusal) e twelve =
-          let n : 12 ≡ number = sym twelve ∙ ap (λ (a : Reading). a.refusal) (begin-refused proper bytes refusal.number refusal.line refusal.column e old).0 in
+          let n : 12 ≡ refusal.number = sym twelve ∙ ap (λ (a : Reading). a.refusal) (begin-refused proper bytes refusal.number refusal.line refusal.column e old).0 in
           absurd (omega (arith, (found-numbers bytes refusal.number refusal.line refusal.column e).1))
 
 -- what is answered under a test is not there exactly where the test fails

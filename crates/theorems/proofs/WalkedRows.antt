@@ -41,7 +41,7 @@ use Rattle.theorems.specs.Asked.{asked}
 use Rattle.theorems.specs.Walked.{spot_of}
 use Rattle.line_walk.specs.Spots.{first_spot}
 use Rattle.row_walk.specs.Rows.{first_walk, to_row, line_number, epoch_of, satellite_of, shown, step_at, step_from, row_step, row_of_step}
-use Rattle.row_walk.proofs.Going.{passed}
+use Rattle.row_walk.proofs.Going.{passed-to}
 use Rattle.divide.proofs.Ending.{ends-or-on}
 use Rattle.record.specs.declared.types.LineKind.{LineKind}
 use Rattle.machine.specs.declared.types.State.{State}
@@ -152,7 +152,7 @@ module _ {rules : Rules} (proper : Proper rules) where
           }
           go false is (inl (last, none)) later = record { q = p; l = l; more = ls; is = rw (is, last); here = here; what = inr (last, rw (is, none)) }
           go false is (inr (s, goes, many, more)) later =
-              let f = later (behind p l s) more (passed bytes p.at l ls here).rest in
+              let f = later (behind p l s) more (passed-to bytes p.at l ls here).1 in
               record {
                 q = f.q;
                 l = f.l;
@@ -214,7 +214,7 @@ module _ {rules : Rules} (proper : Proper rules) where
                   rows_are = row.rows_are;
                   gives = to-there f.q f.is ∙ row-step f.q f.l f.more row.state f.here row.goes row.many small;
                   ahead = row.ahead;
-                  here = (passed bytes f.q.at f.l f.more f.here).rest;
+                  here = (passed-to bytes f.q.at f.l f.more f.here).1;
                 })
                 by (inr (last, none)) = inr (none, to-there f.q f.is ∙ end_step f.q f.l f.more f.here last)
 
