@@ -22,7 +22,7 @@ fn point_of(places: usize, width: usize) -> usize
 pub fn figure(b: u8) -> u64
     ensures result { result ≡ b - 48 }
 {
-    u64::from(b.saturating_sub(b'0'))
+    u64::from(b).saturating_sub(48)
 }
 
 // The bytes read on from the value of those before them, each for its digit; any byte counts for 207 at most.

@@ -82,7 +82,7 @@ fn is_named(letter: u8, tens: u8, ones: u8) -> bool
 fn figure(b: u8) -> u64
     ensures { result ≡ b - 48 }
 {
-    u64::from(b.saturating_sub(b'0'))
+    u64::from(b).saturating_sub(48)
 }
 
 // The number of two digits.
