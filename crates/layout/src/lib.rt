@@ -45,8 +45,9 @@ pub fn is_printable(s: &[u8]) -> bool
 pub fn copy_front(out: &mut [u8], bytes: &[u8])
     ensures lent { out.new ≡ take (length out.old) bytes.now ++ drop (length bytes.now) out.old }
 {
-    let n = out.len().min(bytes.len());
-    out[..n].copy_from_slice(&bytes[..n]);
+    for k in 0..out.len().min(bytes.len()) {
+        out[k] = bytes[k];
+    }
 }
 
 // A short line padded with blanks to 80 columns.

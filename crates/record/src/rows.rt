@@ -121,11 +121,14 @@ pub(crate) fn known_of(line: &[u8; 80], first: usize, last: usize, unknown: u64)
     requires { (1 ≤ first) × (first ≤ last) × (last ≤ 80) }
     ensures { result ≡ maybe_held unknown (exponent_of (cut first last line.now)) }
 {
-    match field::read::exponent(fields::cut(line, first, last)) {
-        Exponent::Value(n) => n,
-        Exponent::Unknown => unknown,
-        Exponent::Malformed => 0,
-    }
+    let answer = field::read::exponent(fields::cut(line, first, last));
+    let Exponent::Value(n) = answer else {
+        let Exponent::Unknown = answer else {
+            return 0;
+        };
+        return unknown;
+    };
+    n
 }
 
 // A flag of P: V has none.
@@ -143,21 +146,21 @@ pub fn satellite_in(line: &[u8; 80]) -> u64
     fields::identifier_of(fields::cut(line, 2, 4))
 }
 
-// The row of a line of 80 columns.
+// The row of a line of 80 columns. The exponents are taken before the decimals, which costs less.
 #[tactic(auto, unfolding(crate::specs::Rows::row_taken))]
 fn row_taken(line: &[u8; 80], velocity: bool) -> Row
     ensures { result ≡ row_taken velocity line.now }
 {
     Row {
-        satellite: satellite_in(line),
-        x: signed_of(line, 5, 18),
-        y: signed_of(line, 19, 32),
-        z: signed_of(line, 33, 46),
-        clock: clock_taken(line),
         x_exponent: known_of(line, 62, 63, UNKNOWN),
         y_exponent: known_of(line, 65, 66, UNKNOWN),
         z_exponent: known_of(line, 68, 69, UNKNOWN),
         clock_exponent: known_of(line, 71, 73, UNKNOWN),
+        x: signed_of(line, 5, 18),
+        y: signed_of(line, 19, 32),
+        z: signed_of(line, 33, 46),
+        clock: clock_taken(line),
+        satellite: satellite_in(line),
         event: mark_of(line, velocity, b'E', 75),
         predicted: mark_of(line, velocity, b'P', 76),
         maneuver: mark_of(line, velocity, b'M', 79),
