@@ -7,9 +7,10 @@ use Prim.Native.Nat.{ℕ, ◌+◌, ◌≤◌, ◌<◌}
 use native.Mathlib.Numerals.{add-one}
 use native.Mathlib.Omega.{arith}
 use borrow.Author.Tests.{le-leb, lt-leb}
-use lib.ListN.{length, drop, set, length-append}
+use lib.ListN.{length, take, drop, set, length-append}
+use lib.Seq.{length-take-le}
 use Rattle.layout.specs.Layout.{Item, Values, tiled, show_line}
-use Rattle.layout.specs.Line.{Lays, trimmed}
+use Rattle.layout.specs.Line.{Lays, trimmed, ended}
 use Rattle.layout.specs.Inking.{line_end, inked}
 use Rattle.layout.proofs.Lines.{copy_ended}
 use Rattle.layout.proofs.Inking.{inked-line, end-bound}
@@ -50,5 +51,11 @@ module _ {items : List Item} {vs : Values} {n : ℕ} (ends : EndsIn items vs n) 
   long = sym ends.told
 
   -- the items put over n bytes are the line
-  pub put-line : (old : List ℕ) {new : List ℕ} → length old ≡ n → new ≡ inked items vs old → new ≡ trimmed (show_line items vs)
-  put-line old wide put = put ∙ inked-line items vs old ends.tiles (wide ∙ ends.told)
+  pub line_drawn : (old : List ℕ) {new : List ℕ} → length old ≡ n → new ≡ inked items vs old → new ≡ trimmed (show_line items vs)
+  line_drawn old wide put = put ∙ inked-line items vs old ends.tiles (wide ∙ ends.told)
+
+  -- put over the first n bytes of the output, and its LF after them, they lay the line
+  pub put-line : (out : List ℕ) {part : List ℕ} → n < length out → part ≡ inked items vs (take n out)
+      → Lays (ended (show_line items vs)) out (n + 1) (set (part ++ drop n out) n 10)
+  put-line out room put =
+      rw (line_drawn (take n out) (length-take-le n out (omega arith)) put) (laid-over (trimmed (show_line items vs)) out n (sym long) room)

@@ -18,7 +18,7 @@ pub(crate) fn put_number(out: &mut [u8], n: u64)
     ensures { out.new ≡ shown_in (whole 0 0) (length out.old) (one n) }
 {
     if !field::write::put_whole(out, n) {
-        out.fill(b' ');
+        laws::fill_blanks(out);
     }
 }
 
@@ -27,7 +27,7 @@ fn put_places(out: &mut [u8], places: usize, n: Signed)
     ensures { out.new ≡ shown_in (signed places) (length out.old) (amount n.negative n.magnitude) }
 {
     if !field::write::put_decimal(out, places, n.negative, n.magnitude) {
-        out.fill(b' ');
+        laws::fill_blanks(out);
     }
 }
 
@@ -36,7 +36,7 @@ fn put_known(out: &mut [u8], n: u64, unknown: u64)
     ensures { out.new ≡ shown_in (maybe unknown) (length out.old) (one n) }
 {
     if (n == unknown) | !field::write::fits_whole(out.len(), n) {
-        out.fill(b' ');
+        laws::fill_blanks(out);
     } else {
         put_number(out, n);
     }
@@ -47,7 +47,7 @@ fn put_signed(out: &mut [u8], n: Signed)
     ensures { out.new ≡ put_signed n.negative n.magnitude (blanks (length out.old)) }
 {
     if !field::write::put_signed_whole(out, n.negative, n.magnitude) {
-        out.fill(b' ');
+        laws::fill_blanks(out);
     }
 }
 
@@ -56,7 +56,7 @@ fn put_correlation(out: &mut [u8], n: Signed)
     ensures { out.new ≡ shown_in correlation (length out.old) (amount n.negative n.magnitude) }
 {
     if n.magnitude == UNNOTED {
-        out.fill(b' ');
+        laws::fill_blanks(out);
     } else {
         put_signed(out, n);
     }
@@ -66,7 +66,7 @@ fn put_correlation(out: &mut [u8], n: Signed)
 fn put_text(out: &mut [u8], text: &[u8])
     ensures { out.new ≡ shown_text (length out.old) text.now }
 {
-    out.fill(b' ');
+    laws::fill_blanks(out);
     layout::copy_front(out, text);
 }
 
@@ -100,7 +100,7 @@ pub(crate) fn ink_blank(line: &mut [u8], first: usize, last: usize)
     requires { (1 ≤ first) × (first ≤ last) }
     ensures { line.new ≡ inked_whole first last (blanks (last - (first - 1))) line.old }
 {
-    ink_in(line, first, last, |part| part.fill(b' '));
+    ink_in(line, first, last, |part| laws::fill_blanks(part));
 }
 
 // These bytes in a line's columns: a symbol or a placeholder.

@@ -129,5 +129,6 @@ fn put_row(line: &mut [u8], p: Row, velocity: bool)
 pub fn write_row(p: Row, velocity: bool, out: &mut [u8]) -> usize
     ensures lays { Lays (row_line velocity p) out.old result out.new }
 {
-    lay_ended(row_end(p, velocity), out, |line| put_row(line, p, velocity))
+    let end = row_end(p, velocity);
+    lay_ended(end, out, |line| put_row(line, p, velocity))
 }

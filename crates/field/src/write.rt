@@ -86,7 +86,7 @@ fn put_integer(out: &mut [u8], negative: bool, v: u64)
     requires { fits_integer (length out.old) negative v ≡ true }
     ensures { out.new ≡ show_integer (length out.old) negative v }
 {
-    out.fill(b' ');
+    laws::fill_blanks(out);
     let start = put_digits(out, v);
     if negative {
         out[start - 1] = b'-';
@@ -173,7 +173,7 @@ pub fn put_exponent(out: &mut [u8], exponent: Exponent) -> bool
     match exponent {
         Exponent::Value(value) => put_whole(out, value),
         Exponent::Unknown => {
-            out.fill(b' ');
+            laws::fill_blanks(out);
             true
         }
         Exponent::Malformed => false,

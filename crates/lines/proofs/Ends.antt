@@ -76,9 +76,9 @@ full_by bytes long lf =
     let both = ap (list_any is_lf) (take-add 16 64 bytes) ∙ list_any-append is_lf (take 16 bytes) (take 64 (drop 16 bytes)) in
     rw (lt-ltb 80 (length bytes) long, lf, both)
 
-pub full-ends : (bytes : List ℕ) → is_full_line bytes ≡ true → 80 ≡ line_length bytes
+pub full_length : (bytes : List ℕ) → is_full_line bytes ≡ true → 80 ≡ line_length bytes
 unfolding is_full_line line_length
-full-ends bytes e =
+full_length bytes e =
     let long = ltb-true 80 (length bytes) (and_left (ltb 80 (length bytes)) _ e) in
     let more = and_right (ltb 80 (length bytes)) _ e in
     let none = not-true-false (has_lf (take 80 bytes)) (and_right (is_lf (get_or bytes 80 0)) _ more) in
@@ -87,6 +87,14 @@ full-ends bytes e =
     not-true-false : (t : Bool) → not t ≡ true → t ≡ false
     not-true-false true e = sym e
     not-true-false false e = refl
+
+-- the same from `at` on, and that its LF stands within the bytes
+pub full-ends : (l : List ℕ) (at : ℕ) → is_full_line (drop at l) ≡ true → (at + 80 < length l) × (at + 80 ≡ at + line_length (drop at l))
+unfolding is_full_line
+full-ends l at e =
+    let long = ltb-true 80 (length (drop at l)) (and_left (ltb 80 (length (drop at l))) _ e) in
+    let within : at + 80 < length l = omega (arith, length-drop at l) in
+    (within, ap (λ (n : ℕ). at + n) (full_length (drop at l) e))
 
 -- the first line of some bytes, and those after it
 pub lines_none : (xs : List ℕ) → length xs ≤ line_length xs → lines_of xs ≡ []
@@ -126,4 +134,4 @@ module _ (bytes : List ℕ) (at end : ℕ) (found : end ≡ at + line_length (dr
       (drop-drop (suc (line_length (drop at bytes))) at bytes ∙ ap (λ (n : ℕ). drop n bytes) next)
 
 -- what a search for a line's end takes
-pub ruleset endings = (line_within, passed_over, turned, full-ends, rest-none)
+pub ruleset endings = (line_within, passed_over, turned, full_length, rest-none)

@@ -5,7 +5,7 @@ use Rattle.record.specs.Opening.{epoch_items, epoch_values, epoch_line}
 use Rattle.record.specs.declared.types.Epoch.{Epoch}
 use Rattle.record.proofs.Tiled.{epoch-tiled}
 use Rattle.layout.proofs.Ends.{line-end}
-use Rattle.draw.proofs.Laying.{EndsIn, short, long, put-line}
+use Rattle.draw.proofs.Laying.{EndsIn, short, long, line_drawn}
 use Rattle.draw.proofs.opening.write_epoch.Goals as goal
 
 ends : (e : Epoch) {n : ℕ} → n ≡ end_from 1 time_items (moment_values e.moment) → EndsIn (epoch_items) (epoch_values e) n
@@ -19,4 +19,4 @@ unfolding epoch_line
 returns c =
     let a = c.args in
     let there = ends a.e c.moment_end-end.ensures in
-    record { lays = c.lay_ended.ensures _ (long there) (λ old new wide met. put-line there old wide (search rules)) }
+    record { lays = c.lay_ended.ensures _ (long there) (λ old new wide met. line_drawn there old wide (search rules)) }

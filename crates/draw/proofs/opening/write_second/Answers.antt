@@ -3,7 +3,7 @@ use Rattle.layout.specs.Inking.{line_end}
 use Rattle.record.specs.Opening.{second_items, second_values, second_line}
 use Rattle.record.specs.declared.types.Second.{Second}
 use Rattle.record.proofs.Tiled.{second-tiled}
-use Rattle.draw.proofs.Laying.{EndsIn, short, long, put-line}
+use Rattle.draw.proofs.Laying.{EndsIn, short, long, line_drawn}
 use Rattle.draw.proofs.opening.write_second.Goals as goal
 
 ends : (s : Second) {n : ℕ} → n ≡ line_end (second_items) (second_values s) → EndsIn (second_items) (second_values s) n
@@ -17,4 +17,4 @@ unfolding second_line
 returns c =
     let a = c.args in
     let there = ends a.s c.second_end.ensures in
-    record { lays = c.lay_ended.ensures _ (long there) (λ old new wide met. put-line there old wide (search rules)) }
+    record { lays = c.lay_ended.ensures _ (long there) (λ old new wide met. line_drawn there old wide (search rules)) }

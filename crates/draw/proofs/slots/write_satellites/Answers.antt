@@ -4,7 +4,7 @@ use Rattle.record.specs.SlotLines.{satellite_items, satellites_values, satellite
 use Rattle.header.specs.declared.types.Rules.{Rules}
 use Rattle.record.specs.declared.types.Satellites.{Satellites}
 use Rattle.record.proofs.Tiled.{satellites-tiled}
-use Rattle.draw.proofs.Laying.{EndsIn, short, long, put-line}
+use Rattle.draw.proofs.Laying.{EndsIn, short, long, line_drawn}
 use Rattle.draw.proofs.slots.write_satellites.Goals as goal
 
 ends : (rules : Rules) (s : Satellites) {n : ℕ} → n ≡ line_end (satellite_items rules s.count) (satellites_values s) → EndsIn (satellite_items rules s.count) (satellites_values s) n
@@ -18,4 +18,4 @@ unfolding satellites_line
 returns c =
     let a = c.args in
     let there = ends a.rules a.s c.satellites_end-end.ensures in
-    record { lays = c.lay_ended.ensures _ (long there) (λ old new wide met. put-line there old wide (search rules)) }
+    record { lays = c.lay_ended.ensures _ (long there) (λ old new wide met. line_drawn there old wide (search rules)) }

@@ -4,7 +4,7 @@ use Rattle.layout.specs.Layout.{ones_of}
 use Rattle.record.specs.SlotLines.{more_items, more_line}
 use Rattle.record.specs.declared.types.Slots.{Slots}
 use Rattle.record.proofs.Tiled.{more-tiled}
-use Rattle.draw.proofs.Laying.{EndsIn, short, long, put-line}
+use Rattle.draw.proofs.Laying.{EndsIn, short, long, line_drawn}
 use Rattle.draw.proofs.slots.write_slots.Goals as goal
 
 ends : (s : Slots) (accuracies : Bool) (left : ℕ) {n : ℕ} → n ≡ line_end (more_items accuracies left) (ones_of s.values) → EndsIn (more_items accuracies left) (ones_of s.values) n
@@ -18,4 +18,4 @@ unfolding more_line
 returns c =
     let a = c.args in
     let there = ends a.s a.accuracies a.left c.more_end-end.ensures in
-    record { lays = c.lay_ended.ensures _ (long there) (λ old new wide met. put-line there old wide (search rules)) }
+    record { lays = c.lay_ended.ensures _ (long there) (λ old new wide met. line_drawn there old wide (search rules)) }
