@@ -24,9 +24,9 @@ module _ (rules : Rules) (t : Table) where
   abbrev lines : Bool
   lines = comments_valid rules t.header.comments (comments_of t) && rows_valid t.header.velocity (cells_in t.header) (rows_of t)
 
-  pub no-counts : counts_hold rules t ≡ false → valid rules t ≡ false
+  pub uncounted : counts_hold rules t ≡ false → valid rules t ≡ false
   unfolding valid
-  no-counts e = rw e refl
+  uncounted e = rw e refl
 
   pub no-slots : slots ≡ false → valid rules t ≡ false
   unfolding valid
@@ -47,6 +47,10 @@ module _ (rules : Rules) (t : Table) where
       go false x e = cc
 
   module _ (room : ℕ) where
+    pub no-counts : counts_hold rules t ≡ false → refused_as 13 ≡ measured rules t room
+    unfolding measured
+    no-counts e = rw (uncounted e) refl
+
     -- nothing is left of the room where the table is not valid
     pub none-invalid : None ≡ spent (valid rules t) (room + 1) (form_length t) → valid rules t ≡ false
     none-invalid e = go (valid rules t) e

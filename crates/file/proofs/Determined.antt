@@ -1,7 +1,11 @@
 -- Any two outcomes that a contract allows agree, in the result, and of a line that is handed back in every byte and in its address.
 -- Assumes nothing.
-use mathlib.Core.Path.{◌≡◌, sym, ◌∙◌}
+use mathlib.Core.Path.{◌≡◌, sym, ap, ◌∙◌}
+use mathlib.Core.List.{List}
+use Prim.Native.Nat.{ℕ}
+use denote.Ref.{Bor}
 use Rattle.laws.specs.Places.{Same}
+use Rattle.file.specs.declared.complete.CompleteLines.{CompleteLines}
 use Rattle.file.proofs.kind_in.Reads as kind-in
 use Rattle.file.proofs.line_begins.Reads as line-begins
 use Rattle.file.proofs.nothing_at.Reads as nothing-at
@@ -36,7 +40,11 @@ first-of-determined κs a r r' s s' p q = p ∙ sym q
 pub count-of-determined : (κs : _) (a : _) (r r' : _) (s s' : _) → count_of.Post κs a r s → count_of.Post κs a r' s' → r ≡ r'
 count-of-determined κs a r r' s s' p q = p ∙ sym q
 
--- what the lines are taken from, in every byte
+-- the lines of some bytes, by the bytes that are left
+abbrev lines_from : Bor (List ℕ) → CompleteLines
+lines_from rest = record { rest = rest }
+
+-- what the lines are taken from, in every byte and in its address
 pub complete-lines-determined : (κs : _) (a : _) (r r' : _) (s s' : _) → complete-lines.Post κs a r s → complete-lines.Post κs a r' s'
-    → r.rest.now ≡ r'.rest.now
-complete-lines-determined κs a r r' s s' p q = p ∙ sym q
+    → r ≡ r'
+complete-lines-determined κs a r r' s s' p q = ap lines_from (p ∙ sym q)

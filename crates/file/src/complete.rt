@@ -29,7 +29,7 @@ impl<'a> Iterator for CompleteLines<'a> {
 
 // Each line of some bytes without its LF; what stands behind the last LF is no line.
 pub fn complete_lines(bytes: &[u8]) -> CompleteLines
-    ensures { result.rest.now ≡ bytes.now }
+    ensures { result.rest ≡ bytes.entry }
 {
     CompleteLines { rest: bytes }
 }

@@ -85,7 +85,8 @@ pub fn fill_rows(rules: Rules, bytes: &[u8], out: &mut [i64])
         behind += line.len() + 1;
         let kind = file::kind_in(rules, line);
         if (kind == POSITION_KIND) | (kind == VELOCITY_KIND) {
-            if out.len() - stored < ROW_WIDTH {
+            let width = ROW_WIDTH;
+            if out.len() - stored < width {
                 return;
             }
             let row = record::rows::row_of(line, kind == VELOCITY_KIND);

@@ -2,7 +2,7 @@
 #![tactic(auto)]
 
 ghost use Rattle.std.specs.Prelude.{◌≡◌};
-ghost use Rattle.std.specs.Float.{binary64};
+ghost use Rattle.std.specs.Float.{nan, binary64};
 ghost use Rattle.std.specs.Float.Ieee.{of_int};
 ghost use Rattle.file.specs.Table.{stored_signed};
 ghost use Rattle.float_row.specs.Floats.{float_unless, float_row, absent_row};
@@ -22,6 +22,13 @@ pub struct FloatRow {
     pub clock_absent: bool,
 }
 
+// No number at all.
+fn no_number() -> f64
+    ensures { result ≡ nan }
+{
+    f64::NAN
+}
+
 // A whole number as a float.
 fn float_of(s: Signed) -> f64
     ensures { result ≡ of_int binary64 (stored_signed s) }
@@ -34,7 +41,7 @@ fn float_of(s: Signed) -> f64
 fn float_unless(absent: bool, s: Signed) -> f64
     ensures { result ≡ float_unless absent s }
 {
-    if absent { f64::NAN } else { float_of(s) }
+    if absent { no_number() } else { float_of(s) }
 }
 
 // The row of a P line as floats: three zeros are no place, whatever the clock.
@@ -60,11 +67,12 @@ pub fn float_row(row: Row) -> FloatRow
 pub fn absent_row() -> FloatRow
     ensures result { result ≡ absent_row }
 {
+    let none = no_number();
     FloatRow {
-        x: f64::NAN,
-        y: f64::NAN,
-        z: f64::NAN,
-        clock: f64::NAN,
+        x: none,
+        y: none,
+        z: none,
+        clock: none,
         place_absent: true,
         clock_absent: true,
     }

@@ -97,12 +97,13 @@ block-is line at agree = below-same 32 (fits_at (lows at) (highs at) (alsos at) 
         let sign-is = eqb-true (get_or (signs at) k 0) c.sign (and_right (eqb (get_or (alsos at) k 0) c.also) _ g) in
         rw (low-is, high_is, also-is, sign-is)
 
--- the tests of a usual line of 80 columns, those by three blocks
+-- the tests of a usual line, its columns by three blocks
 pub usual-by : (line : List ℕ) (front middle last : Bool)
-    → length line ≡ 80
     → front ≡ every_below 32 (λ i. column_fits line (0 + i))
     → middle ≡ every_below 32 (λ i. column_fits line (32 + i))
     → last ≡ every_below 32 (λ i. column_fits line (47 + i))
-    → (eqb (get_or line 0 0) 80 && (not (eqb (get_or line 2 0) 48 && eqb (get_or line 3 0) 48) && (front && (middle && last)))) ≡ usual line
+    → (eqb (length line) 80
+    && (eqb (get_or line 0 0) 80 && (not (eqb (get_or line 2 0) 48 && eqb (get_or line 3 0) 48) && (front && (middle && last)))))
+    ≡ usual line
 unfolding usual
-usual-by line front middle last wide e f g = rw (wide, e, f, g, three-blocks (column_fits line))
+usual-by line front middle last e f g = rw (e, f, g, three-blocks (column_fits line))

@@ -9,7 +9,7 @@ use Rattle.file.proofs.line_begins.Goals.{then-kind_in-kind+else-left-eq0, else-
 
 pub loop-line-init : goal.loop-line-init
 loop-line-init c =
-    let all : c.into_iter-line-iterator.result.rest.now ≡ c.args.bytes.now = search rules in
+    let all : c.into_iter-line-iterator.result.rest ≡ c.args.bytes = search rules in
     record { same = rw all refl; within = rw all (omega (arith, lines-within c.args.bytes.now)) }
 
 pub returns-then-left-eq0 : goal.returns-then-left-eq0

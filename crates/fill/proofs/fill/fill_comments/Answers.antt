@@ -17,7 +17,7 @@ returns-then-count-eq0 c =
 pub loop-line-init : goal.loop-line-init
 loop-line-init c =
     let a = c.args in
-    let all : c.into_iter-line-iterator.result.rest.now ≡ a.bytes.now = search rules in
+    let all : c.into_iter-line-iterator.result.rest ≡ a.bytes = search rules in
     let comments = flat (map comment_text (take a.count (of_kind a.rules comment_kind (lines_of a.bytes.now)))) in
     record { some = omega arith; filling = rw all (filling-first (is_kind a.rules comment_kind) (parts_left comment_text) comments a.out.now (lines_of a.bytes.now) a.count refl) }
 

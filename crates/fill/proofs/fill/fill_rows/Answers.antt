@@ -13,7 +13,7 @@ is_row_kind kind = eqb kind 10 || eqb kind 11
 pub loop-line-init : goal.loop-line-init
 loop-line-init c =
     let a = c.args in
-    let all : c.into_iter-line-iterator.result.rest.now ≡ a.bytes.now = search rules in
+    let all : c.into_iter-line-iterator.result.rest ≡ a.bytes = search rules in
     record { behind = rw all refl; filling = rw all (rows-first a.rules a.bytes.now a.out.now) }
 
 -- where the lines behind this one begin
@@ -23,11 +23,11 @@ overflow_add-behind-in-loop-line c =
     let p = passed c.args.bytes.now l.behind c.in-Some.line.now (lines_of c.next.new.self.rest.now) (l.invariant.behind ∙ c.in-Some.ensures.steps) in
     omega (arith, p.within)
 
-pub returns-then-out-stored-lt-ROW_WIDTH : goal.returns-then-out-stored-lt-ROW_WIDTH
-returns-then-out-stored-lt-ROW_WIDTH c =
+pub returns-then-out-stored : goal.returns-then-out-stored
+returns-then-out-stored c =
     let a = c.args in
     let l = c.loop-line in
-    record { lent = rows-full a.rules a.bytes.now a.out.now l.out (lines_of l.line-iterator.rest.now) l.stored l.invariant.filling c.if-out-stored-lt-ROW_WIDTH.true }
+    record { lent = rows-full a.rules a.bytes.now a.out.now l.out (lines_of l.line-iterator.rest.now) l.stored l.invariant.filling c.if-out-stored.true }
 
 pub loop-line-preserved-then-kind : goal.loop-line-preserved-then-kind
 loop-line-preserved-then-kind c =
@@ -40,7 +40,7 @@ loop-line-preserved-then-kind c =
       behind = p.rest;
       filling =
           rows_more a.rules a.bytes.now a.out.now l.out (lines_of l.line-iterator.rest.now) l.stored l.invariant.filling line more c.in-Some.ensures.steps
-          (sym (ap is_row_kind c.kind_in-kind.ensures.result) ∙ c.if-kind.true) c.if-out-stored-lt-ROW_WIDTH.false
+          (sym (ap is_row_kind c.kind_in-kind.ensures.result) ∙ c.if-kind.true) c.if-out-stored.false
           c.row_of-row.result (c.row_of-row.ensures.result ∙ ap (λ (kind : ℕ). row_of (eqb kind 11) line) c.kind_in-kind.ensures.result)
           (rw p.rest at (c.store_noted.ensures a.rules));
     }

@@ -10,7 +10,7 @@ use Rattle.fill.proofs.fill.fill_slots.Goals.{then-accuracies, else-accuracies}
 pub loop-line-init : goal.loop-line-init
 loop-line-init c =
     let a = c.args in
-    let all : c.into_iter-line-iterator.result.rest.now ≡ a.bytes.now = search rules in
+    let all : c.into_iter-line-iterator.result.rest ≡ a.bytes = search rules in
     rw all
     (slots-first a.rules a.accuracies c.if-accuracies.kind a.n (lines_of a.bytes.now) a.out.now
     (elim c.if-accuracies.branch [

@@ -3,12 +3,12 @@ use Rattle.canon.specs.Valid.{counts_hold}
 use Rattle.canon.specs.Measured.{form_length}
 use Rattle.canon.specs.Spent.{spent, lent_table}
 use Rattle.canon.proofs.Counting.{long}
-use Rattle.canon.proofs.Answers.{no-counts, no-slots, by-lines}
+use Rattle.canon.proofs.Answers.{uncounted, no-slots, by-lines}
 use Rattle.canon.proofs.types.Table.spent.Goals as goal
 
 pub returns-then-not-counts_hold : goal.returns-then-not-counts_hold
 returns-then-not-counts_hold c =
-    let none = no-counts c.args.rules (lent_table c.args.self) (sym c.counts_hold.ensures ∙ c.if-not-counts_hold.true) in
+    let none = uncounted c.args.rules (lent_table c.args.self) (sym c.counts_hold.ensures ∙ c.if-not-counts_hold.true) in
     rw none refl
 
 pub slots_valid-requires : goal.slots_valid-requires

@@ -1,7 +1,7 @@
 use Rattle.std.proofs.Common.{refl}
 use lib.Ieee.{of_bits}
-use Rattle.float_row.proofs.absent_row.Goals as goal
+use Rattle.float_row.proofs.no_number.Goals as goal
 
 pub returns : goal.returns
 unfolding of_bits
-returns c = record { result = refl }
+returns c = refl
