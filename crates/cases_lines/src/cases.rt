@@ -1,5 +1,5 @@
-// A line by its kind and version: judged, read, and written again into 81 bytes that held a mark in each. A line that has a fault is read too, as the
-// readers take any line; what it would be written as is not shown.
+// A line by its kind and version: judged, read, and written again into 81 bytes that held a mark in each. A line that has a fault is read and written
+// too, as the readers and writers take any line and any value; it is not shown.
 ghost use Rattle.std.specs.Prelude.{◌≡◌};
 ghost use Rattle.record.specs.LineKinds.{told_kind};
 

@@ -5,16 +5,16 @@ pub(crate) fn bytes(rt: &impl Print, s: &[u8]) {
     let _ = rt.write_all(s);
 }
 
-// A line that is judged and, where it has no fault, written into a room of marks: the numbers of the fault and of its column, or 0 and 0 and the line.
+// A line that is judged and written, into a room of marks, also where it has a fault: the numbers of the fault and of its column, or 0 and 0 and the line.
 pub(crate) fn written<W: FnOnce(&mut [u8]) -> usize>(rt: &impl Print, fault: usize, write: W)
     requires { (room : _) → W.pre write room }
 {
+    let mut out = [b'#'; 81];
+    let n = write(&mut out);
     if fault != 0 {
         let _ = println!(rt; "{} {}", layout::number_of(fault), layout::column_of(fault));
         return;
     }
-    let mut out = [b'#'; 81];
-    let n = write(&mut out);
     let _ = print!(rt; "0 0 ");
     bytes(rt, out.get(..n).unwrap_or_default());
 }

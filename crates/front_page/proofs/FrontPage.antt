@@ -11,7 +11,6 @@ use denote.Ref.{Bor}
 use Words.*
 pub use Once.*
 pub use Determined.*
-use Rattle.std.specs.Prelude.{Some}
 
 -- THE VERSIONS. The rules of SP3-c and those of SP3-d are proper, and so are those that some bytes tell by their first two, `#c` or any other.
 pub c-is-proper : Proper c

@@ -125,6 +125,7 @@ pub use Rattle.layout.specs.Line.{padded, trimmed, ended}
 pub use Rattle.record.specs.Rows.{cut, row_items, row_values, row_from, six_nines_in, shortest_row, bare_width, row_width}
 pub use Rattle.field.specs.Digits.{all_digits}
 pub use Rattle.field.specs.Read.{whole_of}
+pub use Rattle.std.specs.Prelude.{Some}
 pub use Rattle.field.specs.Clock.{is_six_nines}
 pub use Rattle.record.specs.Notes.{correlation_items, correlation_symbol, largest_deviation, largest_correlation, note_from, note_of, note_line, deviation_at, correlation_at}
 pub use Rattle.record.specs.Absence.{place_absent}
