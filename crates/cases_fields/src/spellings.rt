@@ -13,7 +13,7 @@ const STDIN: i32 = 0;
 fn written<W: FnOnce(&mut [u8]) -> bool>(rt: &impl Print, width: usize, put: W)
     requires { (columns : _) → W.pre put columns }
 {
-    let mut columns = [b'#'; MOST];
+    let mut columns = [b'#'; 20];
     if width <= MOST {
         let _ = put(&mut columns[..width]);
         let _ = print!(rt; " |");
