@@ -9,7 +9,7 @@ const MOST: usize = 20;
 // The number of standard input.
 const STDIN: i32 = 0;
 
-// What a writer puts into so many columns that held a mark in each.
+// What a writer puts into so many columns that held a mark in each, where they are no more than the bound: 20 are there, whatever the bound says.
 fn written<W: FnOnce(&mut [u8]) -> bool>(rt: &impl Print, width: usize, put: W)
     requires { (columns : _) → W.pre put columns }
 {
